@@ -1,0 +1,6 @@
+mod ExampleImage
+pub mod InOrder
+pub mod Kept
+pub mod Replayed
+pub mod Taken
+pub mod Telling

@@ -1,0 +1,12 @@
+pub mod Chip
+pub mod Fault
+pub mod Image
+pub mod Input
+pub mod MemBench
+pub mod Output
+pub mod Recorded
+pub mod Recording
+pub mod Slots
+pub mod Sources
+pub mod StoreOf
+pub mod Told

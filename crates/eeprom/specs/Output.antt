@@ -1,0 +1,7 @@
+-- What has gone out of an outlet.
+use Rattle.std.specs.Prelude.{◌≡◌, ℕ, List, ◌++◌, take, Option}
+use Rattle.eeprom.specs.Chip.{Becomes}
+
+-- the first so many octets of a piece follow what was given, where it is told
+abbrev pub Follows : ℕ → List ℕ → Option (List ℕ) → Option (List ℕ) → Type 0
+Follows count octets old new = Becomes (λ before after. after ≡ before ++ take count octets) old new
