@@ -1,0 +1,65 @@
+-- A fresh database is valid, and the example image of a fresh card of 16 cells opens to it.
+use Rattle.std.proofs.Common.{◌≡◌, ℕ, zero, suc, ◌≤◌, ◌-◌, Option, List, [], ◌∷◌, replicate, refl, ap, true, Some, None, arith}
+use Rattle.std.proofs.lemmas.List.{length-replicate}
+use Rattle.eeprom.specs.StoreOf.{store_of, fresh_slots}
+use Rattle.scql_model.specs.Records.{User, counter_record, user_record, counter_in, user_in}
+use Rattle.scql_model.specs.Database.{IsValid, fresh, owner}
+use Rattle.scql_model.specs.Opens.{Holds, Opens, is_spelled, counter_stamp}
+use Rattle.std.specs.List.{filter_map, list_all}
+use Rattle.eeprom.specs.Slots.{in_slot, in_order}
+
+pub IsValid-fresh : (n : ℕ) → 16 ≤ n → n ≤ 2048 → IsValid (fresh n)
+IsValid-fresh n few many = record {
+  cells = (few, many);
+  room = omega arith;
+  counter = refl;
+  limits = refl;
+  lengths = refl;
+  next = omega arith;
+  stamped = refl;
+  apart = refl;
+  users_rise = (tt, tt);
+  objects_rise = tt;
+  grants_rise = tt;
+  rows_rise = tt;
+  owner = refl;
+  user_names = refl;
+  none_public = refl;
+  makers = refl;
+  tries = refl;
+  object_names = refl;
+  object_makers = refl;
+  founded = refl;
+  grants = refl;
+  pairs = refl;
+  rows = refl;
+}
+
+-- empty slots hold no record
+filter_map-replicate_none : {X : Type 0} (read : List ℕ → Option X) (count : ℕ) → filter_map (in_slot read) (replicate count None) ≡ []
+filter_map-replicate_none read zero = refl
+filter_map-replicate_none read (suc count) = filter_map-replicate_none read count
+
+list_all-replicate_none : (count : ℕ) → list_all is_spelled (replicate count None) ≡ true
+list_all-replicate_none zero = refl
+list_all-replicate_none (suc count) = list_all-replicate_none count
+
+pub Holds-fresh : (n : ℕ) → 16 ≤ n → Holds (fresh_slots n (counter_record.spell 2) (user_record.spell owner)) (fresh n)
+Holds-fresh n few = record {
+  cells = omega (arith, length-replicate {A = Option (List ℕ)} (n - 2) None);
+  spelled = list_all-replicate_none (n - 2);
+  counter = ap (λ (xs : List ℕ). in_order counter_stamp (2 ∷ xs)) (filter_map-replicate_none counter_in (n - 2));
+  users = ap (λ (xs : List User). in_order (λ (u : User). u.stamp) (owner ∷ xs)) (filter_map-replicate_none user_in (n - 2));
+  objects = refl;
+  grants = refl;
+  rows = refl;
+}
+
+pub Opens-fresh : (n : ℕ) (image : List ℕ) → 16 ≤ n → n ≤ 2048 → store_of image ≡ Some (fresh_slots n (counter_record.spell 2) (user_record.spell owner))
+    → Opens image (fresh n)
+Opens-fresh n image few many stored = record {
+  slots = fresh_slots n (counter_record.spell 2) (user_record.spell owner);
+  stored = stored;
+  holds = Holds-fresh n few;
+  valid = IsValid-fresh n few many;
+}

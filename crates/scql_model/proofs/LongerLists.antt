@@ -1,0 +1,103 @@
+-- What holds of a list holds of it with one element more.
+use Rattle.std.proofs.Common.{◌≡◌, ℕ, ◌<◌, Bool, true, false, List, [], ◌∷◌, ◌++◌, map, Some, not, ◌||◌, ltb, eqb, refl, sym, subst, ap, ◌∙◌, arith, inl, inr}
+use Rattle.std.specs.List.{list_all, list_any, find, filter, AllByRecursion}
+use Rattle.std.specs.Str.{bytes_eq}
+use Rattle.std.proofs.lemmas.Bool.{cases_Bool, and_parts, and_from, not-true, false≢true, ltb-true, ne_eqb}
+use Rattle.std.proofs.lemmas.List.Folds.{list_all-append, list_any-append}
+use Rattle.std.proofs.lemmas.Option.{none-some, same_Some}
+use Rattle.std.proofs.lemmas.Slice.Eq.{bytes_eq-Decides}
+use Rattle.eeprom.specs.StoreOf.{is_distinct}
+use Rattle.eeprom.specs.Slots.{Rises}
+use Rattle.scql_model.specs.Database.{are_different}
+
+pub all-weaker : {X : Type 0} (p q : X → Bool) (xs : List X) → ((x : X) → p x ≡ true → q x ≡ true) → list_all p xs ≡ true → list_all q xs ≡ true
+all-weaker p q [] more all = refl
+all-weaker p q (x ∷ xs) more all = let parts = and_parts (p x) (list_all p xs) all in rw (more x parts.0) (all-weaker p q xs more parts.1)
+
+pub all-added : {X : Type 0} (p : X → Bool) (xs : List X) (x : X) → list_all p xs ≡ true → p x ≡ true → list_all p (xs ++ x ∷ []) ≡ true
+all-added p xs x all one = rw (list_all-append, all, one) refl
+
+pub all-inserted : {X : Type 0} (p : X → Bool) (xs ys : List X) (x : X) → list_all p (xs ++ ys) ≡ true → p x ≡ true → list_all p ((xs ++ x ∷ []) ++ ys) ≡ true
+all-inserted p [] ys x all one = rw one all
+all-inserted p (z ∷ xs) ys x all one = let parts = and_parts (p z) (list_all p (xs ++ ys)) all in rw parts.0 (all-inserted p xs ys x parts.1 one)
+
+-- a number above all others is none of them
+none-equal : (n : ℕ) (xs : List ℕ) → list_all (λ k. ltb k n) xs ≡ true → list_any (λ k. eqb n k) xs ≡ false
+none-equal n [] below = refl
+none-equal n (x ∷ xs) below =
+    let parts = and_parts (ltb x n) (list_all (λ k. ltb k n) xs) below in
+    let less = ltb-true x n parts.0 in
+    rw (ne_eqb n x (λ (e : n ≡ x). omega arith)) (none-equal n xs parts.1)
+
+pub any-inserted : {X : Type 0} (p : X → Bool) (xs ys : List X) (x : X) → list_any p (xs ++ ys) ≡ false → p x ≡ false → list_any p ((xs ++ x ∷ []) ++ ys) ≡ false
+any-inserted p [] ys x none one = rw one none
+any-inserted p (z ∷ xs) ys x none one =
+    elim (cases_Bool (p z)) [ inl t ↦ absurd (false≢true (sym (rw t at none))) | inr f ↦ rw f (any-inserted p xs ys x (rw f at none) one) ]
+
+pub distinct-inserted : (xs ys : List ℕ) (n : ℕ) → is_distinct (xs ++ ys) ≡ true → list_all (λ k. ltb k n) (xs ++ ys) ≡ true → is_distinct ((xs ++ n ∷ []) ++ ys) ≡ true
+distinct-inserted [] ys n apart below = rw (none-equal n ys below) apart
+distinct-inserted (x ∷ xs) ys n apart below =
+    let parts = and_parts (not (list_any (λ k. eqb x k) (xs ++ ys))) (is_distinct (xs ++ ys)) apart in
+    let lower = and_parts (ltb x n) (list_all (λ k. ltb k n) (xs ++ ys)) below in
+    let less = ltb-true x n lower.0 in
+    let other = ne_eqb x n (λ (e : x ≡ n). omega arith) in
+    rw (any-inserted (λ k. eqb x k) xs ys n (not-true (list_any (λ k. eqb x k) (xs ++ ys)) parts.0) other) (distinct-inserted xs ys n parts.1 lower.1)
+
+pub rises-added : {X : Type 0} (key : X → ℕ) (xs : List X) (x : X) → Rises key xs → AllByRecursion (λ y. key y < key x) xs → Rises key (xs ++ x ∷ [])
+rises-added key [] x rises below = (tt, tt)
+rises-added key (y ∷ ys) x rises below = (above_added key (key y) ys x rises.0 below.0, rises-added key ys x rises.1 below.1)
+  where
+    above_added : {X : Type 0} (key : X → ℕ) (k : ℕ) (xs : List X) (x : X) → AllByRecursion (λ y. k < key y) xs → k < key x → AllByRecursion (λ y. k < key y) (xs ++ x ∷ [])
+    above_added key k [] x all one = (one, tt)
+    above_added key k (y ∷ ys) x all one = (all.0, above_added key k ys x all.1 one)
+
+-- texts that differ in one order differ in the other
+pub not_equal-sym : (a b : List ℕ) → bytes_eq a b ≡ false → bytes_eq b a ≡ false
+not_equal-sym a b f =
+    elim (cases_Bool (bytes_eq b a)) [
+      | inl t ↦ absurd (false≢true (sym f ∙ (bytes_eq-Decides a b).1 (sym ((bytes_eq-Decides b a).0 t))))
+      | inr g ↦ g
+    ]
+
+pub names_different-added : (names : List (List ℕ)) (name : List ℕ) → are_different names ≡ true → list_any (bytes_eq name) names ≡ false → are_different (names ++ name ∷ []) ≡ true
+names_different-added [] name apart none = refl
+names_different-added (x ∷ xs) name apart none =
+    let parts = and_parts (not (list_any (bytes_eq x) xs)) (are_different xs) apart in
+    elim (cases_Bool (bytes_eq name x)) [
+      | inl t ↦ absurd (false≢true (sym (rw t at none)))
+      | inr f ↦ (let other : bytes_eq x name ≡ false = not_equal-sym name x f in
+          let none' : list_any (bytes_eq x) (xs ++ name ∷ []) ≡ false = rw (list_any-append, not-true (list_any (bytes_eq x) xs) parts.0, other) refl in
+          and_from (not (list_any (bytes_eq x) (xs ++ name ∷ []))) (are_different (xs ++ name ∷ [])) (rw none' refl) (names_different-added xs name parts.1 (rw f at none)))
+    ]
+
+pub find-passes : {X : Type 0} (q : X → Bool) (xs : List X) (x : X) → find q xs ≡ Some x → q x ≡ true
+find-passes q [] x found = absurd (none-some x found)
+find-passes q (y ∷ ys) x found =
+    elim (cases_Bool (q y)) [
+      | inl t ↦ subst (λ z. q z ≡ true) (same_Some y x (rw t at found)) t
+      | inr f ↦ find-passes q ys x (rw f at found)
+    ]
+
+-- what is found is as all are
+pub find-all : {X : Type 0} (p q : X → Bool) (xs : List X) (x : X) → list_all p xs ≡ true → find q xs ≡ Some x → p x ≡ true
+find-all p q [] x all found = absurd (none-some x found)
+find-all p q (y ∷ ys) x all found =
+    let parts = and_parts (p y) (list_all p ys) all in
+    elim (cases_Bool (q y)) [
+      | inl t ↦ subst (λ z. p z ≡ true) (same_Some y x (rw t at found)) parts.0
+      | inr f ↦ find-all p q ys x parts.1 (rw f at found)
+    ]
+
+-- what all that pass a test have, each has that passes it
+pub all-filtered : {X : Type 0} (p r : X → Bool) (xs : List X) → list_all r (filter p xs) ≡ true → list_all (λ x. not (p x) || r x) xs ≡ true
+all-filtered p r [] all = refl
+all-filtered p r (x ∷ xs) all =
+    elim (cases_Bool (p x)) [
+      | inl t ↦ (let parts = and_parts (r x) (list_all r (filter p xs)) (rw t at all) in rw (t, parts.0) (all-filtered p r xs parts.1))
+      | inr f ↦ rw f (all-filtered p r xs (rw f at all))
+    ]
+
+-- a test of what is made of the elements
+pub any-map : {X Y : Type 0} (p : Y → Bool) (f : X → Y) (xs : List X) → list_any p (map f xs) ≡ list_any (λ x. p (f x)) xs
+any-map p f [] = refl
+any-map p f (x ∷ xs) = ap (λ rest. p (f x) || rest) (any-map p f xs)

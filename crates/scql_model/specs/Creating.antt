@@ -1,0 +1,85 @@
+-- CREATE USER: what it does to a database, or the word that refuses it.
+use Rattle.std.specs.Prelude.{◌≡◌, ℕ, ◌+◌, ◌==◌, nat_lt, not, ◌||◌, Bool, true, false, List, [], ◌∷◌, ◌++◌, length, set, get_or, ◌<◌, Some, None, option_map, Result, Ok, Err, if◌then◌else◌}
+use Rattle.std.specs.List.{list_any}
+use Rattle.std.specs.Str.{bytes_eq}
+use Rattle.scql_model.specs.declared.words.Actor.{Actor}
+use Rattle.scql_model.specs.declared.words.Actor.TheVariants.{Public, User as a_user}
+use Rattle.scql_model.specs.declared.words.Profile.{Profile}
+use Rattle.scql_model.specs.declared.words.Profile.TheVariants.{DbO, Dboo, Dbbu}
+use Rattle.scql_model.specs.declared.words.StatusWord.{StatusWord}
+use Rattle.scql_model.specs.Words.{security_not_satisfied, no_space, already_exists}
+use Rattle.eeprom.specs.StoreOf.{Slots}
+use Rattle.eeprom.specs.Slots.{in_slot}
+use Rattle.scql_model.specs.Name.{is_name}
+use Rattle.scql_model.specs.Records.{User, is_secret, counter_record, user_record, counter_in}
+use Rattle.scql_model.specs.Database.{Database, public_name, weight, user_stamped}
+use Rattle.scql_model.specs.Step.{is_named}
+
+-- DB_O makes users, and DBOO makes users of profile DBBU
+abbrev pub may_create : Actor → Profile → Bool
+may_create Public profile = false
+may_create (a_user stamp DbO) profile = true
+may_create (a_user stamp Dboo) DbO = false
+may_create (a_user stamp Dboo) Dboo = false
+may_create (a_user stamp Dboo) Dbbu = true
+may_create (a_user stamp Dbbu) profile = false
+
+-- the stamp of the user who acts, and 0 for PUBLIC
+abbrev pub actor_stamp : Actor → ℕ
+actor_stamp Public = 0
+actor_stamp (a_user stamp profile) = stamp
+
+-- PUBLIC acts, or a user of the database, with the profile that the user has there
+abbrev pub IsActorOf : Database → Actor → Type 0
+IsActorOf db Public = Unit {0}
+IsActorOf db (a_user stamp profile) = option_map (λ (u : User). u.profile) (user_stamped db.users stamp) ≡ Some profile
+
+-- what a command of the right form asks, and for whom
+pub record IsAsked (db : Database) (actor : Actor) (name : List ℕ) (profile : Profile) (secret : List ℕ) : Type 0 where
+  pub acts : IsActorOf db actor
+  pub named : is_name name ≡ true
+  pub secret_fits : is_secret secret ≡ true
+  pub not_owner : profile ≡ DbO → ⊥
+
+-- a user has the name, or it is PUBLIC
+abbrev pub is_taken : Database → List ℕ → Bool
+is_taken db name = list_any (is_named name) db.users || bytes_eq name public_name
+
+-- the user takes the next stamp, is owned by who makes it, and has three tries
+abbrev pub new_user : Database → Actor → List ℕ → Profile → List ℕ → User
+new_user db actor name profile secret =
+    record { stamp = db.next; name = name; profile = profile; owner = actor_stamp actor; secret = secret; tries = 3 }
+
+-- the user stands behind all others, and its stamp is taken
+abbrev pub with_user : Database → User → Database
+with_user db u = record db { next = db.next + 1; users = db.users ++ u ∷ [] }
+
+-- the last number of four octets is no stamp, so that the next stamp always has a spelling
+abbrev pub stamps_end : ℕ
+stamps_end = 4294967295
+
+-- the records take more cells than the card has
+abbrev pub is_overfull : Database → Bool
+is_overfull db = nat_lt db.cells (weight db)
+
+-- the database with one user more; refused where no stamp or no room is left
+abbrev pub added : Database → User → Result Database StatusWord
+added db u = if db.next == stamps_end || is_overfull (with_user db u) then Err no_space else Ok (with_user db u)
+
+-- CREATE USER: the first refusal that applies, or the new database
+abbrev pub created : Database → Actor → List ℕ → Profile → List ℕ → Result Database StatusWord
+created db actor name profile secret =
+    if not (may_create actor profile) then Err security_not_satisfied
+    else if is_taken db name then Err already_exists
+    else added db (new_user db actor name profile secret)
+
+-- the slots with the counter and the user written
+abbrev pub with_user_written : Slots → ℕ → ℕ → ℕ → User → Slots
+with_user_written slots counter_slot slot next u = set (set slots counter_slot (Some (counter_record.spell next))) slot (Some (user_record.spell u))
+
+-- one slot has the counter, and another is empty
+pub record AreReady (slots : Slots) (db : Database) (counter_slot slot : ℕ) : Type 0 where
+  pub counter_within : counter_slot < length slots
+  pub within : slot < length slots
+  pub counts : in_slot counter_in (get_or slots counter_slot None) ≡ Some db.next
+  pub empty : get_or slots slot None ≡ None

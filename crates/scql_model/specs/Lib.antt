@@ -1,0 +1,16 @@
+pub mod Commands
+pub mod Creating
+pub mod Database
+pub mod Fields
+pub mod Form
+pub mod Lines
+pub mod Lists
+pub mod Machine
+pub mod Name
+pub mod Octets
+pub mod Opens
+pub mod Records
+pub mod Row
+pub mod Step
+pub mod Strings
+pub mod Words

@@ -1,0 +1,76 @@
+-- The table machine: the committed database, a transaction or none, and what is kept for each of four channels.
+use Rattle.std.specs.Prelude.{ℕ, ◌==◌, Bool, List, [], ◌∷◌, map, Option, Some, None, is_some, option_and_then, slice_get, if◌then◌else◌}
+use Rattle.std.specs.Option.{option_flatten, option_map_or}
+use Rattle.scql_model.specs.declared.words.Actor.{Actor}
+use Rattle.scql_model.specs.declared.words.Actor.TheVariants.{Public, User as a_user}
+use Rattle.scql_model.specs.declared.condition.Condition.{Condition}
+use Rattle.scql_model.specs.Records.{User}
+use Rattle.scql_model.specs.Database.{Database, user_stamped}
+
+-- where a cursor stands: at a row's stamp, before its first opening, or past the last row
+pub data Place : Type 0 where
+  not_open : Place
+  at_stamp : ℕ → Place
+  at_end : Place
+
+-- a cursor over an object, which is named by its stamp
+pub record Cursor : Type 0 where
+  pub object : ℕ
+  pub columns : List (List ℕ)
+  pub conditions : List Condition
+  pub place : Place
+
+-- a presented user, by its stamp, and whether that user is proved
+pub record Presented : Type 0 where
+  pub stamp : ℕ
+  pub proved : Bool
+
+pub record Session : Type 0 where
+  pub user : Option Presented
+  pub cursor : Option Cursor
+
+-- an open transaction: its channel, the database as it has changed it, and the stamps of the records that it touched, the counter's being 0
+pub record Transaction : Type 0 where
+  pub channel : ℕ
+  pub working : Database
+  pub touched : List ℕ
+
+-- there are four sessions, one for each channel; a channel without one isn't open
+pub record Machine : Type 0 where
+  pub committed : Database
+  pub transaction : Option Transaction
+  pub sessions : List (Option Session)
+
+abbrev pub new_session : Session
+new_session = record { user = None; cursor = None }
+
+-- channel 0 alone is open, without a user
+abbrev pub start : Database → Machine
+start db = record { committed = db; transaction = None; sessions = Some new_session ∷ None ∷ None ∷ None ∷ [] }
+
+-- the card is reset: its transaction is undone and all sessions end
+abbrev pub reset : Machine → Machine
+reset m = start m.committed
+
+abbrev pub open_channels : Machine → List Bool
+open_channels m = map (λ (s : Option Session). is_some s) m.sessions
+
+abbrev pub session_of : Machine → ℕ → Option Session
+session_of m channel = option_flatten (slice_get m.sessions channel)
+
+-- what a channel reads and changes: the working database where the transaction is its own, else the committed one
+abbrev pub base_of : Option Transaction → Database → ℕ → Database
+base_of None committed channel = committed
+base_of (Some t) committed channel = if t.channel == channel then t.working else committed
+
+abbrev pub base : Machine → ℕ → Database
+base m channel = base_of m.transaction m.committed channel
+
+-- for whom a channel acts: the presented user where proved, else PUBLIC
+abbrev pub actor_of : Database → Presented → Actor
+actor_of db p =
+    if p.proved then option_map_or (λ (u : User). a_user u.stamp u.profile) (user_stamped db.users p.stamp) Public else Public
+
+abbrev pub actor : Machine → ℕ → Actor
+actor m channel =
+    option_map_or (actor_of (base m channel)) (option_and_then (λ (s : Session). s.user) (session_of m channel)) Public

@@ -1,0 +1,34 @@
+-- The database to which an image opens.
+use Rattle.std.specs.Prelude.{◌≡◌, ℕ, ◌||◌, Bool, true, List, [], ◌∷◌, length, Option, Some, None, is_some}
+use Rattle.std.specs.List.{list_all}
+use Rattle.eeprom.specs.StoreOf.{Slots, store_of}
+use Rattle.eeprom.specs.Slots.{kept}
+use Rattle.scql_model.specs.Records.{User, counter_in, user_in}
+use Rattle.scql_model.specs.Database.{Database, IsValid}
+
+-- an empty slot, or the spelling of a record
+abbrev pub is_spelled : Option (List ℕ) → Bool
+is_spelled None = true
+is_spelled (Some octets) = is_some (counter_in octets) || is_some (user_in octets)
+
+-- the counter counts as a record of stamp 0
+abbrev pub counter_stamp : ℕ → ℕ
+counter_stamp next = 0
+
+-- The database's records are those in the slots: of each kind those that its reader gives, in rising order of their stamps.
+pub record Holds (slots : Slots) (db : Database) : Type 0 where
+  pub cells : length slots ≡ db.cells
+  pub spelled : list_all is_spelled slots ≡ true
+  pub counter : kept counter_stamp counter_in slots ≡ db.next ∷ []
+  pub users : kept (λ (u : User). u.stamp) user_in slots ≡ db.users
+  -- a kind without an operation has no reader yet, and no record
+  pub objects : db.objects ≡ []
+  pub grants : db.grants ≡ []
+  pub rows : db.rows ≡ []
+
+-- The image has a store whose slots hold a valid database.
+pub record Opens (image : List ℕ) (db : Database) : Type 0 where
+  pub slots : Slots
+  pub stored : store_of image ≡ Some slots
+  pub holds : Holds slots db
+  pub valid : IsValid db

@@ -1,0 +1,195 @@
+-- The records of a database, and how each is spelled.
+use Rattle.std.specs.Prelude.{ℕ, ◌==◌, nat_le, ◌&&◌, ◌||◌, Bool, List, [], length, Option, Some, None, option_and_then, if◌then◌else◌}
+use Rattle.std.specs.List.{flat_map, list_all}
+use Rattle.scql_model.specs.declared.words.Profile.{Profile}
+use Rattle.scql_model.specs.declared.words.Profile.TheVariants.{DbO, Dboo, Dbbu}
+use Rattle.scql_model.specs.declared.words.Subject.{Subject}
+use Rattle.scql_model.specs.declared.words.Subject.TheVariants.{Objects, Users, Grants}
+use Rattle.scql_model.specs.declared.words.Comparison.{Comparison}
+use Rattle.scql_model.specs.declared.words.Comparison.TheVariants.{Equal, Less, Greater, AtMost, AtLeast, NotEqual}
+use Rattle.scql_model.specs.declared.condition.Condition.{Condition}
+use Rattle.scql_model.specs.Name.{is_name}
+use Rattle.scql_model.specs.Row.{is_narrow, row_size}
+use Rattle.scql_model.specs.Strings.{spelled, params_of}
+use Rattle.scql_model.specs.Fields.{Field, ◌then◌, number, octet, letter, text, counted, as_record, marked, whole}
+
+-- Stamps number users, objects, grants and rows in the order in which they were made; an owner, a base, an object and a
+-- grantee are stamps of others. Names and values are their octets.
+pub record User : Type 0 where
+  pub stamp : ℕ
+  pub name : List ℕ
+  pub profile : Profile
+  pub owner : ℕ
+  pub secret : List ℕ
+  pub tries : ℕ
+
+pub data ObjectKind : Type 0 where
+  table : (columns : List (List ℕ)) → ObjectKind
+  view : (base : ℕ) (columns : List (List ℕ)) (conditions : List Condition) → ObjectKind
+  dictionary : Subject → ObjectKind
+
+pub record Object : Type 0 where
+  pub stamp : ℕ
+  pub name : List ℕ
+  pub owner : ℕ
+  pub kind : ObjectKind
+
+-- the grantee is a user's stamp, or 0 for PUBLIC; the privileges are bits: 1 SELECT, 2 INSERT, 4 UPDATE, 8 DELETE
+pub record Grant : Type 0 where
+  pub stamp : ℕ
+  pub object : ℕ
+  pub grantee : ℕ
+  pub privileges : ℕ
+
+pub record Row : Type 0 where
+  pub stamp : ℕ
+  pub table : ℕ
+  pub values : List (List ℕ)
+
+-- Codes.
+abbrev pub profile_code : Profile → ℕ
+profile_code DbO = 1
+profile_code Dboo = 2
+profile_code Dbbu = 3
+
+abbrev pub profile_of : ℕ → Option Profile
+profile_of code = if code == 1 then Some DbO else if code == 2 then Some Dboo else if code == 3 then Some Dbbu else None
+
+abbrev pub subject_code : Subject → ℕ
+subject_code Objects = 0x4F
+subject_code Users = 0x55
+subject_code Grants = 0x50
+
+abbrev pub subject_of : ℕ → Option Subject
+subject_of code = if code == 0x4F then Some Objects else if code == 0x55 then Some Users else if code == 0x50 then Some Grants else None
+
+abbrev pub comparison_code : Comparison → ℕ
+comparison_code Equal = 0x3D
+comparison_code Less = 0x3C
+comparison_code Greater = 0x3E
+comparison_code AtMost = 0x4C
+comparison_code AtLeast = 0x47
+comparison_code NotEqual = 0x23
+
+abbrev pub comparison_of : ℕ → Option Comparison
+comparison_of code =
+    if code == 0x3D then Some Equal
+    else if code == 0x3C then Some Less
+    else if code == 0x3E then Some Greater
+    else if code == 0x4C then Some AtMost
+    else if code == 0x47 then Some AtLeast
+    else if code == 0x23 then Some NotEqual
+    else None
+
+-- Limits.
+abbrev pub is_secret : List ℕ → Bool
+is_secret octets = length octets == 0 || nat_le 4 (length octets) && nat_le (length octets) 8
+
+abbrev pub is_tries : ℕ → Bool
+is_tries n = nat_le n 3
+
+abbrev pub is_privileges : ℕ → Bool
+is_privileges bits = nat_le 1 bits && nat_le bits 15
+
+abbrev pub is_one_to_fifteen : ℕ → Bool
+is_one_to_fifteen n = nat_le 1 n && nat_le n 15
+
+abbrev pub is_at_most_eight : ℕ → Bool
+is_at_most_eight n = nat_le n 8
+
+abbrev pub is_row : List (List ℕ) → Bool
+is_row values = is_one_to_fifteen (length values) && list_all is_narrow values && nat_le (row_size values) 240
+
+-- The spellings. Columns and values are texts; a row's values go to the end.
+abbrev pub columns : Field (List (List ℕ))
+columns = counted is_one_to_fifteen (text is_name)
+
+abbrev pub to_condition : List ℕ × (Comparison × List ℕ) → Condition
+to_condition x = record { column = x.0; comparison = x.1.0; value = x.1.1 }
+
+abbrev pub from_condition : Condition → List ℕ × (Comparison × List ℕ)
+from_condition c = (c.column, (c.comparison, c.value))
+
+abbrev pub conditions : Field (List Condition)
+conditions =
+    counted is_at_most_eight (as_record to_condition from_condition (text is_name then letter comparison_code comparison_of then text is_narrow))
+
+abbrev pub no_rest : List (List ℕ) → Option (List (List ℕ) × List ℕ)
+no_rest values = if is_row values then Some (values, []) else None
+
+abbrev pub values_to_the_end : Field (List (List ℕ))
+values_to_the_end = record {
+  spell = λ values. flat_map spelled values;
+  fits = is_row;
+  read = λ octets. option_and_then no_rest (params_of octets);
+}
+
+-- counter: the next stamp
+abbrev pub counter_record : Field ℕ
+counter_record = marked 0x00 number
+
+-- user: stamp, owner, profile, tries, name, secret
+abbrev pub to_user : ℕ × (ℕ × (Profile × (ℕ × (List ℕ × List ℕ)))) → User
+to_user x = record { stamp = x.0; owner = x.1.0; profile = x.1.1.0; tries = x.1.1.1.0; name = x.1.1.1.1.0; secret = x.1.1.1.1.1 }
+
+abbrev pub from_user : User → ℕ × (ℕ × (Profile × (ℕ × (List ℕ × List ℕ))))
+from_user u = (u.stamp, (u.owner, (u.profile, (u.tries, (u.name, u.secret)))))
+
+abbrev pub user_record : Field User
+user_record =
+    marked 0x01 (as_record to_user from_user (number then number then letter profile_code profile_of then octet is_tries then text is_name then text is_secret))
+
+-- table: stamp, owner, name, columns
+abbrev pub table_record : Field (ℕ × (ℕ × (List ℕ × List (List ℕ))))
+table_record = marked 0x02 (number then number then text is_name then columns)
+
+-- view: stamp, owner, base, name, columns, conditions
+abbrev pub view_record : Field (ℕ × (ℕ × (ℕ × (List ℕ × (List (List ℕ) × List Condition)))))
+view_record = marked 0x03 (number then number then number then text is_name then columns then conditions)
+
+-- dictionary: stamp, owner, name, letter
+abbrev pub dictionary_record : Field (ℕ × (ℕ × (List ℕ × Subject)))
+dictionary_record = marked 0x04 (number then number then text is_name then letter subject_code subject_of)
+
+-- grant: stamp, object, grantee, privileges
+abbrev pub to_grant : ℕ × (ℕ × (ℕ × ℕ)) → Grant
+to_grant x = record { stamp = x.0; object = x.1.0; grantee = x.1.1.0; privileges = x.1.1.1 }
+
+abbrev pub from_grant : Grant → ℕ × (ℕ × (ℕ × ℕ))
+from_grant g = (g.stamp, (g.object, (g.grantee, g.privileges)))
+
+abbrev pub grant_record : Field Grant
+grant_record = marked 0x05 (as_record to_grant from_grant (number then number then number then octet is_privileges))
+
+-- row: stamp, table, values
+abbrev pub to_row : ℕ × (ℕ × List (List ℕ)) → Row
+to_row x = record { stamp = x.0; table = x.1.0; values = x.1.1 }
+
+abbrev pub from_row : Row → ℕ × (ℕ × List (List ℕ))
+from_row r = (r.stamp, (r.table, r.values))
+
+abbrev pub row_record : Field Row
+row_record = marked 0x06 (as_record to_row from_row (number then number then values_to_the_end))
+
+abbrev pub object_spelling : Object → List ℕ
+object_spelling o = kind_spelling o o.kind
+  where
+    kind_spelling : Object → ObjectKind → List ℕ
+    kind_spelling o (table columns) = table_record.spell (o.stamp, (o.owner, (o.name, columns)))
+    kind_spelling o (view base columns conditions) = view_record.spell (o.stamp, (o.owner, (base, (o.name, (columns, conditions)))))
+    kind_spelling o (dictionary subject) = dictionary_record.spell (o.stamp, (o.owner, (o.name, subject)))
+
+abbrev pub object_fits : Object → Bool
+object_fits o = kind_fits o o.kind
+  where
+    kind_fits : Object → ObjectKind → Bool
+    kind_fits o (table columns) = table_record.fits (o.stamp, (o.owner, (o.name, columns)))
+    kind_fits o (view base columns conditions) = view_record.fits (o.stamp, (o.owner, (base, (o.name, (columns, conditions)))))
+    kind_fits o (dictionary subject) = dictionary_record.fits (o.stamp, (o.owner, (o.name, subject)))
+
+-- The readers of the kinds that are built. What is read has the kind's spelling and limits, with nothing left over.
+abbrev pub counter_in : List ℕ → Option ℕ
+counter_in octets = whole counter_record.read octets
+
+abbrev pub user_in : List ℕ → Option User
+user_in octets = whole user_record.read octets

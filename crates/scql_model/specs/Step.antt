@@ -1,0 +1,61 @@
+-- A step of the table machine: the answer to a command, the next machine, and the databases that are committed in turn.
+use Rattle.std.specs.Prelude.{ℕ, ◌==◌, Bool, List, [], length, Option, Some, None, Result, Ok, Err, is_some, slice_set, if◌then◌else◌}
+use Rattle.std.specs.List.{find}
+use Rattle.scql_model.specs.declared.words.StatusWord.{StatusWord}
+use Rattle.scql_model.specs.Words.{done, conditions_not_satisfied, not_found, instruction_not_supported}
+use Rattle.scql_model.specs.Records.{User}
+use Rattle.scql_model.specs.Database.{Database, public_name}
+use Rattle.std.specs.Str.{bytes_eq}
+use Rattle.scql_model.specs.Machine.{Machine, Session, Presented, open_channels, base}
+use Rattle.scql_model.specs.Commands.{Command, Operation, present_user, Reply}
+use Rattle.scql_model.specs.Form.{form_of, ◌>>=◌}
+
+pub record Answer : Type 0 where
+  pub reply : Reply
+  pub machine : Machine
+  pub commits : List Database
+
+-- an answer without data
+abbrev pub said : StatusWord → Reply
+said word = record { body = []; word = word }
+
+-- a refusal leaves all as it was
+abbrev pub answered : Machine → Result Answer StatusWord → Answer
+answered m (Ok answer) = answer
+answered m (Err word) = record { reply = said word; machine = m; commits = [] }
+
+-- done, and nothing is committed
+abbrev pub done_with : Machine → Answer
+done_with m = record { reply = said done; machine = m; commits = [] }
+
+abbrev pub with_session : Machine → ℕ → Session → Machine
+with_session m channel session = record m { sessions = slice_set m.sessions channel (Some session) }
+
+abbrev pub is_named : List ℕ → User → Bool
+is_named name u = bytes_eq name u.name
+
+abbrev pub user_named : List User → List ℕ → Option User
+user_named users name = find (is_named name) users
+
+-- a user is presented, proved where the secret is empty
+abbrev pub presented : User → Presented
+presented u = record { stamp = u.stamp; proved = length u.secret == 0 }
+
+abbrev pub user_presented : Machine → ℕ → Option User → Result Answer StatusWord
+user_presented m channel None = Err not_found
+user_presented m channel (Some u) = Ok (done_with (with_session m channel (record { user = Some (presented u); cursor = None })))
+
+-- PRESENT USER: the session's user is the named one, or nobody where the name is PUBLIC; its cursor is dropped
+abbrev pub user_of_session : Machine → ℕ → List ℕ → Result Answer StatusWord
+user_of_session m channel name =
+    if is_some m.transaction then Err conditions_not_satisfied
+    else if bytes_eq name public_name then Ok (done_with (with_session m channel (record { user = None; cursor = None })))
+    else user_presented m channel (user_named (base m channel).users name)
+
+-- what isn't built is refused before it comes here
+abbrev pub operated : Machine → ℕ → Operation → Result Answer StatusWord
+operated m channel (present_user name) = user_of_session m channel name
+operated m channel operation = Err instruction_not_supported
+
+unfoldable pub step : Machine → List ℕ → Answer
+step m octets = answered m (form_of octets (open_channels m) >>= λ (c : Command). operated m c.channel c.operation)

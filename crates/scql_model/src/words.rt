@@ -1,0 +1,65 @@
+// Small words that commands, records and answers share.
+
+/// How a column's value is compared with a condition's. Values compare octet by octet, a prefix first.
+#[derive(Clone, Copy, PartialEq, Eq, Debug)]
+pub enum Comparison {
+    Equal,
+    Less,
+    Greater,
+    AtMost,
+    AtLeast,
+    NotEqual,
+}
+
+/// What a user may do: the database's owner, the owner of objects, or a basic user.
+#[derive(Clone, Copy, PartialEq, Eq, Debug)]
+pub enum Profile {
+    DbO,
+    Dboo,
+    Dbbu,
+}
+
+/// What a dictionary tells of.
+#[derive(Clone, Copy, PartialEq, Eq, Debug)]
+pub enum Subject {
+    Objects,
+    Users,
+    Grants,
+}
+
+/// Who acts on a channel: nobody in particular, or a presented user, named by the stamp of its record.
+#[derive(Clone, Copy, PartialEq, Eq, Debug)]
+pub enum Actor {
+    Public,
+    User { stamp: u32, profile: Profile },
+}
+
+/// The two octets that end each answer, SW1 first, as one number.
+#[derive(Clone, Copy, PartialEq, Eq, Debug)]
+pub struct StatusWord {
+    pub word: u16,
+}
+
+impl StatusWord {
+    pub const DONE: StatusWord = StatusWord { word: 0x9000 };
+
+    pub const MEMORY_FAILURE: StatusWord = StatusWord { word: 0x6581 };
+
+    pub const WRONG_LENGTH: StatusWord = StatusWord { word: 0x6700 };
+
+    pub const CHANNEL_NOT_SUPPORTED: StatusWord = StatusWord { word: 0x6881 };
+
+    pub const SECURE_MESSAGING_NOT_SUPPORTED: StatusWord = StatusWord { word: 0x6882 };
+
+    pub const CHAINING_NOT_SUPPORTED: StatusWord = StatusWord { word: 0x6884 };
+
+    pub const WRONG_DATA: StatusWord = StatusWord { word: 0x6A80 };
+
+    pub const WRONG_PARAMETERS: StatusWord = StatusWord { word: 0x6A86 };
+
+    pub const NOT_FOUND: StatusWord = StatusWord { word: 0x6A88 };
+
+    pub const INSTRUCTION_NOT_SUPPORTED: StatusWord = StatusWord { word: 0x6D00 };
+
+    pub const CLASS_NOT_SUPPORTED: StatusWord = StatusWord { word: 0x6E00 };
+}
