@@ -1,0 +1,162 @@
+-- The record of a chain, and the chain of a slot.
+use Rattle.std.proofs.Common.{◌≡◌, ℕ, zero, suc, ◌+◌, ◌*◌, ◌<◌, ◌≤◌, ◌≢◌, ◌==◌, ◌&&◌, Bool, true, false, List, [], ◌∷◌, ◌++◌, length, map, slice_index, slice_index_or, flat_map, nat_lt, nat_le, Option, Some, None, IsSome, option_map, option_and_then, IfSome, Result, Ok, Err, IfOk, if◌then◌else◌, sym, refl, ap, ◌∙◌, arith, length-append, length-take, length-drop, leb-true, eqb-true, ltb-true, ◌⊎◌, inl, inr, subst}
+use Rattle.std.specs.List.{list_all}
+use Rattle.std.proofs.lemmas.Option.{same_Some, none-some}
+use Rattle.std.proofs.lemmas.List.{get_or_append_left}
+use Rattle.eeprom.specs.StoreOf.{chain_of, chains_of, cell_place, cells_for, payload_of, number_at, is_record, record_in, slot_of, slots_at, are_apart}
+use Rattle.record_store.specs.declared.side.Side.{Side}
+use Rattle.record_store.specs.declared.side.Side.TheVariants.{Committed, Working}
+use Rattle.record_store.specs.Held.{Held, firsts, contents, record_at, StandsFor}
+
+pub both : (a b : Bool) → a && b ≡ true → (a ≡ true) × (b ≡ true)
+both true b h = (refl, h)
+both false b h = absurd (cc)
+
+-- the payload of a chain is 30 octets a cell
+pub length-payload : (image : List ℕ) (n cell : ℕ) → cell < 2 * n → 70 * n + 34 ≤ length image → length (payload_of image n cell) ≡ 30
+length-payload image n cell inside room = simp (length-take, length-drop) (omega arith)
+
+pub if-some : (test : Bool) (chain : List ℕ) → (if test then Some [] else None) ≡ Some chain → (test ≡ true) × (chain ≡ [])
+if-some true chain h = (refl, sym (same_Some _ _ h))
+if-some false chain h = absurd (none-some chain h)
+
+-- a chain is none, or a cell and the chain from its link on
+pub chain-cases : (is_end is_cell : Bool) (cell : ℕ) (tail : Option (List ℕ)) (chain : List ℕ) → (if is_end then Some [] else (if is_cell then option_map (λ cells. cell ∷ cells) tail else None)) ≡ Some chain
+    → ((is_end ≡ true) × (chain ≡ [])) ⊎ ((is_cell ≡ true) × (rest : List ℕ) × (tail ≡ Some rest) × (chain ≡ cell ∷ rest))
+chain-cases true is_cell cell tail chain h = inl (refl, sym (same_Some _ _ h))
+chain-cases false true cell None chain h = absurd (none-some chain h)
+chain-cases false true cell (Some rest) chain h = inr (refl, rest, refl, sym (same_Some _ _ h))
+chain-cases false false cell tail chain h = absurd (none-some chain h)
+
+pub length-chain : (image : List ℕ) (n most cell : ℕ) (chain : List ℕ) → 70 * n + 34 ≤ length image → chain_of image n most cell ≡ Some chain → length (flat_map (payload_of image n) chain) ≡ 30 * length chain
+length-chain image n zero cell chain room h = rw ((if-some (cell == 65535) chain h).1) refl
+length-chain image n (suc most) cell chain room h =
+    elim (chain-cases (cell == 65535) (nat_lt cell (2 * n)) cell (chain_of image n most (number_at image (cell_place n cell))) chain h) [
+      | inl none ↦ rw (none.1) refl
+      | inr some ↦
+          let inside : cell < 2 * n = ltb-true cell (2 * n) some.0 in
+          rw (some.3) (omega (
+            arith,
+            length-append (payload_of image n cell) (flat_map (payload_of image n) some.1),
+            length-payload image n cell inside room,
+            length-chain image n most (number_at image (cell_place n cell)) some.1 room some.2,
+          ))
+    ]
+
+-- a chain of no cell is one that begins nowhere
+chain-empty : (image : List ℕ) (n most cell : ℕ) → chain_of image n most cell ≡ Some [] → cell ≡ 65535
+chain-empty image n zero cell h = eqb-true cell 65535 (if-some (cell == 65535) [] h).0
+chain-empty image n (suc most) cell h =
+    elim (chain-cases (cell == 65535) (nat_lt cell (2 * n)) cell (chain_of image n most (number_at image (cell_place n cell))) [] h) [
+      | inl none ↦ eqb-true cell 65535 none.0
+      | inr some ↦ absurd (let e = some.3 in cc)
+    ]
+
+pub chain-first : (image : List ℕ) (n most first cell : ℕ) (cells : List ℕ) → chain_of image n most first ≡ Some (cell ∷ cells) → cell < 2 * n
+chain-first image n zero first cell cells h = absurd (let e = (if-some (first == 65535) (cell ∷ cells) h).1 in cc)
+chain-first image n (suc most) first cell cells h =
+    elim (chain-cases (first == 65535) (nat_lt first (2 * n)) first (chain_of image n most (number_at image (cell_place n first))) (cell ∷ cells) h) [
+      | inl none ↦ absurd (let e = none.1 in cc)
+      | inr some ↦ let e : cell ≡ first = (let f = some.3 in cc) in rw e (ltb-true first (2 * n) some.0)
+    ]
+
+pub chain-nowhere : (image : List ℕ) (n most : ℕ) (chain : List ℕ) → chain_of image n most 65535 ≡ Some chain → chain ≡ []
+chain-nowhere image n zero chain h = sym (same_Some _ _ h)
+chain-nowhere image n (suc most) chain h = sym (same_Some _ _ h)
+
+pub record-none : (n first : ℕ) (image : Option (List ℕ)) → first ≡ 65535
+    → IfSome image (λ image. (chain : List ℕ) → chain_of image n (2 * n) first ≡ Some chain → is_record image n chain ≡ true → slot_of image n chain ≡ None)
+record-none n first None e = tt
+record-none n first (Some image) e = λ chain h _. rw (chain-nowhere image n (2 * n) chain (rw e at h)) refl
+
+record-of : (n first : ℕ) (image payload out : List ℕ) (found : Bool) (cell : ℕ) (cells : List ℕ) → 70 * n + 34 ≤ length image
+    → (length (cell ∷ cells) ≤ 18 → payload ≡ flat_map (payload_of image n) (cell ∷ cells))
+    → (number_at payload 0 ≤ 512 → 2 + number_at payload 0 ≤ length payload → (found ≡ true) × (out ≡ record_in payload))
+    → chain_of image n (2 * n) first ≡ Some (cell ∷ cells) → is_record image n (cell ∷ cells) ≡ true
+    → slot_of image n (cell ∷ cells) ≡ (if found then Some out else None)
+record-of n first image payload out found cell cells room read copied h is =
+    let size : ℕ = number_at (payload_of image n cell) 0 in
+    let tests = both (nat_le 1 size && nat_le size 512) (length (cell ∷ cells) == cells_for size) is in
+    let high : size ≤ 512 = leb-true size 512 (both (nat_le 1 size) (nat_le size 512) tests.0).1 in
+    let count : length (cell ∷ cells) ≡ cells_for size = eqb-true (length (cell ∷ cells)) (cells_for size) tests.1 in
+    let octets : payload ≡ payload_of image n cell ++ flat_map (payload_of image n) cells = read (omega arith) in
+    let one : length (payload_of image n cell) ≡ 30 = length-payload image n cell (chain-first image n (2 * n) first cell cells h) room in
+    let number : number_at payload 0 ≡ size =
+    rw (
+      octets,
+      get_or_append_left (payload_of image n cell) (flat_map (payload_of image n) cells) 0 0 (omega arith),
+      get_or_append_left (payload_of image n cell) (flat_map (payload_of image n) cells) 0 1 (omega arith),
+    ) refl in
+    let total : length payload ≡ 30 * length (cell ∷ cells) = ap (length {A = ℕ}) octets ∙ length-chain image n (2 * n) first (cell ∷ cells) room h in
+    let copy = copied (omega arith) (omega arith) in
+    rw (copy.0, copy.1, octets) refl
+
+pub record-some : (n first : ℕ) (image : Option (List ℕ)) (size : ℕ) (payload out : List ℕ) (found : Bool) → first ≢ 65535 → 70 * n + 34 ≤ size → IfSome image (λ image. length image ≡ size)
+    → IfSome image (λ image. (chain : List ℕ) → chain_of image n (2 * n) first ≡ Some chain → length chain ≤ 18 → payload ≡ flat_map (payload_of image n) chain)
+    → (number_at payload 0 ≤ 512 → 2 + number_at payload 0 ≤ length payload → (found ≡ true) × (out ≡ record_in payload))
+    → IfSome image (λ image. (chain : List ℕ) → chain_of image n (2 * n) first ≡ Some chain → is_record image n chain ≡ true → slot_of image n chain ≡ (if found then Some out else None))
+record-some n first None size payload out found other room sized read copied = tt
+record-some n first (Some image) size payload out found other room sized read copied =
+    λ chain h is. elim chain as (λ chain. chain_of image n (2 * n) first ≡ Some chain → is_record image n chain ≡ true → slot_of image n chain ≡ (if found then Some out else None)) [
+      | [] ↦ λ h _. absurd (other (chain-empty image n (2 * n) first h))
+      | cell ∷ cells ↦ λ h is. record-of n first image payload out found cell cells (omega arith) (read (cell ∷ cells) h) copied h is
+    ] h is
+
+-- the chain of a slot
+pub record ChainOf (image : List ℕ) (n : ℕ) (first : ℕ) (entry : Option (List ℕ)) : Type 0 where
+  pub chain : List ℕ
+  pub of : chain_of image n (2 * n) first ≡ Some chain
+  pub is : is_record image n chain ≡ true
+  pub entry_is : entry ≡ slot_of image n chain
+
+pub chains-parts : (first : Option (List ℕ)) (rest : Option (List (List ℕ))) (chains : List (List ℕ)) → option_and_then (λ cells. option_map (λ others. cells ∷ others) rest) first ≡ Some chains
+    → (chain : List ℕ) × (others : List (List ℕ)) × (first ≡ Some chain) × (rest ≡ Some others) × (chains ≡ chain ∷ others)
+chains-parts None rest chains h = absurd (none-some chains h)
+chains-parts (Some chain) None chains h = absurd (none-some chains h)
+chains-parts (Some chain) (Some others) chains h = (chain, others, refl, refl, sym (same_Some _ _ h))
+
+chain-slot : (image : List ℕ) (n : ℕ) (firsts : List ℕ) (chains : List (List ℕ)) (slot : ℕ) → slot < length firsts → chains_of image n firsts ≡ Some chains → list_all (is_record image n) chains ≡ true
+    → ChainOf image n (slice_index firsts slot) (slice_index_or (map (slot_of image n) chains) slot None)
+chain-slot image n [] chains slot inside h all = absurd (omega arith)
+chain-slot image n (first ∷ rest) chains zero inside h all =
+    let parts = chains-parts (chain_of image n (2 * n) first) (chains_of image n rest) chains h in
+    record {
+      chain = parts.0;
+      of = parts.2;
+      is = (both (is_record image n parts.0) (list_all (is_record image n) parts.1) (rw (parts.4) at all)).0;
+      entry_is = ap (λ (all : List (List ℕ)). slice_index_or (map (slot_of image n) all) 0 None) parts.4;
+    }
+chain-slot image n (first ∷ rest) chains (suc slot) inside h all =
+    let parts = chains-parts (chain_of image n (2 * n) first) (chains_of image n rest) chains h in
+    subst (λ (all : List (List ℕ)). ChainOf image n (slice_index rest slot) (slice_index_or (map (slot_of image n) all) (suc slot) None)) (sym parts.4)
+    (chain-slot image n rest parts.1 slot (omega arith) parts.3 (both (is_record image n parts.0) (list_all (is_record image n) parts.1) (rw (parts.4) at all)).1)
+
+entry-if : (image : List ℕ) (n : ℕ) (firsts : List ℕ) (slot : ℕ) → slot < length firsts → (chains : List (List ℕ)) → chains_of image n firsts ≡ Some chains
+    → (all apart : Bool) → list_all (is_record image n) chains ≡ all → IsSome (if all && apart then Some (map (slot_of image n) chains) else None)
+    → ChainOf image n (slice_index firsts slot) (option_and_then (λ slots. slice_index_or slots slot None) (if all && apart then Some (map (slot_of image n) chains) else None))
+entry-if image n firsts slot inside chains e true true all h = chain-slot image n firsts chains slot inside e all
+entry-if image n firsts slot inside chains e true false all h = absurd (cc)
+entry-if image n firsts slot inside chains e false apart all h = absurd (cc)
+
+entry-at : (image : List ℕ) (n : ℕ) (firsts : List ℕ) (slot : ℕ) → slot < length firsts → (chains : Option (List (List ℕ))) → chains_of image n firsts ≡ chains
+    → IsSome (option_and_then (λ chains. if list_all (is_record image n) chains && are_apart n chains then Some (map (slot_of image n) chains) else None) chains)
+    → ChainOf image n (slice_index firsts slot) (option_and_then (λ slots. slice_index_or slots slot None)
+    (option_and_then (λ chains. if list_all (is_record image n) chains && are_apart n chains then Some (map (slot_of image n) chains) else None) chains))
+entry-at image n firsts slot inside None e h = absurd (cc)
+entry-at image n firsts slot inside (Some chains) e h = entry-if image n firsts slot inside chains e (list_all (is_record image n) chains) (are_apart n chains) refl h
+
+pub chain-entry : (image : List ℕ) (n : ℕ) (firsts : List ℕ) (slot : ℕ) → slot < length firsts → IsSome (slots_at image n firsts)
+    → ChainOf image n (slice_index firsts slot) (option_and_then (λ slots. slice_index_or slots slot None) (slots_at image n firsts))
+chain-entry image n firsts slot inside h = entry-at image n firsts slot inside (chains_of image n firsts) refl h
+
+pub record-found : (held : Held) (side : Side) (slot n first : ℕ) (image : Option (List ℕ)) {E : Type 0} (result : Result Bool E) (out : List ℕ) → n ≡ held.cells → first ≡ slice_index (firsts held side) slot → slot < length (firsts held side)
+    → IfSome image (StandsFor held)
+    → IfOk result (λ found. IfSome image (λ image. (chain : List ℕ) → chain_of image n (2 * n) first ≡ Some chain → is_record image n chain ≡ true → slot_of image n chain ≡ (if found then Some out else None)))
+    → IfOk result (λ found. IfSome image (λ image. record_at held side slot image ≡ (if found then Some out else None)))
+record-found held side slot n first image (Err error) out cells start inside stands got = tt
+record-found held side slot n first None (Ok found) out cells start inside stands got = tt
+record-found held side slot n first (Some image) (Ok found) out cells start inside stands got =
+    let there : IsSome (contents held side image) = elim side as (λ side. IsSome (contents held side image)) [ Committed ↦ stands.committed | Working ↦ stands.working ] in
+    let entry = chain-entry image held.cells (firsts held side) slot inside there in
+    let read = rw (cells, start) at got in
+    entry.entry_is ∙ read entry.chain entry.of entry.is

@@ -1,0 +1,89 @@
+-- Slots stay where a write leaves the cells of their chains.
+use Rattle.std.proofs.Common.{◌≡◌, ℕ, zero, suc, ◌+◌, ◌*◌, ◌-◌, ◌<◌, ◌≤◌, ◌==◌, ◌&&◌, Bool, true, false, List, [], ◌∷◌, ◌++◌, take, drop, map, slice_index, flat_map, nat_lt, Option, Some, sym, refl, ap, ap₂, ◌∙◌, arith, subst, ltb-true, inl, inr, get_or-drop, get_or, drop-drop}
+use Rattle.std.specs.List.{list_all, AllByRecursion}
+use Rattle.std.proofs.lemmas.Bool.Decides.{nat_tests}
+use Rattle.eeprom.specs.StoreOf.{Slots, chain_of, chains_of, cell_place, payload_of, number_at, is_record, slot_of, slots_at, are_apart}
+use Rattle.record_store.specs.Placed.{SameCell}
+use Rattle.record_store.proofs.Records.{chain-cases, chains-parts}
+use Rattle.record_store.proofs.Weights.{slots-chains}
+
+abbrev pub SameChain : List ℕ → List ℕ → ℕ → List ℕ → Type 0
+SameChain left was n chain = AllByRecursion (SameCell left was n) chain
+
+pub chain-same : (left was : List ℕ) (n most cell : ℕ) (chain : List ℕ) → n ≤ 2048 → chain_of was n most cell ≡ Some chain → SameChain left was n chain → chain_of left n most cell ≡ Some chain
+chain-same left was n zero cell chain few h same = h
+chain-same left was n (suc most) cell chain few h same =
+    elim (chain-cases (cell == 65535) (nat_lt cell (2 * n)) cell (chain_of was n most (number_at was (cell_place n cell))) chain h) [
+      | inl none ↦ rw (none.0) (ap (λ (xs : List ℕ). Some xs) (sym none.1))
+      | inr some ↦
+          let inside : cell < 2 * n = ltb-true cell (2 * n) some.0 in
+          let other : (cell == 65535) ≡ false = grind (arith, nat_tests) in
+          let parts : SameChain left was n (cell ∷ some.1) = subst (SameChain left was n) some.3 same in
+          let rest = chain-same left was n most (number_at was (cell_place n cell)) some.1 few some.2 parts.1 in
+          rw (other, some.0, parts.0.link, rest) (ap (λ (xs : List ℕ). Some xs) (sym some.3))
+    ]
+
+pub chains-same : (left was : List ℕ) (n : ℕ) (firsts : List ℕ) (chains : List (List ℕ)) → n ≤ 2048 → chains_of was n firsts ≡ Some chains → AllByRecursion (SameChain left was n) chains → chains_of left n firsts ≡ Some chains
+chains-same left was n [] chains few h same = h
+chains-same left was n (first ∷ rest) chains few h same =
+    let parts = chains-parts (chain_of was n (2 * n) first) (chains_of was n rest) chains h in
+    let each : AllByRecursion (SameChain left was n) (parts.0 ∷ parts.1) = subst (AllByRecursion (SameChain left was n)) parts.4 same in
+    let one = chain-same left was n (2 * n) first parts.0 few parts.2 each.0 in
+    let more = chains-same left was n rest parts.1 few parts.3 each.1 in
+    rw (one, more) (ap (λ (all : List (List ℕ)). Some all) (sym parts.4))
+
+pub payload-same : (left was : List ℕ) (n : ℕ) (chain : List ℕ) → SameChain left was n chain → flat_map (payload_of left n) chain ≡ flat_map (payload_of was n) chain
+payload-same left was n [] same = refl
+payload-same left was n (cell ∷ chain) same = ap₂ (λ (xs ys : List ℕ). xs ++ ys) same.0.payload (payload-same left was n chain same.1)
+
+pub record-same : (left was : List ℕ) (n : ℕ) (chain : List ℕ) → SameChain left was n chain → is_record left n chain ≡ is_record was n chain
+record-same left was n [] same = refl
+record-same left was n (cell ∷ chain) same = rw (same.0.payload) refl
+
+pub slot-same : (left was : List ℕ) (n : ℕ) (chain : List ℕ) → SameChain left was n chain → slot_of left n chain ≡ slot_of was n chain
+slot-same left was n [] same = refl
+slot-same left was n (cell ∷ chain) same = rw (payload-same left was n (cell ∷ chain) same) refl
+
+pub records-same : (left was : List ℕ) (n : ℕ) (chains : List (List ℕ)) → AllByRecursion (SameChain left was n) chains → list_all (is_record left n) chains ≡ list_all (is_record was n) chains
+records-same left was n [] same = refl
+records-same left was n (chain ∷ chains) same = ap₂ (λ (a b : Bool). a && b) (record-same left was n chain same.0) (records-same left was n chains same.1)
+
+pub map-same : (left was : List ℕ) (n : ℕ) (chains : List (List ℕ)) → AllByRecursion (SameChain left was n) chains → map (slot_of left n) chains ≡ map (slot_of was n) chains
+map-same left was n [] same = refl
+map-same left was n (chain ∷ chains) same = ap₂ (λ (slot : Option (List ℕ)) (slots : Slots). slot ∷ slots) (slot-same left was n chain same.0) (map-same left was n chains same.1)
+
+-- where each chain's cells are the same, so are the slots
+pub slots-same : (left was : List ℕ) (n : ℕ) (firsts : List ℕ) (slots : Slots) (chains : List (List ℕ)) → n ≤ 2048 → chains_of was n firsts ≡ Some chains → list_all (is_record was n) chains ≡ true → are_apart n chains ≡ true → slots ≡ map (slot_of was n) chains
+    → AllByRecursion (SameChain left was n) chains → slots_at left n firsts ≡ Some slots
+slots-same left was n firsts slots chains few of records apart is same =
+    rw (chains-same left was n firsts chains few of same, records-same left was n chains same, records, apart, map-same left was n chains same, is) refl
+
+-- where all octets from the cells on are the same, each cell is
+cell-beside : (left was : List ℕ) (n cell : ℕ) → drop (34 + 6 * n) left ≡ drop (34 + 6 * n) was → SameCell left was n cell
+cell-beside left was n cell same =
+    let drops : (k : ℕ) → drop ((34 + 6 * n) + k) left ≡ drop ((34 + 6 * n) + k) was =
+    λ k. sym (drop-drop k (34 + 6 * n) left) ∙ ap (λ (xs : List ℕ). drop k xs) same ∙ drop-drop k (34 + 6 * n) was in
+    let octet : (k : ℕ) → slice_index left ((34 + 6 * n) + k) ≡ slice_index was ((34 + 6 * n) + k) =
+    λ k. sym (get_or-drop (34 + 6 * n) left k 0) ∙ ap (λ (xs : List ℕ). get_or xs k 0) same ∙ get_or-drop (34 + 6 * n) was k 0 in
+    let low : (34 + 6 * n) + (32 * cell + 1) ≡ cell_place n cell + 1 = omega arith in
+    let from : (34 + 6 * n) + (32 * cell + 2) ≡ cell_place n cell + 2 = omega arith in
+    record {
+      link = rw (octet (32 * cell), rw low at (octet (32 * cell + 1))) refl;
+      payload = ap (λ (xs : List ℕ). take ((cell_place n cell + 32) - (cell_place n cell + 2)) xs) (rw from at (drops (32 * cell + 2)));
+    }
+
+chain-beside : (left was : List ℕ) (n : ℕ) (chain : List ℕ) → drop (34 + 6 * n) left ≡ drop (34 + 6 * n) was → SameChain left was n chain
+chain-beside left was n [] same = tt
+chain-beside left was n (cell ∷ chain) same = (cell-beside left was n cell same, chain-beside left was n chain same)
+
+chains-beside : (left was : List ℕ) (n : ℕ) (chains : List (List ℕ)) → drop (34 + 6 * n) left ≡ drop (34 + 6 * n) was → AllByRecursion (SameChain left was n) chains
+chains-beside left was n [] same = tt
+chains-beside left was n (chain ∷ chains) same = (chain-beside left was n chain same, chains-beside left was n chains same)
+
+pub links-beside : (left was : List ℕ) (n cell : ℕ) → drop (34 + 6 * n) left ≡ drop (34 + 6 * n) was → number_at left (cell_place n cell) ≡ number_at was (cell_place n cell)
+links-beside left was n cell same = (cell-beside left was n cell same).link
+
+pub slots-beside : (left was : List ℕ) (n : ℕ) (firsts : List ℕ) (slots : Slots) → n ≤ 2048 → drop (34 + 6 * n) left ≡ drop (34 + 6 * n) was → slots_at was n firsts ≡ Some slots → slots_at left n firsts ≡ Some slots
+slots-beside left was n firsts slots few same h =
+    let c = slots-chains was n firsts slots h in
+    slots-same left was n firsts slots c.chains few c.of c.records c.apart c.is (chains-beside left was n c.chains same)

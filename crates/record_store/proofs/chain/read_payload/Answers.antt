@@ -1,0 +1,31 @@
+use Rattle.std.proofs.Common.{refl, rules, arith, length-append, length-take, length-drop}
+use Rattle.record_store.proofs.Walking.{Walked-start, Walked-more, Walked-end, Walked-full}
+use Rattle.record_store.proofs.chain.read_payload.Goals as goal
+
+pub loop-step-init : goal.loop-step-init
+loop-step-init g c = record {
+  size = rw c.clear.ensures refl;
+  walked = Walked-start c.args.cells c.args.first c.clear.new.self.items (g.B.Eeprom.chip c.args.bench.now).image c.clear.ensures;
+  same = refl;
+  faults = refl;
+}
+
+pub loop-step-preserved : goal.loop-step-preserved
+loop-step-preserved g c = record {
+  size = rw c.append.ensures.appends (simp (length-append, length-take, length-drop) (omega arith));
+  walked =
+      let read = rw (c.loop-step.invariant.same, c.cell_place.ensures) at c.in_ok-read.ensures.octets in
+      Walked-more c.args.cells c.args.first c.loop-step.cell c.loop-step.payload.items c.append.new.payload.items c.loop-step._step c.number_of-cell.result
+      (g.B.Eeprom.chip c.args.bench.now).image c.read.new.into c.requires.many c.if-cell-cells.false read c.number_of-cell.ensures.number c.append.ensures.appends
+      c.loop-step.invariant.walked;
+  same = search rules;
+  faults = search rules;
+}
+
+pub returns-after-loop-step-clause-payload : goal.returns-after-loop-step-clause-payload
+returns-after-loop-step-clause-payload g c =
+    Walked-full c.args.cells c.args.first c.loop-step.cell c.loop-step.payload.items c.loop-step._step 18 (g.B.Eeprom.chip c.args.bench.now).image (omega arith) c.loop-step.invariant.walked
+
+pub returns-then-cell-cells-clause-payload : goal.returns-then-cell-cells-clause-payload
+returns-then-cell-cells-clause-payload g c =
+    Walked-end c.args.cells c.args.first c.loop-step.cell c.loop-step.payload.items c.loop-step._step 18 (g.B.Eeprom.chip c.args.bench.now).image (omega arith) c.loop-step.invariant.walked

@@ -1,0 +1,13 @@
+use Rattle.std.proofs.Common.{◌≡◌, ℕ, ◌*◌, List, Some, length, IfSome}
+use Rattle.eeprom.specs.StoreOf.{chain_of}
+use Rattle.record_store.specs.Walk.{Walked}
+use Rattle.record_store.proofs.chain.read_payload.Given as goal
+
+abbrev pub invariant-loop-step : goal.invariant-loop-step
+invariant-loop-step g l = record {
+  size : length l.payload.items ≡ 30 * l._step;
+  walked : IfSome (g.B.Eeprom.chip l.initial.bench).image (λ image. (chain : List ℕ) → chain_of image l.cells (2 * l.cells) l.first ≡ Some chain
+      → Walked l.cells chain l.cell l.payload.items l._step image);
+  same : g.B.Eeprom.chip l.bench ≡ g.B.Eeprom.chip l.initial.bench;
+  faults : g.B.Eeprom.faults l.bench ≡ g.B.Eeprom.faults l.initial.bench;
+}

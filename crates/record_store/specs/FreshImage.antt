@@ -1,0 +1,27 @@
+-- The octets of a new store, in the order of the image.
+use Rattle.std.specs.Prelude.{ℕ, ◌+◌, ◌-◌, ◌*◌, List, [], ◌∷◌, ◌++◌, length, replicate}
+use Rattle.eeprom.specs.StoreOf.{two_octets}
+
+-- 53 43 51 4C, which is `SCQL`
+abbrev pub magic : List ℕ
+magic = 0x53 ∷ 0x43 ∷ 0x51 ∷ 0x4C ∷ []
+
+-- format 1 and an even version, the number of cells, a selector of the first directory, and nothing else
+abbrev pub fresh_header : ℕ → List ℕ
+fresh_header n = (1 ∷ 0 ∷ two_octets n) ++ replicate 24 0
+
+-- slot 0 at cell 0, slot 1 at cell 1, and the others empty; the second directory and what is behind it are 0
+abbrev pub fresh_directories : ℕ → List ℕ
+fresh_directories n = (0 ∷ 0 ∷ 0 ∷ 1 ∷ []) ++ (replicate (2 * n - 4) 0xFF ++ replicate (4 * n + 2) 0)
+
+-- a cell with no next one, that holds a record's length and octets
+abbrev pub fresh_cell : List ℕ → List ℕ
+fresh_cell octets = (0xFF ∷ 0xFF ∷ 0 ∷ length octets ∷ []) ++ (octets ++ replicate (28 - length octets) 0)
+
+-- all but the magic, which comes before it
+abbrev pub fresh_body : ℕ → List ℕ → List ℕ → List ℕ
+fresh_body n first second =
+    fresh_header n ++ (fresh_directories n ++ (fresh_cell first ++ (fresh_cell second ++ replicate (64 * n - 64) 0)))
+
+abbrev pub fresh_image : ℕ → List ℕ → List ℕ → List ℕ
+fresh_image n first second = magic ++ fresh_body n first second

@@ -1,0 +1,24 @@
+-- What the first octets of an image say.
+use Rattle.std.specs.Prelude.{◌≡◌, ℕ, ◌+◌, ◌*◌, ◌%◌, ◌==◌, ◌≤◌, ◌<◌, nat_le, ◌&&◌, Bool, true, List, slice_index}
+use Rattle.eeprom.specs.StoreOf.{number_at, starts_with_magic, has_header}
+use Rattle.record_store.specs.declared.opening.Header.{Header}
+
+-- they are those of a store in an image of this size
+abbrev pub begins_store : List ℕ → ℕ → Bool
+begins_store octets size =
+    let n = number_at octets 6 in
+    starts_with_magic octets && ((slice_index octets 4 == 1) && (slice_index octets 5 % 2 == 0) && nat_le 16 n && nat_le n 2048 && nat_le (70 * n + 34) size)
+
+-- a header of an image of this size
+pub record IsHeader (size : ℕ) (header : Header) : Type 0 where
+  pub few : 16 ≤ header.cells
+  pub many : header.cells ≤ 2048
+  pub selector : header.selector < 2
+  pub room : 70 * header.cells + 34 ≤ size
+
+-- the header of this image
+pub record IsHeaderOf (image : List ℕ) (header : Header) : Type 0 where
+  pub front : starts_with_magic image ≡ true
+  pub fields : has_header image ≡ true
+  pub cells : number_at image 6 ≡ header.cells
+  pub selector : slice_index image 8 % 2 ≡ header.selector

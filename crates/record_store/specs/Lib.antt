@@ -1,0 +1,11 @@
+pub mod Appends
+pub mod CountsFaults
+pub mod FreshImage
+pub mod Header
+pub mod Held
+pub mod Links
+pub mod Marks
+pub mod Placed
+pub mod Put
+pub mod Transaction
+pub mod Walk

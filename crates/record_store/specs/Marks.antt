@@ -1,0 +1,21 @@
+-- Marks of cells: those that chains have.
+use Rattle.std.specs.Prelude.{◌≡◌, ℕ, zero, suc, ◌<◌, Bool, true, false, not, List, length, slice_index, slice_index_or, count_by}
+
+abbrev pub is_marked : List Bool → ℕ → Bool
+is_marked marks cell = slice_index_or marks cell false
+
+-- what was marked still is
+abbrev pub StaysMarked : List Bool → List Bool → Type 0
+StaysMarked old new = (cell : ℕ) → is_marked old cell ≡ true → is_marked new cell ≡ true
+
+-- each cell is marked on the walk along the links from this one on, up to so many
+unfoldable pub IsWalkMarked : List ℕ → List Bool → ℕ → ℕ → Type 0
+IsWalkMarked links marks zero cell = Unit {0}
+IsWalkMarked links marks (suc most) cell = cell < length links → (is_marked marks cell ≡ true) × IsWalkMarked links marks most (slice_index links cell)
+
+-- how many cells are marked, and how many aren't
+abbrev pub marked : List Bool → ℕ
+marked marks = count_by (λ mark. mark) marks
+
+abbrev pub unmarked : List Bool → ℕ
+unmarked marks = count_by not marks

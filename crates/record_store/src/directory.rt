@@ -1,0 +1,25 @@
+// The octets of a directory.
+ghost use Rattle.std.specs.Prelude.{◌≡◌, ◌*◌, ◌≤◌, length};
+ghost use Rattle.eeprom.specs.StoreOf.{numbers_at};
+
+use arrayvec::ArrayVec;
+
+/// The octets of the largest directory.
+const LARGEST: usize = 4096;
+
+pub type DirectoryOctets = ArrayVec<u8, LARGEST>;
+
+/// The octets of a directory with these first cells.
+pub fn directory_octets(firsts: &[u16]) -> DirectoryOctets
+    requires few { length firsts.now ≤ 2048 }
+    ensures numbers { numbers_at result.items 0 (length firsts.now) ≡ firsts.now }
+    ensures count { length result.items ≡ 2 * length firsts.now }
+{
+    let mut octets = DirectoryOctets::new();
+    for first in firsts {
+        let first = *first;
+        octets.push((first / 256) as u8);
+        octets.push((first % 256) as u8);
+    }
+    octets
+}

@@ -1,0 +1,137 @@
+// Formatting: a new store of two records.
+ghost use Rattle.std.specs.Prelude.{◌≡◌, ◌+◌, ◌*◌, ◌-◌, ◌≤◌, ◌<◌, ◌↔◌, length, drop, false, Some, option_map, OnOk, IsErrOf, IfSome};
+ghost use Rattle.eeprom.specs.Fault.{Counts, Rose};
+ghost use Rattle.eeprom.specs.Image.{overwrite};
+ghost use Rattle.eeprom.specs.StoreOf.{starts_with_magic, store_of, fresh_slots};
+ghost use Rattle.record_store.specs.Appends.{Appends, end_of};
+ghost use Rattle.record_store.specs.FreshImage.{fresh_image, fresh_body, fresh_header, fresh_directories, fresh_cell};
+
+use crate::layout::{FORMAT, MAGIC, image_size};
+use crate::writer::Writer;
+use crate::{FormatRefusal, Store};
+use eeprom::{Eeprom, EepromFault};
+
+impl Store {
+    /// Makes a new store, which has these two records in its first slots.
+    /// What an image with a store begins with is written last, when all else is there.
+    pub fn format<B: Eeprom>(
+        bench: &mut B,
+        cells: u16,
+        first: &[u8],
+        second: &[u8],
+    ) -> Result<(), FormatRefusal>
+        requires few { 16 ≤ cells }
+        requires many { cells ≤ 2048 }
+        requires first { (1 ≤ length first.now) × (length first.now ≤ 28) }
+        requires second { (1 ≤ length second.now) × (length second.now ≤ 28) }
+        ensures image { OnOk result
+            ((B.chip bench.new).image ≡ option_map (λ image. overwrite image 0 (fresh_image cells first.now second.now)) (B.chip bench.old).image) }
+        ensures formatted { OnOk result (IfSome (B.chip bench.new).image (λ image. store_of image ≡ Some (fresh_slots cells first.now second.now))) }
+        ensures still { (B.chip bench.new).still ≡ (B.chip bench.old).still }
+        ensures too_small { IsErrOf result FormatRefusal.TooSmall ↔ ((B.chip bench.old).still.size < 70 * cells + 34) }
+        ensures unchanged { IsErrOf result FormatRefusal.TooSmall → bench.new ≡ bench.old }
+        ensures fault { IsErrOf result FormatRefusal.Fault → Rose (B.faults bench.old) (B.faults bench.new) }
+        ensures quiet { OnOk result (B.faults bench.new ≡ B.faults bench.old) }
+        ensures never_falls { B.faults bench.old ≤ B.faults bench.new }
+    {
+        if bench.size() < image_size(cells) {
+            return Err(FormatRefusal::TooSmall);
+        }
+        clear_front(bench)?;
+        write_body(bench, cells, first, second)?;
+        bench.write(0, &MAGIC)?;
+        Ok(())
+    }
+}
+
+/// Takes away what an image with a store begins with, where it is there.
+fn clear_front<B: Eeprom>(bench: &mut B) -> Result<(), EepromFault>
+    requires room { 4 ≤ (B.chip bench.old).still.size }
+    ensures cleared { OnOk result (IfSome (B.chip bench.new).image (λ image. starts_with_magic image ≡ false)) }
+    ensures rest { OnOk result (option_map (λ image. drop 4 image) (B.chip bench.new).image ≡ option_map (λ image. drop 4 image) (B.chip bench.old).image) }
+    ensures still { (B.chip bench.new).still ≡ (B.chip bench.old).still }
+    ensures cause { Counts (B.faults bench.old) (B.faults bench.new) result }
+{
+    let mut front = [0; 4];
+    bench.read(0, &mut front)?;
+    if front == MAGIC {
+        bench.write(0, &[0; 4])?;
+    }
+    Ok(())
+}
+
+/// Writes all that comes behind the first four octets.
+fn write_body<B: Eeprom>(
+    bench: &mut B,
+    cells: u16,
+    first: &[u8],
+    second: &[u8],
+) -> Result<(), EepromFault>
+    requires few { 16 ≤ cells }
+    requires many { cells ≤ 2048 }
+    requires first { length first.now ≤ 28 }
+    requires second { length second.now ≤ 28 }
+    requires room { 70 * cells + 34 ≤ (B.chip bench.old).still.size }
+    ensures image { OnOk result
+        ((B.chip bench.new).image ≡ option_map (λ image. overwrite image 4 (fresh_body cells first.now second.now)) (B.chip bench.old).image) }
+    ensures still { (B.chip bench.new).still ≡ (B.chip bench.old).still }
+    ensures cause { Counts (B.faults bench.old) (B.faults bench.new) result }
+{
+    let mut writer = Writer::new(4);
+    write_header(&mut writer, bench, cells)?;
+    write_directories(&mut writer, bench, cells)?;
+    write_cell(&mut writer, bench, first)?;
+    write_cell(&mut writer, bench, second)?;
+    writer.fill(bench, 0, 64 * cells as usize - 64)?;
+    writer.flush(bench)
+}
+
+fn write_header<B: Eeprom>(
+    writer: &mut Writer,
+    bench: &mut B,
+    cells: u16,
+) -> Result<(), EepromFault>
+    requires room { end_of writer.old + 28 ≤ (B.chip bench.old).still.size }
+    ensures appends { OnOk result (Appends (fresh_header cells) writer.old writer.new (B.chip bench.old) (B.chip bench.new)) }
+    ensures still { (B.chip bench.new).still ≡ (B.chip bench.old).still }
+    ensures cause { Counts (B.faults bench.old) (B.faults bench.new) result }
+{
+    writer.append(
+        bench,
+        &[FORMAT, 0, (cells / 256) as u8, (cells % 256) as u8],
+    )?;
+    writer.fill(bench, 0, 24)
+}
+
+fn write_directories<B: Eeprom>(
+    writer: &mut Writer,
+    bench: &mut B,
+    cells: u16,
+) -> Result<(), EepromFault>
+    requires few { 2 ≤ cells }
+    requires room { end_of writer.old + (6 * cells + 2) ≤ (B.chip bench.old).still.size }
+    ensures appends { OnOk result (Appends (fresh_directories cells) writer.old writer.new (B.chip bench.old) (B.chip bench.new)) }
+    ensures still { (B.chip bench.new).still ≡ (B.chip bench.old).still }
+    ensures cause { Counts (B.faults bench.old) (B.faults bench.new) result }
+{
+    let count = cells as usize;
+    writer.append(bench, &[0, 0, 0, 1])?;
+    writer.fill(bench, 0xFF, 2 * count - 4)?;
+    writer.fill(bench, 0, 4 * count + 2)
+}
+
+fn write_cell<B: Eeprom>(
+    writer: &mut Writer,
+    bench: &mut B,
+    octets: &[u8],
+) -> Result<(), EepromFault>
+    requires short { length octets.now ≤ 28 }
+    requires room { end_of writer.old + 32 ≤ (B.chip bench.old).still.size }
+    ensures appends { OnOk result (Appends (fresh_cell octets.now) writer.old writer.new (B.chip bench.old) (B.chip bench.new)) }
+    ensures still { (B.chip bench.new).still ≡ (B.chip bench.old).still }
+    ensures cause { Counts (B.faults bench.old) (B.faults bench.new) result }
+{
+    writer.append(bench, &[0xFF, 0xFF, 0, octets.len() as u8])?;
+    writer.append(bench, octets)?;
+    writer.fill(bench, 0, 28 - octets.len())
+}

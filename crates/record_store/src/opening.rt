@@ -1,0 +1,111 @@
+// What is read of an image to open its store.
+ghost use Rattle.std.specs.Prelude.{◌≡◌, ◌+◌, ◌*◌, ◌%◌, ◌<◌, ◌↔◌, None, length, is_some, slice_index, IfSome, IfOk, IsErrOf, IsTrue, All};
+ghost use Rattle.eeprom.specs.StoreOf.{store_of, slots_at, number_at, numbers_at};
+ghost use Rattle.record_store.specs.Held.{IsCellOrNone};
+ghost use Rattle.record_store.specs.Header.{begins_store, IsHeader, IsHeaderOf};
+ghost use Rattle.record_store.specs.CountsFaults.{CountsFaults};
+
+use crate::OpenRefusal;
+use crate::layout::{FORMAT, NO_CELL, directory_place, image_size, number_of};
+use eeprom::Eeprom;
+use std::alloc::Global;
+
+/// How many octets of an image say whether it has a store, and of which size.
+const FRONT: usize = 9;
+
+/// The octets of the largest directory.
+const DIRECTORY: usize = 4096;
+
+#[derive(Clone, Copy)]
+pub struct Header {
+    pub cells: u16,
+    /// 0 or 1, for the directory that is selected.
+    pub selector: u8,
+}
+
+pub fn read_header<B: Eeprom>(bench: &mut B) -> Result<Header, OpenRefusal>
+    ensures range { IfOk result (λ header. IsHeader (B.chip bench.old).still.size header) }
+    ensures header { IfOk result (λ header. IfSome (B.chip bench.old).image (λ image. IsHeaderOf image header)) }
+    ensures not_a_card { IsErrOf result OpenRefusal.NotACard → IfSome (B.chip bench.old).image (λ image. store_of image ≡ None) }
+    ensures same { B.chip bench.new ≡ B.chip bench.old }
+    ensures cause { CountsFaults (B.faults bench.old) (B.faults bench.new) result }
+{
+    let size = bench.size();
+    if size < FRONT {
+        return Err(OpenRefusal::NotACard);
+    }
+    let mut octets = [0; FRONT];
+    bench.read(0, &mut octets)?;
+    match header_of(&octets, size) {
+        Some(header) => Ok(header),
+        None => Err(OpenRefusal::NotACard),
+    }
+}
+
+fn header_of(octets: &[u8; FRONT], size: usize) -> Option<Header>
+    ensures there { is_some result ≡ begins_store octets.now size }
+    ensures range { IfSome result (λ header. IsHeader size header) }
+    ensures cells { IfSome result (λ header. header.cells ≡ number_at octets.now 6) }
+    ensures selector { IfSome result (λ header. header.selector ≡ slice_index octets.now 8 % 2) }
+{
+    let [b'S', b'C', b'Q', b'L', FORMAT, version, high, low, selector] = octets else {
+        return None;
+    };
+    let cells = number_of(*high, *low);
+    if *version % 2 != 0 || cells < 16 || cells > 2048 || size < image_size(cells) {
+        return None;
+    }
+    Some(Header {
+        cells,
+        selector: *selector % 2,
+    })
+}
+
+/// Reads the directory that a header selects.
+pub fn read_directory<B: Eeprom>(
+    alloc: Global,
+    bench: &mut B,
+    header: Header,
+) -> Result<Vec<u16>, OpenRefusal>
+    requires header { IsHeader (B.chip bench.old).still.size header }
+    ensures directory { IfOk result (λ firsts. IfSome (B.chip bench.old).image
+        (λ image. firsts.items ≡ numbers_at image (32 + 2 * header.cells * header.selector) header.cells)) }
+    ensures count { IfOk result (λ firsts. length firsts.items ≡ header.cells) }
+    ensures range { IfOk result (λ firsts. All (IsCellOrNone header.cells) firsts.items) }
+    ensures not_a_card { IsErrOf result OpenRefusal.NotACard → IfSome (B.chip bench.old).image
+        (λ image. slots_at image header.cells (numbers_at image (32 + 2 * header.cells * header.selector) header.cells) ≡ None) }
+    ensures same { B.chip bench.new ≡ B.chip bench.old }
+    ensures cause { CountsFaults (B.faults bench.old) (B.faults bench.new) result }
+{
+    let mut octets = [0; DIRECTORY];
+    let directory = &mut octets[..2 * header.cells as usize];
+    bench.read(directory_place(header.cells, header.selector), directory)?;
+    cells_in(alloc, directory, header.cells)
+}
+
+/// The numbers of a directory's octets, where each is a cell's or says that there is none.
+fn cells_in(alloc: Global, octets: &[u8], cells: u16) -> Result<Vec<u16>, OpenRefusal>
+    requires size { length octets.now ≡ 2 * cells }
+    ensures numbers { IfOk result (λ firsts. firsts.items ≡ numbers_at octets.now 0 cells) }
+    ensures count { IfOk result (λ firsts. length firsts.items ≡ cells) }
+    ensures range { IfOk result (λ firsts. All (IsCellOrNone cells) firsts.items) }
+    ensures not_a_card { IsErrOf result OpenRefusal.NotACard → ¬ (All (IsCellOrNone cells) (numbers_at octets.now 0 cells)) }
+    ensures no_fault { ¬ (IsErrOf result OpenRefusal.Fault) }
+{
+    let count = cells as usize;
+    let mut firsts = Vec::with_capacity(alloc, count)?;
+    for slot in 0..count {
+        let first = number_of(octets[2 * slot], octets[2 * slot + 1]);
+        if !is_cell_or_none(cells, first) {
+            return Err(OpenRefusal::NotACard);
+        }
+        firsts.push(first)?;
+    }
+    Ok(firsts)
+}
+
+fn is_cell_or_none(cells: u16, first: u16) -> bool
+    ensures { IsTrue result ↔ IsCellOrNone cells first }
+{
+    (first as u32) < 2 * cells as u32 || first == NO_CELL
+}

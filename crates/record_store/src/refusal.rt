@@ -1,0 +1,74 @@
+// Why a store wasn't made or opened, and why a record wasn't put into it.
+ghost use Rattle.std.specs.Prelude.{◌≡◌};
+ghost use Rattle.record_store.specs.declared.refusal.FormatRefusal.TheVariants.{Fault};
+ghost use Rattle.record_store.specs.declared.refusal.OpenRefusal.TheVariants.{NoMemory, Fault as OpenFault};
+ghost use Rattle.record_store.specs.declared.refusal.StoreRefusal.TheVariants.{Fault as StoreFault};
+
+use eeprom::EepromFault;
+use std::alloc::{AllocError, AllocFailed};
+
+#[derive(Clone, Copy, PartialEq, Eq, Debug)]
+pub enum FormatRefusal {
+    /// The EEPROM has too few octets for the cells.
+    TooSmall,
+    /// The EEPROM didn't read or write.
+    Fault,
+}
+
+impl From<EepromFault> for FormatRefusal {
+    ghost from_gives = { λ _ refusal. refusal ≡ Fault };
+
+    fn from(_fault: EepromFault) -> FormatRefusal {
+        FormatRefusal::Fault
+    }
+}
+
+#[derive(Clone, Copy, PartialEq, Eq, Debug)]
+pub enum OpenRefusal {
+    /// The memory for the directories isn't there.
+    NoMemory,
+    /// The image has no store.
+    NotACard,
+    /// The EEPROM didn't read.
+    Fault,
+}
+
+impl From<EepromFault> for OpenRefusal {
+    ghost from_gives = { λ _ refusal. refusal ≡ OpenFault };
+
+    fn from(_fault: EepromFault) -> OpenRefusal {
+        OpenRefusal::Fault
+    }
+}
+
+impl From<AllocError> for OpenRefusal {
+    ghost from_gives = { λ _ refusal. refusal ≡ NoMemory };
+
+    fn from(_error: AllocError) -> OpenRefusal {
+        OpenRefusal::NoMemory
+    }
+}
+
+impl<T: Drop> From<AllocFailed<T>> for OpenRefusal {
+    ghost from_gives = { λ _ refusal. refusal ≡ NoMemory };
+
+    fn from(_failed: AllocFailed<T>) -> OpenRefusal {
+        OpenRefusal::NoMemory
+    }
+}
+
+#[derive(Clone, Copy, PartialEq, Eq, Debug)]
+pub enum StoreRefusal {
+    /// The records would have more cells than the store has.
+    Full,
+    /// The EEPROM didn't read or write.
+    Fault,
+}
+
+impl From<EepromFault> for StoreRefusal {
+    ghost from_gives = { λ _ refusal. refusal ≡ StoreFault };
+
+    fn from(_fault: EepromFault) -> StoreRefusal {
+        StoreRefusal::Fault
+    }
+}

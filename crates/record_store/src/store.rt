@@ -1,0 +1,287 @@
+// A store of records, of which a directory in memory knows where each begins.
+ghost use Rattle.std.specs.Prelude.{◌≡◌, ◌+◌, ◌*◌, ◌≤◌, ◌<◌, ℕ, List, Some, None, false, IsTrue, IsSome, if◌then◌else◌, length, slice_index, IfSome, IfOk, IsErrOf, OnOk, OnErr};
+ghost use Rattle.eeprom.specs.Chip.{Becomes, Keeps};
+ghost use Rattle.eeprom.specs.Fault.{Counts};
+ghost use Rattle.eeprom.specs.StoreOf.{Slots, store_of};
+ghost use Rattle.record_store.specs.Held.{firsts, contents, record_at, StandsFor};
+ghost use Rattle.record_store.specs.CountsFaults.{CountsFaults, CountsPutFaults};
+ghost use Rattle.record_store.specs.Links.{weight_of};
+ghost use Rattle.record_store.specs.Put.{IsPut, IsOver, IsFull, IsWithin};
+ghost use Rattle.record_store.specs.Transaction.{begun_from, rolled_back, after_commit, IsCommitted, Commits};
+ghost use Rattle.record_store.specs.declared.side.Side.TheVariants.{Committed, Working};
+
+use crate::chain::{RecordOctets, read_record};
+use crate::directory::directory_octets;
+use crate::layout::{SELECTOR, directory_place};
+use crate::links::{cells_for, first_empty, length_of_chains, length_without, read_links};
+use crate::marks::{count_free, mark_kept};
+use crate::opening::{read_directory, read_header};
+use crate::placing::{payload_of_record, write_chain};
+use crate::{OpenRefusal, Side, StoreRefusal};
+use eeprom::{Eeprom, EepromFault};
+use std::alloc::Global;
+use std::marker::Model;
+
+/// The cells of the largest store.
+const CELLS: usize = 4096;
+
+#[derive(Drop)]
+pub struct Store {
+    cells: u16,
+    selector: u8,
+    committed: Vec<u16>,
+    working: Vec<u16>,
+    /// The number of the next cell, for each cell.
+    links: Vec<u16>,
+    begun: bool,
+}
+
+impl Model for Store {
+    ghost use Rattle.record_store.specs.Held.{Held, IsInRange};
+
+    ghost Value = { Held };
+
+    ghost view = { λ store. record { cells = store.cells; selector = store.selector; committed = store.committed.items; working = store.working.items; links = store.links.items; begun = store.begun } };
+
+    ghost invariant = { λ store. IsInRange (record { cells = store.cells; selector = store.selector; committed = store.committed.items; working = store.working.items; links = store.links.items; begun = store.begun }) };
+}
+
+impl Store {
+    /// Opens the store of an image. The memory of both directories is taken here.
+    pub fn open<B: Eeprom>(alloc: Global, bench: &mut B) -> Result<Store, OpenRefusal>
+        requires stored { IfSome (B.chip bench.old).image (λ image. IsSome (store_of image)) }
+        ensures stands { IfOk result (λ store. IfSome (B.chip bench.old).image (StandsFor store)) }
+        ensures opened { IfOk result (λ store. IfSome (B.chip bench.old).image (λ image. store_of image ≡ contents store Committed image)) }
+        ensures idle { IfOk result (λ store. store.begun ≡ false) }
+        ensures room { IfOk result (λ store. 70 * store.cells + 34 ≤ (B.chip bench.old).still.size) }
+        ensures not_a_card { IsErrOf result OpenRefusal.NotACard → IfSome (B.chip bench.old).image (λ image. store_of image ≡ None) }
+        ensures same { B.chip bench.new ≡ B.chip bench.old }
+        ensures cause { CountsFaults (B.faults bench.old) (B.faults bench.new) result }
+    {
+        let header = read_header(bench)?;
+        let committed = read_directory(alloc, bench, header)?;
+        let working = Vec::from_slice(alloc, committed.as_slice())?;
+        let links = read_links(alloc, bench, header.cells)?;
+        Ok(Store {
+            cells: header.cells,
+            selector: header.selector,
+            committed,
+            working,
+            links,
+            begun: false,
+        })
+    }
+
+    /// The number of slots, and of cells that the records can have.
+    pub fn cells(&self) -> u16
+        ensures number { result ≡ self.now.cells }
+        ensures few { 16 ≤ result }
+        ensures many { result ≤ 2048 }
+    {
+        self.cells
+    }
+
+    /// Whether a transaction was begun.
+    pub fn begun(&self) -> bool
+        ensures { result ≡ self.now.begun }
+    {
+        self.begun
+    }
+
+    /// How many cells the records of a side have.
+    pub fn weight(&self, side: Side) -> u16
+        ensures weight { (image : List ℕ) → (slots : Slots) → StandsFor self.now image → contents self.now side image ≡ Some slots → result ≡ weight_of slots }
+        ensures most { (image : List ℕ) → StandsFor self.now image → result ≤ self.now.cells }
+    {
+        length_of_chains(self.links.as_slice(), self.first_cells(side))
+    }
+
+    /// Reads the record of a slot, and answers whether there is one.
+    pub fn get<B: Eeprom>(
+        &self,
+        bench: &mut B,
+        side: Side,
+        slot: u16,
+        out: &mut RecordOctets,
+    ) -> Result<bool, EepromFault>
+        requires stands { IfSome (B.chip bench.old).image (StandsFor self.now) }
+        requires room { 70 * self.now.cells + 34 ≤ (B.chip bench.old).still.size }
+        requires slot { slot < self.now.cells }
+        ensures found { IfOk result (λ found. IfSome (B.chip bench.old).image
+            (λ image. record_at self.now side slot image ≡ (if found then Some out.new.items else None))) }
+        ensures same { B.chip bench.new ≡ B.chip bench.old }
+        ensures cause { Counts (B.faults bench.old) (B.faults bench.new) result }
+    {
+        let first = self.first_cell(side, slot);
+        read_record(bench, self.cells(), first, out)
+    }
+
+    /// Begins a transaction, whose records are those that were committed.
+    pub fn begin(&mut self)
+        requires idle { self.old.begun ≡ false }
+        ensures begun { self.new ≡ begun_from self.old }
+        ensures stands { (image : List ℕ) → StandsFor self.old image → StandsFor self.new image }
+        ensures starts { (image : List ℕ) → contents self.new Working image ≡ contents self.old Committed image }
+        ensures committed { (image : List ℕ) → contents self.new Committed image ≡ contents self.old Committed image }
+    {
+        self.working.copy_from_slice(self.committed.as_slice());
+        self.begun = true;
+    }
+
+    /// Puts a record into a slot of the working side, the one that is named or else an empty one, and answers which.
+    /// What is committed stays. After a fault the store in memory isn't to be used again.
+    pub fn put<B: Eeprom>(
+        &mut self,
+        bench: &mut B,
+        slot: Option<u16>,
+        octets: &[u8],
+    ) -> Result<u16, StoreRefusal>
+        requires begun { IsTrue self.old.begun }
+        requires slot { IfSome slot (λ slot. slot < self.old.cells) }
+        requires some { 1 ≤ length octets.now }
+        requires most { length octets.now ≤ 512 }
+        requires room { 70 * self.old.cells + 34 ≤ (B.chip bench.old).still.size }
+        requires stands { IfSome (B.chip bench.old).image (StandsFor self.old) }
+        ensures named { IfOk result (λ found. IfSome slot (λ slot. found ≡ slot)) }
+        ensures empty { IfOk result (λ found. slot ≡ None → IfSome (B.chip bench.old).image (λ image. record_at self.old Working found image ≡ None)) }
+        ensures there { IfOk result (λ found. found < self.old.cells) }
+        ensures put { IfOk result (λ found. Becomes (IsPut self.old self.new found octets.now) (B.chip bench.old).image (B.chip bench.new).image) }
+        ensures within { IfOk result (λ found. IfSome (B.chip bench.old).image (IsWithin self.old found octets.now)) }
+        ensures full { IsErrOf result StoreRefusal.Full → IfSome (B.chip bench.old).image (IsFull self.old slot octets.now) }
+        ensures unchanged { IsErrOf result StoreRefusal.Full → (self.new ≡ self.old) × (bench.new ≡ bench.old) }
+        ensures begun { OnOk result (self.new.begun ≡ self.old.begun) }
+        ensures cells { OnOk result (self.new.cells ≡ self.old.cells) }
+        ensures moments { Keeps store_of (B.chip bench.old) (B.chip bench.new) }
+        ensures cause { CountsPutFaults (B.faults bench.old) (B.faults bench.new) result }
+    {
+        match slot {
+            Some(slot) => self.put_at(bench, slot, octets),
+            None => self.put_anywhere(bench, octets),
+        }
+    }
+
+    fn put_anywhere<B: Eeprom>(&mut self, bench: &mut B, octets: &[u8]) -> Result<u16, StoreRefusal>
+        requires begun { IsTrue self.old.begun }
+        requires some { 1 ≤ length octets.now }
+        requires most { length octets.now ≤ 512 }
+        requires room { 70 * self.old.cells + 34 ≤ (B.chip bench.old).still.size }
+        requires stands { IfSome (B.chip bench.old).image (StandsFor self.old) }
+        ensures empty { IfOk result (λ found. IfSome (B.chip bench.old).image (λ image. record_at self.old Working found image ≡ None)) }
+        ensures there { IfOk result (λ found. found < self.old.cells) }
+        ensures put { IfOk result (λ found. Becomes (IsPut self.old self.new found octets.now) (B.chip bench.old).image (B.chip bench.new).image) }
+        ensures within { IfOk result (λ found. IfSome (B.chip bench.old).image (IsWithin self.old found octets.now)) }
+        ensures full { IsErrOf result StoreRefusal.Full → IfSome (B.chip bench.old).image (IsFull self.old None octets.now) }
+        ensures unchanged { IsErrOf result StoreRefusal.Full → (self.new ≡ self.old) × (bench.new ≡ bench.old) }
+        ensures begun { OnOk result (self.new.begun ≡ self.old.begun) }
+        ensures cells { OnOk result (self.new.cells ≡ self.old.cells) }
+        ensures moments { Keeps store_of (B.chip bench.old) (B.chip bench.new) }
+        ensures cause { CountsPutFaults (B.faults bench.old) (B.faults bench.new) result }
+    {
+        match first_empty(self.working.as_slice()) {
+            Some(slot) => self.put_at(bench, slot, octets),
+            None => Err(StoreRefusal::Full),
+        }
+    }
+
+    /// Puts a record into this slot of the working side, the cells of its chain apart from those that are committed.
+    fn put_at<B: Eeprom>(
+        &mut self,
+        bench: &mut B,
+        slot: u16,
+        octets: &[u8],
+    ) -> Result<u16, StoreRefusal>
+        requires begun { IsTrue self.old.begun }
+        requires slot { slot < self.old.cells }
+        requires some { 1 ≤ length octets.now }
+        requires most { length octets.now ≤ 512 }
+        requires room { 70 * self.old.cells + 34 ≤ (B.chip bench.old).still.size }
+        requires stands { IfSome (B.chip bench.old).image (StandsFor self.old) }
+        ensures slot { IfOk result (λ found. found ≡ slot) }
+        ensures put { IfOk result (λ found. Becomes (IsPut self.old self.new found octets.now) (B.chip bench.old).image (B.chip bench.new).image) }
+        ensures within { IfOk result (λ found. IfSome (B.chip bench.old).image (IsWithin self.old found octets.now)) }
+        ensures full { IsErrOf result StoreRefusal.Full → IfSome (B.chip bench.old).image (IsOver self.old slot octets.now) }
+        ensures unchanged { IsErrOf result StoreRefusal.Full → (self.new ≡ self.old) × (bench.new ≡ bench.old) }
+        ensures begun { OnOk result (self.new.begun ≡ self.old.begun) }
+        ensures cells { OnOk result (self.new.cells ≡ self.old.cells) }
+        ensures moments { Keeps store_of (B.chip bench.old) (B.chip bench.new) }
+        ensures cause { CountsPutFaults (B.faults bench.old) (B.faults bench.new) result }
+    {
+        let count = cells_for(octets.len());
+        let weight = length_without(self.links.as_slice(), self.working.as_slice(), slot);
+        let mut marks = [false; CELLS];
+        let marks = &mut marks[..2 * self.cells as usize];
+        mark_kept(
+            marks,
+            self.links.as_slice(),
+            self.committed.as_slice(),
+            self.working.as_slice(),
+            slot,
+        );
+        if weight + count > self.cells || count as usize > count_free(marks) {
+            return Err(StoreRefusal::Full);
+        }
+        let payload = payload_of_record(octets);
+        let first = write_chain(
+            bench,
+            self.cells,
+            marks,
+            self.links.as_mut_slice(),
+            payload.as_slice(),
+            count,
+        )?;
+        self.working[slot as usize] = first;
+        Ok(slot)
+    }
+
+    /// Commits the transaction: its records are written down as the store's, in one step.
+    /// The directory that isn't selected gets the working records, and is then selected.
+    /// After a fault the store in memory is unchanged, and the image has its committed or its working records.
+    pub fn commit<B: Eeprom>(&mut self, bench: &mut B) -> Result<(), EepromFault>
+        requires begun { IsTrue self.old.begun }
+        requires room { 70 * self.old.cells + 34 ≤ (B.chip bench.old).still.size }
+        requires stands { IfSome (B.chip bench.old).image (StandsFor self.old) }
+        ensures ended { OnOk result (self.new ≡ after_commit self.old) }
+        ensures done { OnOk result (Becomes (IsCommitted self.old) (B.chip bench.old).image (B.chip bench.new).image) }
+        ensures moments { Commits self.old (B.chip bench.old) (B.chip bench.new) }
+        ensures unchanged { OnErr result (self.new ≡ self.old) }
+        ensures cause { Counts (B.faults bench.old) (B.faults bench.new) result }
+    {
+        let selector = 1 - self.selector;
+        let directory = directory_octets(self.working.as_slice());
+        bench.write(directory_place(self.cells, selector), directory.as_slice())?;
+        bench.write(SELECTOR, &[selector])?;
+        self.selector = selector;
+        self.committed.copy_from_slice(self.working.as_slice());
+        self.begun = false;
+        Ok(())
+    }
+
+    /// Ends the transaction, and what was committed stays.
+    pub fn rollback(&mut self)
+        requires begun { IsTrue self.old.begun }
+        ensures ended { self.new ≡ rolled_back self.old }
+        ensures stands { (image : List ℕ) → StandsFor self.old image → StandsFor self.new image }
+        ensures committed { (image : List ℕ) → contents self.new Committed image ≡ contents self.old Committed image }
+    {
+        self.begun = false;
+    }
+
+    fn first_cell(&self, side: Side, slot: u16) -> u16
+        requires slot { slot < self.now.cells }
+        ensures first { result ≡ slice_index (firsts self.now side) slot }
+        ensures there { slot < length (firsts self.now side) }
+    {
+        self.first_cells(side)[slot as usize]
+    }
+
+    /// The first cell of each slot.
+    fn first_cells(&self, side: Side) -> &[u16]
+        ensures firsts { result.now ≡ firsts self.now side }
+        ensures count { length result.now ≡ self.now.cells }
+    {
+        match side {
+            Side::Working if self.begun => self.working.as_slice(),
+            _ => self.committed.as_slice(),
+        }
+    }
+}

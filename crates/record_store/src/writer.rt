@@ -1,0 +1,99 @@
+// Octets that are written one behind another, in few and large writes.
+ghost use Rattle.std.specs.Prelude.{◌≡◌, ◌+◌, ◌≤◌, ◌<◌, [], ◌∷◌, length, replicate, OnOk};
+ghost use Rattle.eeprom.specs.Fault.{Counts};
+ghost use Rattle.record_store.specs.Appends.{Appends, end_of, promised};
+
+use arrayvec::ArrayVec;
+use eeprom::{Eeprom, EepromFault};
+
+/// How many octets at most wait to be written together.
+const PIECE: usize = 4096;
+
+#[derive(Drop)]
+pub struct Writer {
+    /// Where the pending octets go.
+    pub at: usize,
+    pub pending: ArrayVec<u8, PIECE>,
+}
+
+impl Writer {
+    pub fn new(at: usize) -> Writer
+        ensures place { result.at ≡ at }
+        ensures empty { result.pending.items ≡ [] }
+    {
+        Writer {
+            at,
+            pending: ArrayVec::new(),
+        }
+    }
+
+    /// Writes what is pending.
+    pub fn flush<B: Eeprom>(&mut self, bench: &mut B) -> Result<(), EepromFault>
+        requires room { end_of self.old ≤ (B.chip bench.old).still.size }
+        ensures written { OnOk result ((B.chip bench.new).image ≡ promised self.old (B.chip bench.old)) }
+        ensures place { OnOk result (self.new.at ≡ end_of self.old) }
+        ensures empty { OnOk result (self.new.pending.items ≡ []) }
+        ensures still { (B.chip bench.new).still ≡ (B.chip bench.old).still }
+        ensures cause { Counts (B.faults bench.old) (B.faults bench.new) result }
+    {
+        bench.write(self.at, self.pending.as_slice())?;
+        self.at += self.pending.len();
+        self.pending.clear();
+        Ok(())
+    }
+
+    fn make_room<B: Eeprom>(&mut self, bench: &mut B) -> Result<(), EepromFault>
+        requires room { end_of self.old ≤ (B.chip bench.old).still.size }
+        ensures free { OnOk result (length self.new.pending.items < PIECE) }
+        ensures appends { OnOk result (Appends [] self.old self.new (B.chip bench.old) (B.chip bench.new)) }
+        ensures still { (B.chip bench.new).still ≡ (B.chip bench.old).still }
+        ensures cause { Counts (B.faults bench.old) (B.faults bench.new) result }
+    {
+        if self.pending.is_full() {
+            self.flush(bench)?;
+        }
+        Ok(())
+    }
+
+    fn push<B: Eeprom>(&mut self, bench: &mut B, octet: u8) -> Result<(), EepromFault>
+        requires room { end_of self.old < (B.chip bench.old).still.size }
+        ensures appends { OnOk result (Appends (octet ∷ []) self.old self.new (B.chip bench.old) (B.chip bench.new)) }
+        ensures still { (B.chip bench.new).still ≡ (B.chip bench.old).still }
+        ensures cause { Counts (B.faults bench.old) (B.faults bench.new) result }
+    {
+        self.make_room(bench)?;
+        self.pending.push(octet);
+        Ok(())
+    }
+
+    /// Appends these octets.
+    pub fn append<B: Eeprom>(&mut self, bench: &mut B, octets: &[u8]) -> Result<(), EepromFault>
+        requires room { end_of self.old + length octets.now ≤ (B.chip bench.old).still.size }
+        ensures appends { OnOk result (Appends octets.now self.old self.new (B.chip bench.old) (B.chip bench.new)) }
+        ensures still { (B.chip bench.new).still ≡ (B.chip bench.old).still }
+        ensures cause { Counts (B.faults bench.old) (B.faults bench.new) result }
+    {
+        for octet in octets {
+            self.push(bench, *octet)?;
+        }
+        Ok(())
+    }
+
+    /// Appends so many times this octet.
+    pub fn fill<B: Eeprom>(
+        &mut self,
+        bench: &mut B,
+        octet: u8,
+        count: usize,
+    ) -> Result<(), EepromFault>
+        requires room { end_of self.old + count ≤ (B.chip bench.old).still.size }
+        ensures appends { OnOk result (Appends (replicate count octet) self.old self.new (B.chip bench.old) (B.chip bench.new)) }
+        ensures still { (B.chip bench.new).still ≡ (B.chip bench.old).still }
+        ensures cause { Counts (B.faults bench.old) (B.faults bench.new) result }
+    {
+        for _step in 0..count {
+            self.push(bench, octet)?;
+        }
+        Ok(())
+    }
+}
