@@ -1,0 +1,88 @@
+-- PRESENT USER, by the outcomes of the search for the user.
+use Rattle.std.proofs.Common.{◌≡◌, ℕ, Bool, false, List, Option, Some, None, Result, Ok, Err, refl, sym, ap, subst, ◌∙◌}
+use Rattle.std.specs.Prelude.{IfSome, is_some, map, slice_set}
+use Rattle.eeprom.specs.StoreOf.{Slots}
+use Rattle.record_store.specs.Held.{Held}
+use Rattle.std.specs.List.{find, filter_map}
+use Rattle.std.specs.Str.{bytes_eq}
+use Rattle.eeprom.specs.Chip.{Chip}
+use Rattle.eeprom.specs.Slots.{in_slot}
+use Rattle.scql_model.specs.declared.StatusWord.{StatusWord}
+use Rattle.scql_model.specs.Words.{done, not_found}
+use Rattle.scql_model.specs.Records.{User, user_in}
+use Rattle.scql_model.specs.Database.{public_name}
+use Rattle.scql_model.specs.Machine.{Machine, Session, open_channels}
+use Rattle.scql_model.specs.Step.{Answer, said, answered, done_with, step, operated, user_of_session, is_named, user_named, presented}
+use Rattle.scql_model.specs.Commands.{Command}
+use Rattle.scql_model.specs.Form.{form_of}
+use Rattle.scql_model.proofs.Naming.{user_named-slots}
+use Rattle.card.specs.Card.{Kept, IsAt, committed_slots}
+use Rattle.card.proofs.Told.{if_some-at}
+use Rattle.card.specs.Answering.{Answers}
+
+-- the card with another session of a channel
+abbrev with_session : Kept → ℕ → Session → Kept
+with_session card channel session = record card { sessions = slice_set card.sessions channel (Some session) }
+
+moved : (card : Kept) (chip : Chip) (m : Machine) (channel : ℕ) (session : Session) → IsAt card chip m
+    → IsAt (with_session card channel session) chip (record m { sessions = slice_set m.sessions channel (Some session) })
+moved card chip m channel session at = record {
+  slots = at.slots;
+  committed = at.committed;
+  holds = at.holds;
+  valid = at.valid;
+  transaction = at.transaction;
+  sessions = ap (λ (sessions : List (Option Session)). slice_set sessions channel (Some session)) at.sessions;
+}
+
+-- the session of a channel is another one, and that is all
+gives_session : (card : Kept) (chip : Chip) (m : Machine) (channel : ℕ) (session : Session) (outcome : Result Answer StatusWord) → IsAt card chip m
+    → outcome ≡ Ok (done_with (record m { sessions = slice_set m.sessions channel (Some session) }))
+    → Answers (answered m outcome) (said done) (with_session card channel session) chip
+gives_session card chip m channel session outcome at is =
+    subst (λ (o : Result Answer StatusWord). Answers (answered m o) (said done) (with_session card channel session) chip) (sym is)
+    (record { reply = refl; at = moved card chip m channel session at })
+
+pub unknown_presented : (card : Kept) (chip : Chip) (m : Machine) (channel : ℕ) (name : List ℕ) (at : IsAt card chip m) → bytes_eq name public_name ≡ false
+    → find (is_named name) (filter_map (in_slot user_in) at.slots) ≡ None
+    → Answers (answered m (user_of_session m channel name)) (said not_found) card chip
+unknown_presented card chip m channel name at user none =
+    let nobody : user_named m.committed.users name ≡ None = user_named-slots at.slots m.committed name at.holds at.valid ∙ none in
+    let is : user_of_session m channel name ≡ Err not_found = rw (at.transaction, user, nobody) refl in
+    subst (λ (o : Result Answer StatusWord). Answers (answered m o) (said not_found) card chip) (sym is) (record { reply = refl; at = at })
+
+pub user_presented : (card : Kept) (chip : Chip) (m : Machine) (channel : ℕ) (name : List ℕ) (at : IsAt card chip m) (u : User) → bytes_eq name public_name ≡ false
+    → find (is_named name) (filter_map (in_slot user_in) at.slots) ≡ Some u
+    → Answers (answered m (user_of_session m channel name)) (said done) (with_session card channel (record { user = Some (presented u); cursor = None })) chip
+user_presented card chip m channel name at u user found =
+    let same : user_named m.committed.users name ≡ Some u = user_named-slots at.slots m.committed name at.holds at.valid ∙ found in
+    let session : Session = record { user = Some (presented u); cursor = None } in
+    let is : user_of_session m channel name ≡ Ok (done_with (record m { sessions = slice_set m.sessions channel (Some session) })) = rw (at.transaction, user, same) refl in
+    gives_session card chip m channel session (user_of_session m channel name) at is
+
+-- The same of a card whose store was searched on an EEPROM that it left as it was.
+pub unknown_answers : (card : Kept) (store : Held) (old new : Chip) (channel : ℕ) (name : List ℕ) → store ≡ card.store → new ≡ old → bytes_eq name public_name ≡ false
+    → IfSome (committed_slots store old.image) (λ slots. None ≡ find (is_named name) (filter_map (in_slot user_in) slots))
+    → (m : Machine) → IsAt card old m → Answers (answered m (user_of_session m channel name)) (said not_found) card new
+unknown_answers card store old new channel name same stays user none m at =
+    let here = if_some-at (λ (slots : Slots). None ≡ find (is_named name) (filter_map (in_slot user_in) slots)) (committed_slots store old.image) at.slots (ap (λ (s : Held). committed_slots s old.image) same ∙ at.committed) none in
+    subst (λ (chip : Chip). Answers (answered m (user_of_session m channel name)) (said not_found) card chip) (sym stays) (unknown_presented card old m channel name at user (sym here))
+
+pub user_answers : (card after : Kept) (store : Held) (old new : Chip) (channel : ℕ) (name : List ℕ) (u : User) → store ≡ card.store → new ≡ old → bytes_eq name public_name ≡ false
+    → IfSome (committed_slots store old.image) (λ slots. Some u ≡ find (is_named name) (filter_map (in_slot user_in) slots))
+    → after ≡ with_session card channel (record { user = Some (presented u); cursor = None })
+    → (m : Machine) → IsAt card old m → Answers (answered m (user_of_session m channel name)) (said done) after new
+user_answers card after store old new channel name u same stays user some is m at =
+    let here = if_some-at (λ (slots : Slots). Some u ≡ find (is_named name) (filter_map (in_slot user_in) slots)) (committed_slots store old.image) at.slots (ap (λ (s : Held). committed_slots s old.image) same ∙ at.committed) some in
+    subst (λ (kept : Kept). Answers (answered m (user_of_session m channel name)) (said done) kept new) (sym is)
+    (subst (λ (chip : Chip). Answers (answered m (user_of_session m channel name)) (said done) (with_session card channel (record { user = Some (presented u); cursor = None })) chip) (sym stays)
+    (user_presented card old m channel name at u user (sym here)))
+
+-- The step of a command, where card and EEPROM are at the machine.
+pub step-operated : (card : Kept) (chip : Chip) (m : Machine) (octets : List ℕ) (channels : List Bool) (command : Command) → IsAt card chip m
+    → channels ≡ map (λ (s : Option Session). is_some s) card.sessions → Ok command ≡ form_of octets channels
+    → step m octets ≡ answered m (operated m command.channel command.operation)
+unfolding step
+step-operated card chip m octets channels command at are_open read =
+    let formed : form_of octets (open_channels m) ≡ Ok command = ap (λ (sessions : List (Option Session)). form_of octets (map (λ (s : Option Session). is_some s) sessions)) at.sessions ∙ (ap (form_of octets) (sym are_open) ∙ sym read) in
+    rw formed refl

@@ -1,0 +1,40 @@
+-- What a card keeps in memory, and at which machine it is together with its EEPROM.
+use Rattle.std.specs.Prelude.{◌≡◌, ℕ, ◌+◌, ◌*◌, ◌≤◌, Bool, List, Option, Some, None, option_and_then, IsTrue, IfSome}
+use Rattle.eeprom.specs.Chip.{Chip}
+use Rattle.eeprom.specs.StoreOf.{Slots}
+use Rattle.record_store.specs.Held.{Held, contents, StandsFor}
+use Rattle.record_store.specs.declared.side.Side.TheVariants.{Committed}
+use Rattle.scql_model.specs.Database.{IsValid, owner}
+use Rattle.scql_model.specs.Records.{counter_record, user_record}
+use Rattle.record_store.specs.FreshImage.{fresh_image}
+use Rattle.scql_model.specs.Machine.{Machine, Session}
+use Rattle.scql_model.specs.Opens.{Holds}
+
+-- its store, a session or none for each channel, and whether it answers
+pub record Kept : Type 0 where
+  pub store : Held
+  pub sessions : List (Option Session)
+  pub live : Bool
+
+-- the committed records, where the image is told
+unfoldable pub committed_slots : Held → Option (List ℕ) → Option Slots
+committed_slots store image = option_and_then (contents store Committed) image
+
+-- The card answers, its EEPROM has room for it, and the image, where told, is one that its store stands for.
+pub record IsReady (card : Kept) (chip : Chip) : Type 0 where
+  pub live : IsTrue card.live
+  pub room : 70 * card.store.cells + 34 ≤ chip.still.size
+  pub stands : IfSome chip.image (StandsFor card.store)
+
+-- Card and EEPROM are at this machine: the image is told, its committed records are those of the machine's database, and the sessions are the machine's.
+pub record IsAt (card : Kept) (chip : Chip) (m : Machine) : Type 0 where
+  pub slots : Slots
+  pub committed : committed_slots card.store chip.image ≡ Some slots
+  pub holds : Holds slots m.committed
+  pub valid : IsValid m.committed
+  pub transaction : m.transaction ≡ None
+  pub sessions : m.sessions ≡ card.sessions
+
+-- the octets of a new card
+abbrev pub fresh_card : ℕ → List ℕ
+fresh_card n = fresh_image n (counter_record.spell 2) (user_record.spell owner)

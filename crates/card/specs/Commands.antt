@@ -1,0 +1,34 @@
+-- The program's commands, as the model's.
+use Rattle.std.specs.Prelude.{ℕ, List, Result, Ok, Err, option_map}
+use Rattle.scql_model.specs.Strings.{params_of}
+use Rattle.scql_model.specs.Words.{wrong_data}
+use Rattle.scql_model.specs.Commands as model
+use Rattle.scql_model.specs.Form as form
+use Rattle.scql_model.specs.declared.words.StatusWord.{StatusWord}
+use Rattle.card.specs.declared.command.Command.{Command}
+use Rattle.card.specs.declared.command.Operation.{Operation}
+use Rattle.card.specs.declared.command.Operation.TheVariants.{PresentUser}
+use Rattle.card.specs.declared.command.Kind.{Kind}
+use Rattle.card.specs.declared.command.Kind.TheVariants.{PresentUser as KindPresentUser}
+use Rattle.card.specs.declared.command.Tail.{Tail}
+
+-- a result, as what is seen of its value
+abbrev pub seen : {A B : Type 0} → (A → B) → Result A StatusWord → Result B StatusWord
+seen view (Ok x) = Ok (view x)
+seen view (Err word) = Err word
+
+abbrev pub operation_of : Operation → model.Operation
+operation_of (PresentUser name) = model.present_user name
+
+abbrev pub command_of : Command → model.Command
+command_of c = record { channel = c.channel; operation = operation_of c.operation; le = c.le }
+
+abbrev pub kind_view : Kind → form.Kind
+kind_view KindPresentUser = form.presents_user
+
+abbrev pub tail_view : Tail → form.Tail
+tail_view t = record { body = option_map (λ slice. slice.now) t.body; le = t.le }
+
+-- the operation in a data field
+abbrev pub strings_read : Kind → List ℕ → Result model.Operation StatusWord
+strings_read kind body = form.◌>>=◌ (form.or_refused (params_of body) wrong_data) (form.operation_in (kind_view kind))

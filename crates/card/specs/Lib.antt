@@ -1,0 +1,5 @@
+pub mod Answering
+pub mod Card
+pub mod Commands
+pub mod Sessions
+pub mod Users

@@ -1,0 +1,68 @@
+// The users' records in the slots of a store.
+ghost use Rattle.std.specs.Prelude.{◌≡◌, ◌<◌, ◌≤◌, ◌+◌, ◌*◌, Option, None, IfSome, IfOk, option_map, slice_index_or};
+ghost use Rattle.std.specs.List.{find, filter_map};
+ghost use Rattle.eeprom.specs.Fault.{Counts};
+ghost use Rattle.eeprom.specs.Slots.{in_slot};
+ghost use Rattle.record_store.specs.Held.{StandsFor};
+ghost use Rattle.scql_model.specs.Records as records;
+ghost use Rattle.scql_model.specs.Step.{is_named};
+ghost use Rattle.card.specs.Users.{user_of};
+ghost use Rattle.card.specs.Card.{committed_slots};
+
+use crate::coding::User;
+use eeprom::{Eeprom, EepromFault};
+use record_store::{RecordOctets, Side, Store};
+use scql_model::Name;
+
+/// The committed user of a name.
+pub(crate) fn find_named<B: Eeprom>(
+    store: &Store,
+    bench: &mut B,
+    name: &Name,
+) -> Result<Option<User>, EepromFault>
+    requires stands { IfSome (B.chip bench.old).image (StandsFor store.now) }
+    requires room { 70 * store.now.cells + 34 ≤ (B.chip bench.old).still.size }
+    ensures user { IfOk result (λ user. IfSome (committed_slots store.now (B.chip bench.old).image)
+        (λ slots. option_map user_of user ≡ find (is_named name.now) (filter_map (in_slot records.user_in) slots))) }
+    ensures same { B.chip bench.new ≡ B.chip bench.old }
+    ensures cause { Counts (B.faults bench.old) (B.faults bench.new) result }
+{
+    let mut octets = RecordOctets::new();
+    for slot in 0..store.cells() {
+        if let Some(user) = user_in(store, bench, slot, &mut octets)? {
+            if has_name(&user, name) {
+                return Ok(Some(user));
+            }
+        }
+    }
+    Ok(None)
+}
+
+// The user whose record is in a slot.
+#[tactic(auto, unfolding(crate::specs::Card::committed_slots))]
+fn user_in<B: Eeprom>(
+    store: &Store,
+    bench: &mut B,
+    slot: u16,
+    octets: &mut RecordOctets,
+) -> Result<Option<User>, EepromFault>
+    requires stands { IfSome (B.chip bench.old).image (StandsFor store.now) }
+    requires room { 70 * store.now.cells + 34 ≤ (B.chip bench.old).still.size }
+    requires slot { slot < store.now.cells }
+    ensures user { IfOk result (λ user. IfSome (committed_slots store.now (B.chip bench.old).image)
+        (λ slots. option_map user_of user ≡ in_slot records.user_in (slice_index_or slots slot None))) }
+    ensures same { B.chip bench.new ≡ B.chip bench.old }
+    ensures cause { Counts (B.faults bench.old) (B.faults bench.new) result }
+{
+    if store.get(bench, Side::Committed, slot, octets)? {
+        Ok(User::decode(octets))
+    } else {
+        Ok(None)
+    }
+}
+
+fn has_name(user: &User, name: &Name) -> bool
+    ensures { result ≡ is_named name.now (user_of user.now) }
+{
+    name.octets() == user.name.octets()
+}
