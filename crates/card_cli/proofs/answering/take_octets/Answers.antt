@@ -1,0 +1,30 @@
+-- Octet after octet.
+use Rattle.std.proofs.Common.{◌≡◌, ◌∷◌, [], ℕ, List, length, take, get_or, ap, subst, sym, ◌∙◌, arith}
+use Rattle.std.proofs.lemmas.List.{take_more}
+use Rattle.std.proofs.Math.Seq.{take-length}
+use Rattle.card_cli.specs.Line.{kept_line}
+use Rattle.card_cli.specs.RunState.{RunState, Faults, Feeds}
+use Rattle.card_cli.proofs.Feeding.{Feeds-then}
+use Rattle.card_cli.proofs.answering.take_octets.Goals as goal
+
+pub loop-octet-preserved : goal.loop-octet-preserved
+loop-octet-preserved g c =
+    let old : RunState = record { card = c.args.card.now; line = kept_line c.args.line.now; chip = g.B.Eeprom.chip c.args.bench.now; given = g.B.Outlet.given c.args.bench.now } in
+    let mid : RunState = record { card = c.loop-octet.card; line = kept_line c.loop-octet.line; chip = g.B.Eeprom.chip c.loop-octet.bench; given = g.B.Outlet.given c.loop-octet.bench } in
+    let new : RunState = record { card = c.take_octet.new.card; line = kept_line c.take_octet.new.line; chip = g.B.Eeprom.chip c.take_octet.new.bench; given = g.B.Outlet.given c.take_octet.new.bench } in
+    let octet : ℕ = get_or c.args.octets.now c.loop-octet.octet-index 0 in
+    record {
+      ready = c.in_ok-take_octet.ensures.ready;
+      faults = ap (λ (f : Faults). f.eeprom) c.in_ok-take_octet.ensures.causes.quiet ∙ c.loop-octet.invariant.faults;
+      sink_faults = ap (λ (f : Faults). f.outlet) c.in_ok-take_octet.ensures.causes.quiet ∙ c.loop-octet.invariant.sink_faults;
+      feeds = subst (λ (octets : List ℕ). Feeds octets old new) (sym (take_more c.args.octets.now c.loop-octet.octet-index 0 c.loop-octet-test.true))
+          (Feeds-then (take c.loop-octet.octet-index c.args.octets.now) (octet ∷ []) old mid new c.loop-octet.invariant.feeds c.in_ok-take_octet.ensures.feeds);
+    }
+
+pub returns-clause-feeds : goal.returns-clause-feeds
+returns-clause-feeds g c =
+    let old : RunState = record { card = c.args.card.now; line = kept_line c.args.line.now; chip = g.B.Eeprom.chip c.args.bench.now; given = g.B.Outlet.given c.args.bench.now } in
+    let new : RunState = record { card = c.loop-octet.card; line = kept_line c.loop-octet.line; chip = g.B.Eeprom.chip c.loop-octet.bench; given = g.B.Outlet.given c.loop-octet.bench } in
+    let at_end : length c.args.octets.now ≡ c.loop-octet.octet-index = omega (arith, c.loop-octet-test.false, c.loop-octet.auto.octet-index-end) in
+    let all : take c.loop-octet.octet-index c.args.octets.now ≡ c.args.octets.now = subst (λ (n : ℕ). take n c.args.octets.now ≡ c.args.octets.now) at_end (take-length c.args.octets.now) in
+    subst (λ (octets : List ℕ). Feeds octets old new) all c.loop-octet.invariant.feeds

@@ -1,0 +1,22 @@
+use Rattle.std.proofs.Common.{◌≡◌, [], Some}
+use Rattle.eeprom.specs.Chip.{Becomes}
+use Rattle.card.specs.Card.{IsReady}
+use Rattle.card_cli.specs.Line.{kept_line}
+use Rattle.card_cli.specs.Ends.{HasTaken}
+use Rattle.card_cli.proofs.input.answer_input.Given as goal
+
+abbrev pub invariant-loop-count : goal.invariant-loop-count
+invariant-loop-count g l = record {
+  ready : IsReady l.card (g.B.Eeprom.chip l.bench);
+  faults : g.B.Eeprom.faults l.bench ≡ g.B.Eeprom.faults l.fn.bench;
+  source_faults : g.S.Source.source_faults l.source ≡ g.S.Source.source_faults l.fn.source;
+  sink_faults : g.B.Outlet.sink_faults l.bench ≡ g.B.Outlet.sink_faults l.fn.bench;
+  taken : Becomes
+      (HasTaken l.room
+      (record { card = l.fn.card; line = Some []; chip = g.B.Eeprom.chip l.fn.bench; given = g.B.Outlet.given l.fn.bench })
+      (record { card = l.card; line = kept_line l.line; chip = g.B.Eeprom.chip l.bench; given = g.B.Outlet.given l.bench }))
+      (g.S.Source.left l.fn.source) (g.S.Source.left l.source);
+}
+
+abbrev pub decreases-loop-count : goal.decreases-loop-count
+decreases-loop-count g l = l.room

@@ -1,0 +1,144 @@
+// The answers to lines, as they come in.
+ghost use Rattle.std.specs.Prelude.{◌≡◌, ◌+◌, ◌*◌, ◌≤◌, ◌++◌, ◌∷◌, [], length, OnOk, codes};
+ghost use Rattle.hex.specs.Hex.{encode_upper};
+ghost use Rattle.scql_model.specs.Machine.{Machine};
+ghost use Rattle.scql_model.specs.Step.{step};
+ghost use Rattle.scql_model.specs.Lines as model;
+ghost use Rattle.card.specs.Card.{IsReady, IsAt};
+ghost use Rattle.card.specs.Answering.{reply_of};
+ghost use Rattle.card_cli.specs.Line.{kept_line, kept_reading};
+ghost use Rattle.card_cli.specs.RunState.{Prints, Feeds, Faults, Causes};
+
+use crate::line::{Line, Reading};
+use crate::stop::Stop;
+use arrayvec::ArrayVec;
+use card::{Card, Outcome, Reply};
+use eeprom::{Bench, SinkFault};
+use scql_model::StatusWord;
+
+/// The longest answer: 256 data octets and a status word in hexadecimal, and a line feed.
+const LONGEST_ANSWER: usize = 517;
+
+/// Takes octets of input: each line feed ends a line, which is answered.
+pub(crate) fn take_octets<B: Bench>(
+    card: &mut Card,
+    bench: &mut B,
+    line: &mut Line,
+    octets: &[u8],
+) -> Result<(), Stop>
+    requires ready { IsReady card.old (B.chip bench.old) }
+    ensures feeds { OnOk result (Feeds octets.now
+        (record { card = card.old; line = kept_line line.old; chip = B.chip bench.old; given = B.given bench.old })
+        (record { card = card.new; line = kept_line line.new; chip = B.chip bench.new; given = B.given bench.new })) }
+    ensures ready { OnOk result (IsReady card.new (B.chip bench.new)) }
+    ensures causes { Causes (record { eeprom = B.faults bench.old; outlet = B.sink_faults bench.old }) (record { eeprom = B.faults bench.new; outlet = B.sink_faults bench.new }) result }
+{
+    for octet in octets {
+        take_octet(card, bench, line, *octet)?;
+    }
+    Ok(())
+}
+
+fn take_octet<B: Bench>(
+    card: &mut Card,
+    bench: &mut B,
+    line: &mut Line,
+    octet: u8,
+) -> Result<(), Stop>
+    requires ready { IsReady card.old (B.chip bench.old) }
+    ensures feeds { OnOk result (Feeds (octet ∷ [])
+        (record { card = card.old; line = kept_line line.old; chip = B.chip bench.old; given = B.given bench.old })
+        (record { card = card.new; line = kept_line line.new; chip = B.chip bench.new; given = B.given bench.new })) }
+    ensures ready { OnOk result (IsReady card.new (B.chip bench.new)) }
+    ensures causes { Causes (record { eeprom = B.faults bench.old; outlet = B.sink_faults bench.old }) (record { eeprom = B.faults bench.new; outlet = B.sink_faults bench.new }) result }
+{
+    if octet != b'\n' {
+        line.push(octet);
+        return Ok(());
+    }
+    answer_line(card, bench, line)?;
+    line.clear();
+    Ok(())
+}
+
+/// Answers a whole line.
+pub(crate) fn answer_line<B: Bench>(card: &mut Card, bench: &mut B, line: &Line) -> Result<(), Stop>
+    requires ready { IsReady card.old (B.chip bench.old) }
+    ensures at { (m : Machine) → IsAt card.old (B.chip bench.old) m
+        → OnOk result (IsAt card.new (B.chip bench.new) (model.reading_step m (kept_reading (kept_line line.now)))) }
+    ensures text { (m : Machine) → IsAt card.old (B.chip bench.old) m
+        → OnOk result (Prints (model.reading_text m (kept_reading (kept_line line.now))) (B.given bench.old) (B.given bench.new)) }
+    ensures ready { OnOk result (IsReady card.new (B.chip bench.new)) }
+    ensures causes { Causes (record { eeprom = B.faults bench.old; outlet = B.sink_faults bench.old }) (record { eeprom = B.faults bench.new; outlet = B.sink_faults bench.new }) result }
+{
+    match line.read() {
+        Reading::Nothing => Ok(()),
+        Reading::TooLong => give(bench, b"line too long\n"),
+        Reading::NotHexadecimal => give(bench, b"not hexadecimal\n"),
+        Reading::Command(octets) => answer_command(card, bench, &octets),
+    }
+}
+
+fn answer_command<B: Bench>(card: &mut Card, bench: &mut B, octets: &[u8]) -> Result<(), Stop>
+    requires ready { IsReady card.old (B.chip bench.old) }
+    ensures at { (m : Machine) → IsAt card.old (B.chip bench.old) m → OnOk result (IsAt card.new (B.chip bench.new) (step m octets.now).machine) }
+    ensures text { (m : Machine) → IsAt card.old (B.chip bench.old) m
+        → OnOk result (Prints (encode_upper (model.reply_octets (step m octets.now).reply) ++ codes "\n") (B.given bench.old) (B.given bench.new)) }
+    ensures ready { OnOk result (IsReady card.new (B.chip bench.new)) }
+    ensures causes { Causes (record { eeprom = B.faults bench.old; outlet = B.sink_faults bench.old }) (record { eeprom = B.faults bench.new; outlet = B.sink_faults bench.new }) result }
+{
+    let mut reply = Reply {
+        body: ArrayVec::new(),
+        word: StatusWord::DONE,
+    };
+    match card.answer(bench, octets, &mut reply) {
+        Outcome::Replied => give(bench, &text_of(&reply)),
+        Outcome::Mute => give(bench, &text_of(&reply)).and(Err(Stop::Eeprom)),
+    }
+}
+
+// A reply in hexadecimal, with a line feed.
+fn text_of(reply: &Reply) -> ArrayVec<u8, LONGEST_ANSWER>
+    ensures { result.items ≡ encode_upper (model.reply_octets (reply_of reply.now)) ++ codes "\n" }
+{
+    let mut octets: ArrayVec<u8, 258> = ArrayVec::new();
+    put(&mut octets, &reply.body);
+    put(&mut octets, &reply.word.word.to_be_bytes());
+    let mut digits = [0; LONGEST_ANSWER - 1];
+    let digits = &mut digits[..2 * octets.len()];
+    print_into(&octets, digits);
+    let mut text = ArrayVec::new();
+    put(&mut text, digits);
+    text.push(b'\n');
+    text
+}
+
+fn put<const CAP: usize>(out: &mut ArrayVec<u8, CAP>, octets: &[u8])
+    requires { length out.old.items + length octets.now ≤ CAP }
+    ensures { out.new.items ≡ out.old.items ++ octets.now }
+{
+    let fits = out.try_extend_from_slice(octets).is_ok();
+    prove!(fits);
+}
+
+#[tactic(auto, using(crate::proofs::UpperCase::upper_of_lower))]
+fn print_into(octets: &[u8], digits: &mut [u8])
+    requires { length digits.old ≡ 2 * length octets.now }
+    ensures { digits.new ≡ encode_upper octets.now }
+{
+    let fits = hex::encode_to_slice(octets, digits).is_ok();
+    prove!(fits);
+    digits.make_ascii_uppercase();
+}
+
+fn give<B: Bench>(bench: &mut B, text: &[u8]) -> Result<(), Stop>
+    ensures text { OnOk result (Prints text.now (B.given bench.old) (B.given bench.new)) }
+    ensures image { (B.chip bench.new).image ≡ (B.chip bench.old).image }
+    ensures size { (B.chip bench.new).still.size ≡ (B.chip bench.old).still.size }
+    ensures causes { Causes (record { eeprom = B.faults bench.old; outlet = B.sink_faults bench.old }) (record { eeprom = B.faults bench.new; outlet = B.sink_faults bench.new }) result }
+{
+    match bench.give(text) {
+        Ok(()) => Ok(()),
+        Err(SinkFault) => Err(Stop::Outlet),
+    }
+}

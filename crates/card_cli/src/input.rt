@@ -1,0 +1,75 @@
+// A run over its input.
+ghost use Rattle.std.specs.Prelude.{◌≡◌, ◌<◌, ◌≤◌, [], true, length, OnOk};
+ghost use Rattle.eeprom.specs.Chip.{Becomes};
+ghost use Rattle.scql_model.specs.Machine.{Machine};
+ghost use Rattle.scql_model.specs.Lines.{lines, run_text};
+ghost use Rattle.card.specs.Card.{IsReady, IsAt};
+ghost use Rattle.card_cli.specs.Line.{kept_line};
+ghost use Rattle.card_cli.specs.Running.{Running, end_text};
+ghost use Rattle.card_cli.specs.RunState.{Prints, IsRunning, Causes};
+ghost use Rattle.card_cli.specs.Ends.{EndsBy, longest_input};
+
+use crate::answering::{answer_line, take_octets};
+use crate::line::Line;
+use crate::status::Status;
+use crate::stop::Stop;
+use card::Card;
+use eeprom::{Bench, Source};
+
+/// How many octets of input a run takes.
+const LONGEST_INPUT: usize = 67_108_864;
+
+/// How many octets are asked for at a time.
+const PIECE: usize = 4096;
+
+/// Answers each line of the input.
+pub(crate) fn answer_input<S: Source, B: Bench>(
+    card: &mut Card,
+    source: &mut S,
+    bench: &mut B,
+) -> Status
+    requires { IsReady card.old (B.chip bench.old) }
+    ensures text { result ≡ Status.Done → (m : Machine) → IsAt card.old (B.chip bench.old) m
+        → Becomes (λ input left. Prints (run_text m (lines input true)) (B.given bench.old) (B.given bench.new)) (S.left source.old) (S.left source.new) }
+    ensures whole { result ≡ Status.Done → Becomes (λ input left. (left ≡ []) × (length input ≤ longest_input)) (S.left source.old) (S.left source.new) }
+    ensures too_long { result ≡ Status.TooLong → Becomes (λ input left. longest_input < length input) (S.left source.old) (S.left source.new) }
+    ensures ends { EndsBy result
+        (record { eeprom = B.faults bench.old; source = S.source_faults source.old; outlet = B.sink_faults bench.old })
+        (record { eeprom = B.faults bench.new; source = S.source_faults source.new; outlet = B.sink_faults bench.new }) }
+{
+    let mut line = Line::new();
+    let mut piece = [0; PIECE];
+    let mut room = LONGEST_INPUT;
+    loop {
+        let Ok(count) = source.read(&mut piece) else {
+            return Status::ReadFault;
+        };
+        if count == 0 {
+            return match answer_last(card, bench, &line) {
+                Ok(()) => Status::Done,
+                Err(stop) => stop.status(),
+            };
+        }
+        let taken = count.min(room);
+        if let Err(stop) = take_octets(card, bench, &mut line, &piece[..taken]) {
+            return stop.status();
+        }
+        if room < count {
+            return Status::TooLong;
+        }
+        room -= count;
+    }
+}
+
+// Where the input ends behind octets without a line feed, they are a line.
+fn answer_last<B: Bench>(card: &mut Card, bench: &mut B, line: &Line) -> Result<(), Stop>
+    requires { IsReady card.old (B.chip bench.old) }
+    ensures text { (r : Running) → IsRunning (record { card = card.old; line = kept_line line.now; chip = B.chip bench.old; given = B.given bench.old }) r
+        → OnOk result (Prints (end_text r) (B.given bench.old) (B.given bench.new)) }
+    ensures causes { Causes (record { eeprom = B.faults bench.old; outlet = B.sink_faults bench.old }) (record { eeprom = B.faults bench.new; outlet = B.sink_faults bench.new }) result }
+{
+    if line.is_empty() {
+        return Ok(());
+    }
+    answer_line(card, bench, line)
+}

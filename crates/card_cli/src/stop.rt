@@ -1,0 +1,23 @@
+// What ends a run before its input does.
+ghost use Rattle.std.specs.Prelude.{◌≡◌};
+ghost use Rattle.card_cli.specs.StatusNumber.{status_of};
+
+use crate::status::Status;
+
+/// Which device failed.
+#[derive(Clone, Copy, PartialEq, Eq, Debug)]
+pub(crate) enum Stop {
+    Eeprom,
+    Outlet,
+}
+
+impl Stop {
+    pub fn status(self) -> Status
+        ensures { result ≡ status_of self }
+    {
+        match self {
+            Stop::Eeprom => Status::Eeprom,
+            Stop::Outlet => Status::WriteFault,
+        }
+    }
+}
