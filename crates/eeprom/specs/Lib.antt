@@ -8,5 +8,7 @@ pub mod Recorded
 pub mod Recording
 pub mod Slots
 pub mod Sources
+pub mod SteadyBench
+pub mod Steps
 pub mod StoreOf
 pub mod Told

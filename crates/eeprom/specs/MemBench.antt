@@ -18,7 +18,7 @@ abbrev pub Leaves : MemBench → MemBench → Type 0
 Leaves old new = Gives (chip_of old) (chip_of new) × (new.faults ≡ old.faults) × (octets_read_of new ≡ octets_read_of old)
 
 -- the laws of an EEPROM
-small_length : (n len cap : ℕ) → (len ≡ n) × (len ≤ cap) → cap < 2 ^ 63 → n < 2 ^ 64
+pub small_length : (n len cap : ℕ) → (len ≡ n) × (len ≤ cap) → cap < 2 ^ 63 → n < 2 ^ 64
 small_length n len cap fits small = omega arith
 
 pub small_of : (b : MemBench) → (chip_of b).still.size < 2 ^ 64

@@ -1,7 +1,7 @@
 -- The store of an image in format 1: a header, two directories of which one is selected, and chains of cells.
 -- Places are in octets from the image's start; numbers of several octets have the highest octet first.
 use Rattle.std.specs.Prelude.{ℕ, zero, suc, ◌+◌, ◌*◌, ◌/◌, ◌%◌, ◌==◌, nat_le, nat_lt, ◌-◌, not, ◌&&◌, Bool, true, false, if◌then◌else◌, List, [], ◌∷◌, length, map, replicate, Option, Some, None, option_map, option_and_then, slice_index, slice_range}
-use Rattle.std.specs.List.{flat_map, list_all, list_any}
+use Rattle.std.specs.List.{flat_map, list_all, list_any, sum_by}
 
 -- a store: the record of each slot, or none in an empty slot
 abbrev pub Slots : Type 0
@@ -47,6 +47,14 @@ chains_of image n (first ∷ rest) =
 -- the least whole number of cells that hold a record of this length and the two octets of its length
 abbrev pub cells_for : ℕ → ℕ
 cells_for size = (size + 31) / 30
+
+-- the cells of the record in a slot, and of the records in all slots
+abbrev pub cells_of : Option (List ℕ) → ℕ
+cells_of None = 0
+cells_of (Some octets) = cells_for (length octets)
+
+abbrev pub weight_of : Slots → ℕ
+weight_of slots = sum_by cells_of slots
 
 -- the record in a chain's payload: its length, its octets, and what is left isn't looked at
 abbrev pub record_in : List ℕ → List ℕ

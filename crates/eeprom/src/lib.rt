@@ -9,7 +9,9 @@ mod mem_bench;
 mod output;
 mod plan;
 mod recording;
+mod reserved;
 mod sources;
+mod steady_bench;
 
 pub use device::{Bench, Eeprom};
 pub use fault::{EepromFault, SinkFault, SourceFault};
@@ -18,6 +20,7 @@ pub use mem_bench::MemBench;
 pub use output::Outlet;
 pub use plan::FaultPlan;
 pub use sources::{MemSource, SteadySource};
+pub use steady_bench::SteadyBench;
 
 #[cfg(test)]
 mod tests;

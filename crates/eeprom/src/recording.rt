@@ -179,7 +179,7 @@ impl Recording {
 }
 
 /// The octets of the range are these, and all else stays.
-fn write_over(image: &mut [u8], at: usize, octets: &[u8])
+pub fn write_over(image: &mut [u8], at: usize, octets: &[u8])
     requires { at + length octets.now ≤ length image.old }
     ensures { image.new ≡ overwrite image.old at octets.now }
 {

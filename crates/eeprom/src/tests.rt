@@ -3,7 +3,7 @@ ghost use Rattle.std.specs.Prelude.{◌≡◌, length, IfOk};
 
 use crate::{
     Bench, Eeprom, EepromFault, FaultPlan, MemBench, MemSource, Outlet, SinkFault, Source,
-    SourceFault, SteadySource,
+    SourceFault, SteadyBench, SteadySource,
 };
 use std::alloc::{AllocError, Global};
 
@@ -56,6 +56,21 @@ fn gives_fail_as_planned(rt: HostRuntime) -> Result<(), AllocError> {
     assert_eq!(rt; bench.give(&[80, 81, 82]), Err(SinkFault));
     assert_eq!(rt; bench.given(), [70, 71, 72, 80].as_slice());
     assert_eq!(rt; (bench.writes(), bench.given_at(0)), (1, Some(3)));
+    Ok(())
+}
+
+#[test]
+fn steady_benches_go_on_without_room(rt: HostRuntime) -> Result<(), AllocError> {
+    let mut bench = SteadyBench::new(rt.alloc(), image(rt.alloc())?, 3, 2)?;
+    let mut into = [0; 2];
+    assert_eq!(rt; bench.write(3, &[1, 2, 3]), Ok(()));
+    assert_eq!(rt; bench.write(0, &[4, 5]), Ok(()));
+    assert_eq!(rt; bench.read(2, &mut into), Ok(()));
+    assert_eq!(rt; into, [12, 1]);
+    assert_eq!(rt; bench.image(), [4, 5, 12, 1, 2, 3].as_slice());
+    assert_eq!(rt; bench.give(&[70, 71]), Ok(()));
+    assert_eq!(rt; bench.given(), [70, 71].as_slice());
+    assert_eq!(rt; bench.give(&[80]), Ok(()));
     Ok(())
 }
 

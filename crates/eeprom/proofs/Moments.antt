@@ -1,0 +1,83 @@
+-- The moments of writes: what a power loss may leave from one on.
+use Rattle.std.proofs.Common.{◌≡◌, ◌⊎◌, inl, inr, ℕ, zero, suc, ◌≤◌, List, [], ◌∷◌, ◌++◌, length, drop, Option, Some, None, MatchOption, IfSome, sym, refl, ap, ◌∙◌, arith, subst}
+use Rattle.eeprom.specs.Chip.{Chip, Stretch, writing, MayLeave, LeftIn, LeftSince, Writes, Throughout}
+use Rattle.eeprom.specs.Image.{IsTorn}
+
+pub left-in-more : (past : List Stretch) (stretch : Stretch) (g : ℕ) (left : List ℕ) → LeftIn (past ++ stretch ∷ []) g left → LeftIn past g left ⊎ MayLeave stretch g left
+left-in-more [] stretch g left (inl there) = inr there
+left-in-more [] stretch g left (inr none) = absurd none
+left-in-more (first ∷ past) stretch g left (inl there) = inl (inl there)
+left-in-more (first ∷ past) stretch g left (inr there) = elim (left-in-more past stretch g left there) [
+  | inl before ↦ inl (inr before)
+  | inr now ↦ inr now
+]
+
+pub drop-more : (t : ℕ) (past : List Stretch) (stretch : Stretch) → t ≤ length past → drop t (past ++ stretch ∷ []) ≡ drop t past ++ stretch ∷ []
+drop-more zero past stretch within = refl
+drop-more (suc t) [] stretch within = absurd (omega arith)
+drop-more (suc t) (first ∷ past) stretch within = drop-more t past stretch (omega arith)
+
+pub left-told : (chip : Chip) (past : List Stretch) (t g : ℕ) (left : List ℕ) → chip.past ≡ Some past → LeftIn (drop t past) g left → LeftSince chip t g left
+unfolding LeftSince
+left-told chip past t g left told there = rw told (inr there)
+
+pub left-cases : (chip : Chip) (t g : ℕ) (left : List ℕ) → LeftSince chip t g left → (past : List Stretch) × (chip.past ≡ Some past) × (((chip.image ≡ Some left) × (g ≡ chip.still.mark)) ⊎ LeftIn (drop t past) g left)
+unfolding LeftSince
+left-cases chip t g left there = left-match chip.past refl there
+  where
+    left-match : (past : Option (List Stretch)) → chip.past ≡ past → MatchOption past ⊥ (λ past. ((chip.image ≡ Some left) × (g ≡ chip.still.mark)) ⊎ LeftIn (drop t past) g left)
+        → (past : List Stretch) × (chip.past ≡ Some past) × (((chip.image ≡ Some left) × (g ≡ chip.still.mark)) ⊎ LeftIn (drop t past) g left)
+    left-match None told there = absurd there
+    left-match (Some past) told there = (past, told, there)
+
+-- what a write that was done or failed may leave, where each torn image has P
+pub write-throughout : (at : ℕ) (octets : List ℕ) (old new : Chip) (P : ℕ → List ℕ → Type 0) → IfSome old.past (λ past. length past ≡ old.clock) → Writes at octets old new
+    → ((image left : List ℕ) → old.image ≡ Some image → IsTorn image at (length octets) left → P old.still.mark left) → Throughout old new P
+write-throughout at octets old new P clocked w torn = record {
+  later = w.later;
+  only = λ t g left since there.
+      let case = left-cases new t g left there in
+      let told = w.past case.0 case.1 in
+      let within : t ≤ length told.0 = omega (arith, since, rw (told.1) at clocked) in
+      elim case.2 [
+        | inl now ↦
+            let image = w.image left now.0 in
+            let mark : g ≡ old.still.mark = now.1 ∙ ap (λ still. still.mark) w.still in
+            inr (subst (λ (g : ℕ). P g left) (sym mark) (torn image.0 left image.1 image.2))
+        | inr past ↦ elim (told.2) [
+          | inl more ↦
+              let longer : LeftIn (drop t told.0 ++ writing (record { image = more.0; at = at; count = length octets; mark = old.still.mark }) ∷ []) g left =
+              rw (drop-more t told.0 (writing (record { image = more.0; at = at; count = length octets; mark = old.still.mark })) within) at (rw (more.2) at past) in
+              elim (left-in-more (drop t told.0) (writing (record { image = more.0; at = at; count = length octets; mark = old.still.mark })) g left longer) [
+                | inl before ↦ inl (left-told old told.0 t g left told.1 before)
+                | inr during ↦ inr (subst (λ (g : ℕ). P g left) (sym during.0) (torn more.0 left more.1 during.1))
+              ]
+          | inr none ↦ inl (left-told old told.0 t g left told.1 (rw (none.0) at past))
+        ]
+      ];
+  now = λ image told.
+      let was = w.image image told in
+      let mark : new.still.mark ≡ old.still.mark = ap (λ still. still.mark) w.still in
+      subst (λ (g : ℕ). P g image) (sym mark) (torn was.0 image was.1 was.2);
+}
+
+-- one run of calls, and then another
+pub throughout-then : (old mid new : Chip) (P : ℕ → List ℕ → Type 0) → Throughout old mid P → Throughout mid new P → Throughout old new P
+throughout-then old mid new P first second = record {
+  later = omega (arith, first.later, second.later);
+  only = λ t g left since there. elim (second.only t g left (omega (arith, first.later)) there) [
+    | inl before ↦ first.only t g left since before
+    | inr now ↦ inr now
+  ];
+  now = second.now;
+}
+
+pub throughout-weaker : (old new : Chip) (P Q : ℕ → List ℕ → Type 0) → Throughout old new P → ((g : ℕ) (left : List ℕ) → P g left → Q g left) → Throughout old new Q
+throughout-weaker old new P Q all weaker = record {
+  later = all.later;
+  only = λ t g left since there. elim (all.only t g left since there) [
+    | inl before ↦ inl before
+    | inr now ↦ inr (weaker g left now)
+  ];
+  now = λ image told. weaker new.still.mark image (all.now image told);
+}
