@@ -16,8 +16,7 @@ use Rattle.scql_model.specs.declared.words.Profile.TheVariants.{DbO, Dboo, Dbbu}
 use Rattle.scql_model.specs.Words.{security_not_satisfied, no_space, already_exists}
 use Rattle.scql_model.specs.Name.{is_name, is_name_octet}
 use Rattle.scql_model.specs.Records.{User, is_secret, is_tries, user_record, object_fits, grant_record, row_record}
-use Rattle.scql_model.specs.Database.{Database, IsValid, owner, public_name, weight, is_db_o, is_maker, user_stamped, is_made_by_maker, has_maker, has_all_tries}
-use Rattle.scql_model.specs.Step.{is_named}
+use Rattle.scql_model.specs.Database.{Database, IsValid, owner, public_name, weight, is_db_o, is_maker, user_stamped, is_made_by_maker, has_maker, has_all_tries, is_named}
 use Rattle.scql_model.specs.Creating.{IsAsked, may_create, actor_stamp, IsActorOf, is_taken, new_user, with_user, stamps_end, is_overfull, created}
 use Rattle.scql_model.proofs.LongerLists.{not_equal-sym, find-passes, find-all, all-filtered, any-map}
 use Rattle.scql_model.proofs.AddedUser.{IsAddable, IsValid-with_user, kept_maker}

@@ -43,7 +43,7 @@ spelled-user : (u : User) → user_record.fits u ≡ true → is_spelled (Some (
 spelled-user u fits = ap (λ (o : Option User). is_some o) (user_in-again u fits)
 
 -- a slot with a counter is not the empty one
-other_slot : (slots : Slots) (counter_slot slot next : ℕ) → in_slot counter_in (get_or slots counter_slot None) ≡ Some next → get_or slots slot None ≡ None → slot ≡ counter_slot → ⊥
+pub other_slot : (slots : Slots) (counter_slot slot next : ℕ) → in_slot counter_in (get_or slots counter_slot None) ≡ Some next → get_or slots slot None ≡ None → slot ≡ counter_slot → ⊥
 other_slot slots counter_slot slot next counts empty same =
     none-some next (ap (in_slot counter_in) (sym empty) ∙ ap (λ i. in_slot counter_in (get_or slots i None)) same ∙ counts)
 

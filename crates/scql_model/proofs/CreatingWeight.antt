@@ -11,8 +11,8 @@ use Rattle.scql_model.specs.Database.{Database, weight}
 use Rattle.scql_model.specs.Creating.{with_user, is_overfull}
 use Rattle.scql_model.proofs.Creating.{user-size, name-size}
 
-abbrev pub cells_of : List ℕ → ℕ
-cells_of octets = cells_for (length octets)
+abbrev pub record_cells : List ℕ → ℕ
+record_cells octets = cells_for (length octets)
 
 sum-middle : {X : Type 0} (f : X → ℕ) (c c' : X) (xs ys : List X) (x : X) → f c' ≡ f c → sum_by f (c' ∷ ((xs ++ x ∷ []) ++ ys)) ≡ sum_by f (c ∷ (xs ++ ys)) + f x
 sum-middle f c c' xs ys x same =
@@ -25,17 +25,17 @@ sum-middle f c c' xs ys x same =
     omega (arith, same)
 
 -- a user adds its own cells alone, since the counter takes one cell whatever the next stamp
-pub weight-with_user : (db : Database) (u : User) → weight (with_user db u) ≡ weight db + cells_of (user_record.spell u)
+pub weight-with_user : (db : Database) (u : User) → weight (with_user db u) ≡ weight db + record_cells (user_record.spell u)
 weight-with_user db u =
-    rw (map-append user_record.spell db.users (u ∷ [])) (sum-middle cells_of (counter_record.spell db.next) (counter_record.spell (db.next + 1)) (map user_record.spell db.users)
+    rw (map-append user_record.spell db.users (u ∷ [])) (sum-middle record_cells (counter_record.spell db.next) (counter_record.spell (db.next + 1)) (map user_record.spell db.users)
     (map object_spelling db.objects ++ (map grant_record.spell db.grants ++ map row_record.spell db.rows)) (user_record.spell u) refl)
 
 -- so the room for a user is known before it is made
-pub overfull-with_user : (db : Database) (u : User) → is_overfull (with_user db u) ≡ nat_lt db.cells (weight db + cells_of (user_record.spell u))
+pub overfull-with_user : (db : Database) (u : User) → is_overfull (with_user db u) ≡ nat_lt db.cells (weight db + record_cells (user_record.spell u))
 overfull-with_user db u = ap (nat_lt db.cells) (weight-with_user db u)
 
 -- a user without a secret takes one cell
-pub cells-no_secret : (u : User) → is_name u.name ≡ true → u.secret ≡ [] → cells_of (user_record.spell u) ≡ 1
+pub cells-no_secret : (u : User) → is_name u.name ≡ true → u.secret ≡ [] → record_cells (user_record.spell u) ≡ 1
 cells-no_secret u named none =
     let size = user-size u in
     let short = name-size u.name named in

@@ -50,15 +50,15 @@ IsLastField-from_IsField {A} f is = record {
 }
 
 -- Options of which there is a value.
-mapped_some : {A B P : Type 0} (f : A → B) (o : Option A) (y : B) → option_map f o ≡ Some y → ((x : A) → o ≡ Some x → f x ≡ y → P) → P
+pub mapped_some : {A B P : Type 0} (f : A → B) (o : Option A) (y : B) → option_map f o ≡ Some y → ((x : A) → o ≡ Some x → f x ≡ y → P) → P
 mapped_some f None y is then' = absurd (none-some y is)
 mapped_some f (Some x) y is then' = then' x refl (same_Some (f x) y is)
 
-chosen_some : {A : Type 0} (b : Bool) (o : Option A) (y : A) → (if b then o else None) ≡ Some y → (b ≡ true) × (o ≡ Some y)
+pub chosen_some : {A : Type 0} (b : Bool) (o : Option A) (y : A) → (if b then o else None) ≡ Some y → (b ≡ true) × (o ≡ Some y)
 chosen_some true o y is = (refl, is)
 chosen_some false o y is = absurd (none-some y is)
 
-not_chosen_some : {A : Type 0} (b : Bool) (o : Option A) (y : A) → (if b then None else o) ≡ Some y → (b ≡ false) × (o ≡ Some y)
+pub not_chosen_some : {A : Type 0} (b : Bool) (o : Option A) (y : A) → (if b then None else o) ≡ Some y → (b ≡ false) × (o ≡ Some y)
 not_chosen_some true o y is = absurd (none-some y is)
 not_chosen_some false o y is = (refl, is)
 

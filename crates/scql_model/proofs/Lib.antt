@@ -6,12 +6,17 @@ pub mod CreatingSlots
 pub mod CreatingWeight
 mod ExampleValues
 pub mod FieldLaws
+pub mod FormedCommands
 pub mod FreshCard
+pub mod Hearing
 pub mod LongerLists
 pub mod Naming
 pub mod RecordLaws
+pub mod Refusing
 pub mod Room
+pub mod SpellingLengths
 pub mod Spellings
 pub mod Splitting
+pub mod Validity
 mod WorkedCreating
 mod WorkedRows

@@ -1,15 +1,14 @@
--- A user is found by its name, in a list or among slots in no order.
-use Rattle.std.proofs.Common.{◌≡◌, ℕ, ◌≤◌, Bool, true, false, List, [], ◌∷◌, map, count_by, not, ◌&&◌, refl, lit≤, sym, ap, subst, ◌∙◌, arith, inl, inr}
+-- A user is found by its name or its stamp, in a list or among slots in no order.
+use Rattle.std.proofs.Common.{◌≡◌, ℕ, ◌≤◌, ◌==◌, Bool, true, false, List, [], ◌∷◌, map, count_by, not, ◌&&◌, refl, lit≤, sym, ap, subst, ◌∙◌, arith, inl, inr}
 use Rattle.std.specs.List.{list_any, find, filter_map}
 use Rattle.std.specs.Str.{bytes_eq}
 use Rattle.std.proofs.lemmas.Bool.{cases_Bool, false≢true}
 use Rattle.std.proofs.lemmas.Slice.Eq.{bytes_eq-Decides}
-use Rattle.eeprom.proofs.InOrder.{count_by-cons, count_by-in_order, find-in_order}
+use Rattle.eeprom.proofs.InOrder.{count_by-cons, count_by-in_order, find-in_order, AreApart-rising}
 use Rattle.eeprom.specs.Slots.{in_slot, in_order}
 use Rattle.eeprom.specs.StoreOf.{Slots}
 use Rattle.scql_model.specs.Records.{User, user_in}
-use Rattle.scql_model.specs.Database.{Database, IsValid, are_different}
-use Rattle.scql_model.specs.Step.{is_named, user_named}
+use Rattle.scql_model.specs.Database.{Database, IsValid, are_different, is_named, user_named, user_stamped}
 use Rattle.scql_model.specs.Opens.{Holds}
 
 abbrev names_of : List User → List (List ℕ)
@@ -46,11 +45,21 @@ one_named name (u ∷ users) apart =
 abbrev stamp_of : User → ℕ
 stamp_of u = u.stamp
 
+-- of users of whom at most one passes, the one is found among slots that hold them
+found-slots : (slots : Slots) (db : Database) (p : User → Bool) → Holds slots db → count_by p db.users ≤ 1 → find p db.users ≡ find p (filter_map (in_slot user_in) slots)
+found-slots slots db p holds one =
+    let found : List User = filter_map (in_slot user_in) slots in
+    let sorted : count_by p (in_order stamp_of found) ≤ 1 = subst (λ (users : List User). count_by p users ≤ 1) (sym holds.users) one in
+    let one' : count_by p found ≤ 1 = omega (arith, sorted, count_by-in_order stamp_of p found) in
+    ap (λ (users : List User). find p users) (sym holds.users) ∙ find-in_order stamp_of p found one'
+
 -- Among slots that hold a valid database, the user of a name is the database's.
 pub user_named-slots : (slots : Slots) (db : Database) (name : List ℕ) → Holds slots db → IsValid db
     → user_named db.users name ≡ find (is_named name) (filter_map (in_slot user_in) slots)
-user_named-slots slots db name holds valid =
-    let found : List User = filter_map (in_slot user_in) slots in
-    let one : count_by (is_named name) (in_order stamp_of found) ≤ 1 = subst (λ (users : List User). count_by (is_named name) users ≤ 1) (sym holds.users) (one_named name db.users valid.user_names) in
-    let one' : count_by (is_named name) found ≤ 1 = omega (arith, one, count_by-in_order stamp_of (is_named name) found) in
-    ap (λ (users : List User). find (is_named name) users) (sym holds.users) ∙ find-in_order stamp_of (is_named name) found one'
+user_named-slots slots db name holds valid = found-slots slots db (is_named name) holds (one_named name db.users valid.user_names)
+
+-- And so is the user of a stamp.
+pub user_stamped-slots : (slots : Slots) (db : Database) (stamp : ℕ) → Holds slots db → IsValid db
+    → user_stamped db.users stamp ≡ find (λ (u : User). u.stamp == stamp) (filter_map (in_slot user_in) slots)
+user_stamped-slots slots db stamp holds valid =
+    found-slots slots db (λ (u : User). u.stamp == stamp) holds (AreApart-rising stamp_of db.users valid.users_rise stamp)

@@ -12,8 +12,7 @@ use Rattle.eeprom.specs.StoreOf.{Slots}
 use Rattle.eeprom.specs.Slots.{in_slot}
 use Rattle.scql_model.specs.Name.{is_name}
 use Rattle.scql_model.specs.Records.{User, is_secret, counter_record, user_record, counter_in}
-use Rattle.scql_model.specs.Database.{Database, public_name, weight, user_stamped}
-use Rattle.scql_model.specs.Step.{is_named}
+use Rattle.scql_model.specs.Database.{Database, public_name, weight, user_stamped, is_named}
 
 -- DB_O makes users, and DBOO makes users of profile DBBU
 abbrev pub may_create : Actor → Profile → Bool

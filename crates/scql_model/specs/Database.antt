@@ -72,6 +72,12 @@ is_db_o u = is_of u.profile
 abbrev pub user_stamped : List User → ℕ → Option User
 user_stamped users stamp = find (λ (u : User). u.stamp == stamp) users
 
+abbrev pub is_named : List ℕ → User → Bool
+is_named name u = bytes_eq name u.name
+
+abbrev pub user_named : List User → List ℕ → Option User
+user_named users name = find (is_named name) users
+
 abbrev pub object_stamped : List Object → ℕ → Option Object
 object_stamped objects stamp = find (λ (o : Object). o.stamp == stamp) objects
 

@@ -1,9 +1,11 @@
 -- The reading of a command: which command octets are, or the first refusal that applies.
 use Rattle.std.specs.Prelude.{ℕ, ◌+◌, ◌/◌, ◌%◌, ◌==◌, not, ◌&&◌, Bool, false, List, [], ◌∷◌, length, take, Option, Some, None, Result, Ok, Err, slice_get, slice_index, if◌then◌else◌}
 use Rattle.scql_model.specs.declared.words.StatusWord.{StatusWord}
+use Rattle.scql_model.specs.declared.words.Profile.{Profile}
+use Rattle.scql_model.specs.declared.words.Profile.TheVariants.{Dboo, Dbbu}
 use Rattle.scql_model.specs.Name.{name_of}
 use Rattle.scql_model.specs.Strings.{params_of}
-use Rattle.scql_model.specs.Commands.{Command, Operation, present_user}
+use Rattle.scql_model.specs.Commands.{Command, Operation, present_user, create_user}
 use Rattle.scql_model.specs.Words.{wrong_length, class_not_supported, secure_messaging_not_supported, chaining_not_supported, instruction_not_supported, channel_not_supported, wrong_parameters, wrong_data}
 
 infixl 10 ◌>>=◌
@@ -38,9 +40,13 @@ channel_of cla channels = if is_open (slice_get channels (cla % 4)) then Ok (cla
 -- The operations that are built.
 pub data Kind : Type 0 where
   presents_user : Kind
+  creates_user : Kind
 
 abbrev pub kind_of : ℕ → ℕ → ℕ → Result Kind StatusWord
-kind_of ins p1 p2 = if ins == 0x14 && p1 == 0x00 && p2 == 0x80 then Ok presents_user else Err wrong_parameters
+kind_of ins p1 p2 =
+    if ins == 0x14 && p1 == 0x00 && p2 == 0x80 then Ok presents_user
+    else if ins == 0x14 && p1 == 0x00 && p2 == 0x81 then Ok creates_user
+    else Err wrong_parameters
 
 -- The four cases of a command: nothing, Le, Lc and data, or Lc, data and Le. In one octet Le is 1 to 256, 256 being 00.
 pub record Tail : Type 0 where
@@ -69,8 +75,25 @@ presented_in (name ∷ []) = do
   Ok (present_user name)
 presented_in strings = Err wrong_data
 
+-- CREATE USER: the name, the profile in one octet, and the secret, which is empty until secrets are built.
+abbrev pub made_profile_of : List ℕ → Option Profile
+made_profile_of (code ∷ []) = if code == 0x02 then Some Dboo else if code == 0x03 then Some Dbbu else None
+made_profile_of string = None
+
+abbrev pub secret_of : List ℕ → Option (List ℕ)
+secret_of string = if length string == 0 then Some string else None
+
+abbrev pub created_in : List (List ℕ) → Result Operation StatusWord
+created_in (name ∷ profile ∷ secret ∷ []) = do
+  name ← or_refused (name_of name) wrong_data
+  profile ← or_refused (made_profile_of profile) wrong_data
+  secret ← or_refused (secret_of secret) wrong_data
+  Ok (create_user name profile secret)
+created_in strings = Err wrong_data
+
 abbrev pub operation_in : Kind → List (List ℕ) → Result Operation StatusWord
 operation_in presents_user strings = presented_in strings
+operation_in creates_user strings = created_in strings
 
 -- The command that octets are, where these channels are open.
 unfoldable pub form_of : List ℕ → List Bool → Result Command StatusWord

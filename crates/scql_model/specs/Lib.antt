@@ -3,6 +3,7 @@ pub mod Creating
 pub mod Database
 pub mod Fields
 pub mod Form
+pub mod Heard
 pub mod Lines
 pub mod Lists
 pub mod Machine
@@ -13,4 +14,6 @@ pub mod Records
 pub mod Row
 pub mod Step
 pub mod Strings
+pub mod Validity
+pub mod WellFormed
 pub mod Words

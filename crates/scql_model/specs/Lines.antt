@@ -1,8 +1,10 @@
 -- Lines of commands, and what a run prints to them.
 use Rattle.std.specs.Prelude.{ℕ, ◌==◌, nat_lt, not, ◌&&◌, ◌||◌, ◌/◌, ◌%◌, Bool, List, [], ◌∷◌, ◌++◌, length, filter, Result, Ok, Err, if◌then◌else◌, codes}
 use Rattle.std.specs.List.{slice_split, concat}
+use Rattle.std.specs.Str.{bytes_eq}
 use Rattle.hex.specs.Hex.{decode_of, encode_upper}
-use Rattle.scql_model.specs.Machine.{Machine}
+use Rattle.scql_model.specs.Database.{Database}
+use Rattle.scql_model.specs.Machine.{Machine, reset}
 use Rattle.scql_model.specs.Commands.{Reply}
 use Rattle.scql_model.specs.Step.{step}
 
@@ -18,10 +20,11 @@ without_open_end ended (piece ∷ other ∷ pieces) = piece ∷ without_open_end
 abbrev pub lines : List ℕ → Bool → List (List ℕ)
 lines octets ended = without_open_end ended (slice_split is_line_feed octets)
 
--- What a line is: spaces, tabs and carriage returns are taken out first, and then it is nothing, a note or hexadecimal digits.
+-- What a line is: spaces, tabs and carriage returns are taken out first, and then it is nothing, a note, `reset` or hexadecimal digits.
 pub data Reading : Type 0 where
   too_long : Reading
   nothing : Reading
+  resets : Reading
   not_hexadecimal : Reading
   command : (octets : List ℕ) → Reading
 
@@ -40,7 +43,10 @@ hexadecimal_in (Err e) = not_hexadecimal
 
 abbrev pub reading_without_blanks : List ℕ → Reading
 reading_without_blanks [] = nothing
-reading_without_blanks (first ∷ rest) = if first == 0x23 then nothing else hexadecimal_in (decode_of (first ∷ rest))
+reading_without_blanks (first ∷ rest) =
+    if first == 0x23 then nothing
+    else if bytes_eq (first ∷ rest) (codes "reset") then resets
+    else hexadecimal_in (decode_of (first ∷ rest))
 
 abbrev pub reading_of : List ℕ → Reading
 reading_of line = if nat_lt longest_line (length line) then too_long else reading_without_blanks (without_blanks line)
@@ -52,14 +58,21 @@ reply_octets reply = reply.body ++ (reply.word.word / 256) ∷ (reply.word.word 
 abbrev pub reading_text : Machine → Reading → List ℕ
 reading_text m too_long = codes "line too long\n"
 reading_text m nothing = []
+reading_text m resets = codes "reset\n"
 reading_text m not_hexadecimal = codes "not hexadecimal\n"
 reading_text m (command octets) = encode_upper (reply_octets (step m octets).reply) ++ codes "\n"
 
 abbrev pub reading_step : Machine → Reading → Machine
 reading_step m (command octets) = (step m octets).machine
+reading_step m resets = reset m
 reading_step m too_long = m
 reading_step m nothing = m
 reading_step m not_hexadecimal = m
+
+-- the databases that a line commits in turn
+abbrev pub reading_commits : Machine → Reading → List Database
+reading_commits m (command octets) = (step m octets).commits
+reading_commits m reading = []
 
 unfoldable pub line_text : Machine → List ℕ → List ℕ
 line_text m line = reading_text m (reading_of line)

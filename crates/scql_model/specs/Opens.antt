@@ -1,5 +1,5 @@
 -- The database to which an image opens.
-use Rattle.std.specs.Prelude.{◌≡◌, ℕ, ◌||◌, Bool, true, List, [], ◌∷◌, length, Option, Some, None, is_some}
+use Rattle.std.specs.Prelude.{◌≡◌, ◌⊎◌, ℕ, ◌||◌, Bool, true, List, [], ◌∷◌, length, Option, Some, None, is_some}
 use Rattle.std.specs.List.{list_all}
 use Rattle.eeprom.specs.StoreOf.{Slots, store_of}
 use Rattle.eeprom.specs.Slots.{kept}
@@ -32,3 +32,8 @@ pub record Opens (image : List ℕ) (db : Database) : Type 0 where
   pub stored : store_of image ≡ Some slots
   pub holds : Holds slots db
   pub valid : IsValid db
+
+-- The image opens to one of these databases.
+abbrev pub OpensToOneOf : List Database → List ℕ → Type 0
+OpensToOneOf [] image = ⊥
+OpensToOneOf (db ∷ dbs) image = Opens image db ⊎ OpensToOneOf dbs image

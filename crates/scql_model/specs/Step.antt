@@ -1,13 +1,14 @@
 -- A step of the table machine: the answer to a command, the next machine, and the databases that are committed in turn.
-use Rattle.std.specs.Prelude.{ℕ, ◌==◌, Bool, List, [], length, Option, Some, None, Result, Ok, Err, is_some, slice_set, if◌then◌else◌}
-use Rattle.std.specs.List.{find}
+use Rattle.std.specs.Prelude.{ℕ, ◌==◌, List, [], ◌∷◌, length, Option, Some, None, Result, Ok, Err, is_some, slice_set, if◌then◌else◌}
 use Rattle.scql_model.specs.declared.words.StatusWord.{StatusWord}
+use Rattle.scql_model.specs.declared.words.Profile.{Profile}
 use Rattle.scql_model.specs.Words.{done, conditions_not_satisfied, not_found, instruction_not_supported}
 use Rattle.scql_model.specs.Records.{User}
-use Rattle.scql_model.specs.Database.{Database, public_name}
+use Rattle.scql_model.specs.Database.{Database, public_name, user_named}
 use Rattle.std.specs.Str.{bytes_eq}
-use Rattle.scql_model.specs.Machine.{Machine, Session, Presented, open_channels, base}
-use Rattle.scql_model.specs.Commands.{Command, Operation, present_user, Reply}
+use Rattle.scql_model.specs.Machine.{Machine, Session, Presented, open_channels, base, actor}
+use Rattle.scql_model.specs.Creating.{created}
+use Rattle.scql_model.specs.Commands.{Command, Operation, present_user, create_user, Reply}
 use Rattle.scql_model.specs.Form.{form_of, ◌>>=◌}
 
 pub record Answer : Type 0 where
@@ -31,12 +32,6 @@ done_with m = record { reply = said done; machine = m; commits = [] }
 abbrev pub with_session : Machine → ℕ → Session → Machine
 with_session m channel session = record m { sessions = slice_set m.sessions channel (Some session) }
 
-abbrev pub is_named : List ℕ → User → Bool
-is_named name u = bytes_eq name u.name
-
-abbrev pub user_named : List User → List ℕ → Option User
-user_named users name = find (is_named name) users
-
 -- a user is presented, proved where the secret is empty
 abbrev pub presented : User → Presented
 presented u = record { stamp = u.stamp; proved = length u.secret == 0 }
@@ -52,9 +47,25 @@ user_of_session m channel name =
     else if bytes_eq name public_name then Ok (done_with (with_session m channel (record { user = None; cursor = None })))
     else user_presented m channel (user_named (base m channel).users name)
 
+-- done, and this database is committed
+abbrev pub committed_with : Machine → Database → Answer
+committed_with m db = record { reply = said done; machine = record m { committed = db }; commits = db ∷ [] }
+
+-- a change outside of a transaction is committed at once
+abbrev pub changed : Machine → Result Database StatusWord → Result Answer StatusWord
+changed m (Err word) = Err word
+changed m (Ok db) = Ok (committed_with m db)
+
+-- CREATE USER: the database with the new user is committed
+abbrev pub user_created : Machine → ℕ → List ℕ → Profile → List ℕ → Result Answer StatusWord
+user_created m channel name profile secret =
+    if is_some m.transaction then Err conditions_not_satisfied
+    else changed m (created (base m channel) (actor m channel) name profile secret)
+
 -- what isn't built is refused before it comes here
 abbrev pub operated : Machine → ℕ → Operation → Result Answer StatusWord
 operated m channel (present_user name) = user_of_session m channel name
+operated m channel (create_user name profile secret) = user_created m channel name profile secret
 operated m channel operation = Err instruction_not_supported
 
 unfoldable pub step : Machine → List ℕ → Answer

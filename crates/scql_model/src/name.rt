@@ -1,5 +1,5 @@
 // Names of users, objects and columns.
-ghost use Rattle.std.specs.Prelude.{◌≡◌, ◌≤◌, ◌↔◌, IsSome, length};
+ghost use Rattle.std.specs.Prelude.{◌≡◌, ◌≤◌, ◌↔◌, ◌∷◌, [], IsSome, length};
 ghost use Rattle.std.specs.List.{list_all};
 ghost use Rattle.scql_model.specs.Name as names;
 
@@ -47,7 +47,9 @@ impl Name {
     }
 
     /// The name `A`.
-    pub(crate) fn blank() -> Name {
+    pub(crate) fn blank() -> Name
+        ensures { result ≡ 0x41 ∷ [] }
+    {
         Name {
             held: held_name(b"A"),
         }

@@ -53,11 +53,17 @@ impl StatusWord {
 
     pub const CHAINING_NOT_SUPPORTED: StatusWord = StatusWord { word: 0x6884 };
 
+    pub const SECURITY_NOT_SATISFIED: StatusWord = StatusWord { word: 0x6982 };
+
     pub const WRONG_DATA: StatusWord = StatusWord { word: 0x6A80 };
+
+    pub const NO_SPACE: StatusWord = StatusWord { word: 0x6A84 };
 
     pub const WRONG_PARAMETERS: StatusWord = StatusWord { word: 0x6A86 };
 
     pub const NOT_FOUND: StatusWord = StatusWord { word: 0x6A88 };
+
+    pub const ALREADY_EXISTS: StatusWord = StatusWord { word: 0x6A89 };
 
     pub const INSTRUCTION_NOT_SUPPORTED: StatusWord = StatusWord { word: 0x6D00 };
 
