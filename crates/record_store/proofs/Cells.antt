@@ -6,8 +6,9 @@ use Rattle.std.proofs.lemmas.List.{drop-take, get_or-set_same, get_or-set_other}
 use Rattle.eeprom.specs.Image.{overwrite, IsTorn}
 use Rattle.eeprom.specs.StoreOf.{chain_of, cell_place, payload_of, number_at}
 use Rattle.record_store.specs.Links.{AreLinks}
-use Rattle.record_store.specs.Marks.{StaysMarked, is_marked}
+use Rattle.record_store.specs.Marks.{IsFreeRun, StaysMarked, is_marked}
 use Rattle.record_store.specs.Placed.{Keeping, SameCell, IsTaken, IsPlaced}
+use Rattle.record_store.proofs.FreeRuns.{one-free, outside-run}
 use Rattle.record_store.proofs.Marking.{marked-here, marks-stay}
 use Rattle.record_store.proofs.Places.{payload_of-behind}
 use Rattle.record_store.proofs.Regions.{length-overwrite, take-overwrite, drop-overwrite, get-before, get-inside, get-behind}
@@ -23,7 +24,7 @@ slice-behind : (a b at : ℕ) (image octets : List ℕ) → at + length octets �
 slice-behind a b at image octets behind fits = ap (λ (xs : List ℕ). take (b - a) xs) (drop-overwrite a at image octets behind fits)
 
 -- a cell beside the one that is written
-cell-before : (image octets : List ℕ) (n at cell : ℕ) → cell < at → at < 2 * n → 70 * n + 34 ≤ length image → SameCell (overwrite image (cell_place n at) octets) image n cell
+cell-before : (image octets : List ℕ) (n at cell : ℕ) → cell < at → at ≤ 2 * n → 70 * n + 34 ≤ length image → SameCell (overwrite image (cell_place n at) octets) image n cell
 cell-before image octets n at cell before inside room = record {
   link = rw (
     get-before image (cell_place n at) octets (cell_place n cell) (omega arith) (omega arith),
@@ -32,8 +33,8 @@ cell-before image octets n at cell before inside room = record {
   payload = slice-before (cell_place n cell + 2) (cell_place n cell + 32) (cell_place n at) image octets (omega arith) (omega arith) (omega arith);
 }
 
-cell-behind : (image octets : List ℕ) (n at cell : ℕ) → at < cell → length octets ≡ 32 → at < 2 * n → 70 * n + 34 ≤ length image → SameCell (overwrite image (cell_place n at) octets) image n cell
-cell-behind image octets n at cell behind size inside room = record {
+cell-behind : (image octets : List ℕ) (n at count cell : ℕ) → at + count ≤ cell → length octets ≡ 32 * count → at + count ≤ 2 * n → 70 * n + 34 ≤ length image → SameCell (overwrite image (cell_place n at) octets) image n cell
+cell-behind image octets n at count cell behind size inside room = record {
   link = rw (
     get-behind image (cell_place n at) octets (cell_place n cell) (omega arith) (omega arith),
     get-behind image (cell_place n at) octets (cell_place n cell + 1) (omega arith) (omega arith),
@@ -41,27 +42,25 @@ cell-behind image octets n at cell behind size inside room = record {
   payload = slice-behind (cell_place n cell + 2) (cell_place n cell + 32) (cell_place n at) image octets (omega arith) (omega arith);
 }
 
-apart-cases : (cell at : ℕ) → cell ≢ at → (cell < at) ⊎ (at < cell)
-apart-cases cell at other = elim (nat_lt cell at) as (λ t. nat_lt cell at ≡ t → (cell < at) ⊎ (at < cell)) [
+apart-cases : (cell at : ℕ) → cell ≢ at → (cell < at) ⊎ (at + 1 ≤ cell)
+apart-cases cell at other = elim (nat_lt cell at) as (λ t. nat_lt cell at ≡ t → (cell < at) ⊎ (at + 1 ≤ cell)) [
   | true ↦ λ e. inl (ltb-true cell at e)
   | false ↦ λ e. inr (grind (arith, nat_tests))
 ] refl
 
-pub cell-apart : (image octets : List ℕ) (n at cell : ℕ) → cell ≢ at → length octets ≡ 32 → at < 2 * n → 70 * n + 34 ≤ length image → SameCell (overwrite image (cell_place n at) octets) image n cell
-cell-apart image octets n at cell other size inside room = elim (apart-cases cell at other) [
-  | inl before ↦ cell-before image octets n at cell before inside room
-  | inr behind ↦ cell-behind image octets n at cell behind size inside room
-]
+cell-apart : (image octets : List ℕ) (n at count cell : ℕ) → (cell < at) ⊎ (at + count ≤ cell) → length octets ≡ 32 * count → at + count ≤ 2 * n → 70 * n + 34 ≤ length image → SameCell (overwrite image (cell_place n at) octets) image n cell
+cell-apart image octets n at count cell (inl before) size inside room = cell-before image octets n at cell before (omega arith) room
+cell-apart image octets n at count cell (inr behind) size inside room = cell-behind image octets n at count cell behind size inside room
 
 marked-apart : (marks : List Bool) (cell at : ℕ) → is_marked marks at ≡ false → is_marked marks cell ≡ true → cell ≢ at
 marked-apart marks cell at free is = λ e. true≢false (sym is ∙ rw e free)
 
--- a write into a cell that isn't marked leaves those that are
-pub Keeping-torn : (marks : List Bool) (n at : ℕ) (was left : List ℕ) → at < 2 * n → 70 * n + 34 ≤ length was → is_marked marks at ≡ false → IsTorn was (cell_place n at) 32 left → Keeping marks n left was
-Keeping-torn marks n at was left inside room free torn = rw (torn.is) (record {
+-- a write into a run of cells that aren't marked leaves those that are
+pub Keeping-torn : (marks : List Bool) (n at count : ℕ) (was left : List ℕ) → at + count ≤ 2 * n → 70 * n + 34 ≤ length was → IsFreeRun marks at count → IsTorn was (cell_place n at) (32 * count) left → Keeping marks n left was
+Keeping-torn marks n at count was left inside room run torn = rw (torn.is) (record {
   size = length-overwrite was (cell_place n at) torn.octets (omega (arith, torn.count_is));
   front = take-overwrite (34 + 6 * n) (cell_place n at) was torn.octets (omega arith) (omega arith);
-  cells = λ cell is. cell-apart was torn.octets n at cell (marked-apart marks cell at free is) torn.count_is inside room;
+  cells = λ cell is. cell-apart was torn.octets n at count cell (outside-run marks at count cell run is) torn.count_is inside room;
 })
 
 SameCell-then : (left mid was : List ℕ) (n cell : ℕ) → SameCell left mid n cell → SameCell mid was n cell → SameCell left was n cell
@@ -152,7 +151,7 @@ links-placed n at first links now octets inside links_size room size link all = 
           rw is (get_or-set_same links at first 0 (omega arith) ∙ sym link)
       | false ↦ λ e.
           let other : cell ≢ at = grind (arith, nat_tests) in
-          get_or-set_other links at cell first 0 other ∙ all cell within ∙ sym (cell-apart now octets n at cell other size inside room).link
+          get_or-set_other links at cell first 0 other ∙ all cell within ∙ sym (cell-apart now octets n at 1 cell (apart-cases cell at other) size (omega arith) room).link
     ] refl
 
 -- one more cell before the chain
@@ -165,7 +164,7 @@ placed-more n start marks payload piece count first at before links was now few 
     let size : length (slice_range payload (30 * piece) (30 * piece + 30)) ≡ 30 = simp (length-take, length-drop) (omega arith) in
     let later : List ℕ = overwrite now (cell_place n at) octets in
     let torn : IsTorn now (cell_place n at) 32 later = record { octets = octets; count_is = omega arith; is = refl } in
-    let keeping = Keeping-torn marks n at now later inside room free torn in
+    let keeping = Keeping-torn marks n at 1 now later (omega arith) room (one-free marks at (omega arith) free) torn in
     let unstarted : is_marked start at ≡ false = unmarked-before start marks at stays free in
     let link : number_at later (cell_place n at) ≡ first = link-written now (cell_place n at) (first / 256) (first % 256) (slice_range payload (30 * piece) (30 * piece + 30)) (omega arith) ∙ omega arith in
     let same = same-chain n start marks now later w.placed.chain keeping w.placed.taken in

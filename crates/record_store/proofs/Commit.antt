@@ -2,14 +2,14 @@
 use Rattle.std.proofs.Common.{◌≡◌, ◌⊎◌, inl, inr, ℕ, zero, suc, ◌+◌, ◌*◌, ◌-◌, ◌%◌, ◌<◌, ◌≤◌, true, List, [], ◌∷◌, ◌++◌, length, drop, slice_index, Option, Some, None, IsSome, option_map, IfSome, sym, refl, ap, ◌∙◌, arith, subst, add-zero, eqb-true, ◌==◌, false, append_assoc}
 use Rattle.std.proofs.lemmas.List.{get_or_append_left, get_or-append-add}
 use Rattle.std.proofs.lemmas.Bool.Decides.{nat_tests}
-use Rattle.std.proofs.lemmas.Option.{same_Some, none-some}
 use Rattle.eeprom.specs.Chip.{Chip, Writes, Becomes}
 use Rattle.eeprom.specs.Image.{overwrite, IsTorn}
 use Rattle.eeprom.specs.StoreOf.{Slots, number_at, numbers_at, directory, slots_at, starts_with_magic, has_header, store_of}
 use Rattle.record_store.specs.Held.{Held, IsInRange, StandsFor, firsts, contents}
 use Rattle.record_store.specs.Transaction.{IsCommitted, Commits}
 use Rattle.record_store.specs.declared.side.Side.TheVariants.{Committed, Working}
-use Rattle.record_store.proofs.Moments.{write-throughout, throughout-then}
+use Rattle.record_store.proofs.Overwrite.{map-some}
+use Rattle.eeprom.proofs.Moments.{write-throughout, throughout-then}
 use Rattle.record_store.proofs.Places.{numbers_at-more}
 use Rattle.record_store.proofs.Regions.{length-overwrite, take-overwrite, drop-overwrite, get-before, get-inside, get-behind, numbers-agree, numbers-written, SameFront, same-magic, same-cells, same-header}
 use Rattle.record_store.proofs.SameSlots.{slots-beside, links-beside}
@@ -60,7 +60,11 @@ store_selects held left was firsts range stands beside selects there =
 room-for : (held : Held) (was : List ℕ) → IsInRange held → StandsFor held was → (32 + 2 * held.cells * (1 - held.selector)) + 2 * held.cells ≤ length was
 room-for held was range stands = omega (arith, header-room was held.cells stands.header stands.cells, before-cells held.cells held.selector range.selector)
 
-beside-directory : (held : Held) (was octets : List ℕ) → IsInRange held → StandsFor held was → length octets ≡ 2 * held.cells → Beside held.cells (overwrite was (32 + 2 * held.cells * (1 - held.selector)) octets) was
+-- the image once the other directory is written
+abbrev with_other : Held → List ℕ → List ℕ → List ℕ
+with_other held was octets = overwrite was (32 + 2 * held.cells * (1 - held.selector)) octets
+
+beside-directory : (held : Held) (was octets : List ℕ) → IsInRange held → StandsFor held was → length octets ≡ 2 * held.cells → Beside held.cells (with_other held was octets) was
 beside-directory held was octets range stands size =
     let n = held.cells in
     let at : ℕ = 32 + 2 * n * (1 - held.selector) in
@@ -73,7 +77,7 @@ beside-directory held was octets range stands size =
 
 -- the selected directory is the same, whatever was written into the other
 committed-stays : (held : Held) (was octets : List ℕ) → IsInRange held → StandsFor held was → length octets ≡ 2 * held.cells
-    → numbers_at (overwrite was (32 + 2 * held.cells * (1 - held.selector)) octets) (32 + 2 * held.cells * held.selector) held.cells ≡ held.committed
+    → numbers_at (with_other held was octets) (32 + 2 * held.cells * held.selector) held.cells ≡ held.committed
 committed-stays held was octets range stands size =
     let n = held.cells in
     let s = held.selector in
@@ -96,39 +100,37 @@ torn-directory held was left range stands torn =
     rw (same, stands.selector) (committed-stays held was torn.octets range stands torn.count_is) in
     rw (torn.is) (store_selects held (overwrite was at torn.octets) was held.committed range stands (beside-directory held was torn.octets range stands torn.count_is) selects stands.committed)
 
+room-for-selector : (held : Held) (was octets : List ℕ) → IsInRange held → StandsFor held was → length octets ≡ 2 * held.cells → 9 ≤ length (with_other held was octets)
+room-for-selector held was octets range stands size =
+    omega (arith, (beside-directory held was octets range stands size).front.size, header-room was held.cells stands.header stands.cells)
+
 -- once the other directory is there, an octet of the selector selects one of the two
-beside-selector : (held : Held) (was octets selector : List ℕ) → IsInRange held → StandsFor held was → length octets ≡ 2 * held.cells → length selector ≡ 1
-    → Beside held.cells (overwrite (overwrite was (32 + 2 * held.cells * (1 - held.selector)) octets) 8 selector) was
+beside-selector : (held : Held) (was octets selector : List ℕ) → IsInRange held → StandsFor held was → length octets ≡ 2 * held.cells → length selector ≡ 1 → Beside held.cells (overwrite (with_other held was octets) 8 selector) was
 beside-selector held was octets selector range stands size one =
-    let n = held.cells in
-    let mid : List ℕ = overwrite was (32 + 2 * n * (1 - held.selector)) octets in
+    let mid : List ℕ = with_other held was octets in
     let first = beside-directory held was octets range stands size in
-    let long : length mid ≡ length was = first.front.size in
-    let room = header-room was n stands.header stands.cells in
-    let fits : 8 + length selector ≤ length mid = omega (arith, long, room) in
+    let fits : 8 + length selector ≤ length mid = omega (arith, room-for-selector held was octets range stands size) in
     record {
       front = record {
-        size = length-overwrite mid 8 selector fits ∙ long;
+        size = length-overwrite mid 8 selector fits ∙ first.front.size;
         front = take-overwrite 8 8 mid selector (omega arith) (omega arith) ∙ first.front.front;
       };
-      cells = drop-overwrite (34 + 6 * n) 8 mid selector (omega arith) fits ∙ first.cells;
+      cells = drop-overwrite (34 + 6 * held.cells) 8 mid selector (omega arith) fits ∙ first.cells;
     }
 
+selector-written : (image selector : List ℕ) → 9 ≤ length image → length selector ≡ 1 → slice_index (overwrite image 8 selector) 8 ≡ slice_index selector 0
+selector-written image selector room one = rw add-zero at (get-inside image 8 selector 0 (omega arith) (omega arith))
+
 selects-one : (held : Held) (was octets selector : List ℕ) (t : ℕ) → IsInRange held → StandsFor held was → length octets ≡ 2 * held.cells → length selector ≡ 1 → slice_index selector 0 % 2 ≡ t
-    → directory (overwrite (overwrite was (32 + 2 * held.cells * (1 - held.selector)) octets) 8 selector) held.cells
-    ≡ numbers_at (overwrite was (32 + 2 * held.cells * (1 - held.selector)) octets) (32 + 2 * held.cells * t) held.cells
+    → directory (overwrite (with_other held was octets) 8 selector) held.cells ≡ numbers_at (with_other held was octets) (32 + 2 * held.cells * t) held.cells
 selects-one held was octets selector t range stands size one parity =
-    let n = held.cells in
-    let mid : List ℕ = overwrite was (32 + 2 * n * (1 - held.selector)) octets in
-    let first = beside-directory held was octets range stands size in
-    let long : length mid ≡ length was = first.front.size in
-    let room = header-room was n stands.header stands.cells in
-    let fits : 8 + length selector ≤ length mid = omega (arith, long, room) in
-    let octet : slice_index (overwrite mid 8 selector) 8 ≡ slice_index selector 0 = rw add-zero at (get-inside mid 8 selector 0 (omega arith) (omega arith)) in
-    rw (octet, parity) (numbers-agree (overwrite mid 8 selector) mid (32 + 2 * n * t) n (λ k from below. get-behind mid 8 selector k (omega arith) fits))
+    let mid : List ℕ = with_other held was octets in
+    let room = room-for-selector held was octets range stands size in
+    rw (selector-written mid selector room one, parity)
+    (numbers-agree (overwrite mid 8 selector) mid (32 + 2 * held.cells * t) held.cells (λ k from below. get-behind mid 8 selector k (omega arith) (omega arith)))
 
 working-there : (held : Held) (was octets : List ℕ) → IsInRange held → StandsFor held was → length octets ≡ 2 * held.cells → numbers_at octets 0 held.cells ≡ held.working
-    → numbers_at (overwrite was (32 + 2 * held.cells * (1 - held.selector)) octets) (32 + 2 * held.cells * (1 - held.selector)) held.cells ≡ held.working
+    → numbers_at (with_other held was octets) (32 + 2 * held.cells * (1 - held.selector)) held.cells ≡ held.working
 working-there held was octets range stands size is =
     numbers-written was (32 + 2 * held.cells * (1 - held.selector)) octets held.cells (omega (arith, room-for held was range stands)) (omega arith) ∙ is
 
@@ -155,7 +157,7 @@ working-firsts : (held : Held) → held.begun ≡ true → firsts held Working �
 working-firsts held begun = rw begun refl
 
 torn-selector : (held : Held) (was octets left : List ℕ) → IsInRange held → StandsFor held was → held.begun ≡ true → length octets ≡ 2 * held.cells → numbers_at octets 0 held.cells ≡ held.working
-    → IsTorn (overwrite was (32 + 2 * held.cells * (1 - held.selector)) octets) 8 1 left → (store_of left ≡ contents held Committed was) ⊎ (store_of left ≡ contents held Working was)
+    → IsTorn (with_other held was octets) 8 1 left → (store_of left ≡ contents held Committed was) ⊎ (store_of left ≡ contents held Working was)
 torn-selector held was octets left range stands begun size is torn =
     let beside = beside-selector held was octets torn.octets range stands size torn.count_is in
     let left_is = torn.is in
@@ -168,10 +170,10 @@ torn-selector held was octets left range stands begun size is torn =
     ]
 
 committed-image : (held : Held) (was octets : List ℕ) → IsInRange held → StandsFor held was → held.begun ≡ true → length octets ≡ 2 * held.cells → numbers_at octets 0 held.cells ≡ held.working
-    → IsCommitted held was (overwrite (overwrite was (32 + 2 * held.cells * (1 - held.selector)) octets) 8 ((1 - held.selector) ∷ []))
+    → IsCommitted held was (overwrite (with_other held was octets) 8 ((1 - held.selector) ∷ []))
 committed-image held was octets range stands begun size is =
     let n = held.cells in
-    let mid : List ℕ = overwrite was (32 + 2 * n * (1 - held.selector)) octets in
+    let mid : List ℕ = with_other held was octets in
     let selector : List ℕ = (1 - held.selector) ∷ [] in
     let now : List ℕ = overwrite mid 8 selector in
     let beside = beside-selector held was octets selector range stands size refl in
@@ -180,9 +182,7 @@ committed-image held was octets range stands begun size is =
     let there : IsSome (slots_at was n held.working) = rw working at stands.working in
     let selects : directory now n ≡ held.working = selects-one held was octets selector (1 - held.selector) range stands size refl parity ∙ working-there held was octets range stands size is in
     let slots = slots_stay n held.working now was range.many beside (slots_at was n held.working) refl there in
-    let first = beside-directory held was octets range stands size in
-    let room = header-room was n stands.header stands.cells in
-    let octet : slice_index now 8 ≡ 1 - held.selector = rw add-zero at (get-inside mid 8 selector 0 (omega arith) (omega (arith, first.front.size, room))) in
+    let octet : slice_index now 8 ≡ 1 - held.selector = selector-written mid selector (room-for-selector held was octets range stands size) refl in
     record {
       store = rw working (store_selects held now was held.working range stands beside selects there);
       stands = record {
@@ -227,10 +227,6 @@ commits-first held at octets selector old mid ready clocked stands w = record {
   moments = write-throughout at octets old mid (At held old) clocked w
       (λ was left told torn. (refl, was, told, inl (torn-directory held was left ready.range (rw told at stands) (rw (ready.place, ready.count) at torn))));
 }
-
-map-some : (f : List ℕ → List ℕ) (image : Option (List ℕ)) (now : List ℕ) → option_map f image ≡ Some now → (was : List ℕ) × (image ≡ Some was) × (now ≡ f was)
-map-some f None now h = absurd (none-some now h)
-map-some f (Some was) now h = (was, refl, sym (same_Some _ _ h))
 
 torn-at : (image was octets left : List ℕ) (at place : ℕ) → at ≡ place → image ≡ overwrite was at octets → IsTorn image 8 1 left → IsTorn (overwrite was place octets) 8 1 left
 torn-at image was octets left at place same is torn = rw (sym same, sym is) torn

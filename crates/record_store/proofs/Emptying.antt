@@ -1,13 +1,15 @@
 -- Slots with no record.
-use Rattle.std.proofs.Common.{◌≡◌, inl, inr, ℕ, ◌+◌, ◌*◌, ◌<◌, ◌≤◌, ◌≢◌, true, List, [], ◌∷◌, length, get_or, slice_index, slice_index_or, sum_by, All, Option, Some, None, IsSome, IfSome, Result, Ok, Err, IfOk, option_and_then, sym, refl, ap, ◌∙◌, arith, subst}
+use Rattle.std.proofs.Common.{◌≡◌, inl, inr, ℕ, ◌+◌, ◌*◌, ◌<◌, ◌≤◌, ◌≢◌, true, List, [], ◌∷◌, length, get_or, slice_index, slice_index_or, sum_by, All, Option, Some, None, IsSome, IfSome, option_and_then, sym, refl, ap, ◌∙◌, arith, subst}
 use Rattle.std.specs.List.{AllByRecursion}
 use Rattle.std.proofs.lemmas.List.{length-map}
+use Rattle.std.proofs.lemmas.Option.{same_Some}
 use Rattle.std.proofs.lemmas.List.Elements.{recursion_from_All}
 use Rattle.std.proofs.lemmas.List.Sums.{sum_by-cons, sum_by-set}
 use Rattle.eeprom.specs.StoreOf.{Slots, cells_for, slots_at, slot_of}
 use Rattle.record_store.specs.Held.{Held, IsInRange, IsCellOrNone, StandsFor, contents, record_at}
-use Rattle.record_store.specs.Links.{steps, cells_of, weight_of}
-use Rattle.record_store.specs.Put.{weight_with, IsOver, IsFull}
+use Rattle.record_store.specs.Links.{steps}
+use Rattle.eeprom.specs.StoreOf.{cells_of, weight_of}
+use Rattle.record_store.specs.Put.{weight_with, IsFull}
 use Rattle.record_store.specs.declared.side.Side.TheVariants.{Working}
 use Rattle.record_store.proofs.Putting.{length-chains}
 use Rattle.record_store.proofs.Records.{chain-entry, chain-nowhere}
@@ -22,7 +24,7 @@ empty-slot image n firsts slot slots inside none there =
     let is : slice_index_or slots slot None ≡ option_and_then (λ slots. slice_index_or slots slot None) (slots_at image n firsts) = ap (λ (o : Option Slots). option_and_then (λ slots. slice_index_or slots slot None) o) (sym there) in
     is ∙ entry.entry_is ∙ rw no_chain refl
 
-weight-more : (slots : Slots) (slot : ℕ) (octets : List ℕ) → slot < length slots → slice_index_or slots slot None ≡ None → weight_with slot octets slots ≡ weight_of slots + cells_for (length octets)
+pub weight-more : (slots : Slots) (slot : ℕ) (octets : List ℕ) → slot < length slots → slice_index_or slots slot None ≡ None → weight_with slot octets slots ≡ weight_of slots + cells_for (length octets)
 weight-more slots slot octets inside none =
     let change = sum_by-set cells_of slots slot (Some octets) None inside in
     let nothing : cells_of (get_or slots slot None) ≡ 0 = ap cells_of none in
@@ -68,9 +70,12 @@ over-told held slot image octets range begun inside none (Some slots) there over
     let more = weight-more slots slot octets (omega (arith, inside, range.working_count, ap (length {A = Option (List ℕ)}) chains.is, length-map chains.chains (slot_of image n), length-chains image n held.working chains.chains chains.of)) empty in
     omega (arith, more)
 
-pub full-empty : (held : Held) (slot : ℕ) (image : Option (List ℕ)) (octets : List ℕ) → IsInRange held → held.begun ≡ true → slot < held.cells → slice_index held.working slot ≡ 65535 → IfSome image (IsOver held slot octets) → IfSome image (IsFull held None octets)
-full-empty held slot None octets range begun inside none over = tt
-full-empty held slot (Some image) octets range begun inside none over = over-told held slot image octets range begun inside none (contents held Working image) refl over
+-- the store is full with a record in the slot that was found, so it is with one in the slot that is named, or else in one more
+pub full-found : (held : Held) (named : Option ℕ) (slot : ℕ) (image : Option (List ℕ)) (octets : List ℕ) → IsInRange held → held.begun ≡ true → slot < held.cells → IfSome named (λ other. Some slot ≡ Some other) → (named ≡ None → slice_index held.working slot ≡ 65535)
+    → IfSome image (IsFull held (Some slot) octets) → IfSome image (IsFull held named octets)
+full-found held (Some other) slot image octets range begun inside is empty over = subst (λ (slot : ℕ). IfSome image (IsFull held (Some slot) octets)) (same_Some _ _ is) over
+full-found held None slot None octets range begun inside is empty over = tt
+full-found held None slot (Some image) octets range begun inside is empty over = over-told held slot image octets range begun inside (empty refl) (contents held Working image) refl over
 
 empty-told : (held : Held) (slot : ℕ) (image : List ℕ) → IsInRange held → held.begun ≡ true → StandsFor held image → slot < held.cells → slice_index held.working slot ≡ 65535 → record_at held Working slot image ≡ None
 empty-told held slot image range begun stands inside none =
@@ -84,10 +89,6 @@ empty-told held slot image range begun stands inside none =
 pub empty-record : (held : Held) (slot : ℕ) (image : Option (List ℕ)) → IsInRange held → held.begun ≡ true → IfSome image (StandsFor held) → slot < held.cells → slice_index held.working slot ≡ 65535 → IfSome image (λ image. record_at held Working slot image ≡ None)
 empty-record held slot None range begun stands inside none = tt
 empty-record held slot (Some image) range begun stands inside none = empty-told held slot image range begun stands inside none
-
-pub ok-then : {E : Type 0} (result : Result ℕ E) (P : ℕ → Type 0) (slot : ℕ) → IfOk result (λ found. found ≡ slot) → P slot → IfOk result P
-ok-then (Ok found) P slot is p = subst P (sym is) p
-ok-then (Err error) P slot is p = tt
 
 pub working-of : (view held : Held) (slice : List ℕ) → view ≡ held → slice ≡ view.working → slice ≡ held.working
 working-of view held slice same is = is ∙ ap (λ (held : Held). held.working) same

@@ -1,10 +1,9 @@
 -- Marks along walks.
 use Rattle.std.proofs.Common.{◌≡◌, ℕ, zero, suc, ◌+◌, ◌*◌, ◌-◌, ◌<◌, ◌≤◌, ◌==◌, Bool, true, false, not, cond, List, [], ◌∷◌, length, set, take, get_or, slice_index, slice_index_or, nat_lt, All, Some, sym, refl, ap, ◌∙◌, arith, subst, ltb-true, inl, inr}
 use Rattle.std.specs.List.{AllByRecursion}
-use Rattle.std.proofs.lemmas.List.{take_all}
+use Rattle.std.proofs.lemmas.List.{length-set}
 use Rattle.std.proofs.lemmas.List.Elements.{All-more}
-use Rattle.std.proofs.lemmas.List.Sums.{sum_by-cons, sum_by-set, count_by_more_no}
-use Rattle.std.proofs.lemmas.Bool.Decides.{nat_tests}
+use Rattle.std.proofs.lemmas.List.Sums.{sum_by-cons, sum_by-set}
 use Rattle.eeprom.specs.StoreOf.{chain_of, number_at, cell_place}
 use Rattle.record_store.specs.Links.{AreLinks, steps}
 use Rattle.record_store.specs.Marks.{IsWalkMarked, StaysMarked, is_marked, marked, unmarked}
@@ -30,8 +29,8 @@ at-most-one false = (omega arith, omega arith)
 pub marked-one-more : (marks : List Bool) (cell : ℕ) → cell < length marks → marked (set marks cell true) ≤ marked marks + 1
 marked-one-more marks cell inside = omega (arith, sum_by-set (λ (mark : Bool). cond mark 1 0) marks cell true false inside)
 
-pub unmarked-one-less : (marks : List Bool) (cell : ℕ) → cell < length marks → is_marked marks cell ≡ false → unmarked marks ≤ unmarked (set marks cell true) + 1
-unmarked-one-less marks cell inside free =
+pub unmarked-one-less : (marks : List Bool) (cell : ℕ) → cell < length marks → unmarked marks ≤ unmarked (set marks cell true) + 1
+unmarked-one-less marks cell inside =
     let e = sum_by-set (λ (mark : Bool). cond (not mark) 1 0) marks cell true false inside in
     omega (arith, e, (at-most-one (get_or marks cell false)).1)
 
@@ -75,16 +74,11 @@ Marking-start links start first size = record { size = size; stays = λ cell e. 
 pub Marking-more : (links : List ℕ) (start marks : List Bool) (step cell first : ℕ) → step < 18 → cell < length links → Marking links start marks step cell first
     → Marking links start (set marks cell true) (step + 1) (slice_index links cell) first
 Marking-more links start marks step cell first few inside m = record {
-  size = length-set marks cell ∙ m.size;
+  size = length-set marks cell true ∙ m.size;
   stays = λ cell' e. marks-stay marks cell cell' (m.stays cell' e);
   walk = walk-more links marks step cell first few inside m.size m.walk;
   few = omega (arith, m.few, m.size, marked-one-more marks cell (omega (arith, m.size)), steps-next links step cell few inside);
 }
-  where
-    length-set : (marks : List Bool) (at : ℕ) → length (set marks at true) ≡ length marks
-    length-set [] at = refl
-    length-set (mark ∷ marks) zero = refl
-    length-set (mark ∷ marks) (suc at) = ap suc (length-set marks at)
 
 pub Marking-end : (links : List ℕ) (start marks : List Bool) (step cell first : ℕ) → length links ≤ cell → Marking links start marks step cell first → IsWalkMarked links marks 18 first
 Marking-end links start marks step cell first outside m = m.walk marks (λ cell e. e) (walk-outside links marks (18 - step) cell outside)
@@ -122,16 +116,3 @@ chain-marked image n links marks (suc most) cell limit chain count all h short w
                 subst (AllByRecursion (λ cell. is_marked marks cell ≡ true)) (sym some.3) (here.0, rest)
           ] short walk
     ]
-
--- none was free so far, and this one isn't
-pub none-free : (marks : List Bool) (cell : ℕ) → cell < length marks → unmarked (take cell marks) ≡ 0 → is_marked marks cell ≡ true → unmarked (take (cell + 1) marks) ≡ 0
-none-free marks cell inside none is = count_by_more_no not marks cell false inside (ap not is) ∙ none
-
-pub some-free : (marks : List Bool) (cell : ℕ) → cell ≤ length marks → unmarked (take cell marks) ≡ 0 → 1 ≤ unmarked marks → cell < length marks
-some-free marks cell within none some = elim (nat_lt cell (length marks)) as (λ t. nat_lt cell (length marks) ≡ t → cell < length marks) [
-  | true ↦ λ e. ltb-true cell (length marks) e
-  | false ↦ λ e.
-      let all : length marks ≤ cell = grind (arith, nat_tests) in
-      let whole : unmarked marks ≡ 0 = ap unmarked (sym (take_all cell marks all)) ∙ none in
-      absurd (omega arith)
-] refl

@@ -1,8 +1,9 @@
 -- Writes behind one another, and writes that cover others.
-use Rattle.std.proofs.Common.{◌≡◌, ℕ, zero, suc, ◌+◌, ◌≤◌, List, [], ◌∷◌, ◌++◌, length, take, drop, Option, Some, None, option_map, IfSome, sym, refl, ap, ◌∙◌, append_assoc, append-nil, arith, length-append, drop-drop, zero-add, suc-add, length-take-le}
+use Rattle.std.proofs.Common.{◌≡◌, ℕ, zero, suc, ◌+◌, ◌≤◌, List, [], ◌∷◌, ◌++◌, length, take, drop, Option, Some, None, option_map, IfSome, sym, refl, ap, ap₂, ◌∙◌, append_assoc, append-nil, arith, length-append, drop-drop, zero-add, suc-add, length-take-le}
 use Rattle.std.proofs.lemmas.List.{drop_at, take_all, drop_all}
-use Rattle.std.proofs.lemmas.Option.{same_Some}
+use Rattle.std.proofs.lemmas.Option.{same_Some, none-some}
 use Rattle.eeprom.specs.Image.{overwrite}
+use Rattle.record_store.proofs.Regions.{take-overwrite}
 
 pub overwrite-nil : (image : List ℕ) (at : ℕ) → overwrite image at [] ≡ image
 overwrite-nil image zero = refl
@@ -38,16 +39,22 @@ pub option-nil : (image : Option (List ℕ)) (at : ℕ) → option_map (λ was. 
 option-nil None at = refl
 option-nil (Some image) at = ap Some (overwrite-nil image at)
 
--- what comes behind the front is written first, and then the front
-overwrite-front : (was cleared front body : List ℕ) → length front ≤ length cleared → drop (length front) cleared ≡ drop (length front) was
-    → overwrite (overwrite cleared (length front) body) 0 front ≡ overwrite was 0 (front ++ body)
-overwrite-front was cleared front body long same =
-    let taken : length (take (length front) cleared) ≡ length front = length-take-le (length front) cleared long in
-    let rest : drop (length front + length body) cleared ≡ drop (length front + length body) was =
-    sym (drop-drop (length body) (length front) cleared) ∙ ap (λ (xs : List ℕ). drop (length body) xs) same ∙ drop-drop (length body) (length front) was in
-    simp (zero-add, append_assoc, length-append)
-    (ap (λ (xs : List ℕ). front ++ xs)
-    (drop_at (take (length front) cleared) (body ++ drop (length front + length body) cleared) (length front) taken ∙ ap (λ (xs : List ℕ). body ++ xs) rest))
+pub map-some : (f : List ℕ → List ℕ) (image : Option (List ℕ)) (now : List ℕ) → option_map f image ≡ Some now → (was : List ℕ) × (image ≡ Some was) × (now ≡ f was)
+map-some f None now h = absurd (none-some now h)
+map-some f (Some was) now h = (was, refl, sym (same_Some _ _ h))
+
+-- what comes behind is written first, and then the front
+pub overwrite-before : (was left front body : List ℕ) (at place : ℕ) → place ≡ at + length front → place ≤ length left → take at left ≡ take at was → drop place left ≡ drop place was
+    → overwrite (overwrite left place body) at front ≡ overwrite was at (front ++ body)
+overwrite-before was left front body at place is long before behind =
+    let rest : drop (place + length body) left ≡ drop (place + length body) was =
+    sym (drop-drop (length body) place left) ∙ ap (λ (xs : List ℕ). drop (length body) xs) behind ∙ drop-drop (length body) place was in
+    let head : take at (overwrite left place body) ≡ take at was = take-overwrite at place left body (omega arith) long ∙ before in
+    let tail : drop place (overwrite left place body) ≡ body ++ drop (place + length body) was =
+    drop_at (take place left) (body ++ drop (place + length body) left) place (length-take-le place left long) ∙ ap (λ (xs : List ℕ). body ++ xs) rest in
+    let size : place + length body ≡ at + length (front ++ body) = omega (arith, length-append front body) in
+    ap₂ (λ (xs ys : List ℕ). xs ++ (front ++ ys)) head (ap (λ (k : ℕ). drop k (overwrite left place body)) (sym is) ∙ tail)
+    ∙ simp append_assoc (ap (λ (k : ℕ). take at was ++ (front ++ (body ++ drop k was))) size)
 
 pub option-front : (front body : List ℕ) (size : ℕ) (old cleared written new : Option (List ℕ)) → length front ≤ size → IfSome cleared (λ image. length image ≡ size)
     → option_map (λ image. drop (length front) image) cleared ≡ option_map (λ image. drop (length front) image) old
@@ -58,4 +65,4 @@ option-front front body size None (Some cleared) written new fits sized same w n
 option-front front body size (Some was) None written new fits sized same w n = absurd (cc)
 option-front front body size (Some was) (Some cleared) written new fits sized same w n =
     let long : length front ≤ length cleared = omega arith in
-    rw (n, w) (ap Some (overwrite-front was cleared front body long (same_Some _ _ same)))
+    rw (n, w) (ap Some (overwrite-before was cleared front body 0 (length front) (omega arith) long refl (same_Some _ _ same)))

@@ -7,10 +7,11 @@ use Rattle.std.proofs.lemmas.List.Sums.{sum_by-cons}
 use Rattle.eeprom.specs.Chip.{Chip, Becomes, Keeps}
 use Rattle.eeprom.specs.StoreOf.{Slots, chain_of, chains_of, cells_for, payload_of, number_at, record_in, is_record, slot_of, slots_at, are_apart, is_distinct, directory, starts_with_magic, has_header, store_of}
 use Rattle.record_store.specs.Held.{Held, IsInRange, IsCellOrNone, StandsFor, contents}
-use Rattle.record_store.specs.Links.{AreLinks, steps, steps_without, cells_of, weight_of}
+use Rattle.record_store.specs.Links.{AreLinks, steps, steps_without}
+use Rattle.eeprom.specs.StoreOf.{cells_of, weight_of}
 use Rattle.record_store.specs.Marks.{IsWalkMarked, marked, unmarked}
 use Rattle.record_store.specs.Placed.{Keeping, IsPlaced, KeepsMarked, IsTaken}
-use Rattle.record_store.specs.Put.{IsPut, put_into, weight_with, IsOver, IsWithin}
+use Rattle.record_store.specs.Put.{IsPut, put_into, weight_with, IsFull, IsWithin}
 use Rattle.record_store.specs.declared.side.Side.TheVariants.{Committed, Working}
 use Rattle.record_store.proofs.Cells.{take-whole}
 use Rattle.record_store.proofs.Marking.{chain-marked, marked-all}
@@ -296,13 +297,13 @@ put-within held marks slot weight count octets (Some image) plan begun stands in
     told-weight held slot octets image (λ w. w ≤ held.cells) plan.range begun stands inside (omega (arith, plan.weight_is)) (contents held Working image) refl
 
 pub put-over : (held : Held) (marks : List Bool) (slot weight count : ℕ) (octets : List ℕ) (image : Option (List ℕ)) → Planned held marks slot weight → held.begun ≡ true → IfSome image (StandsFor held) → slot < held.cells → count ≡ cells_for (length octets) → held.cells < weight + count
-    → IfSome image (IsOver held slot octets)
+    → IfSome image (IsFull held (Some slot) octets)
 put-over held marks slot weight count octets None plan begun stands inside cells over = tt
 put-over held marks slot weight count octets (Some image) plan begun stands inside cells over =
     told-weight held slot octets image (λ w. held.cells < w) plan.range begun stands inside (omega (arith, plan.weight_is)) (contents held Working image) refl
 
 -- there are free cells, where the records fit
-pub put-free : (held : Held) (marks : List Bool) (slot weight count : ℕ) (octets : List ℕ) (image : Option (List ℕ)) → Planned held marks slot weight → IfSome image (StandsFor held) → weight + count ≤ held.cells → unmarked marks < count → IfSome image (IsOver held slot octets)
+pub put-free : (held : Held) (marks : List Bool) (slot weight count : ℕ) (octets : List ℕ) (image : Option (List ℕ)) → Planned held marks slot weight → IfSome image (StandsFor held) → weight + count ≤ held.cells → unmarked marks < count → IfSome image (IsFull held (Some slot) octets)
 put-free held marks slot weight count octets None plan stands fits none = tt
 put-free held marks slot weight count octets (Some image) plan stands fits none =
     let slots = some-slots (contents held Committed image) stands.committed in

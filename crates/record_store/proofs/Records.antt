@@ -44,7 +44,7 @@ length-chain image n (suc most) cell chain room h =
     ]
 
 -- a chain of no cell is one that begins nowhere
-chain-empty : (image : List ℕ) (n most cell : ℕ) → chain_of image n most cell ≡ Some [] → cell ≡ 65535
+pub chain-empty : (image : List ℕ) (n most cell : ℕ) → chain_of image n most cell ≡ Some [] → cell ≡ 65535
 chain-empty image n zero cell h = eqb-true cell 65535 (if-some (cell == 65535) [] h).0
 chain-empty image n (suc most) cell h =
     elim (chain-cases (cell == 65535) (nat_lt cell (2 * n)) cell (chain_of image n most (number_at image (cell_place n cell))) [] h) [

@@ -80,7 +80,7 @@ among-append x (y ∷ xs) ys = or-more (x == y) (among x (xs ++ ys)) (among x xs
     or-more true a b c e = refl
     or-more false a b c e = e
 
-neither : (a b : Bool) → (a || b) ≡ false → (a ≡ false) × (b ≡ false)
+pub neither : (a b : Bool) → (a || b) ≡ false → (a ≡ false) × (b ≡ false)
 neither true b h = absurd (true≢false h)
 neither false b h = (refl, h)
 
@@ -93,7 +93,7 @@ among-parts x xs ys h = neither (among x xs) (among x ys) (sym (among-append x x
 abbrev pub AreNotAmong : List ℕ → List ℕ → Type 0
 AreNotAmong xs ys = AllByRecursion (λ x. among x ys ≡ false) xs
 
-not-true : (b : Bool) → not b ≡ true → b ≡ false
+pub not-true : (b : Bool) → not b ≡ true → b ≡ false
 not-true true h = absurd (true≢false (sym h))
 not-true false h = refl
 

@@ -38,7 +38,7 @@ end-at image n cell (suc most) rest outside h =
     let above : nat_lt cell (2 * n) ≡ false = grind (arith, nat_tests) in
     end-if (cell == 65535) rest (rw above at h)
 
-end-cell : (image : List ℕ) (n cell : ℕ) (rest : List ℕ) → 2 * n ≤ cell → IsLeft image n cell rest → rest ≡ []
+pub end-cell : (image : List ℕ) (n cell : ℕ) (rest : List ℕ) → 2 * n ≤ cell → IsLeft image n cell rest → rest ≡ []
 end-cell image n cell rest outside left = end-at image n cell left.most rest outside left.is
 
 pub Walked-start : (n first : ℕ) (octets : List ℕ) (image : Option (List ℕ)) → octets ≡ [] → IfSome image (λ image. (chain : List ℕ) → chain_of image n (2 * n) first ≡ Some chain → Walked n chain first octets 0 image)

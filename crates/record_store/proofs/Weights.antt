@@ -1,5 +1,5 @@
 -- The links of cells, and the cells of the records along them.
-use Rattle.std.proofs.Common.{◌≡◌, ℕ, zero, suc, ◌+◌, ◌*◌, ◌-◌, ◌<◌, ◌≤◌, ◌==◌, ◌&&◌, Bool, true, false, List, [], ◌∷◌, ◌++◌, length, map, slice_index, slice_range, flat_map, nat_lt, nat_le, Option, Some, None, IsSome, ◌%◌, option_and_then, IfSome, if◌then◌else◌, sum_by, sym, refl, ap, ◌∙◌, arith, length-append, length-take, length-drop, leb-true, eqb-true, ltb-true, inl, inr, add-zero, get_or-append-add}
+use Rattle.std.proofs.Common.{◌≡◌, ℕ, zero, suc, ◌+◌, ◌*◌, ◌-◌, ◌<◌, ◌≤◌, ◌==◌, ◌&&◌, Bool, true, false, List, [], ◌∷◌, ◌++◌, length, map, slice_index, flat_map, nat_lt, nat_le, Option, Some, None, IsSome, ◌%◌, option_and_then, if◌then◌else◌, sum_by, sym, refl, ap, ◌∙◌, arith, length-append, length-take, length-drop, leb-true, eqb-true, ltb-true, inl, inr}
 use Rattle.std.specs.List.{list_all}
 use Rattle.std.proofs.lemmas.Bool.Decides.{nat_tests}
 use Rattle.std.proofs.lemmas.Option.{same_Some, none-some}
@@ -9,8 +9,8 @@ use Rattle.eeprom.specs.StoreOf.{Slots, chain_of, chains_of, cell_place, cells_f
 use Rattle.record_store.specs.Held.{Held, IsInRange, StandsFor, firsts, contents}
 use Rattle.record_store.specs.declared.side.Side.{Side}
 use Rattle.record_store.specs.declared.side.Side.TheVariants.{Committed, Working}
-use Rattle.record_store.specs.Links.{AreLinks, steps, cells_of, weight_of}
-use Rattle.record_store.proofs.Places.{number_at-within}
+use Rattle.record_store.specs.Links.{AreLinks, steps}
+use Rattle.eeprom.specs.StoreOf.{cells_of, weight_of}
 use Rattle.record_store.proofs.Records.{both, if-some, chain-cases, chain-first, chains-parts, length-chain, length-payload}
 
 -- a walk ends where no cell comes
@@ -29,29 +29,6 @@ pub steps-next : (links : List ℕ) (k cell : ℕ) → k < 18 → cell < length 
 steps-next links k cell few inside =
     let left : 18 - k ≡ suc (18 - (k + 1)) = omega arith in
     ap (λ (most : ℕ). steps links most cell) left ∙ steps-more links (18 - (k + 1)) cell inside
-
-links-push : (image : List ℕ) (n count : ℕ) (links : List ℕ) (next : ℕ) → length links ≡ count → next ≡ number_at image (cell_place n count) → AreLinks image n count links → AreLinks image n (count + 1) (links ++ next ∷ [])
-links-push image n count links next size is all = λ cell inside.
-    elim (nat_lt cell count) as (λ t. nat_lt cell count ≡ t → slice_index (links ++ next ∷ []) cell ≡ number_at image (cell_place n cell)) [
-      | true ↦ λ below.
-          let before : cell < count = ltb-true cell count below in
-          get_or_append_left links (next ∷ []) 0 cell (omega arith) ∙ all cell before
-      | false ↦ λ above.
-          let last : cell ≡ count = grind (arith, nat_tests) in
-          let at : cell ≡ length links + 0 = omega arith in
-          ap (λ (k : ℕ). slice_index (links ++ next ∷ []) k) at ∙ get_or-append-add links (next ∷ []) 0 0 ∙ is ∙ ap (λ (k : ℕ). number_at image (cell_place n k)) (sym last)
-    ] refl
-
--- one more link was read
-pub AreLinks-push : (n count : ℕ) (links : List ℕ) (next : ℕ) (image : Option (List ℕ)) (read : List ℕ) → length links ≡ count
-    → IfSome image (λ image. read ≡ slice_range image (cell_place n count) (cell_place n count + 2))
-    → next ≡ 256 * slice_index read 0 + slice_index read 1
-    → IfSome image (λ image. AreLinks image n count links) → IfSome image (λ image. AreLinks image n (count + 1) (links ++ next ∷ []))
-AreLinks-push n count links next None read size is number all = tt
-AreLinks-push n count links next (Some image) read size is number all =
-    let within = number_at-within image (cell_place n count) 2 0 (omega arith) in
-    let read_is : next ≡ number_at read 0 = number in
-    links-push image n count links next size (read_is ∙ ap (λ (octets : List ℕ). number_at octets 0) is ∙ rw add-zero at within) all
 
 -- a walk along the links goes through a chain
 pub steps-chain : (image : List ℕ) (n : ℕ) (links : List ℕ) (most cell limit : ℕ) (chain : List ℕ) → n ≤ 2048 → length links ≡ 2 * n → AreLinks image n (2 * n) links → chain_of image n most cell ≡ Some chain → length chain ≤ limit → steps links limit cell ≡ length chain
@@ -154,7 +131,7 @@ pub weight-is : (held : Held) (side : Side) (links first_cells : List ℕ) (resu
 weight-is held side links first_cells result range links_are firsts_are is = λ image slots stands h.
     is ∙ rw (links_are, firsts_are) ((steps-firsts held side image slots range stands h).0)
 
-some-slots : {X : Type 0} (o : Option X) → IsSome o → (x : X) × (o ≡ Some x)
+pub some-slots : {X : Type 0} (o : Option X) → IsSome o → (x : X) × (o ≡ Some x)
 some-slots None h = absurd (cc)
 some-slots (Some x) h = (x, refl)
 

@@ -1,6 +1,7 @@
 -- The octets of a new store, in the order of the image.
-use Rattle.std.specs.Prelude.{ℕ, ◌+◌, ◌-◌, ◌*◌, List, [], ◌∷◌, ◌++◌, length, replicate}
-use Rattle.eeprom.specs.StoreOf.{two_octets}
+use Rattle.std.specs.Prelude.{None, Some, ◌⊎◌, ◌≡◌, ℕ, ◌+◌, ◌-◌, ◌*◌, List, [], ◌∷◌, ◌++◌, length, replicate}
+use Rattle.eeprom.specs.Chip.{Chip, Throughout}
+use Rattle.eeprom.specs.StoreOf.{two_octets, store_of, fresh_slots}
 
 -- 53 43 51 4C, which is `SCQL`
 abbrev pub magic : List ℕ
@@ -25,3 +26,16 @@ fresh_body n first second =
 
 abbrev pub fresh_image : ℕ → List ℕ → List ℕ → List ℕ
 fresh_image n first second = magic ++ fresh_body n first second
+
+-- the store of the image is what it was
+abbrev pub HasOldStore : Chip → List ℕ → Type 0
+HasOldStore old left = (was : List ℕ) × (old.image ≡ Some was) × (store_of left ≡ store_of was)
+
+-- while the front is cleared, the store of the image is at each moment what it was, or none; nothing is given
+abbrev pub LeavesCleared : Chip → Chip → Type 0
+LeavesCleared old new = Throughout old new (λ g left. (g ≡ old.still.mark) × (HasOldStore old left ⊎ (store_of left ≡ None)))
+
+-- while a store is made, the store of the image is at each moment what it was, or none, or the new one; nothing is given
+abbrev pub LeavesFormatted : ℕ → List ℕ → List ℕ → Chip → Chip → Type 0
+LeavesFormatted n first second old new =
+    Throughout old new (λ g left. (g ≡ old.still.mark) × (HasOldStore old left ⊎ ((store_of left ≡ None) ⊎ (store_of left ≡ Some (fresh_slots n first second)))))

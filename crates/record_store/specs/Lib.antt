@@ -1,4 +1,5 @@
 pub mod Appends
+pub mod Claims
 pub mod CountsFaults
 pub mod FreshImage
 pub mod Header
@@ -7,5 +8,7 @@ pub mod Links
 pub mod Marks
 pub mod Placed
 pub mod Put
+pub mod Reading
+pub mod Runs
 pub mod Transaction
 pub mod Walk

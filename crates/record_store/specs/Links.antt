@@ -1,6 +1,6 @@
 -- The links of the cells: of each cell the number of the next one, and walks along them.
-use Rattle.std.specs.Prelude.{◌≡◌, ℕ, zero, suc, ◌+◌, ◌<◌, take, drop, nat_lt, if◌then◌else◌, List, length, Option, Some, None, slice_index, sum_by}
-use Rattle.eeprom.specs.StoreOf.{Slots, number_at, cell_place, cells_for}
+use Rattle.std.specs.Prelude.{◌≡◌, ℕ, zero, suc, ◌+◌, ◌<◌, take, drop, nat_lt, if◌then◌else◌, List, length, slice_index, sum_by}
+use Rattle.eeprom.specs.StoreOf.{number_at, cell_place}
 
 -- these are the links of so many cells of an image
 abbrev pub AreLinks : List ℕ → ℕ → ℕ → List ℕ → Type 0
@@ -10,15 +10,6 @@ AreLinks image n count links = (cell : ℕ) → cell < count → slice_index lin
 abbrev pub steps : List ℕ → ℕ → ℕ → ℕ
 steps links zero cell = 0
 steps links (suc most) cell = if nat_lt cell (length links) then suc (steps links most (slice_index links cell)) else 0
-
--- the cells of a record
-abbrev pub cells_of : Option (List ℕ) → ℕ
-cells_of None = 0
-cells_of (Some octets) = cells_for (length octets)
-
--- the cells of all records
-abbrev pub weight_of : Slots → ℕ
-weight_of slots = sum_by cells_of slots
 
 -- the cells of the chains that begin at these, without that of a slot
 abbrev pub steps_without : List ℕ → List ℕ → ℕ → ℕ

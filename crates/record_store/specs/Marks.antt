@@ -1,5 +1,5 @@
 -- Marks of cells: those that chains have.
-use Rattle.std.specs.Prelude.{◌≡◌, ℕ, zero, suc, ◌<◌, Bool, true, false, not, List, length, slice_index, slice_index_or, count_by}
+use Rattle.std.specs.Prelude.{◌≡◌, ℕ, zero, suc, ◌+◌, ◌<◌, ◌≤◌, Bool, true, false, not, List, length, slice_index, slice_index_or, count_by}
 
 abbrev pub is_marked : List Bool → ℕ → Bool
 is_marked marks cell = slice_index_or marks cell false
@@ -19,3 +19,12 @@ marked marks = count_by (λ mark. mark) marks
 
 abbrev pub unmarked : List Bool → ℕ
 unmarked marks = count_by not marks
+
+-- so many neighbouring cells from this one on, of which none is marked
+pub record IsFreeRun (marks : List Bool) (cell count : ℕ) : Type 0 where
+  pub inside : cell + count ≤ length marks
+  pub free : (k : ℕ) → cell ≤ k → k < cell + count → is_marked marks k ≡ false
+
+-- no run of free cells is longer than this one, where it is shorter than was asked
+abbrev pub IsLongest : List Bool → ℕ → ℕ → Type 0
+IsLongest marks most found = found < most → (cell count : ℕ) → IsFreeRun marks cell count → count ≤ found

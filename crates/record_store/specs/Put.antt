@@ -2,7 +2,7 @@
 use Rattle.std.specs.Prelude.{◌≡◌, ℕ, ◌+◌, ◌<◌, ◌≤◌, List, length, Option, None, Some, IfSome, option_map, slice_set}
 use Rattle.eeprom.specs.StoreOf.{Slots, cells_for}
 use Rattle.record_store.specs.Held.{Held, contents, StandsFor}
-use Rattle.record_store.specs.Links.{weight_of}
+use Rattle.eeprom.specs.StoreOf.{weight_of}
 use Rattle.record_store.specs.declared.side.Side.TheVariants.{Committed, Working}
 
 -- the working record of a slot is these octets, and all else is as it was
@@ -15,18 +15,16 @@ pub record IsPut (old new : Held) (slot : ℕ) (octets : List ℕ) (was now : Li
 abbrev pub weight_with : ℕ → List ℕ → Slots → ℕ
 weight_with slot octets slots = weight_of (slice_set slots slot (Some octets))
 
--- they are more than the store has; they aren't
-abbrev pub IsOver : Held → ℕ → List ℕ → List ℕ → Type 0
-IsOver held slot octets image = IfSome (contents held Working image) (λ slots. held.cells < weight_with slot octets slots)
-
+-- they are no more than the store has
 abbrev pub IsWithin : Held → ℕ → List ℕ → List ℕ → Type 0
 IsWithin held slot octets image = IfSome (contents held Working image) (λ slots. weight_with slot octets slots ≤ held.cells)
 
--- the same, where no slot is named in one more
+-- the cells with these octets in the slot that is named, or else in one more
 abbrev pub weight_after : Option ℕ → List ℕ → Slots → ℕ
 weight_after None octets slots = weight_of slots + cells_for (length octets)
 weight_after (Some slot) octets slots = weight_with slot octets slots
 
+-- they are more than the store has
 abbrev pub IsFull : Held → Option ℕ → List ℕ → List ℕ → Type 0
 IsFull held slot octets image = IfSome (contents held Working image) (λ slots. held.cells < weight_after slot octets slots)
 

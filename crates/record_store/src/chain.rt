@@ -2,8 +2,10 @@
 ghost use Rattle.std.specs.Prelude.{◌≡◌, ◌+◌, ◌*◌, ◌≤◌, ◌<◌, ◌++◌, ℕ, List, [], Some, None, true, if◌then◌else◌, length, IfSome, IfOk, OnOk};
 ghost use Rattle.std.specs.List.{flat_map};
 ghost use Rattle.arrayvec.specs.ArrayVec.{array_vec_len};
+ghost use Rattle.eeprom.specs.Chip.{Becomes};
 ghost use Rattle.eeprom.specs.Fault.{Counts};
 ghost use Rattle.eeprom.specs.StoreOf.{chain_of, payload_of, is_record, slot_of, record_in, number_at};
+ghost use Rattle.record_store.specs.Reading.{ReadsCells, ReadsRecord};
 
 use crate::layout::{CELL, LINK, NO_CELL, cell_place, number_of};
 use arrayvec::ArrayVec;
@@ -29,6 +31,8 @@ pub fn read_record<B: Eeprom>(
     requires room { 70 * cells + 34 ≤ (B.chip bench.old).still.size }
     ensures record { IfOk result (λ found. IfSome (B.chip bench.old).image (λ image. (chain : List ℕ) → chain_of image cells (2 * cells) first ≡ Some chain
         → is_record image cells chain ≡ true → slot_of image cells chain ≡ (if found then Some out.new.items else None))) }
+    ensures octets_read { IfOk result (λ found. IfSome (B.chip bench.old).image (λ image. (chain : List ℕ) → chain_of image cells (2 * cells) first ≡ Some chain
+        → is_record image cells chain ≡ true → Becomes (ReadsRecord (if found then Some out.new.items else None)) (B.octets_read bench.old) (B.octets_read bench.new))) }
     ensures same { B.chip bench.new ≡ B.chip bench.old }
     ensures cause { Counts (B.faults bench.old) (B.faults bench.new) result }
 {
@@ -52,6 +56,8 @@ fn read_payload<B: Eeprom>(
     requires room { 70 * cells + 34 ≤ (B.chip bench.old).still.size }
     ensures payload { OnOk result (IfSome (B.chip bench.old).image (λ image. (chain : List ℕ) → chain_of image cells (2 * cells) first ≡ Some chain
         → length chain ≤ LONGEST → payload.new.items ≡ flat_map (payload_of image cells) chain)) }
+    ensures octets_read { OnOk result (IfSome (B.chip bench.old).image (λ image. (chain : List ℕ) → chain_of image cells (2 * cells) first ≡ Some chain
+        → length chain ≤ LONGEST → Becomes (ReadsCells (length chain)) (B.octets_read bench.old) (B.octets_read bench.new))) }
     ensures same { B.chip bench.new ≡ B.chip bench.old }
     ensures cause { Counts (B.faults bench.old) (B.faults bench.new) result }
 {

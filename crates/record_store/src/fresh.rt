@@ -1,10 +1,11 @@
 // Formatting: a new store of two records.
-ghost use Rattle.std.specs.Prelude.{◌≡◌, ◌+◌, ◌*◌, ◌-◌, ◌≤◌, ◌<◌, ◌↔◌, length, drop, false, Some, option_map, OnOk, IsErrOf, IfSome};
+ghost use Rattle.std.specs.Prelude.{◌≡◌, ◌+◌, ◌*◌, ◌-◌, ◌≤◌, ◌<◌, ◌↔◌, length, take, drop, false, Some, option_map, OnOk, IsErrOf, IfSome};
+ghost use Rattle.eeprom.specs.Chip.{Keeps};
 ghost use Rattle.eeprom.specs.Fault.{Counts, Rose};
 ghost use Rattle.eeprom.specs.Image.{overwrite};
 ghost use Rattle.eeprom.specs.StoreOf.{starts_with_magic, store_of, fresh_slots};
 ghost use Rattle.record_store.specs.Appends.{Appends, end_of};
-ghost use Rattle.record_store.specs.FreshImage.{fresh_image, fresh_body, fresh_header, fresh_directories, fresh_cell};
+ghost use Rattle.record_store.specs.FreshImage.{LeavesFormatted, LeavesCleared, fresh_image, fresh_body, fresh_header, fresh_directories, fresh_cell};
 
 use crate::layout::{FORMAT, MAGIC, image_size};
 use crate::writer::Writer;
@@ -28,6 +29,7 @@ impl Store {
             ((B.chip bench.new).image ≡ option_map (λ image. overwrite image 0 (fresh_image cells first.now second.now)) (B.chip bench.old).image) }
         ensures formatted { OnOk result (IfSome (B.chip bench.new).image (λ image. store_of image ≡ Some (fresh_slots cells first.now second.now))) }
         ensures still { (B.chip bench.new).still ≡ (B.chip bench.old).still }
+        ensures moments { LeavesFormatted cells first.now second.now (B.chip bench.old) (B.chip bench.new) }
         ensures too_small { IsErrOf result FormatRefusal.TooSmall ↔ ((B.chip bench.old).still.size < 70 * cells + 34) }
         ensures unchanged { IsErrOf result FormatRefusal.TooSmall → bench.new ≡ bench.old }
         ensures fault { IsErrOf result FormatRefusal.Fault → Rose (B.faults bench.old) (B.faults bench.new) }
@@ -50,6 +52,7 @@ fn clear_front<B: Eeprom>(bench: &mut B) -> Result<(), EepromFault>
     ensures cleared { OnOk result (IfSome (B.chip bench.new).image (λ image. starts_with_magic image ≡ false)) }
     ensures rest { OnOk result (option_map (λ image. drop 4 image) (B.chip bench.new).image ≡ option_map (λ image. drop 4 image) (B.chip bench.old).image) }
     ensures still { (B.chip bench.new).still ≡ (B.chip bench.old).still }
+    ensures moments { LeavesCleared (B.chip bench.old) (B.chip bench.new) }
     ensures cause { Counts (B.faults bench.old) (B.faults bench.new) result }
 {
     let mut front = [0; 4];
@@ -74,7 +77,7 @@ fn write_body<B: Eeprom>(
     requires room { 70 * cells + 34 ≤ (B.chip bench.old).still.size }
     ensures image { OnOk result
         ((B.chip bench.new).image ≡ option_map (λ image. overwrite image 4 (fresh_body cells first.now second.now)) (B.chip bench.old).image) }
-    ensures still { (B.chip bench.new).still ≡ (B.chip bench.old).still }
+    ensures front { Keeps (take 4) (B.chip bench.old) (B.chip bench.new) }
     ensures cause { Counts (B.faults bench.old) (B.faults bench.new) result }
 {
     let mut writer = Writer::new(4);
@@ -91,9 +94,11 @@ fn write_header<B: Eeprom>(
     bench: &mut B,
     cells: u16,
 ) -> Result<(), EepromFault>
+    requires behind { 4 ≤ writer.old.at }
     requires room { end_of writer.old + 28 ≤ (B.chip bench.old).still.size }
     ensures appends { OnOk result (Appends (fresh_header cells) writer.old writer.new (B.chip bench.old) (B.chip bench.new)) }
-    ensures still { (B.chip bench.new).still ≡ (B.chip bench.old).still }
+    ensures behind { OnOk result (4 ≤ writer.new.at) }
+    ensures front { Keeps (take 4) (B.chip bench.old) (B.chip bench.new) }
     ensures cause { Counts (B.faults bench.old) (B.faults bench.new) result }
 {
     writer.append(
@@ -109,9 +114,11 @@ fn write_directories<B: Eeprom>(
     cells: u16,
 ) -> Result<(), EepromFault>
     requires few { 2 ≤ cells }
+    requires behind { 4 ≤ writer.old.at }
     requires room { end_of writer.old + (6 * cells + 2) ≤ (B.chip bench.old).still.size }
     ensures appends { OnOk result (Appends (fresh_directories cells) writer.old writer.new (B.chip bench.old) (B.chip bench.new)) }
-    ensures still { (B.chip bench.new).still ≡ (B.chip bench.old).still }
+    ensures behind { OnOk result (4 ≤ writer.new.at) }
+    ensures front { Keeps (take 4) (B.chip bench.old) (B.chip bench.new) }
     ensures cause { Counts (B.faults bench.old) (B.faults bench.new) result }
 {
     let count = cells as usize;
@@ -126,9 +133,11 @@ fn write_cell<B: Eeprom>(
     octets: &[u8],
 ) -> Result<(), EepromFault>
     requires short { length octets.now ≤ 28 }
+    requires behind { 4 ≤ writer.old.at }
     requires room { end_of writer.old + 32 ≤ (B.chip bench.old).still.size }
     ensures appends { OnOk result (Appends (fresh_cell octets.now) writer.old writer.new (B.chip bench.old) (B.chip bench.new)) }
-    ensures still { (B.chip bench.new).still ≡ (B.chip bench.old).still }
+    ensures behind { OnOk result (4 ≤ writer.new.at) }
+    ensures front { Keeps (take 4) (B.chip bench.old) (B.chip bench.new) }
     ensures cause { Counts (B.faults bench.old) (B.faults bench.new) result }
 {
     writer.append(bench, &[0xFF, 0xFF, 0, octets.len() as u8])?;

@@ -2,6 +2,7 @@
 #![tactic(auto)]
 
 mod chain;
+mod claims;
 mod directory;
 mod fresh;
 mod layout;

@@ -1,16 +1,19 @@
 // The links of all cells in memory, and how many cells the chains along them have.
-ghost use Rattle.std.specs.Prelude.{◌≡◌, ◌+◌, ◌*◌, ◌≤◌, ◌<◌, length, slice_index, IfSome, IfNone, IfOk, IsErrOf, All, sum_by};
+ghost use Rattle.std.specs.Prelude.{◌≡◌, ◌+◌, ◌*◌, ◌≤◌, ◌<◌, length, slice_index, Some, None, IfSome, IfNone, IfOk, IsErrOf, OnOk, All, sum_by};
 ghost use Rattle.eeprom.specs.StoreOf as image;
 ghost use Rattle.record_store.specs.CountsFaults.{CountsFaults};
 ghost use Rattle.record_store.specs.Links.{AreLinks, steps, steps_without};
 
 use crate::OpenRefusal;
-use crate::layout::{LINK, NO_CELL, cell_place, number_of};
+use crate::layout::{CELL, NO_CELL, cell_place, number_of};
 use eeprom::Eeprom;
 use std::alloc::Global;
 
 /// How many cells a record has at most.
 pub const LONGEST: u16 = 18;
+
+/// How many cells are read together.
+const STRETCH: usize = 64;
 
 /// Reads the link of each cell.
 pub fn read_links<B: Eeprom>(
@@ -26,14 +29,41 @@ pub fn read_links<B: Eeprom>(
     ensures same { B.chip bench.new ≡ B.chip bench.old }
     ensures cause { CountsFaults (B.faults bench.old) (B.faults bench.new) result }
 {
-    let count = 2 * cells;
-    let mut links = Vec::with_capacity(alloc, count as usize)?;
-    for cell in 0..count {
-        let mut octets = [0; LINK];
-        bench.read(cell_place(cells, cell), &mut octets)?;
-        links.push(number_of(octets[0], octets[1]))?;
+    let count = 2 * cells as usize;
+    let mut links = Vec::with_capacity(alloc, count)?;
+    while links.len() < count {
+        let more = STRETCH.min(count - links.len());
+        read_more(bench, cells, &mut links, more)?;
     }
     Ok(links)
+}
+
+/// Reads the links of so many more cells, in one read of the whole cells.
+fn read_more<B: Eeprom>(
+    bench: &mut B,
+    cells: u16,
+    links: &mut Vec<u16>,
+    more: usize,
+) -> Result<(), OpenRefusal>
+    requires many { cells ≤ 2048 }
+    requires room { 70 * cells + 34 ≤ (B.chip bench.old).still.size }
+    requires stretch { more ≤ STRETCH }
+    requires inside { length links.old.items + more ≤ 2 * cells }
+    requires so_far { IfSome (B.chip bench.old).image (λ image. AreLinks image cells (length links.old.items) links.old.items) }
+    ensures links { OnOk result (IfSome (B.chip bench.old).image (λ image. AreLinks image cells (length links.new.items) links.new.items)) }
+    ensures count { OnOk result (length links.new.items ≡ length links.old.items + more) }
+    ensures a_card { ¬ (IsErrOf result OpenRefusal.NotACard) }
+    ensures same { B.chip bench.new ≡ B.chip bench.old }
+    ensures cause { CountsFaults (B.faults bench.old) (B.faults bench.new) result }
+{
+    let first = links.len() as u16;
+    let mut octets = [0; STRETCH * CELL];
+    let octets = &mut octets[..CELL * more];
+    bench.read(cell_place(cells, first), octets)?;
+    for cell in 0..more {
+        links.push(number_of(octets[CELL * cell], octets[CELL * cell + 1]))?;
+    }
+    Ok(())
 }
 
 /// How many cells the chains have that begin at these cells, each up to the longest.
@@ -68,8 +98,23 @@ pub fn cells_for(size: usize) -> u16
     ((size + 31) / 30) as u16
 }
 
+/// The slot that is named, or else the first one whose chain begins nowhere.
+pub fn named_or_empty(slot: Option<u16>, firsts: &[u16]) -> Option<u16>
+    requires few { length firsts.now ≤ 2048 }
+    requires named { IfSome slot (λ slot. slot < length firsts.now) }
+    ensures there { IfSome result (λ found. found < length firsts.now) }
+    ensures named { IfSome slot (λ slot. result ≡ Some slot) }
+    ensures empty { slot ≡ None → IfSome result (λ found. slice_index firsts.now found ≡ 65535) }
+    ensures none { IfNone result ((slot ≡ None) × All (λ first. ¬ (first ≡ 65535)) firsts.now) }
+{
+    match slot {
+        Some(_) => slot,
+        None => first_empty(firsts),
+    }
+}
+
 /// The first slot whose chain begins nowhere.
-pub fn first_empty(firsts: &[u16]) -> Option<u16>
+fn first_empty(firsts: &[u16]) -> Option<u16>
     requires few { length firsts.now ≤ 2048 }
     ensures there { IfSome result (λ slot. slot < length firsts.now) }
     ensures empty { IfSome result (λ slot. slice_index firsts.now slot ≡ 65535) }

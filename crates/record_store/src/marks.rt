@@ -1,9 +1,19 @@
 // Marks of the cells that chains have, so that others are found for a new chain.
-ghost use Rattle.std.specs.Prelude.{◌≡◌, ◌+◌, ◌≤◌, ◌<◌, false, length, take, drop, All, sum_by};
+ghost use Rattle.std.specs.Prelude.{◌≡◌, ◌+◌, ◌≤◌, ◌<◌, ℕ, length, take, drop, All, sum_by};
 ghost use Rattle.record_store.specs.Links.{steps, steps_without};
-ghost use Rattle.record_store.specs.Marks.{IsWalkMarked, StaysMarked, is_marked, marked, unmarked};
+ghost use Rattle.record_store.specs.Marks.{IsFreeRun, IsLongest, IsWalkMarked, StaysMarked, marked, unmarked};
 
 use crate::links::LONGEST;
+
+/// The cells of the largest store.
+pub const CELLS: usize = 4096;
+
+/// Neighbouring cells, of which this is the first.
+#[derive(Clone, Copy)]
+pub struct Run {
+    pub cell: u16,
+    pub count: u16,
+}
 
 /// Marks the cells of the chains that begin at these cells.
 pub fn mark_chains(marks: &mut [bool], links: &[u16], firsts: &[u16])
@@ -59,16 +69,42 @@ pub fn count_free(marks: &[bool]) -> usize
     marks.iter().filter(|mark| !**mark).count()
 }
 
-/// The first cell that isn't marked.
-pub fn find_free(marks: &[bool]) -> u16
+/// A run of neighbouring cells that aren't marked: one of `most` cells where there is such, and else a longest one.
+pub fn find_run(marks: &[bool], most: u16) -> Run
     requires few { length marks.now ≤ 4096 }
     requires free { 1 ≤ unmarked marks.now }
-    ensures there { result < length marks.now }
-    ensures free { is_marked marks.now result ≡ false }
+    requires most { 1 ≤ most }
+    ensures free { IsFreeRun marks.now result.cell result.count }
+    ensures some { 1 ≤ result.count }
+    ensures most { result.count ≤ most }
+    ensures longest { IsLongest marks.now most result.count }
 {
-    let mut cell = 0;
-    while marks[cell as usize] {
-        cell += 1;
+    let mut best = Run { cell: 0, count: 0 };
+    for cell in 0..marks.len() as u16 {
+        let count = count_free_from(marks, cell, most);
+        if count == most {
+            return Run { cell, count };
+        }
+        if count > best.count {
+            best = Run { cell, count };
+        }
     }
-    cell
+    best
+}
+
+/// How many cells from this one on aren't marked, up to `most`.
+fn count_free_from(marks: &[bool], cell: u16, most: u16) -> u16
+    requires few { length marks.now ≤ 4096 }
+    requires inside { cell ≤ length marks.now }
+    ensures free { IsFreeRun marks.now cell result }
+    ensures most { result ≤ most }
+    ensures longest { result < most → (count : ℕ) → IsFreeRun marks.now cell count → count ≤ result }
+{
+    for count in 0..most {
+        let place = cell as usize + count as usize;
+        if place >= marks.len() || marks[place] {
+            return count;
+        }
+    }
+    most
 }

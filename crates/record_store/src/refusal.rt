@@ -27,7 +27,7 @@ impl From<EepromFault> for FormatRefusal {
 pub enum OpenRefusal {
     /// The memory for the directories isn't there.
     NoMemory,
-    /// The image has no store.
+    /// The image isn't one of a card: it has no store, or opens to no database.
     NotACard,
     /// The EEPROM didn't read.
     Fault,

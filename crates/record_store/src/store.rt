@@ -1,29 +1,28 @@
 // A store of records, of which a directory in memory knows where each begins.
-ghost use Rattle.std.specs.Prelude.{◌≡◌, ◌+◌, ◌*◌, ◌≤◌, ◌<◌, ℕ, List, Some, None, false, IsTrue, IsSome, if◌then◌else◌, length, slice_index, IfSome, IfOk, IsErrOf, OnOk, OnErr};
+ghost use Rattle.std.specs.Prelude.{◌≡◌, ◌+◌, ◌*◌, ◌≤◌, ◌<◌, ℕ, List, Some, None, false, IsTrue, IsSome, if◌then◌else◌, length, slice_index, is_some, IfSome, IfOk, IsErrOf, OnOk, OnErr};
 ghost use Rattle.eeprom.specs.Chip.{Becomes, Keeps};
 ghost use Rattle.eeprom.specs.Fault.{Counts};
 ghost use Rattle.eeprom.specs.StoreOf.{Slots, store_of};
 ghost use Rattle.record_store.specs.Held.{firsts, contents, record_at, StandsFor};
 ghost use Rattle.record_store.specs.CountsFaults.{CountsFaults, CountsPutFaults};
-ghost use Rattle.record_store.specs.Links.{weight_of};
-ghost use Rattle.record_store.specs.Put.{IsPut, IsOver, IsFull, IsWithin};
+ghost use Rattle.eeprom.specs.StoreOf.{weight_of};
+ghost use Rattle.record_store.specs.Put.{IsPut, IsFull, IsWithin};
+ghost use Rattle.record_store.specs.Reading.{ReadsRecord};
 ghost use Rattle.record_store.specs.Transaction.{begun_from, rolled_back, after_commit, IsCommitted, Commits};
 ghost use Rattle.record_store.specs.declared.side.Side.TheVariants.{Committed, Working};
 
 use crate::chain::{RecordOctets, read_record};
+use crate::claims::claim_chains;
 use crate::directory::directory_octets;
 use crate::layout::{SELECTOR, directory_place};
-use crate::links::{cells_for, first_empty, length_of_chains, length_without, read_links};
-use crate::marks::{count_free, mark_kept};
+use crate::links::{cells_for, length_of_chains, length_without, named_or_empty, read_links};
+use crate::marks::{CELLS, count_free, mark_kept};
 use crate::opening::{read_directory, read_header};
 use crate::placing::{payload_of_record, write_chain};
 use crate::{OpenRefusal, Side, StoreRefusal};
 use eeprom::{Eeprom, EepromFault};
 use std::alloc::Global;
 use std::marker::Model;
-
-/// The cells of the largest store.
-const CELLS: usize = 4096;
 
 #[derive(Drop)]
 pub struct Store {
@@ -47,9 +46,9 @@ impl Model for Store {
 }
 
 impl Store {
-    /// Opens the store of an image. The memory of both directories is taken here.
+    /// Opens the store of an image, where it has one. The memory of both directories and of the links is taken here.
     pub fn open<B: Eeprom>(alloc: Global, bench: &mut B) -> Result<Store, OpenRefusal>
-        requires stored { IfSome (B.chip bench.old).image (λ image. IsSome (store_of image)) }
+        ensures stored { OnOk result (IfSome (B.chip bench.old).image (λ image. IsSome (store_of image))) }
         ensures stands { IfOk result (λ store. IfSome (B.chip bench.old).image (StandsFor store)) }
         ensures opened { IfOk result (λ store. IfSome (B.chip bench.old).image (λ image. store_of image ≡ contents store Committed image)) }
         ensures idle { IfOk result (λ store. store.begun ≡ false) }
@@ -62,6 +61,7 @@ impl Store {
         let committed = read_directory(alloc, bench, header)?;
         let working = Vec::from_slice(alloc, committed.as_slice())?;
         let links = read_links(alloc, bench, header.cells)?;
+        claim_chains(bench, header.cells, links.as_slice(), committed.as_slice())?;
         Ok(Store {
             cells: header.cells,
             selector: header.selector,
@@ -109,6 +109,8 @@ impl Store {
         requires slot { slot < self.now.cells }
         ensures found { IfOk result (λ found. IfSome (B.chip bench.old).image
             (λ image. record_at self.now side slot image ≡ (if found then Some out.new.items else None))) }
+        ensures octets_read { IfOk result (λ found. IfSome (B.chip bench.old).image
+            (λ _. Becomes (ReadsRecord (if found then Some out.new.items else None)) (B.octets_read bench.old) (B.octets_read bench.new))) }
         ensures same { B.chip bench.new ≡ B.chip bench.old }
         ensures cause { Counts (B.faults bench.old) (B.faults bench.new) result }
     {
@@ -149,63 +151,15 @@ impl Store {
         ensures within { IfOk result (λ found. IfSome (B.chip bench.old).image (IsWithin self.old found octets.now)) }
         ensures full { IsErrOf result StoreRefusal.Full → IfSome (B.chip bench.old).image (IsFull self.old slot octets.now) }
         ensures unchanged { IsErrOf result StoreRefusal.Full → (self.new ≡ self.old) × (bench.new ≡ bench.old) }
+        ensures told { OnOk result (is_some (B.chip bench.new).image ≡ is_some (B.chip bench.old).image) }
         ensures begun { OnOk result (self.new.begun ≡ self.old.begun) }
         ensures cells { OnOk result (self.new.cells ≡ self.old.cells) }
         ensures moments { Keeps store_of (B.chip bench.old) (B.chip bench.new) }
         ensures cause { CountsPutFaults (B.faults bench.old) (B.faults bench.new) result }
     {
-        match slot {
-            Some(slot) => self.put_at(bench, slot, octets),
-            None => self.put_anywhere(bench, octets),
-        }
-    }
-
-    fn put_anywhere<B: Eeprom>(&mut self, bench: &mut B, octets: &[u8]) -> Result<u16, StoreRefusal>
-        requires begun { IsTrue self.old.begun }
-        requires some { 1 ≤ length octets.now }
-        requires most { length octets.now ≤ 512 }
-        requires room { 70 * self.old.cells + 34 ≤ (B.chip bench.old).still.size }
-        requires stands { IfSome (B.chip bench.old).image (StandsFor self.old) }
-        ensures empty { IfOk result (λ found. IfSome (B.chip bench.old).image (λ image. record_at self.old Working found image ≡ None)) }
-        ensures there { IfOk result (λ found. found < self.old.cells) }
-        ensures put { IfOk result (λ found. Becomes (IsPut self.old self.new found octets.now) (B.chip bench.old).image (B.chip bench.new).image) }
-        ensures within { IfOk result (λ found. IfSome (B.chip bench.old).image (IsWithin self.old found octets.now)) }
-        ensures full { IsErrOf result StoreRefusal.Full → IfSome (B.chip bench.old).image (IsFull self.old None octets.now) }
-        ensures unchanged { IsErrOf result StoreRefusal.Full → (self.new ≡ self.old) × (bench.new ≡ bench.old) }
-        ensures begun { OnOk result (self.new.begun ≡ self.old.begun) }
-        ensures cells { OnOk result (self.new.cells ≡ self.old.cells) }
-        ensures moments { Keeps store_of (B.chip bench.old) (B.chip bench.new) }
-        ensures cause { CountsPutFaults (B.faults bench.old) (B.faults bench.new) result }
-    {
-        match first_empty(self.working.as_slice()) {
-            Some(slot) => self.put_at(bench, slot, octets),
-            None => Err(StoreRefusal::Full),
-        }
-    }
-
-    /// Puts a record into this slot of the working side, the cells of its chain apart from those that are committed.
-    fn put_at<B: Eeprom>(
-        &mut self,
-        bench: &mut B,
-        slot: u16,
-        octets: &[u8],
-    ) -> Result<u16, StoreRefusal>
-        requires begun { IsTrue self.old.begun }
-        requires slot { slot < self.old.cells }
-        requires some { 1 ≤ length octets.now }
-        requires most { length octets.now ≤ 512 }
-        requires room { 70 * self.old.cells + 34 ≤ (B.chip bench.old).still.size }
-        requires stands { IfSome (B.chip bench.old).image (StandsFor self.old) }
-        ensures slot { IfOk result (λ found. found ≡ slot) }
-        ensures put { IfOk result (λ found. Becomes (IsPut self.old self.new found octets.now) (B.chip bench.old).image (B.chip bench.new).image) }
-        ensures within { IfOk result (λ found. IfSome (B.chip bench.old).image (IsWithin self.old found octets.now)) }
-        ensures full { IsErrOf result StoreRefusal.Full → IfSome (B.chip bench.old).image (IsOver self.old slot octets.now) }
-        ensures unchanged { IsErrOf result StoreRefusal.Full → (self.new ≡ self.old) × (bench.new ≡ bench.old) }
-        ensures begun { OnOk result (self.new.begun ≡ self.old.begun) }
-        ensures cells { OnOk result (self.new.cells ≡ self.old.cells) }
-        ensures moments { Keeps store_of (B.chip bench.old) (B.chip bench.new) }
-        ensures cause { CountsPutFaults (B.faults bench.old) (B.faults bench.new) result }
-    {
+        let Some(slot) = named_or_empty(slot, self.working.as_slice()) else {
+            return Err(StoreRefusal::Full);
+        };
         let count = cells_for(octets.len());
         let weight = length_without(self.links.as_slice(), self.working.as_slice(), slot);
         let mut marks = [false; CELLS];
@@ -241,14 +195,17 @@ impl Store {
         requires room { 70 * self.old.cells + 34 ≤ (B.chip bench.old).still.size }
         requires stands { IfSome (B.chip bench.old).image (StandsFor self.old) }
         ensures ended { OnOk result (self.new ≡ after_commit self.old) }
+        ensures told { OnOk result (is_some (B.chip bench.new).image ≡ is_some (B.chip bench.old).image) }
         ensures done { OnOk result (Becomes (IsCommitted self.old) (B.chip bench.old).image (B.chip bench.new).image) }
         ensures moments { Commits self.old (B.chip bench.old) (B.chip bench.new) }
         ensures unchanged { OnErr result (self.new ≡ self.old) }
         ensures cause { Counts (B.faults bench.old) (B.faults bench.new) result }
     {
         let selector = 1 - self.selector;
+        let place = directory_place(self.cells, selector);
         let directory = directory_octets(self.working.as_slice());
-        bench.write(directory_place(self.cells, selector), directory.as_slice())?;
+        let octets = directory.as_slice();
+        bench.write(place, octets)?;
         bench.write(SELECTOR, &[selector])?;
         self.selector = selector;
         self.committed.copy_from_slice(self.working.as_slice());

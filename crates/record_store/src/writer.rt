@@ -1,5 +1,6 @@
-// Octets that are written one behind another, in few and large writes.
-ghost use Rattle.std.specs.Prelude.{◌≡◌, ◌+◌, ◌≤◌, ◌<◌, [], ◌∷◌, length, replicate, OnOk};
+// Octets that are written one behind another, in few and large writes, behind the first four of an image.
+ghost use Rattle.std.specs.Prelude.{◌≡◌, ◌+◌, ◌≤◌, ◌<◌, [], ◌∷◌, length, take, replicate, OnOk};
+ghost use Rattle.eeprom.specs.Chip.{Keeps};
 ghost use Rattle.eeprom.specs.Fault.{Counts};
 ghost use Rattle.record_store.specs.Appends.{Appends, end_of, promised};
 
@@ -29,11 +30,13 @@ impl Writer {
 
     /// Writes what is pending.
     pub fn flush<B: Eeprom>(&mut self, bench: &mut B) -> Result<(), EepromFault>
+        requires behind { 4 ≤ self.old.at }
         requires room { end_of self.old ≤ (B.chip bench.old).still.size }
         ensures written { OnOk result ((B.chip bench.new).image ≡ promised self.old (B.chip bench.old)) }
         ensures place { OnOk result (self.new.at ≡ end_of self.old) }
         ensures empty { OnOk result (self.new.pending.items ≡ []) }
-        ensures still { (B.chip bench.new).still ≡ (B.chip bench.old).still }
+        ensures behind { OnOk result (4 ≤ self.new.at) }
+        ensures front { Keeps (take 4) (B.chip bench.old) (B.chip bench.new) }
         ensures cause { Counts (B.faults bench.old) (B.faults bench.new) result }
     {
         bench.write(self.at, self.pending.as_slice())?;
@@ -43,10 +46,12 @@ impl Writer {
     }
 
     fn make_room<B: Eeprom>(&mut self, bench: &mut B) -> Result<(), EepromFault>
+        requires behind { 4 ≤ self.old.at }
         requires room { end_of self.old ≤ (B.chip bench.old).still.size }
         ensures free { OnOk result (length self.new.pending.items < PIECE) }
         ensures appends { OnOk result (Appends [] self.old self.new (B.chip bench.old) (B.chip bench.new)) }
-        ensures still { (B.chip bench.new).still ≡ (B.chip bench.old).still }
+        ensures behind { OnOk result (4 ≤ self.new.at) }
+        ensures front { Keeps (take 4) (B.chip bench.old) (B.chip bench.new) }
         ensures cause { Counts (B.faults bench.old) (B.faults bench.new) result }
     {
         if self.pending.is_full() {
@@ -56,9 +61,11 @@ impl Writer {
     }
 
     fn push<B: Eeprom>(&mut self, bench: &mut B, octet: u8) -> Result<(), EepromFault>
+        requires behind { 4 ≤ self.old.at }
         requires room { end_of self.old < (B.chip bench.old).still.size }
         ensures appends { OnOk result (Appends (octet ∷ []) self.old self.new (B.chip bench.old) (B.chip bench.new)) }
-        ensures still { (B.chip bench.new).still ≡ (B.chip bench.old).still }
+        ensures behind { OnOk result (4 ≤ self.new.at) }
+        ensures front { Keeps (take 4) (B.chip bench.old) (B.chip bench.new) }
         ensures cause { Counts (B.faults bench.old) (B.faults bench.new) result }
     {
         self.make_room(bench)?;
@@ -68,9 +75,11 @@ impl Writer {
 
     /// Appends these octets.
     pub fn append<B: Eeprom>(&mut self, bench: &mut B, octets: &[u8]) -> Result<(), EepromFault>
+        requires behind { 4 ≤ self.old.at }
         requires room { end_of self.old + length octets.now ≤ (B.chip bench.old).still.size }
         ensures appends { OnOk result (Appends octets.now self.old self.new (B.chip bench.old) (B.chip bench.new)) }
-        ensures still { (B.chip bench.new).still ≡ (B.chip bench.old).still }
+        ensures behind { OnOk result (4 ≤ self.new.at) }
+        ensures front { Keeps (take 4) (B.chip bench.old) (B.chip bench.new) }
         ensures cause { Counts (B.faults bench.old) (B.faults bench.new) result }
     {
         for octet in octets {
@@ -86,9 +95,11 @@ impl Writer {
         octet: u8,
         count: usize,
     ) -> Result<(), EepromFault>
+        requires behind { 4 ≤ self.old.at }
         requires room { end_of self.old + count ≤ (B.chip bench.old).still.size }
         ensures appends { OnOk result (Appends (replicate count octet) self.old self.new (B.chip bench.old) (B.chip bench.new)) }
-        ensures still { (B.chip bench.new).still ≡ (B.chip bench.old).still }
+        ensures behind { OnOk result (4 ≤ self.new.at) }
+        ensures front { Keeps (take 4) (B.chip bench.old) (B.chip bench.new) }
         ensures cause { Counts (B.faults bench.old) (B.faults bench.new) result }
     {
         for _step in 0..count {

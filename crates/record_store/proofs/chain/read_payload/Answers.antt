@@ -1,4 +1,5 @@
 use Rattle.std.proofs.Common.{refl, rules, arith, length-append, length-take, length-drop}
+use Rattle.record_store.proofs.Reading.{reads-none, reads-more, reads-end, reads-full}
 use Rattle.record_store.proofs.Walking.{Walked-start, Walked-more, Walked-end, Walked-full}
 use Rattle.record_store.proofs.chain.read_payload.Goals as goal
 
@@ -6,6 +7,7 @@ pub loop-step-init : goal.loop-step-init
 loop-step-init g c = record {
   size = rw c.clear.ensures refl;
   walked = Walked-start c.args.cells c.args.first c.clear.new.self.items (g.B.Eeprom.chip c.args.bench.now).image c.clear.ensures;
+  read = reads-none (g.B.Eeprom.octets_read c.args.bench.now);
   same = refl;
   faults = refl;
 }
@@ -18,6 +20,7 @@ loop-step-preserved g c = record {
       Walked-more c.args.cells c.args.first c.loop-step.cell c.loop-step.payload.items c.append.new.payload.items c.loop-step._step c.number_of-cell.result
       (g.B.Eeprom.chip c.args.bench.now).image c.read.new.into c.requires.many c.if-cell-cells.false read c.number_of-cell.ensures.number c.append.ensures.appends
       c.loop-step.invariant.walked;
+  read = reads-more c.loop-step._step (g.B.Eeprom.octets_read c.args.bench.now) (g.B.Eeprom.octets_read c.loop-step.bench) (g.B.Eeprom.octets_read c.read.new.self) c.loop-step.invariant.read c.read.ensures.read;
   same = search rules;
   faults = search rules;
 }
@@ -29,3 +32,13 @@ returns-after-loop-step-clause-payload g c =
 pub returns-then-cell-cells-clause-payload : goal.returns-then-cell-cells-clause-payload
 returns-then-cell-cells-clause-payload g c =
     Walked-end c.args.cells c.args.first c.loop-step.cell c.loop-step.payload.items c.loop-step._step 18 (g.B.Eeprom.chip c.args.bench.now).image (omega arith) c.loop-step.invariant.walked
+
+pub returns-after-loop-step-clause-octets_read : goal.returns-after-loop-step-clause-octets_read
+returns-after-loop-step-clause-octets_read g c =
+    reads-full c.args.cells c.args.first c.loop-step.cell c.loop-step.payload.items c.loop-step._step 18 (g.B.Eeprom.chip c.args.bench.now).image (g.B.Eeprom.octets_read c.args.bench.now) (g.B.Eeprom.octets_read c.loop-step.bench) (omega arith)
+    c.loop-step.invariant.read c.loop-step.invariant.walked
+
+pub returns-then-cell-cells-clause-octets_read : goal.returns-then-cell-cells-clause-octets_read
+returns-then-cell-cells-clause-octets_read g c =
+    reads-end c.args.cells c.args.first c.loop-step.cell c.loop-step.payload.items c.loop-step._step 18 (g.B.Eeprom.chip c.args.bench.now).image (g.B.Eeprom.octets_read c.args.bench.now) (g.B.Eeprom.octets_read c.loop-step.bench) (omega arith)
+    c.loop-step.invariant.read c.loop-step.invariant.walked

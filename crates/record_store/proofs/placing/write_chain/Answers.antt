@@ -1,55 +1,65 @@
-use Rattle.std.proofs.Common.{◌≡◌, inl, inr, ◌+◌, ◌-◌, refl, ◌∙◌, subst, rules, arith, set, true, ℕ}
+use Rattle.std.proofs.Common.{◌≡◌, ◌+◌, ◌*◌, ◌-◌, ◌≤◌, ℕ, List, Option, is_some, refl, ap, ◌∙◌, inl, inr, arith, rules, subst}
 use Rattle.eeprom.specs.Chip.{Becomes}
-use Rattle.record_store.specs.Placed.{IsPlaced}
-use Rattle.record_store.proofs.Marking.{unmarked-one-less, marks-stay}
-use Rattle.record_store.proofs.Placements.{placed-start, keeps-start, keeps-more, becomes-more}
+use Rattle.record_store.specs.Placed.{IsPlaced, KeepsMarked}
+use Rattle.record_store.specs.Runs.{run_marked, run_linked}
+use Rattle.record_store.proofs.Placements.{is_some-map, placed-start, keeps-start, keeps-run, becomes-run}
+use Rattle.record_store.proofs.Runs.{first-some, length-marked, length-linked, run-stays, unmarked-run}
+use Rattle.record_store.proofs.placing.write_chain.Goals.{After-write}
 use Rattle.record_store.proofs.placing.write_chain.Goals as goal
 
-pub loop-step-init : goal.loop-step-init
-loop-step-init g c = record {
+pub loop-left-init : goal.loop-left-init
+loop-left-init g c = record {
   marks = c.requires.marks;
   links = c.requires.links;
-  free = omega arith;
+  within = omega arith;
+  free = c.requires.free;
   first = inl refl;
   stays = λ cell e. e;
   placed = placed-start c.args.cells c.args.marks.now c.args.payload.now c.args.count 65535 c.args.links.now (g.B.Eeprom.chip c.args.bench.now).image refl;
   moments = keeps-start c.args.marks.now c.args.cells (g.B.Eeprom.chip c.args.bench.now);
+  told = refl;
   faults = refl;
 }
 
-pub returns-in_err-write-clause-moments : goal.returns-in_err-write-clause-moments
-returns-in_err-write-clause-moments g c =
-    keeps-more c.args.marks.now c.loop-step.marks c.args.cells c.find_free-cell.result c.as_slice.result.now (g.B.Eeprom.chip c.args.bench.now) (g.B.Eeprom.chip c.loop-step.bench) (g.B.Eeprom.chip c.write.new.self)
-    c.args.payload.now c.args.links.now c.loop-step.links (c.args.count - c.loop-step.step) c.args.count c.loop-step.first (omega arith) c.find_free-cell.ensures.free c.loop-step.invariant.stays
-    (rw (c.as_slice.ensures.value, c.cell_octets-octets.ensures.octets) (omega arith)) c.requires.room (g.met.B.Eeprom.sized c.args.bench.now) (g.met.B.Eeprom.clocked c.loop-step.bench)
-    c.loop-step.invariant.placed c.loop-step.invariant.moments (rw c.cell_place.ensures at c.write.ensures.writes)
+inside : (g : _) (c : After-write g) → c.find_run-run.result.cell + c.find_run-run.result.count ≤ 2 * c.args.cells
+inside g c = omega (arith, c.find_run-run.ensures.free.inside, c.loop-left.invariant.marks)
 
-pub loop-step-preserved : goal.loop-step-preserved
-loop-step-preserved g c =
-    let piece : ℕ = (c.args.count - 1) - c.loop-step.step in
-    let before : c.args.count - c.loop-step.step ≡ piece + 1 = omega arith in
-    let after : piece ≡ c.args.count - (c.loop-step.step + 1) = omega arith in
-    let inside = c.find_free-cell.ensures.there in
-    record {
-      marks = search rules;
-      links = search rules;
-      free = omega (arith, c.loop-step.invariant.free, unmarked-one-less c.loop-step.marks c.find_free-cell.result inside c.find_free-cell.ensures.free);
-      first = inr (omega arith);
-      stays = λ cell e. marks-stay c.loop-step.marks c.find_free-cell.result cell (c.loop-step.invariant.stays cell e);
+-- what is marked is kept, also where the write failed
+moments : (g : _) (c : After-write g) → KeepsMarked c.args.marks.now c.args.cells (g.B.Eeprom.chip c.args.bench.now) (g.B.Eeprom.chip c.write.new.self)
+moments g c =
+    keeps-run c.args.marks.now c.loop-left.marks c.args.cells c.find_run-run.result.cell c.find_run-run.result.count c.as_slice.result.now (g.B.Eeprom.chip c.args.bench.now) (g.B.Eeprom.chip c.loop-left.bench) (g.B.Eeprom.chip c.write.new.self)
+    c.args.payload.now c.args.links.now c.loop-left.links c.loop-left.left c.args.count c.loop-left.first (inside g c) c.find_run-run.ensures.free c.loop-left.invariant.stays
+    (rw c.as_slice.ensures.value c.run_octets-octets.ensures.size) c.requires.room (g.met.B.Eeprom.sized c.args.bench.now) (g.met.B.Eeprom.clocked c.loop-left.bench)
+    c.loop-left.invariant.placed c.loop-left.invariant.moments (rw c.cell_place.ensures at c.write.ensures.writes)
+
+pub returns-in_err-write-clause-moments : goal.returns-in_err-write-clause-moments
+returns-in_err-write-clause-moments g c = moments g (goal.at.returns-in_err-write-clause-moments g c).After-write
+
+pub loop-left-preserved : goal.loop-left-preserved
+loop-left-preserved g c =
+    let written = (goal.at.loop-left-preserved g c).After-write in
+    let run = c.find_run-run.result in
+    let left : ℕ = c.loop-left.left - run.count in
+    let inside = inside g written in
+    let pieces : c.loop-left.left ≡ left + run.count = omega arith in
+    let old = g.B.Eeprom.chip c.args.bench.now in
+    let mid = g.B.Eeprom.chip c.loop-left.bench in
+    let new = g.B.Eeprom.chip c.write.new.self in
+    rw (c.take_run.ensures.marks, c.take_run.ensures.links) (record {
+      marks = length-marked c.loop-left.marks run.cell run.count ∙ c.loop-left.invariant.marks;
+      links = length-linked c.loop-left.links run.cell run.count c.loop-left.first ∙ c.loop-left.invariant.links;
+      within = omega (arith, c.loop-left.invariant.within);
+      free = omega (arith, pieces, c.loop-left.invariant.free, unmarked-run c.loop-left.marks run.cell run.count c.find_run-run.ensures.free.inside);
+      first = inr (omega (arith, inside, c.find_run-run.ensures.some));
+      stays = λ cell e. run-stays c.loop-left.marks run.cell run.count cell (c.loop-left.invariant.stays cell e);
       placed =
-          let old = (g.B.Eeprom.chip c.args.bench.now).image in
-          let mid = (g.B.Eeprom.chip c.loop-step.bench).image in
-          let new = (g.B.Eeprom.chip c.write.new.self).image in
-          let so_far = subst (λ (k : ℕ). Becomes (IsPlaced c.args.cells c.args.marks.now c.loop-step.marks c.args.payload.now k c.args.count c.loop-step.first c.args.links.now c.loop-step.links) old mid) before c.loop-step.invariant.placed in
-          let next = becomes-more c.args.marks.now c.loop-step.marks c.args.cells c.find_free-cell.result c.as_slice.result.now old mid new (g.B.Eeprom.chip c.args.bench.now).still.size c.args.payload.now c.args.links.now
-          c.loop-step.links piece c.args.count c.loop-step.first c.requires.many (omega arith) c.find_free-cell.ensures.free c.loop-step.invariant.stays c.requires.room (g.met.B.Eeprom.sized c.args.bench.now) (omega arith)
-          c.requires.payload c.loop-step.invariant.marks c.loop-step.invariant.links (c.as_slice.ensures.value ∙ c.cell_octets-octets.ensures.octets) so_far (rw c.cell_place.ensures at c.in_ok-write.ensures.written) in
-          subst (λ (k : ℕ). Becomes (IsPlaced c.args.cells c.args.marks.now (set c.loop-step.marks c.find_free-cell.result true) c.args.payload.now k c.args.count c.find_free-cell.result c.args.links.now
-          (set c.loop-step.links c.find_free-cell.result c.loop-step.first)) old new) after next;
-      moments =
-          keeps-more c.args.marks.now c.loop-step.marks c.args.cells c.find_free-cell.result c.as_slice.result.now (g.B.Eeprom.chip c.args.bench.now) (g.B.Eeprom.chip c.loop-step.bench) (g.B.Eeprom.chip c.write.new.self)
-          c.args.payload.now c.args.links.now c.loop-step.links (c.args.count - c.loop-step.step) c.args.count c.loop-step.first (omega arith) c.find_free-cell.ensures.free c.loop-step.invariant.stays
-          (rw (c.as_slice.ensures.value, c.cell_octets-octets.ensures.octets) (omega arith)) c.requires.room (g.met.B.Eeprom.sized c.args.bench.now) (g.met.B.Eeprom.clocked c.loop-step.bench)
-          c.loop-step.invariant.placed c.loop-step.invariant.moments (rw c.cell_place.ensures at c.write.ensures.writes);
+          let so_far = subst (λ (k : ℕ). Becomes (IsPlaced c.args.cells c.args.marks.now c.loop-left.marks c.args.payload.now k c.args.count c.loop-left.first c.args.links.now c.loop-left.links) old.image mid.image) pieces c.loop-left.invariant.placed in
+          let next = becomes-run c.args.marks.now c.loop-left.marks c.args.cells run.cell run.count c.as_slice.result.now old.image mid.image new.image old.still.size c.args.payload.now c.args.links.now c.loop-left.links left c.args.count
+          c.loop-left.first c.requires.many inside c.find_run-run.ensures.free c.loop-left.invariant.stays c.requires.room (g.met.B.Eeprom.sized c.args.bench.now) (omega (arith, c.loop-left.invariant.within, pieces)) c.requires.payload
+          c.loop-left.invariant.marks c.loop-left.invariant.links (c.as_slice.ensures.value ∙ c.run_octets-octets.ensures.octets) so_far (rw c.cell_place.ensures at c.in_ok-write.ensures.written) in
+          subst (λ (first : ℕ). Becomes (IsPlaced c.args.cells c.args.marks.now (run_marked c.loop-left.marks run.cell run.count) c.args.payload.now left c.args.count first c.args.links.now
+          (run_linked c.loop-left.links run.cell run.count c.loop-left.first)) old.image new.image) (first-some run.cell run.count c.loop-left.first c.find_run-run.ensures.some) next;
+      moments = moments g written;
+      told = ap (λ (image : Option (List ℕ)). is_some image) c.in_ok-write.ensures.written ∙ (is_some-map _ mid.image ∙ c.loop-left.invariant.told);
       faults = search rules;
-    }
+    })

@@ -1,8 +1,12 @@
-use Rattle.std.proofs.Common.{◌≡◌, option_map, arith}
+use Rattle.std.proofs.Common.{◌≡◌, ℕ, List, Option, Some, None, option_map, refl, ◌∙◌, arith}
+use Rattle.std.specs.Prelude.{IfSome}
+use Rattle.eeprom.specs.StoreOf.{store_of, fresh_slots}
 use Rattle.eeprom.specs.Image.{overwrite}
-use Rattle.record_store.specs.FreshImage.{magic, fresh_body, fresh_image}
+use Rattle.record_store.specs.FreshImage.{magic, fresh_body, fresh_image, LeavesFormatted}
 use Rattle.record_store.proofs.FreshStore.{store-formatted}
 use Rattle.record_store.proofs.Overwrite.{option-front}
+use Rattle.record_store.proofs.Fronts.{body_moments, front_moments}
+use Rattle.record_store.proofs.store.Store.format.Goals.{After-write}
 use Rattle.record_store.proofs.store.Store.format.Goals as goal
 
 image_is : (g : _) (c : goal.In_ok-write g) → (g.B.Eeprom.chip c.write.new.self).image
@@ -20,3 +24,35 @@ pub returns-clause-formatted : goal.returns-clause-formatted
 returns-clause-formatted g c =
     store-formatted c.args.cells c.args.first.now c.args.second.now (g.B.Eeprom.chip c.args.bench.now).image (g.B.Eeprom.chip c.write.new.self).image
     c.requires.few c.requires.many c.requires.first.0 c.requires.first.1 c.requires.second.0 c.requires.second.1 (image_is g c)
+
+of_map : (f : List ℕ → List ℕ) (Q : List ℕ → Type 0) (o : Option (List ℕ)) → IfSome (option_map f o) Q → IfSome o (λ image. Q (f image))
+of_map f Q None holds = tt
+of_map f Q (Some image) holds = holds
+
+-- with the front written the store is the new one, and before that there is none
+moments : (g : _) (c : After-write g) → LeavesFormatted c.args.cells c.args.first.now c.args.second.now (g.B.Eeprom.chip c.args.bench.now) (g.B.Eeprom.chip c.write.new.self)
+moments g c =
+    let old = g.B.Eeprom.chip c.args.bench.now in
+    let cleared = g.B.Eeprom.chip c.clear_front.new.bench in
+    let mid = g.B.Eeprom.chip c.write_body.new.bench in
+    let written = option_map (λ image. overwrite image 0 magic) mid.image in
+    let whole : written ≡ option_map (λ image. overwrite image 0 (fresh_image c.args.cells c.args.first.now c.args.second.now)) old.image =
+    option-front magic (fresh_body c.args.cells c.args.first.now c.args.second.now) cleared.still.size old.image cleared.image mid.image written
+    (rw c.clear_front.ensures.still (omega arith)) (g.met.B.Eeprom.sized c.clear_front.new.bench) c.in_ok-clear_front.ensures.rest c.in_ok-write_body.ensures.image refl in
+    let stored = store-formatted c.args.cells c.args.first.now c.args.second.now old.image written
+    c.requires.few c.requires.many c.requires.first.0 c.requires.first.1 c.requires.second.0 c.requires.second.1 whole in
+    front_moments c.args.cells c.args.first.now c.args.second.now _ old mid (g.B.Eeprom.chip c.write.new.self) refl (c.write_body.ensures.front.still ∙ c.clear_front.ensures.still)
+    (of_map (λ image. overwrite image 0 magic) (λ image. store_of image ≡ Some (fresh_slots c.args.cells c.args.first.now c.args.second.now)) mid.image stored)
+    (g.met.B.Eeprom.clocked c.write_body.new.bench) c.write.ensures.writes
+    (body_moments c.args.cells c.args.first.now c.args.second.now old cleared mid c.clear_front.ensures.still c.in_ok-clear_front.ensures.cleared c.clear_front.ensures.moments c.write_body.ensures.front)
+
+pub returns-in_err-write_body-clause-moments : goal.returns-in_err-write_body-clause-moments
+returns-in_err-write_body-clause-moments g c =
+    body_moments c.args.cells c.args.first.now c.args.second.now (g.B.Eeprom.chip c.args.bench.now) (g.B.Eeprom.chip c.clear_front.new.bench) (g.B.Eeprom.chip c.write_body.new.bench) c.clear_front.ensures.still c.in_ok-clear_front.ensures.cleared
+    c.clear_front.ensures.moments c.write_body.ensures.front
+
+pub returns-in_err-write-clause-moments : goal.returns-in_err-write-clause-moments
+returns-in_err-write-clause-moments g c = moments g (goal.at.returns-in_err-write-clause-moments g c).After-write
+
+pub returns-clause-moments : goal.returns-clause-moments
+returns-clause-moments g c = moments g (goal.at.returns-clause-moments g c).After-write

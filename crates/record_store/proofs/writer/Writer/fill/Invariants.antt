@@ -1,10 +1,12 @@
-use Rattle.std.proofs.Common.{◌≡◌, replicate}
+use Rattle.std.proofs.Common.{◌≡◌, ◌≤◌, take, replicate}
+use Rattle.eeprom.specs.Chip.{Keeps}
 use Rattle.record_store.specs.Appends.{Appends}
 use Rattle.record_store.proofs.writer.Writer.fill.Given as goal
 
 abbrev pub invariant-loop-step : goal.invariant-loop-step
 invariant-loop-step g l = record {
   appends : Appends (replicate l._step l.octet) l.initial.self l.self (g.B.Eeprom.chip l.initial.bench) (g.B.Eeprom.chip l.bench);
-  still : (g.B.Eeprom.chip l.bench).still ≡ (g.B.Eeprom.chip l.initial.bench).still;
+  behind : 4 ≤ l.self.at;
+  front : Keeps (take 4) (g.B.Eeprom.chip l.initial.bench) (g.B.Eeprom.chip l.bench);
   faults : g.B.Eeprom.faults l.bench ≡ g.B.Eeprom.faults l.initial.bench;
 }

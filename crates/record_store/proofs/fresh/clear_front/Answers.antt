@@ -1,0 +1,27 @@
+use Rattle.std.proofs.Common.{◌≡◌, ℕ, List, Option, Some, None, take, slice_range, refl, sym, ap, subst, ◌∙◌}
+use Rattle.std.specs.Prelude.{IfSome}
+use Rattle.std.proofs.lemmas.Slice.Eq.{bytes_eq-Decides}
+use Rattle.eeprom.specs.Chip.{Chip}
+use Rattle.record_store.specs.FreshImage.{magic, LeavesCleared}
+use Rattle.record_store.proofs.Fronts.{clear_moments}
+use Rattle.record_store.proofs.fresh.clear_front.Goals.{After-write}
+use Rattle.record_store.proofs.fresh.clear_front.Goals as goal
+
+begins : (old new : Option (List ℕ)) (front : List ℕ) → new ≡ old → front ≡ magic → IfSome old (λ image. front ≡ slice_range image 0 4) → IfSome new (λ image. take 4 image ≡ magic)
+begins None new front same is read = rw same tt
+begins (Some image) new front same is read = rw same (sym read ∙ is)
+
+moments : (g : _) (c : After-write g) → LeavesCleared (g.B.Eeprom.chip c.args.bench.now) (g.B.Eeprom.chip c.write.new.self)
+moments g c =
+    let same = c.in_ok-read.ensures.same in
+    let front : c.read.new.into ≡ magic = (bytes_eq-Decides c.read.new.into magic).0 (sym c.if-eq.ensures) in
+    subst (λ (chip : Chip). LeavesCleared chip (g.B.Eeprom.chip c.write.new.self)) same
+    (clear_moments _ (g.B.Eeprom.chip c.read.new.self) (g.B.Eeprom.chip c.write.new.self) refl
+    (begins (g.B.Eeprom.chip c.args.bench.now).image (g.B.Eeprom.chip c.read.new.self).image c.read.new.into (ap (λ (chip : Chip). chip.image) same) front c.in_ok-read.ensures.octets)
+    (g.met.B.Eeprom.clocked c.read.new.self) c.write.ensures.writes)
+
+pub returns-in_err-write-clause-moments : goal.returns-in_err-write-clause-moments
+returns-in_err-write-clause-moments g c = moments g (goal.at.returns-in_err-write-clause-moments g c).After-write
+
+pub returns-in_ok-write-clause-moments : goal.returns-in_ok-write-clause-moments
+returns-in_ok-write-clause-moments g c = moments g (goal.at.returns-in_ok-write-clause-moments g c).After-write

@@ -1,0 +1,14 @@
+use Rattle.std.proofs.Common.{take}
+use Rattle.eeprom.specs.Chip.{Keeps}
+use Rattle.record_store.proofs.Fronts.{Keeps-write}
+use Rattle.record_store.proofs.writer.Writer.flush.Goals.{After-write}
+use Rattle.record_store.proofs.writer.Writer.flush.Goals as goal
+
+front : (g : _) (c : After-write g) → Keeps (take 4) (g.B.Eeprom.chip c.args.bench.now) (g.B.Eeprom.chip c.write.new.self)
+front g c = Keeps-write _ _ (g.B.Eeprom.chip c.args.bench.now) (g.B.Eeprom.chip c.write.new.self) c.requires.behind (rw c.as_slice.ensures.value c.requires.room) (g.met.B.Eeprom.sized c.args.bench.now) (g.met.B.Eeprom.clocked c.args.bench.now) c.write.ensures.writes
+
+pub returns-in_err-write-clause-front : goal.returns-in_err-write-clause-front
+returns-in_err-write-clause-front g c = front g (goal.at.returns-in_err-write-clause-front g c).After-write
+
+pub returns-clause-front : goal.returns-clause-front
+returns-clause-front g c = front g (goal.at.returns-clause-front g c).After-write
