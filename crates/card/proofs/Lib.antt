@@ -1,3 +1,14 @@
+mod Added
+mod ByStamp
+mod Gathering
+mod GatheringSlots
+mod TwoRecords
+pub mod Leaving
+mod NamesApart
+mod OpenedDatabase
+mod OwnerSearch
+mod Performing
+mod Preparing
 mod Presenting
 mod SessionSet
 mod SlotCount

@@ -10,9 +10,9 @@ use Rattle.eeprom.specs.Slots.{in_slot}
 use Rattle.scql_model.specs.declared.StatusWord.{StatusWord}
 use Rattle.scql_model.specs.Words.{done, not_found}
 use Rattle.scql_model.specs.Records.{User, user_in}
-use Rattle.scql_model.specs.Database.{public_name}
+use Rattle.scql_model.specs.Database.{public_name, is_named, user_named}
 use Rattle.scql_model.specs.Machine.{Machine, Session, open_channels}
-use Rattle.scql_model.specs.Step.{Answer, said, answered, done_with, step, operated, user_of_session, is_named, user_named, presented}
+use Rattle.scql_model.specs.Step.{Answer, said, answered, done_with, step, operated, user_of_session, presented}
 use Rattle.scql_model.specs.Commands.{Command}
 use Rattle.scql_model.specs.Form.{form_of}
 use Rattle.scql_model.proofs.Naming.{user_named-slots}

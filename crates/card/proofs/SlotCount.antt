@@ -33,9 +33,12 @@ length-slots_at image n firsts = tested (chains_of image n firsts) (length-chain
     tested None counted = tt
     tested (Some chains) counted = kept (list_all (is_record image n) chains && are_apart n chains) chains counted
 
+pub length-committed : (store : Held) (image : List ℕ) → StandsFor store image → IfSome (contents store Committed image) (λ slots. length slots ≡ store.cells)
+length-committed store image stands =
+    let firsts : length store.committed ≡ store.cells = ap length (sym stands.selected) ∙ length-numbers_at image (32 + 2 * store.cells * (slice_index image 8 % 2)) store.cells in
+    subst (λ (n : ℕ). IfSome (contents store Committed image) (λ slots. length slots ≡ n)) firsts (length-slots_at image store.cells store.committed)
+
 pub length-committed_slots : (store : Held) (image : Option (List ℕ)) → IfSome image (StandsFor store) → IfSome (committed_slots store image) (λ slots. length slots ≡ store.cells)
 unfolding committed_slots
 length-committed_slots store None stands = tt
-length-committed_slots store (Some image) stands =
-    let firsts : length store.committed ≡ store.cells = ap length (sym stands.selected) ∙ length-numbers_at image (32 + 2 * store.cells * (slice_index image 8 % 2)) store.cells in
-    subst (λ (n : ℕ). IfSome (contents store Committed image) (λ slots. length slots ≡ n)) firsts (length-slots_at image store.cells store.committed)
+length-committed_slots store (Some image) stands = length-committed store image stands

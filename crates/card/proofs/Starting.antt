@@ -1,6 +1,6 @@
 -- A card that was just opened.
-use Rattle.std.proofs.Common.{◌≡◌, ℕ, ◌≤◌, true, List, [], ◌∷◌, Option, Some, None, Result, Ok, Err, refl, sym, subst, ◌∙◌}
-use Rattle.std.specs.Prelude.{IsSome, IfSome, OnOk}
+use Rattle.std.proofs.Common.{◌≡◌, ℕ, ◌≤◌, true, List, Option, Some, None, Result, Ok, Err, refl, sym, subst, ◌∙◌, inl, inr}
+use Rattle.std.specs.Prelude.{IfSome, OnOk}
 use Rattle.eeprom.specs.Chip.{Chip}
 use Rattle.eeprom.specs.StoreOf.{store_of, fresh_slots}
 use Rattle.record_store.specs.Held.{Held, contents}
@@ -8,32 +8,28 @@ use Rattle.record_store.specs.declared.side.Side.TheVariants.{Committed}
 use Rattle.scql_model.specs.Database.{Database, fresh, owner}
 use Rattle.scql_model.specs.Records.{counter_record, user_record}
 use Rattle.scql_model.proofs.FreshCard.{Opens-fresh}
-use Rattle.scql_model.specs.Machine.{Session, start, new_session}
+use Rattle.scql_model.specs.Machine.{Session, start}
 use Rattle.scql_model.specs.Opens.{Opens}
+use Rattle.record_store.specs.FreshImage.{LeavesFormatted}
+use Rattle.eeprom.proofs.Moments.{throughout-weaker}
+use Rattle.std.proofs.lemmas.Option.{none-some}
+use Rattle.card.specs.Making.{LeavesMade}
 use Rattle.card.specs.Card.{Kept, IsAt, committed_slots}
 
--- an image that opens to a database has a store
-pub stored : (image : Option (List ℕ)) → IfSome image (λ image. (db : Database) × Opens image db) → IfSome image (λ image. IsSome (store_of image))
-stored None opens = tt
-stored (Some image) opens = rw (opens.1.stored) refl
+abbrev opened : Held → List (Option Session) → Kept
+opened store sessions = record { store = store; sessions = sessions; live = true }
 
-abbrev opened : Held → Kept
-opened store = record { store = store; sessions = (start_sessions); live = true }
-  where
-    start_sessions : List (Option Session)
-    start_sessions = Some new_session ∷ None ∷ None ∷ None ∷ []
-
-pub starts_at : (store : Held) (chip : Chip) (image : Option (List ℕ)) → image ≡ chip.image → IfSome image (λ image. store_of image ≡ contents store Committed image)
-    → IfSome image (λ image. (db : Database) → Opens image db → IsAt (opened store) chip (start db))
+pub starts_at : (store : Held) (sessions : List (Option Session)) (chip : Chip) (image : Option (List ℕ)) → ((db : Database) → sessions ≡ (start db).sessions) → image ≡ chip.image
+    → IfSome image (λ image. store_of image ≡ contents store Committed image) → IfSome image (λ image. (db : Database) → Opens image db → IsAt (opened store sessions) chip (start db))
 unfolding committed_slots
-starts_at store chip None same has = tt
-starts_at store chip (Some image) same has = λ db opens. record {
+starts_at store sessions chip None first same has = tt
+starts_at store sessions chip (Some image) first same has = λ db opens. record {
   slots = opens.slots;
   committed = subst (λ (i : Option (List ℕ)). committed_slots store i ≡ Some opens.slots) same (sym has ∙ opens.stored);
   holds = opens.holds;
   valid = opens.valid;
   transaction = refl;
-  sessions = refl;
+  sessions = sym (first db);
 }
 
 -- a new store of the two first records opens to a fresh database
@@ -47,3 +43,19 @@ opens_fresh (Ok x) (Some image) n first second few many counter user formatted =
   where
     ap2 : {X : Type 0} (f : List ℕ → List ℕ → X) {a b c d : List ℕ} → a ≡ b → c ≡ d → f a c ≡ f b d
     ap2 f p q = rw (p, q) refl
+
+-- an image with the same store opens to the same database
+opens-same : (left was : List ℕ) → store_of left ≡ store_of was → (db : Database) → Opens left db → Opens was db
+opens-same left was same db opens = record { slots = opens.slots; stored = sym same ∙ opens.stored; holds = opens.holds; valid = opens.valid }
+
+pub made_moments : (n : ℕ) (first second : List ℕ) (old new : Chip) → 16 ≤ n → n ≤ 2048 → first ≡ counter_record.spell 2 → second ≡ user_record.spell owner → LeavesFormatted n first second old new → LeavesMade n old new
+made_moments n first second old new few many counter user moments = throughout-weaker old new _ _ moments (λ g left now. (
+  now.0,
+  elim now.1 [
+    | inl same ↦ inl (same.0, same.1, λ db. (opens-same left same.0 same.2 db, opens-same same.0 left (sym same.2) db))
+    | inr other ↦ inr (elim other [
+      | inl none ↦ inl (λ db opens. none-some opens.slots (sym none ∙ opens.stored))
+      | inr made ↦ inr (Opens-fresh n left few many (made ∙ rw (counter, user) refl))
+    ])
+  ],
+))

@@ -1,8 +1,16 @@
 -- What an answer leaves.
-use Rattle.std.specs.Prelude.{◌≡◌, ℕ, Option, Some, None, option_map, slice_set}
-use Rattle.eeprom.specs.Chip.{Chip}
+use Rattle.std.specs.Prelude.{◌≡◌, ℕ, List, [], ◌∷◌, Option, Some, None, Result, Ok, Err, IfOk, OnOk, option_map, slice_set}
+use Rattle.eeprom.specs.Chip.{Chip, Throughout}
+use Rattle.scql_model.specs.Database.{Database}
+use Rattle.scql_model.specs.Opens.{OpensToOneOf}
+use Rattle.eeprom.specs.declared.EepromFault.{EepromFault}
+use Rattle.scql_model.specs.declared.words.StatusWord.{StatusWord}
+use Rattle.record_store.specs.declared.refusal.StoreRefusal.{StoreRefusal}
+use Rattle.record_store.specs.declared.refusal.StoreRefusal.TheVariants.{Full, Fault}
+use Rattle.scql_model.specs.Words.{done, no_space}
 use Rattle.scql_model.specs.Commands as model
-use Rattle.scql_model.specs.Step.{Answer}
+use Rattle.scql_model.specs.Machine.{Machine}
+use Rattle.scql_model.specs.Step.{Answer, said}
 use Rattle.card.specs.Card.{Kept, IsAt}
 use Rattle.card.specs.Sessions.{presented_of}
 use Rattle.card.specs.declared.session.Presented.{Presented}
@@ -12,6 +20,22 @@ use Rattle.card.specs.declared.reply.Reply.{Reply}
 pub record Answers (answer : Answer) (sent : model.Reply) (card : Kept) (chip : Chip) : Type 0 where
   pub reply : sent ≡ answer.reply
   pub at : IsAt card chip answer.machine
+
+-- at each moment a power loss leaves an image that opens to one of these databases, and nothing was given meanwhile
+abbrev pub LeavesOneOf : List Database → Chip → Chip → Type 0
+LeavesOneOf dbs old new = Throughout old new (λ g left. (g ≡ old.still.mark) × OpensToOneOf dbs left)
+
+-- What a command does to a card and its EEPROM that are at a machine: the machine's answer, or a device failed. What commits nothing writes nothing.
+pub record Performs (m : Machine) (answer : Answer) (result : Result StatusWord EepromFault) (card : Kept) (old new : Chip) : Type 0 where
+  pub step : IfOk result (λ word. Answers answer (said word) card new)
+  pub moments : LeavesOneOf (m.committed ∷ answer.commits) old new
+  pub unwritten : OnOk result (answer.commits ≡ [] → new ≡ old)
+
+-- the answer to a change of the store
+abbrev pub answer_to : Result (Unit {0}) StoreRefusal → Result StatusWord EepromFault
+answer_to (Ok x) = Ok done
+answer_to (Err Full) = Ok no_space
+answer_to (Err Fault) = Err (record {})
 
 -- a reply, as the model's
 abbrev pub reply_of : Reply → model.Reply

@@ -7,9 +7,9 @@ use Rattle.scql_model.specs.Form as form
 use Rattle.scql_model.specs.declared.words.StatusWord.{StatusWord}
 use Rattle.card.specs.declared.command.Command.{Command}
 use Rattle.card.specs.declared.command.Operation.{Operation}
-use Rattle.card.specs.declared.command.Operation.TheVariants.{PresentUser}
+use Rattle.card.specs.declared.command.Operation.TheVariants.{PresentUser, CreateUser}
 use Rattle.card.specs.declared.command.Kind.{Kind}
-use Rattle.card.specs.declared.command.Kind.TheVariants.{PresentUser as KindPresentUser}
+use Rattle.card.specs.declared.command.Kind.TheVariants.{PresentUser as KindPresentUser, CreateUser as KindCreateUser}
 use Rattle.card.specs.declared.command.Tail.{Tail}
 
 -- a result, as what is seen of its value
@@ -19,12 +19,14 @@ seen view (Err word) = Err word
 
 abbrev pub operation_of : Operation → model.Operation
 operation_of (PresentUser name) = model.present_user name
+operation_of (CreateUser name profile secret) = model.create_user name profile secret
 
 abbrev pub command_of : Command → model.Command
 command_of c = record { channel = c.channel; operation = operation_of c.operation; le = c.le }
 
 abbrev pub kind_view : Kind → form.Kind
 kind_view KindPresentUser = form.presents_user
+kind_view KindCreateUser = form.creates_user
 
 abbrev pub tail_view : Tail → form.Tail
 tail_view t = record { body = option_map (λ slice. slice.now) t.body; le = t.le }

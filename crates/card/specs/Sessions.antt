@@ -1,5 +1,5 @@
 -- The program's sessions, as the model's.
-use Rattle.std.specs.Prelude.{List, Option, None, map, option_map}
+use Rattle.std.specs.Prelude.{ℕ, List, Option, Some, None, map, option_map, option_and_then, if◌then◌else◌}
 use Rattle.scql_model.specs.Machine as machine
 use Rattle.card.specs.declared.session.Presented.{Presented}
 use Rattle.card.specs.declared.session.Session.{Session}
@@ -13,3 +13,10 @@ session_of s = record { user = option_map presented_of s.user; cursor = None }
 
 abbrev pub sessions_of : List (Option Session) → List (Option machine.Session)
 sessions_of sessions = map (option_map session_of) sessions
+
+-- the stamp of a session's user, where there is one that is proved
+abbrev pub proved_stamp : machine.Presented → Option ℕ
+proved_stamp p = if p.proved then Some p.stamp else None
+
+abbrev pub proved_user : Option machine.Session → Option ℕ
+proved_user session = option_and_then proved_stamp (option_and_then (λ (s : machine.Session). s.user) session)

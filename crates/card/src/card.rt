@@ -1,25 +1,39 @@
 // The card: its store, its sessions, and the answer to a command.
-ghost use Rattle.std.specs.Prelude.{◌≡◌, ◌≢◌, ◌↔◌, ◌<◌, ◌≤◌, ◌+◌, ◌*◌, [], Some, None, true, false, map, is_some, length, option_map, IfSome, IfOk, OnOk, IsErrOf};
+ghost use Rattle.std.specs.Prelude.{◌≡◌, ◌≢◌, ◌↔◌, ℕ, List, slice_get, ◌<◌, ◌≤◌, ◌+◌, ◌*◌, [], ◌∷◌, Some, None, true, false, map, is_some, length, option_map, IfSome, IfOk, OnOk, IsTrue, IsErrOf};
+ghost use Rattle.eeprom.specs.Chip.{Chip};
 ghost use Rattle.eeprom.specs.Fault.{Counts, Rose};
 ghost use Rattle.record_store.specs.Held.{StandsFor};
 ghost use Rattle.scql_model.specs.Machine as machine;
 ghost use Rattle.scql_model.specs.Step as stepping;
 ghost use Rattle.scql_model.specs.Opens.{Opens};
-ghost use Rattle.scql_model.specs.Words.{memory_failure};
+ghost use Rattle.scql_model.specs.Words.{done, memory_failure};
 ghost use Rattle.scql_model.specs.Database.{Database, fresh};
 ghost use Rattle.eeprom.specs.Image.{overwrite};
-ghost use Rattle.card.specs.Card.{Kept, IsReady, IsAt, fresh_card};
+ghost use Rattle.card.specs.Card.{Kept, IsReady, IsAt, committed_slots, fresh_card};
 ghost use Rattle.card.specs.Commands.{operation_of};
-ghost use Rattle.card.specs.Answering.{Answers, reply_of, with_user};
+ghost use Rattle.card.specs.Answering.{Answers, LeavesOneOf, Performs, answer_to, reply_of, with_user};
+ghost use Rattle.card.specs.Creating.{IsAddition, IsCounter};
+ghost use Rattle.card.specs.Making.{LeavesMade};
+ghost use Rattle.card.specs.Sessions.{proved_user, sessions_of};
+ghost use Rattle.scql_model.specs.Commands as model;
+ghost use Rattle.scql_model.specs.Creating.{created};
+ghost use Rattle.scql_model.specs.WellFormed.{IsWellFormed};
+ghost use Rattle.scql_model.specs.declared.words.Actor.{Actor};
+ghost use Rattle.scql_model.specs.declared.words.Profile.{Profile};
+ghost use Rattle.std.specs.Option.{option_flatten};
 
+use crate::adding::add_and_change;
 use crate::coding::{Counter, User};
 use crate::command::{Command, Operation};
+use crate::creating::{Addition, PUBLIC, Prepared, prepare_user};
+use crate::opening::read_records;
 use crate::reply::{Outcome, Reply};
 use crate::session::{Presented, Session};
-use crate::users::find_named;
+use crate::users::{Wanted, find_user};
+use crate::validity::are_valid;
 use eeprom::{Eeprom, EepromFault};
-use record_store::{FormatRefusal, OpenRefusal, RecordOctets, Store};
-use scql_model::{Name, StatusWord};
+use record_store::{FormatRefusal, OpenRefusal, RecordOctets, Store, StoreRefusal};
+use scql_model::{Actor, Name, Octets, Profile, StatusWord};
 use std::alloc::Global;
 use std::marker::Model;
 
@@ -51,6 +65,7 @@ impl Card {
         ensures image { OnOk result ((B.chip bench.new).image ≡ option_map (λ image. overwrite image 0 (fresh_card n)) (B.chip bench.old).image) }
         ensures fresh { OnOk result (IfSome (B.chip bench.new).image (λ image. Opens image (fresh n))) }
         ensures still { (B.chip bench.new).still ≡ (B.chip bench.old).still }
+        ensures moments { LeavesMade n (B.chip bench.old) (B.chip bench.new) }
         ensures too_small { IsErrOf result FormatRefusal.TooSmall ↔ ((B.chip bench.old).still.size < 70 * n + 34) }
         ensures unchanged { IsErrOf result FormatRefusal.TooSmall → bench.new ≡ bench.old }
         ensures fault { IsErrOf result FormatRefusal.Fault → Rose (B.faults bench.old) (B.faults bench.new) }
@@ -64,9 +79,10 @@ impl Card {
         Store::format(bench, n, &counter, &owner)
     }
 
-    /// Opens the card of an EEPROM, of which a told image opens to a database. Channel 0 is open, without a user.
+    /// Opens the card of an EEPROM, where its image opens to a database. Channel 0 is open, without a user.
+    /// Each record is read once, and the records are let go at the end.
     pub fn open<B: Eeprom>(alloc: Global, bench: &mut B) -> Result<Card, OpenRefusal>
-        requires opens { IfSome (B.chip bench.old).image (λ image. (db : Database) × Opens image db) }
+        ensures opens { IfOk result (λ card. IfSome (B.chip bench.old).image (λ image. (db : Database) × Opens image db)) }
         ensures starts { IfOk result (λ card. IfSome (B.chip bench.old).image (λ image.
             (db : Database) → Opens image db → IsAt card (B.chip bench.new) (machine.start db))) }
         ensures ready { IfOk result (λ card. IsReady card (B.chip bench.new)) }
@@ -77,9 +93,13 @@ impl Card {
         ensures never_falls { B.faults bench.old ≤ B.faults bench.new }
     {
         let store = Store::open(alloc, bench)?;
+        let records = read_records(alloc, &store, bench)?;
+        if !are_valid(alloc, &records)? {
+            return Err(OpenRefusal::NotACard);
+        }
         Ok(Card {
             store,
-            sessions: [Some(Session { user: None }), None, None, None],
+            sessions: first_sessions(),
             live: true,
         })
     }
@@ -95,7 +115,16 @@ impl Card {
         ensures mute { result ≡ Outcome.Mute → (reply.new.body.items ≡ []) × (reply.new.word ≡ memory_failure) × (self.new.live ≡ false) }
         ensures cause { result ≡ Outcome.Mute → Rose (B.faults bench.old) (B.faults bench.new) }
         ensures never_falls { B.faults bench.old ≤ B.faults bench.new }
-        ensures same { B.chip bench.new ≡ B.chip bench.old }
+        ensures still { (B.chip bench.new).still ≡ (B.chip bench.old).still }
+        // A power loss leaves the database as it was, or one that the step commits.
+        ensures moments { (m : machine.Machine) → IsAt self.old (B.chip bench.old) m
+            → LeavesOneOf (m.committed ∷ (stepping.step m command.now).commits) (B.chip bench.old) (B.chip bench.new) }
+        // What commits nothing writes nothing.
+        ensures unwritten { (m : machine.Machine) → IsAt self.old (B.chip bench.old) m → result ≡ Outcome.Replied
+            → (stepping.step m command.now).commits ≡ [] → B.chip bench.new ≡ B.chip bench.old }
+        // So a refused command writes nothing, and leaves all as it was.
+        ensures refused { (m : machine.Machine) → IsAt self.old (B.chip bench.old) m → result ≡ Outcome.Replied → reply.new.word ≢ done
+            → (B.chip bench.new ≡ B.chip bench.old) × IsAt self.new (B.chip bench.new) m }
     {
         reply.body.clear();
         match self.word_of(bench, command) {
@@ -111,18 +140,33 @@ impl Card {
         }
     }
 
-    #[tactic(auto, unfolding(scql_model::specs::Step::step))]
+    /// Whether it answers: until an answer was mute.
+    pub fn live(&self) -> bool
+        ensures { result ≡ self.now.live }
+    {
+        self.live
+    }
+
+    /// Ends all sessions. Channel 0 is then open, without a user.
+    pub fn reset(&mut self)
+        requires live { IsTrue self.old.live }
+        ensures at { (chip : Chip) (m : machine.Machine) → IsAt self.old chip m → IsAt self.new chip (machine.reset m) }
+        ensures ready { (chip : Chip) → IsReady self.old chip → IsReady self.new chip }
+    {
+        self.sessions = first_sessions();
+    }
+
     fn word_of<B: Eeprom>(
         &mut self,
         bench: &mut B,
         command: &[u8],
     ) -> Result<StatusWord, EepromFault>
         requires ready { IsReady self.old (B.chip bench.old) }
-        ensures step { (m : machine.Machine) → IsAt self.old (B.chip bench.old) m
-            → IfOk result (λ word. Answers (stepping.step m command.now) (stepping.said word) self.new (B.chip bench.new)) }
+        ensures performs { (m : machine.Machine) → IsAt self.old (B.chip bench.old) m
+            → Performs m (stepping.step m command.now) result self.new (B.chip bench.old) (B.chip bench.new) }
         ensures ready { OnOk result (IsReady self.new (B.chip bench.new)) }
         ensures cause { Counts (B.faults bench.old) (B.faults bench.new) result }
-        ensures same { B.chip bench.new ≡ B.chip bench.old }
+        ensures still { (B.chip bench.new).still ≡ (B.chip bench.old).still }
     {
         match Command::read(command, self.open_channels()) {
             Err(word) => Ok(word),
@@ -144,14 +188,20 @@ impl Card {
     ) -> Result<StatusWord, EepromFault>
         requires ready { IsReady self.old (B.chip bench.old) }
         requires channel { channel < 4 }
-        ensures step { (m : machine.Machine) → IsAt self.old (B.chip bench.old) m
-            → IfOk result (λ word. Answers (stepping.answered m (stepping.operated m channel (operation_of operation))) (stepping.said word) self.new (B.chip bench.new)) }
+        requires formed { IsWellFormed (operation_of operation) }
+        ensures performs { (m : machine.Machine) → IsAt self.old (B.chip bench.old) m
+            → Performs m (stepping.answered m (stepping.operated m channel (operation_of operation))) result self.new (B.chip bench.old) (B.chip bench.new) }
         ensures ready { OnOk result (IsReady self.new (B.chip bench.new)) }
         ensures cause { Counts (B.faults bench.old) (B.faults bench.new) result }
-        ensures same { B.chip bench.new ≡ B.chip bench.old }
+        ensures still { (B.chip bench.new).still ≡ (B.chip bench.old).still }
     {
         match operation {
             Operation::PresentUser { name } => self.present_user(bench, channel, &name),
+            Operation::CreateUser {
+                name,
+                profile,
+                secret,
+            } => self.create_user(bench, channel, &name, profile, &secret),
         }
     }
 
@@ -181,11 +231,11 @@ impl Card {
         ensures cause { Counts (B.faults bench.old) (B.faults bench.new) result }
         ensures same { B.chip bench.new ≡ B.chip bench.old }
     {
-        if name.octets() == b"PUBLIC".as_slice() {
+        if name.octets() == PUBLIC {
             self.set_user(channel, None);
             return Ok(StatusWord::DONE);
         }
-        let Some(user) = find_named(&self.store, bench, name)? else {
+        let Some(user) = find_user(&self.store, bench, Wanted::Named(name))? else {
             return Ok(StatusWord::NOT_FOUND);
         };
         let proved = user.secret.as_slice().is_empty();
@@ -199,6 +249,92 @@ impl Card {
         Ok(StatusWord::DONE)
     }
 
+    fn create_user<B: Eeprom>(
+        &mut self,
+        bench: &mut B,
+        channel: u8,
+        name: &Name,
+        profile: Profile,
+        secret: &Octets<8>,
+    ) -> Result<StatusWord, EepromFault>
+        requires ready { IsReady self.old (B.chip bench.old) }
+        requires channel { channel < 4 }
+        requires formed { IsWellFormed (model.create_user name.now profile secret.now) }
+        ensures performs { (m : machine.Machine) → IsAt self.old (B.chip bench.old) m
+            → Performs m (stepping.answered m (stepping.user_created m channel name.now profile secret.now)) result self.new (B.chip bench.old) (B.chip bench.new) }
+        ensures ready { OnOk result (IsReady self.new (B.chip bench.new)) }
+        ensures cause { Counts (B.faults bench.old) (B.faults bench.new) result }
+        ensures still { (B.chip bench.new).still ≡ (B.chip bench.old).still }
+    {
+        let actor = self.actor_of(bench, channel)?;
+        match prepare_user(&self.store, bench, actor, name, profile, secret)? {
+            Prepared::Refused(word) => Ok(word),
+            Prepared::Ready(addition) => self.add_user(bench, &addition),
+        }
+    }
+
+    // Commits the user that was prepared and the next stamp, where there is room.
+    fn add_user<B: Eeprom>(
+        &mut self,
+        bench: &mut B,
+        addition: &Addition,
+    ) -> Result<StatusWord, EepromFault>
+        requires ready { IsReady self.old (B.chip bench.old) }
+        requires slot { addition.now.counter_slot < self.old.store.cells }
+        requires stamp { addition.now.user.stamp < 4294967295 }
+        requires counter { IfSome (committed_slots self.old.store (B.chip bench.old).image) (IsCounter addition.now.counter_slot) }
+        ensures performs { (m : machine.Machine) (actor : Actor) (name : List ℕ) (profile : Profile) (secret : List ℕ) → (at : IsAt self.old (B.chip bench.old) m)
+            → IsAddition m.committed actor name profile secret at.slots addition.now
+            → Performs m (stepping.answered m (stepping.changed m (created m.committed actor name profile secret))) result self.new (B.chip bench.old) (B.chip bench.new) }
+        ensures ready { OnOk result (IsReady self.new (B.chip bench.new)) }
+        ensures cause { Counts (B.faults bench.old) (B.faults bench.new) result }
+        ensures still { (B.chip bench.new).still ≡ (B.chip bench.old).still }
+    {
+        let mut user = RecordOctets::new();
+        addition.user.encode(&mut user);
+        let mut counter = RecordOctets::new();
+        let next = addition.user.stamp + 1;
+        Counter { next }.encode(&mut counter);
+        let added = add_and_change(
+            &mut self.store,
+            bench,
+            &user,
+            addition.counter_slot,
+            &counter,
+        );
+        answer_to(added)
+    }
+
+    // For whom a channel acts: its user where that one is proved, or nobody in particular.
+    fn actor_of<B: Eeprom>(&self, bench: &mut B, channel: u8) -> Result<Actor, EepromFault>
+        requires ready { IsReady self.now (B.chip bench.old) }
+        requires channel { channel < 4 }
+        ensures actor { (m : machine.Machine) → IsAt self.now (B.chip bench.old) m → IfOk result (λ actor. actor ≡ machine.actor m channel) }
+        ensures same { B.chip bench.new ≡ B.chip bench.old }
+        ensures cause { Counts (B.faults bench.old) (B.faults bench.new) result }
+    {
+        let Some(stamp) = self.proved_user(channel) else {
+            return Ok(Actor::Public);
+        };
+        match find_user(&self.store, bench, Wanted::Stamped(stamp))? {
+            Some(user) => Ok(Actor::User {
+                stamp: user.stamp,
+                profile: user.profile,
+            }),
+            None => Ok(Actor::Public),
+        }
+    }
+
+    // The stamp of a channel's user, where that one is proved.
+    fn proved_user(&self, channel: u8) -> Option<u32>
+        requires channel { channel < 4 }
+        ensures { result ≡ proved_user (option_flatten (slice_get self.now.sessions channel)) }
+    {
+        let session = self.sessions[channel as usize]?;
+        let user = session.user?;
+        if user.proved { Some(user.stamp) } else { None }
+    }
+
     // A new session of a channel, for this user.
     fn set_user(&mut self, channel: u8, user: Option<Presented>)
         requires channel { channel < 4 }
@@ -206,4 +342,22 @@ impl Card {
     {
         self.sessions[channel as usize] = Some(Session { user });
     }
+}
+
+// The answer to a change that was committed, or for which there is no room.
+fn answer_to(change: Result<(), StoreRefusal>) -> Result<StatusWord, EepromFault>
+    ensures { result ≡ answer_to change }
+{
+    match change {
+        Ok(()) => Ok(StatusWord::DONE),
+        Err(StoreRefusal::Full) => Ok(StatusWord::NO_SPACE),
+        Err(StoreRefusal::Fault) => Err(EepromFault),
+    }
+}
+
+// Channel 0 alone is open, without a user.
+fn first_sessions() -> [Option<Session>; 4]
+    ensures { (db : Database) → sessions_of result ≡ (machine.start db).sessions }
+{
+    [Some(Session { user: None }), None, None, None]
 }

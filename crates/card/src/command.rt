@@ -1,14 +1,23 @@
 // Commands, read from octets (ISO/IEC 7816-4, command APDU).
-ghost use Rattle.std.specs.Prelude.{◌≡◌, true, Some, IfOk, slice_get, option_map, length};
+ghost use Rattle.std.specs.Prelude.{◌≡◌, ◌∷◌, [], true, Some, Err, IfOk, IfSome, IfNone, slice_get, option_map, length};
 ghost use Rattle.scql_model.specs.Form as form;
+ghost use Rattle.scql_model.specs.WellFormed.{IsWellFormed};
+ghost use Rattle.scql_model.specs.Words.{wrong_data};
 ghost use Rattle.card.specs.Commands.{command_of, operation_of, kind_view, tail_view, seen, strings_read};
 
-use scql_model::{Name, Params, StatusWord};
+use scql_model::{Name, Octets, Params, Profile, StatusWord};
 
 /// What a command asks for.
 #[derive(Drop)]
 pub enum Operation {
-    PresentUser { name: Name },
+    PresentUser {
+        name: Name,
+    },
+    CreateUser {
+        name: Name,
+        profile: Profile,
+        secret: Octets<8>,
+    },
 }
 
 /// A command on a logical channel, 0 to 3. Le is the greatest number of octets wanted, 1 to 256.
@@ -23,6 +32,7 @@ pub struct Command {
 #[derive(Clone, Copy)]
 pub(crate) enum Kind {
     PresentUser,
+    CreateUser,
 }
 
 /// What stands behind P2: a data field, where there is one, and Le, where there is one.
@@ -37,6 +47,7 @@ impl Command {
     #[tactic(auto, unfolding(scql_model::specs::Form::form_of))]
     pub fn read(octets: &[u8], channels: [bool; 4]) -> Result<Command, StatusWord>
         ensures command { seen command_of result ≡ form.form_of octets.now channels }
+        ensures formed { IfOk result (λ command. IsWellFormed (operation_of command.operation)) }
         ensures on_open { IfOk result (λ command. slice_get channels command.channel ≡ Some true) }
     {
         let [cla, ins, p1, p2, after @ ..] = octets else {
@@ -97,6 +108,7 @@ fn kind_of(ins: u8, p1: u8, p2: u8) -> Result<Kind, StatusWord>
 {
     match (ins, p1, p2) {
         (0x14, 0x00, 0x80) => Ok(Kind::PresentUser),
+        (0x14, 0x00, 0x81) => Ok(Kind::CreateUser),
         _ => Err(StatusWord::WRONG_PARAMETERS),
     }
 }
@@ -153,6 +165,7 @@ fn operation_in(kind: Kind, body: &[u8]) -> Result<Operation, StatusWord>
     let params = Params::read(body).ok_or(StatusWord::WRONG_DATA)?;
     match kind {
         Kind::PresentUser => presented_in(params),
+        Kind::CreateUser => created_in(params),
     }
 }
 
@@ -167,4 +180,56 @@ fn presented_in(params: Params<'_>) -> Result<Operation, StatusWord>
     }
     let name = Name::read(name).ok_or(StatusWord::WRONG_DATA)?;
     Ok(Operation::PresentUser { name })
+}
+
+fn created_in(params: Params<'_>) -> Result<Operation, StatusWord>
+    ensures { seen operation_of result ≡ form.created_in params.entry }
+{
+    let Some((name, profile, secret)) = three_of(params) else {
+        return Err(StatusWord::WRONG_DATA);
+    };
+    let name = Name::read(name).ok_or(StatusWord::WRONG_DATA)?;
+    let profile = made_profile_of(profile).ok_or(StatusWord::WRONG_DATA)?;
+    let secret = secret_of(secret).ok_or(StatusWord::WRONG_DATA)?;
+    Ok(Operation::CreateUser {
+        name,
+        profile,
+        secret,
+    })
+}
+
+// The strings, where there are three.
+fn three_of(params: Params<'_>) -> Option<(&[u8], &[u8], &[u8])>
+    ensures three { IfSome result (λ x. params.entry ≡ x.0.now ∷ x.1.now ∷ x.2.now ∷ []) }
+    ensures others { IfNone result (form.created_in params.entry ≡ Err wrong_data) }
+{
+    let (first, rest) = params.split_first()?;
+    let (second, rest) = rest.split_first()?;
+    let (third, rest) = rest.split_first()?;
+    if rest.count() == 0 {
+        Some((first, second, third))
+    } else {
+        None
+    }
+}
+
+fn made_profile_of(string: &[u8]) -> Option<Profile>
+    ensures { result ≡ form.made_profile_of string.now }
+{
+    match string {
+        [0x02] => Some(Profile::Dboo),
+        [0x03] => Some(Profile::Dbbu),
+        _ => None,
+    }
+}
+
+// A secret is empty until there are secrets.
+fn secret_of(string: &[u8]) -> Option<Octets<8>>
+    ensures { result ≡ form.secret_of string.now }
+{
+    if string.is_empty() {
+        Octets::of(string)
+    } else {
+        None
+    }
 }

@@ -5,8 +5,7 @@ ghost use Rattle.eeprom.specs.Fault.{Counts};
 ghost use Rattle.eeprom.specs.Slots.{in_slot};
 ghost use Rattle.record_store.specs.Held.{StandsFor};
 ghost use Rattle.scql_model.specs.Records as records;
-ghost use Rattle.scql_model.specs.Step.{is_named};
-ghost use Rattle.card.specs.Users.{user_of};
+ghost use Rattle.card.specs.Users.{user_of, is_wanted};
 ghost use Rattle.card.specs.Card.{committed_slots};
 
 use crate::coding::User;
@@ -14,23 +13,30 @@ use eeprom::{Eeprom, EepromFault};
 use record_store::{RecordOctets, Side, Store};
 use scql_model::Name;
 
-/// The committed user of a name.
-pub(crate) fn find_named<B: Eeprom>(
+/// Which user is looked for.
+#[derive(Clone, Copy)]
+pub(crate) enum Wanted<'a> {
+    Named(&'a Name),
+    Stamped(u32),
+}
+
+/// The committed user that is wanted.
+pub(crate) fn find_user<B: Eeprom>(
     store: &Store,
     bench: &mut B,
-    name: &Name,
+    wanted: Wanted<'_>,
 ) -> Result<Option<User>, EepromFault>
     requires stands { IfSome (B.chip bench.old).image (StandsFor store.now) }
     requires room { 70 * store.now.cells + 34 ≤ (B.chip bench.old).still.size }
     ensures user { IfOk result (λ user. IfSome (committed_slots store.now (B.chip bench.old).image)
-        (λ slots. option_map user_of user ≡ find (is_named name.now) (filter_map (in_slot records.user_in) slots))) }
+        (λ slots. option_map user_of user ≡ find (is_wanted wanted.entry) (filter_map (in_slot records.user_in) slots))) }
     ensures same { B.chip bench.new ≡ B.chip bench.old }
     ensures cause { Counts (B.faults bench.old) (B.faults bench.new) result }
 {
     let mut octets = RecordOctets::new();
     for slot in 0..store.cells() {
         if let Some(user) = user_in(store, bench, slot, &mut octets)? {
-            if has_name(&user, name) {
+            if is_found(&user, wanted) {
                 return Ok(Some(user));
             }
         }
@@ -61,8 +67,11 @@ fn user_in<B: Eeprom>(
     }
 }
 
-fn has_name(user: &User, name: &Name) -> bool
-    ensures { result ≡ is_named name.now (user_of user.now) }
+fn is_found(user: &User, wanted: Wanted<'_>) -> bool
+    ensures { result ≡ is_wanted wanted.entry (user_of user.now) }
 {
-    name.octets() == user.name.octets()
+    match wanted {
+        Wanted::Named(name) => name.octets() == user.name.octets(),
+        Wanted::Stamped(stamp) => user.stamp == stamp,
+    }
 }

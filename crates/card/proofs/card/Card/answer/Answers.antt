@@ -1,4 +1,24 @@
+use Rattle.std.proofs.Common.{ap, subst, ◌∙◌}
+use Rattle.scql_model.specs.Commands.{Reply}
+use Rattle.scql_model.proofs.Refusing.{refused-stays}
+use Rattle.card.specs.Card.{IsAt}
 use Rattle.card.proofs.card.Card.answer.Goals as goal
 
 pub returns-in-Ok-clause-step : goal.returns-in-Ok-clause-step
-returns-in-Ok-clause-step g c = λ m at is. let answers = c.in-Ok.ensures.step m at in record { reply = cc; at = answers.at }
+returns-in-Ok-clause-step g c = λ m at is. let answers = (c.in-Ok.ensures.performs m at).step in record { reply = cc; at = answers.at }
+
+pub returns-in-Ok-clause-moments : goal.returns-in-Ok-clause-moments
+returns-in-Ok-clause-moments g c = λ m at. (c.in-Ok.ensures.performs m at).moments
+
+pub returns-in-Err-clause-moments : goal.returns-in-Err-clause-moments
+returns-in-Err-clause-moments g c = λ m at. (c.in-Err.ensures.performs m at).moments
+
+pub returns-in-Ok-clause-unwritten : goal.returns-in-Ok-clause-unwritten
+returns-in-Ok-clause-unwritten g c = λ m at is idle. (c.in-Ok.ensures.performs m at).unwritten idle
+
+pub returns-in-Ok-clause-refused : goal.returns-in-Ok-clause-refused
+returns-in-Ok-clause-refused g c = λ m at is not_done.
+    let performs = c.in-Ok.ensures.performs m at in
+    let answers = performs.step in
+    let stays = refused-stays m c.args.command.now (λ is_done. not_done (ap (λ (sent : Reply). sent.word) answers.reply ∙ is_done)) in
+    (performs.unwritten stays.1, subst (IsAt c.word_of.new.self (g.B.Eeprom.chip c.word_of.new.bench)) stays.0 answers.at)

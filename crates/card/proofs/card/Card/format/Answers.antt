@@ -1,17 +1,28 @@
+-- The two records of a new card are the counter and OWNER.
 use Rattle.std.proofs.Common.{◌≡◌, ap, ◌∙◌}
 use Rattle.scql_model.specs.Records.{User, counter_record, user_record}
 use Rattle.scql_model.specs.Database.{owner}
-use Rattle.card.proofs.Starting.{opens_fresh}
+use Rattle.card.proofs.Starting.{opens_fresh, made_moments}
+use Rattle.card.proofs.card.Card.format.Goals.{After-format}
 use Rattle.card.proofs.card.Card.format.Goals as goal
+
+counter : (g : _) (c : After-format g) → c.deref.result.now ≡ counter_record.spell 2
+counter g c = c.deref.ensures.0 ∙ c.encode.ensures
+
+user : (g : _) (c : After-format g) → c.deref-2.result.now ≡ user_record.spell owner
+user g c = c.deref-2.ensures.0 ∙ (c.encode-2.ensures ∙ ap (λ (u : User). user_record.spell u) c.owner.ensures)
 
 pub returns-clause-image : goal.returns-clause-image
 returns-clause-image g c =
-    let counter : c.deref.result.now ≡ counter_record.spell 2 = c.deref.ensures.0 ∙ c.encode.ensures in
-    let user : c.deref-2.result.now ≡ user_record.spell owner = c.deref-2.ensures.0 ∙ (c.encode-2.ensures ∙ ap (λ (u : User). user_record.spell u) c.owner.ensures) in
-    rw (counter, user) at c.format.ensures.image
+    let made = (goal.at.returns-clause-image g c).After-format in
+    rw (counter g made, user g made) at c.format.ensures.image
 
 pub returns-clause-fresh : goal.returns-clause-fresh
 returns-clause-fresh g c =
-    let counter : c.deref.result.now ≡ counter_record.spell 2 = c.deref.ensures.0 ∙ c.encode.ensures in
-    let user : c.deref-2.result.now ≡ user_record.spell owner = c.deref-2.ensures.0 ∙ (c.encode-2.ensures ∙ ap (λ (u : User). user_record.spell u) c.owner.ensures) in
-    opens_fresh c.format.result (g.B.Eeprom.chip c.format.new.bench).image c.args.n c.deref.result.now c.deref-2.result.now c.requires.few c.requires.many counter user c.format.ensures.formatted
+    let made = (goal.at.returns-clause-fresh g c).After-format in
+    opens_fresh c.format.result (g.B.Eeprom.chip c.format.new.bench).image c.args.n c.deref.result.now c.deref-2.result.now c.requires.few c.requires.many (counter g made) (user g made) c.format.ensures.formatted
+
+pub returns-clause-moments : goal.returns-clause-moments
+returns-clause-moments g c =
+    let made = (goal.at.returns-clause-moments g c).After-format in
+    made_moments c.args.n c.deref.result.now c.deref-2.result.now (g.B.Eeprom.chip c.args.bench.now) (g.B.Eeprom.chip c.format.new.bench) c.requires.few c.requires.many (counter g made) (user g made) c.format.ensures.moments

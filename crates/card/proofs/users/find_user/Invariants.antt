@@ -3,9 +3,9 @@ use Rattle.std.specs.Prelude.{IfSome}
 use Rattle.std.specs.List.{find, filter_map}
 use Rattle.eeprom.specs.Slots.{in_slot}
 use Rattle.scql_model.specs.Records as records
-use Rattle.scql_model.specs.Step.{is_named}
+use Rattle.card.specs.Users.{is_wanted}
 use Rattle.card.specs.Card.{committed_slots}
-use Rattle.card.proofs.users.find_named.Given as goal
+use Rattle.card.proofs.users.find_user.Given as goal
 
 abbrev pub invariant-loop-slot : goal.invariant-loop-slot
 invariant-loop-slot g l = record {
@@ -14,5 +14,5 @@ invariant-loop-slot g l = record {
   bound : l.slot-end ≡ l.store.cells;
   count : IfSome (committed_slots l.store (g.B.Eeprom.chip l.fn.bench).image) (λ slots. length slots ≡ l.store.cells);
   left : IfSome (committed_slots l.store (g.B.Eeprom.chip l.fn.bench).image)
-      (λ slots. find (is_named l.name) (filter_map (in_slot records.user_in) slots) ≡ find (is_named l.name) (filter_map (in_slot records.user_in) (drop l.slot slots)));
+      (λ slots. find (is_wanted l.wanted) (filter_map (in_slot records.user_in) slots) ≡ find (is_wanted l.wanted) (filter_map (in_slot records.user_in) (drop l.slot slots)));
 }

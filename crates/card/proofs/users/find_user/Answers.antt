@@ -2,15 +2,14 @@
 use Rattle.std.proofs.Common.{◌≡◌, ◌<◌, false, Option, refl, sym, ◌∙◌, arith}
 use Rattle.std.specs.Prelude.{IfSome, option_map}
 use Rattle.eeprom.specs.StoreOf.{Slots}
-use Rattle.card.specs.Users.{user_of}
+use Rattle.card.specs.Users.{user_of, is_wanted}
 use Rattle.eeprom.specs.Slots.{in_slot}
 use Rattle.scql_model.specs.Records as records
-use Rattle.scql_model.specs.Step.{is_named}
 use Rattle.card.specs.Card.{committed_slots}
 use Rattle.card.proofs.SlotCount.{length-committed_slots}
 use Rattle.card.proofs.SlotSearch.{all_left, found_here, passed_here, none_left}
-use Rattle.card.proofs.users.find_named.Goals as goal
-use Rattle.card.proofs.users.find_named.Goals.{in-Some+else-has_name, in_default}
+use Rattle.card.proofs.users.find_user.Goals as goal
+use Rattle.card.proofs.users.find_user.Goals.{in-Some+else-is_found, in_default}
 
 pub loop-slot-init : goal.loop-slot-init
 loop-slot-init g c = record {
@@ -18,25 +17,25 @@ loop-slot-init g c = record {
   faults = refl;
   bound = c.cells-slot-end.ensures.number;
   count = length-committed_slots c.args.store.now (g.B.Eeprom.chip c.args.bench.now).image c.requires.stands;
-  left = all_left (is_named c.args.name.now) (in_slot records.user_in) (committed_slots c.args.store.now (g.B.Eeprom.chip c.args.bench.now).image);
+  left = all_left (is_wanted c.args.wanted) (in_slot records.user_in) (committed_slots c.args.store.now (g.B.Eeprom.chip c.args.bench.now).image);
 }
 
-pub returns-then-has_name-clause-user : goal.returns-then-has_name-clause-user
-returns-then-has_name-clause-user g c =
+pub returns-then-is_found-clause-user : goal.returns-then-is_found-clause-user
+returns-then-is_found-clause-user g c =
     let slots : Option Slots = committed_slots c.args.store.now (g.B.Eeprom.chip c.args.bench.now).image in
     let within : c.loop-slot.slot < c.args.store.now.cells = omega (arith, c.loop-slot.invariant.bound, c.loop-slot-test.true) in
     let here = rw c.loop-slot.invariant.same at c.in_ok-user.ensures.user in
-    found_here (is_named c.args.name.now) (in_slot records.user_in) slots c.args.store.now.cells c.loop-slot.slot (user_of c.in-Some.user)
-    c.loop-slot.invariant.count within (rw c.in-Some.is at here) (sym c.has_name.ensures ∙ c.if-has_name.true) c.loop-slot.invariant.left
+    found_here (is_wanted c.args.wanted) (in_slot records.user_in) slots c.args.store.now.cells c.loop-slot.slot (user_of c.in-Some.user)
+    c.loop-slot.invariant.count within (rw c.in-Some.is at here) (sym c.is_found.ensures ∙ c.if-is_found.true) c.loop-slot.invariant.left
 
 pub loop-slot-preserved : goal.loop-slot-preserved
 loop-slot-preserved g c =
     let slots : Option Slots = committed_slots c.args.store.now (g.B.Eeprom.chip c.args.bench.now).image in
     let within : c.loop-slot.slot < c.args.store.now.cells = omega (arith, c.loop-slot.invariant.bound, c.loop-slot-test.true) in
     let here = rw c.loop-slot.invariant.same at c.in_ok-user.ensures.user in
-    let passed : IfSome (option_map user_of c.in_ok-user.field-0) (λ (u : records.User). is_named c.args.name.now u ≡ false) =
+    let passed : IfSome (option_map user_of c.in_ok-user.field-0) (λ (u : records.User). is_wanted c.args.wanted u ≡ false) =
     elim c.match-branch-2.branch [
-      | in-Some+else-has_name w ↦ rw w.in-Some.is (sym w.has_name.ensures ∙ w.if-has_name.false)
+      | in-Some+else-is_found w ↦ rw w.in-Some.is (sym w.is_found.ensures ∙ w.if-is_found.false)
       | in_default w ↦ rw w.in_default.is tt
     ] in
     record {
@@ -44,7 +43,7 @@ loop-slot-preserved g c =
       faults = c.in_ok-user.ensures.cause.1 ∙ c.loop-slot.invariant.faults;
       bound = c.loop-slot.invariant.bound;
       count = c.loop-slot.invariant.count;
-      left = passed_here (is_named c.args.name.now) (in_slot records.user_in) slots c.args.store.now.cells c.loop-slot.slot (option_map user_of c.in_ok-user.field-0)
+      left = passed_here (is_wanted c.args.wanted) (in_slot records.user_in) slots c.args.store.now.cells c.loop-slot.slot (option_map user_of c.in_ok-user.field-0)
           c.loop-slot.invariant.count within here passed c.loop-slot.invariant.left;
     }
 
@@ -52,4 +51,4 @@ pub returns-clause-user : goal.returns-clause-user
 returns-clause-user g c =
     let slots : Option Slots = committed_slots c.args.store.now (g.B.Eeprom.chip c.args.bench.now).image in
     let at_end : c.loop-slot.slot ≡ c.args.store.now.cells = omega (arith, c.loop-slot.invariant.bound, c.loop-slot-test.false, c.loop-slot.auto.slot-end) in
-    none_left (is_named c.args.name.now) (in_slot records.user_in) slots c.args.store.now.cells c.loop-slot.invariant.count (rw at_end at c.loop-slot.invariant.left)
+    none_left (is_wanted c.args.wanted) (in_slot records.user_in) slots c.args.store.now.cells c.loop-slot.invariant.count (rw at_end at c.loop-slot.invariant.left)

@@ -1,0 +1,32 @@
+-- What a power loss may leave of a card.
+use Rattle.std.proofs.Common.{◌≡◌, ℕ, List, ◌∷◌, Option, Some, refl, sym, subst, ◌∙◌, inl, arith}
+use Rattle.std.specs.Prelude.{IfSome}
+use Rattle.eeprom.specs.Chip.{Chip}
+use Rattle.eeprom.specs.StoreOf.{store_of}
+use Rattle.record_store.specs.Held.{Held, contents, StandsFor}
+use Rattle.record_store.specs.declared.side.Side.TheVariants.{Committed}
+use Rattle.scql_model.specs.Database.{Database}
+use Rattle.scql_model.specs.Machine.{Machine}
+use Rattle.scql_model.specs.Opens.{Opens}
+use Rattle.card.specs.Card.{Kept, IsReady, IsAt, committed_slots}
+use Rattle.card.specs.Answering.{LeavesOneOf}
+
+-- the store of an image is what a store holds that stands for it
+pub store_of-stands : (held : Held) (image : List ℕ) → StandsFor held image → store_of image ≡ contents held Committed image
+store_of-stands held image stands = rw (stands.front, stands.header, stands.cells, stands.selected) refl
+
+-- the image of a card that is at a machine opens to the machine's database
+pub Opens-at : (card : Kept) (chip : Chip) (m : Machine) → IsReady card chip → IsAt card chip m → (image : List ℕ) → chip.image ≡ Some image → Opens image m.committed
+unfolding committed_slots
+Opens-at card chip m ready at image told =
+    let stands : StandsFor card.store image = subst (λ (o : Option (List ℕ)). IfSome o (StandsFor card.store)) told ready.stands in
+    let stored : contents card.store Committed image ≡ Some at.slots = subst (λ (o : Option (List ℕ)). committed_slots card.store o ≡ Some at.slots) told at.committed in
+    record { slots = at.slots; stored = store_of-stands card.store image stands ∙ stored; holds = at.holds; valid = at.valid }
+
+-- where nothing is written, the database stays
+pub unwritten_leaves : (card : Kept) (old new : Chip) (m : Machine) (more : List Database) → IsReady card old → IsAt card old m → new ≡ old → LeavesOneOf (m.committed ∷ more) old new
+unwritten_leaves card old new m more ready at same = subst (λ (chip : Chip). LeavesOneOf (m.committed ∷ more) old chip) (sym same) (record {
+  later = omega arith;
+  only = λ t g left since there. inl there;
+  now = λ image told. (refl, inl (Opens-at card old m ready at image told));
+})

@@ -1,0 +1,85 @@
+-- The database to which an image opens, from what its slots hold and the test of it.
+use Rattle.std.proofs.Common.{◌≡◌, ℕ, ◌≤◌, Bool, true, false, List, [], ◌∷◌, length, Option, Some, None, IsSome, refl, sym, subst, ap, ◌∙◌}
+use Rattle.std.specs.Prelude.{IfSome}
+use Rattle.std.specs.List.{filter_map, sum_by}
+use Rattle.std.proofs.lemmas.Bool.{and_parts, false≢true}
+use Rattle.std.proofs.lemmas.Option.{IfSome_then}
+use Rattle.eeprom.specs.StoreOf.{Slots, store_of, cells_of}
+use Rattle.eeprom.specs.Slots.{Rises, in_order, in_slot}
+use Rattle.eeprom.proofs.InOrder.{Rises-in_order}
+use Rattle.record_store.specs.declared.side.Side.TheVariants.{Committed}
+use Rattle.record_store.specs.Held.{Held, IsInRange, StandsFor, contents}
+use Rattle.record_store.proofs.Weights.{steps-firsts}
+use Rattle.scql_model.specs.Records.{User, counter_record, user_in}
+use Rattle.scql_model.specs.Database.{Database}
+use Rattle.scql_model.specs.Opens.{Holds, Opens, counter_stamp}
+use Rattle.scql_model.specs.Validity.{of_users, are_valid_users}
+use Rattle.scql_model.proofs.Room.{cells-filled}
+use Rattle.scql_model.proofs.Validity.{IsValid-of_users, are_valid_users-from_IsValid}
+use Rattle.card.specs.Card.{committed_slots}
+use Rattle.card.specs.Opening.{Gathers, HoldNone}
+use Rattle.card.proofs.ByStamp.{stamp_of}
+use Rattle.card.proofs.SlotCount.{length-committed}
+
+holds-gathered : (slots : Slots) (cells next : ℕ) (users : List User) → length slots ≡ cells → Gathers slots (next ∷ []) users → Holds slots (of_users cells next users)
+holds-gathered slots cells next users counted g = record {
+  cells = counted;
+  spelled = g.spelled;
+  counter = ap (in_order counter_stamp) g.counters;
+  users = g.users;
+  objects = refl;
+  grants = refl;
+  rows = refl;
+}
+
+-- slots that pass the test hold a valid database
+opens-gathered : (store : Held) (image : List ℕ) (slots : Slots) (next : ℕ) (users : List User) → IsInRange store → StandsFor store image → store_of image ≡ Some slots → contents store Committed image ≡ Some slots
+    → Gathers slots (next ∷ []) users → are_valid_users next users ≡ true → Opens image (of_users store.cells next users)
+opens-gathered store image slots next users range stands stored told g valid =
+    let counted : length slots ≡ store.cells = rw told at (length-committed store image stands) in
+    let holds = holds-gathered slots store.cells next users counted g in
+    let cells = steps-firsts store Committed image slots range stands told in
+    let weight = cells-filled slots (of_users store.cells next users) holds in
+    let room : sum_by cells_of slots ≤ store.cells = subst (λ (w : ℕ). w ≤ store.cells) cells.0 cells.1 in
+    let counter : counter_record.fits next ≡ true = (and_parts (counter_record.fits next) true g.counter_limits).0 in
+    record {
+      slots = slots;
+      stored = stored;
+      holds = holds;
+      valid = IsValid-of_users store.cells next users range.few range.many (subst (λ (w : ℕ). w ≤ store.cells) weight room) counter g.user_limits
+          (subst (Rises stamp_of) g.users (Rises-in_order stamp_of (filter_map (in_slot user_in) slots) g.apart)) valid;
+    }
+
+-- slots that don't pass the test hold no valid database
+none-gathered : (slots : Slots) (next : ℕ) (users : List User) → Gathers slots (next ∷ []) users → are_valid_users next users ≡ false → HoldNone slots
+none-gathered slots next users g invalid = λ db holds valid.
+    let counter : next ∷ [] ≡ db.next ∷ [] = sym (ap (in_order counter_stamp) g.counters) ∙ holds.counter in
+    let same : are_valid_users next users ≡ are_valid_users db.next db.users = alike (one counter) (sym g.users ∙ holds.users) in
+    false≢true (sym invalid ∙ same ∙ are_valid_users-from_IsValid db valid)
+  where
+    one : {a b : ℕ} → a ∷ [] ≡ b ∷ [] → a ≡ b
+    one e = cc
+
+    alike : {a b : ℕ} {us vs : List User} → a ≡ b → us ≡ vs → are_valid_users a us ≡ are_valid_users b vs
+    alike e f = rw (e, f) refl
+
+-- The same where the image may not be told.
+pub opens_told : (store : Held) (image : Option (List ℕ)) (next : ℕ) (users : List User) (valid : Bool) → IsInRange store → IfSome image (StandsFor store) → IfSome image (λ image. store_of image ≡ contents store Committed image)
+    → IfSome (committed_slots store image) (λ slots. Gathers slots (next ∷ []) users) → valid ≡ are_valid_users next users → valid ≡ true → IfSome image (λ image. (db : Database) × Opens image db)
+unfolding committed_slots
+opens_told store None next users valid range stands stored g tested passed = tt
+opens_told store (Some image) next users valid range stands stored g tested passed = go (contents store Committed image) refl g
+  where
+    go : (o : Option Slots) → contents store Committed image ≡ o → IfSome o (λ slots. Gathers slots (next ∷ []) users) → (db : Database) × Opens image db
+    go None told g = absurd (false≢true (subst IsSome told stands.committed))
+    go (Some slots) told g = (of_users store.cells next users, opens-gathered store image slots next users range stands (stored ∙ told) told g (sym tested ∙ passed))
+
+pub refused_told : (store : Held) (image : Option (List ℕ)) → IfSome image (λ image. store_of image ≡ contents store Committed image) → IfSome (committed_slots store image) HoldNone
+    → IfSome image (λ image. (db : Database) → Opens image db → ⊥)
+unfolding committed_slots
+refused_told store None stored none = tt
+refused_told store (Some image) stored none = λ db opens. (subst (λ (o : Option Slots). IfSome o HoldNone) (sym stored ∙ opens.stored) none) db opens.holds opens.valid
+
+pub invalid_told : (store : Held) (image : Option (List ℕ)) (next : ℕ) (users : List User) (valid : Bool) → IfSome image (λ image. store_of image ≡ contents store Committed image)
+    → IfSome (committed_slots store image) (λ slots. Gathers slots (next ∷ []) users) → valid ≡ are_valid_users next users → valid ≡ false → IfSome image (λ image. (db : Database) → Opens image db → ⊥)
+invalid_told store image next users valid stored g tested failed = refused_told store image stored (IfSome_then (committed_slots store image) g (λ slots g. none-gathered slots next users g (sym tested ∙ failed)))

@@ -1,0 +1,14 @@
+-- What was committed stays, and channel 0 alone is open.
+use Rattle.std.proofs.Common.{refl, sym, ap, ◌∙◌}
+use Rattle.card.specs.Card.{Kept, committed_slots}
+use Rattle.card.proofs.card.Card.reset.Goals as goal
+
+pub returns-clause-at : goal.returns-clause-at
+returns-clause-at c = λ chip m at. record {
+  slots = at.slots;
+  committed = ap (λ (kept : Kept). committed_slots kept.store chip.image) c.self.view_is ∙ at.committed;
+  holds = at.holds;
+  valid = at.valid;
+  transaction = refl;
+  sessions = sym (c.first_sessions-self-inside.ensures m.committed);
+}

@@ -1,0 +1,64 @@
+-- A record that is added and one that is changed, committed together.
+use Rattle.std.specs.Prelude.{◌≡◌, ◌⊎◌, ℕ, ◌+◌, ◌*◌, ◌<◌, ◌≤◌, List, length, Option, Some, None, is_some, Result, OnOk, IsErrOf, IfSome, option_map, slice_set, slice_index_or}
+use Rattle.eeprom.specs.Chip.{Chip, Throughout, Becomes}
+use Rattle.record_store.specs.declared.refusal.StoreRefusal.{StoreRefusal}
+use Rattle.record_store.specs.declared.refusal.StoreRefusal.TheVariants.{Full, Fault}
+use Rattle.eeprom.specs.StoreOf.{Slots, store_of, cells_for}
+use Rattle.record_store.specs.Held.{Held, contents, StandsFor}
+use Rattle.eeprom.specs.StoreOf.{weight_of}
+use Rattle.record_store.specs.declared.side.Side.TheVariants.{Committed}
+
+-- A slot of these was empty, the records have room with the one that is added there, and the new slots have both records.
+pub record IsAdded (cells : ℕ) (added : List ℕ) (slot : ℕ) (changed : List ℕ) (slots new : Slots) : Type 0 where
+  pub found : ℕ
+  pub inside : found < cells
+  pub empty : slice_index_or slots found None ≡ None
+  pub room : weight_of (slice_set slots found (Some added)) ≤ cells
+  pub is : new ≡ slice_set (slice_set slots found (Some added)) slot (Some changed)
+
+-- the same of the slots of a store
+abbrev pub AddedTo : ℕ → List ℕ → ℕ → List ℕ → Option Slots → Option Slots → Type 0
+AddedTo cells added slot changed old new =
+    (slots : Slots) → old ≡ Some slots → (after : Slots) × (new ≡ Some after) × IsAdded cells added slot changed slots after
+
+-- at each moment the store of the image is the committed one, or that with both records, and nothing is given
+abbrev pub LeavesAdded : Held → List ℕ → ℕ → List ℕ → Chip → Chip → Type 0
+LeavesAdded store added slot changed old new =
+    Throughout old new (λ g left. (g ≡ old.still.mark) × (was : List ℕ) × (old.image ≡ Some was)
+    × ((store_of left ≡ contents store Committed was) ⊎ AddedTo store.cells added slot changed (contents store Committed was) (store_of left)))
+
+-- the store stands for the image, which has now both records
+abbrev pub IsWritten : Held → Held → List ℕ → ℕ → List ℕ → List ℕ → List ℕ → Type 0
+IsWritten old new added slot changed was now =
+    StandsFor new now × AddedTo old.cells added slot changed (contents old Committed was) (contents new Committed now)
+
+-- the record of a slot takes as many cells as the one that takes its place
+abbrev pub IsAsLong : ℕ → List ℕ → Slots → Type 0
+IsAsLong slot changed slots = option_map (λ (octets : List ℕ). cells_for (length octets)) (slice_index_or slots slot None) ≡ Some (cells_for (length changed))
+
+-- one record more would take more cells than there are
+abbrev pub HasNoRoom : ℕ → List ℕ → Slots → Type 0
+HasNoRoom cells added slots = cells < weight_of slots + cells_for (length added)
+
+-- of the committed records, where the image is told
+abbrev pub IfCommitted : Held → Option (List ℕ) → (Slots → Type 0) → Type 0
+IfCommitted store image P = IfSome image (λ image. IfSome (contents store Committed image) P)
+
+-- Two records may be written: the EEPROM has room for the store and has its image, and what is changed is as long as what was there.
+pub record MayAdd (store : Held) (chip : Chip) (added : List ℕ) (slot : ℕ) (changed : List ℕ) : Type 0 where
+  pub room : 70 * store.cells + 34 ≤ chip.still.size
+  pub stands : IfSome chip.image (StandsFor store)
+  pub inside : slot < store.cells
+  pub added_size : (1 ≤ length added) × (length added ≤ 512)
+  pub changed_size : (1 ≤ length changed) × (length changed ≤ 512)
+  pub as_long : IfCommitted store chip.image (IsAsLong slot changed)
+
+-- What becomes of a store and its EEPROM where both are to be committed: they are, or there was no room for the one that is added, or a device failed.
+pub record Adds (added : List ℕ) (slot : ℕ) (changed : List ℕ) (result : Result (Unit {0}) StoreRefusal) (old new : Held) (before after : Chip) : Type 0 where
+  pub written : OnOk result (Becomes (IsWritten old new added slot changed) before.image after.image)
+  pub told : OnOk result (is_some after.image ≡ is_some before.image)
+  pub full : IsErrOf result Full → IfCommitted old before.image (HasNoRoom old.cells added)
+  pub stands : ¬ IsErrOf result Fault → IfSome after.image (StandsFor new)
+  pub cells : ¬ IsErrOf result Fault → new.cells ≡ old.cells
+  pub still : after.still ≡ before.still
+  pub moments : LeavesAdded old added slot changed before after

@@ -1,0 +1,58 @@
+// A record added to a store and another one changed, in one commit.
+ghost use Rattle.std.specs.Prelude.{◌≡◌, ℕ, List, false, IsTrue, IsErrOf, OnOk};
+ghost use Rattle.record_store.specs.CountsFaults.{CountsPutFaults};
+ghost use Rattle.record_store.specs.Held.{contents};
+ghost use Rattle.record_store.specs.declared.side.Side.TheVariants.{Committed, Working};
+ghost use Rattle.card.specs.Adding.{MayAdd, Adds, IfCommitted};
+
+use eeprom::Eeprom;
+use record_store::{Store, StoreRefusal};
+
+/// Adds a record in an empty slot, changes the record of another slot into one that takes as many cells, and commits both.
+/// Where there is no room nothing is written.
+pub(crate) fn add_and_change<B: Eeprom>(
+    store: &mut Store,
+    bench: &mut B,
+    added: &[u8],
+    slot: u16,
+    changed: &[u8],
+) -> Result<(), StoreRefusal>
+    requires idle { store.old.begun ≡ false }
+    requires may_add { MayAdd store.old (B.chip bench.old) added.now slot changed.now }
+    ensures adds { Adds added.now slot changed.now result store.old store.new (B.chip bench.old) (B.chip bench.new) }
+    ensures unchanged { IsErrOf result StoreRefusal.Full → IfCommitted store.old (B.chip bench.old).image
+        (λ slots. (B.chip bench.new ≡ B.chip bench.old) × ((image : List ℕ) → contents store.new Committed image ≡ contents store.old Committed image)) }
+    ensures idle { ¬ IsErrOf result StoreRefusal.Fault → store.new.begun ≡ false }
+    ensures cause { CountsPutFaults (B.faults bench.old) (B.faults bench.new) result }
+{
+    store.begin();
+    let written = write_both(store, bench, added, slot, changed);
+    if let Err(StoreRefusal::Full) = written {
+        store.rollback();
+    }
+    written
+}
+
+// Puts both records and commits them, in a transaction that was just begun.
+fn write_both<B: Eeprom>(
+    store: &mut Store,
+    bench: &mut B,
+    added: &[u8],
+    slot: u16,
+    changed: &[u8],
+) -> Result<(), StoreRefusal>
+    requires begun { IsTrue store.old.begun }
+    requires starts { (image : List ℕ) → contents store.old Working image ≡ contents store.old Committed image }
+    requires may_add { MayAdd store.old (B.chip bench.old) added.now slot changed.now }
+    ensures adds { Adds added.now slot changed.now result store.old store.new (B.chip bench.old) (B.chip bench.new) }
+    ensures unchanged { IsErrOf result StoreRefusal.Full → IfCommitted store.old (B.chip bench.old).image
+        (λ slots. (B.chip bench.new ≡ B.chip bench.old) × (store.new ≡ store.old)) }
+    ensures begun { IsErrOf result StoreRefusal.Full → IsTrue store.new.begun }
+    ensures idle { OnOk result (store.new.begun ≡ false) }
+    ensures cause { CountsPutFaults (B.faults bench.old) (B.faults bench.new) result }
+{
+    store.put(bench, None, added)?;
+    store.put(bench, Some(slot), changed)?;
+    store.commit(bench)?;
+    Ok(())
+}
