@@ -1,5 +1,5 @@
 -- How causes of stops go on.
-use Rattle.std.proofs.Common.{◌≡◌, ℕ, ◌≤◌, Result, Ok, Err, sym, subst, arith, inl, inr}
+use Rattle.std.proofs.Common.{◌≡◌, ℕ, ◌≤◌, Result, Ok, Err, sym, ap, subst, ◌∙◌, arith, inl, inr}
 use Rattle.std.specs.Result.{result_and}
 use Rattle.eeprom.specs.Fault.{Rose}
 use Rattle.card_cli.specs.declared.stop.Stop.{Stop}
@@ -17,6 +17,7 @@ pub Causes-mute : (old mid new : Faults) (given : Result (Unit {0}) Stop) → mi
 Causes-mute old mid new (Ok x) same later rose causes = record {
   quiet = tt;
   eeprom = λ is. subst (λ (f : Faults). Rose old.eeprom f.eeprom) (sym causes.quiet) rose;
+  outlet_stays = λ is. ap (λ (f : Faults). f.outlet) causes.quiet ∙ same;
   outlet = λ is. cc;
   eeprom_later = omega (arith, causes.eeprom_later, later);
   outlet_later = omega (arith, causes.outlet_later, same);
@@ -24,6 +25,7 @@ Causes-mute old mid new (Ok x) same later rose causes = record {
 Causes-mute old mid new (Err stop) same later rose causes = record {
   quiet = tt;
   eeprom = λ is. Rose-earlier old.eeprom mid.eeprom new.eeprom later (causes.eeprom is);
+  outlet_stays = λ is. causes.outlet_stays is ∙ same;
   outlet = λ is. subst (λ (n : ℕ). Rose n new.outlet) same (causes.outlet is);
   eeprom_later = omega (arith, causes.eeprom_later, later);
   outlet_later = omega (arith, causes.outlet_later, same);

@@ -1,6 +1,9 @@
 mod Causing
 mod Feeding
 mod Finishing
+mod Keeping
+mod Moving
+mod Stopping
 mod Streaming
 mod Taking
 pub mod UpperCase

@@ -2,11 +2,12 @@
 use Rattle.std.proofs.Common.{◌≡◌, ℕ, Bool, true, false, cond, ltb, eqb, List, [], ◌∷◌, ◌++◌, length, Option, Some, None, refl, sym, ap, subst, ◌∙◌, arith, inl, inr, ◌+◌, length-append, append-nil, append_assoc}
 use Rattle.std.proofs.lemmas.Bool.Decides.{nat_tests}
 use Rattle.std.proofs.lemmas.Bool.{cases_Bool}
+use Rattle.std.proofs.lemmas.List.Splits.{slice_split-cons_yes, slice_split-cons_no}
 use Rattle.std.specs.List.{slice_split, onto_first}
 use Rattle.scql_model.specs.Machine.{Machine}
-use Rattle.scql_model.specs.Lines.{is_line_feed, lines, without_open_end, reading_of, reading_text, reading_step, line_text, line_step, run_text}
+use Rattle.scql_model.specs.Lines.{is_line_feed, lines, without_open_end, reading_of, reading_text, reading_step, line_text, line_step, run_text, machine_after}
 use Rattle.card_cli.specs.Line.{longer_by, is_nothing_kept, kept_reading}
-use Rattle.card_cli.specs.Running.{Running, from_machine, begun_text, after_begun, octet_text, after_octet, text_of, after, end_text}
+use Rattle.card_cli.specs.Running.{Running, from_machine, begun_text, after_begun, octet_text, after_octet, text_of, after, end_text, after_end}
 
 -- a line as it is kept
 abbrev pub kept : List ℕ → Option (List ℕ)
@@ -17,7 +18,7 @@ kept-longer_by line octet =
     let longer : length (line ++ octet ∷ []) ≡ length line + 1 = length-append line (octet ∷ []) in
     grind (arith, nat_tests)
 
-reading-kept : (line : List ℕ) → kept_reading (kept line) ≡ reading_of line
+pub reading-kept : (line : List ℕ) → kept_reading (kept line) ≡ reading_of line
 reading-kept line = elim (cases_Bool (ltb 1000 (length line))) [ inl t ↦ rw t | inr e ↦ rw e ]
 
 -- a line that is kept as an empty one is empty
@@ -29,29 +30,26 @@ abbrev with_front : List ℕ → List (List ℕ) → List (List ℕ)
 with_front line [] = line ∷ []
 with_front line (piece ∷ pieces) = (line ++ piece) ∷ pieces
 
-abbrev begun : Machine → List ℕ → Running
+abbrev pub begun : Machine → List ℕ → Running
 begun m line = record { machine = m; begun = kept line }
 
--- pieces end with one more, so the first of two or more is a whole line
-without_open_end-split : (ended : Bool) (line octets : List ℕ)
-    → without_open_end ended (line ∷ slice_split is_line_feed octets) ≡ line ∷ without_open_end ended (slice_split is_line_feed octets)
-without_open_end-split ended line [] = refl
-without_open_end-split ended line (octet ∷ octets) = more (is_line_feed octet) (slice_split is_line_feed octets)
-  where
-    more : (b : Bool) (pieces : List (List ℕ))
-        → without_open_end ended (line ∷ cond b ([] ∷ pieces) (onto_first octet pieces)) ≡ line ∷ without_open_end ended (cond b ([] ∷ pieces) (onto_first octet pieces))
-    more true pieces = refl
-    more false [] = refl
-    more false (piece ∷ pieces) = refl
+-- what stands behind the last line feed
+abbrev last_piece : List (List ℕ) → List ℕ
+last_piece [] = []
+last_piece (piece ∷ []) = piece
+last_piece (piece ∷ other ∷ pieces) = last_piece (other ∷ pieces)
 
-with_front-split : (octets : List ℕ) → with_front [] (slice_split is_line_feed octets) ≡ slice_split is_line_feed octets
-with_front-split [] = refl
-with_front-split (octet ∷ octets) = more (is_line_feed octet) (slice_split is_line_feed octets)
-  where
-    more : (b : Bool) (pieces : List (List ℕ)) → with_front [] (cond b ([] ∷ pieces) (onto_first octet pieces)) ≡ cond b ([] ∷ pieces) (onto_first octet pieces)
-    more true pieces = refl
-    more false [] = refl
-    more false (piece ∷ pieces) = refl
+abbrev pub open_end : List ℕ → List ℕ
+open_end octets = last_piece (slice_split is_line_feed octets)
+
+-- there is a first piece
+split_some : (octets : List ℕ) → (piece : List ℕ) × (pieces : List (List ℕ)) × (slice_split is_line_feed octets ≡ piece ∷ pieces)
+split_some [] = ([], [], refl)
+split_some (octet ∷ octets) =
+    elim (cases_Bool (is_line_feed octet)) [
+      | inl t ↦ ([], slice_split is_line_feed octets, slice_split-cons_yes is_line_feed octet octets t)
+      | inr e ↦ let s = split_some octets in (octet ∷ s.0, s.1, slice_split-cons_no is_line_feed octet octets e ∙ ap (onto_first octet) s.2)
+    ]
 
 with_front-onto_first : (line : List ℕ) (octet : ℕ) (pieces : List (List ℕ)) → with_front line (onto_first octet pieces) ≡ with_front (line ++ octet ∷ []) pieces
 with_front-onto_first line octet [] = refl
@@ -65,50 +63,193 @@ after_begun-kept : (m : Machine) (line : List ℕ) → after_begun (begun m line
 unfolding line_step
 after_begun-kept m line = ap (λ r. begun (reading_step m r) []) (reading-kept line)
 
-end_text-kept : (m : Machine) (line : List ℕ) → end_text (begun m line) ≡ run_text m (without_open_end true (line ∷ []))
-end_text-kept m line =
-    elim (cases_Bool (eqb (length line) 0)) [
-      | inl t ↦ rw (is_nothing-kept, t) refl
-      | inr e ↦ rw (is_nothing-kept, e) (begun_text-kept m line ∙ sym (append-nil (line_text m line)))
-    ]
-
--- what a run prints from r on, to the end of the input
-abbrev whole_text : Running → List ℕ → List ℕ
-whole_text r octets = text_of r octets ++ end_text (after r octets)
-
-abbrev split_text : Machine → List (List ℕ) → List ℕ
-split_text m pieces = run_text m (without_open_end true pieces)
+-- octets of pieces print the text of all but the last, which has begun afterwards
+record Streams (octets : List ℕ) (r : Running) (m : Machine) (pieces : List (List ℕ)) : Type 0 where
+  text : text_of r octets ≡ run_text m (without_open_end false pieces)
+  after : after r octets ≡ begun (machine_after m (without_open_end false pieces)) (last_piece pieces)
 
 -- a line feed ends the line that has begun
-whole_text-line_feed : (octets : List ℕ) (m : Machine) (line : List ℕ)
-    → whole_text (begun (line_step m line) []) octets ≡ split_text (line_step m line) (slice_split is_line_feed octets)
-    → (begun_text (begun m line) ++ text_of (after_begun (begun m line)) octets) ++ end_text (after (after_begun (begun m line)) octets)
-    ≡ split_text m ((line ++ []) ∷ slice_split is_line_feed octets)
-whole_text-line_feed octets m line rest =
-    append_assoc (begun_text (begun m line)) (text_of (after_begun (begun m line)) octets) (end_text (after (after_begun (begun m line)) octets))
-    ∙ (ap (λ (r : Running). begun_text (begun m line) ++ whole_text r octets) (after_begun-kept m line)
-    ∙ (ap (λ (x : List ℕ). begun_text (begun m line) ++ x) rest
-    ∙ (ap (λ (x : List ℕ). x ++ split_text (line_step m line) (slice_split is_line_feed octets)) (begun_text-kept m line)
-    ∙ (ap (run_text m) (sym (without_open_end-split true line octets))
-    ∙ ap (λ (x : List ℕ). split_text m (x ∷ slice_split is_line_feed octets)) (sym (append-nil line))))))
+Streams-line_feed : (octet : ℕ) (octets : List ℕ) (m : Machine) (line piece : List ℕ) (pieces : List (List ℕ)) → is_line_feed octet ≡ true
+    → Streams octets (begun (line_step m line) []) (line_step m line) (piece ∷ pieces) → Streams (octet ∷ octets) (begun m line) m (line ∷ piece ∷ pieces)
+Streams-line_feed octet octets m line piece pieces is rest = record {
+  text = text_is (begun m line)
+      ∙ (ap (λ (x : List ℕ). x ++ text_of (after_begun (begun m line)) octets) (begun_text-kept m line)
+      ∙ (ap (λ (r : Running). line_text m line ++ text_of r octets) (after_begun-kept m line)
+      ∙ ap (λ (x : List ℕ). line_text m line ++ x) rest.text));
+  after = after_is (begun m line) ∙ (ap (λ (r : Running). after r octets) (after_begun-kept m line) ∙ rest.after);
+}
+  where
+    text_is : (r : Running) → text_of r (octet ∷ octets) ≡ begun_text r ++ text_of (after_begun r) octets
+    text_is r = rw is refl
 
-text_of-begun : (octets : List ℕ) (m : Machine) (line : List ℕ) → whole_text (begun m line) octets ≡ split_text m (with_front line (slice_split is_line_feed octets))
-text_of-begun [] m line = end_text-kept m line ∙ ap (λ (x : List ℕ). split_text m (x ∷ [])) (sym (append-nil line))
-text_of-begun (octet ∷ octets) m line =
-    let at_test : Bool → Type 0 = λ b.
-    (cond b (begun_text (begun m line)) [] ++ text_of (cond b (after_begun (begun m line)) (record { machine = m; begun = longer_by octet (kept line) })) octets)
-    ++ end_text (after (cond b (after_begun (begun m line)) (record { machine = m; begun = longer_by octet (kept line) })) octets)
-    ≡ split_text m (with_front line (cond b ([] ∷ slice_split is_line_feed octets) (onto_first octet (slice_split is_line_feed octets)))) in
+    after_is : (r : Running) → after r (octet ∷ octets) ≡ after (after_begun r) octets
+    after_is r = rw is refl
+
+-- any other octet is one more of it
+Streams-other : (octet : ℕ) (octets : List ℕ) (m : Machine) (line : List ℕ) (pieces : List (List ℕ)) → is_line_feed octet ≡ false
+    → Streams octets (begun m (line ++ octet ∷ [])) m pieces → Streams (octet ∷ octets) (begun m line) m pieces
+Streams-other octet octets m line pieces is rest = record {
+  text = text_is (begun m line) ∙ (ap (λ (l : Option (List ℕ)). text_of (record { machine = m; begun = l }) octets) (kept-longer_by line octet) ∙ rest.text);
+  after = after_is (begun m line) ∙ (ap (λ (l : Option (List ℕ)). after (record { machine = m; begun = l }) octets) (kept-longer_by line octet) ∙ rest.after);
+}
+  where
+    text_is : (r : Running) → text_of r (octet ∷ octets) ≡ text_of (record r { begun = longer_by octet r.begun }) octets
+    text_is r = rw is refl
+
+    after_is : (r : Running) → after r (octet ∷ octets) ≡ after (record r { begun = longer_by octet r.begun }) octets
+    after_is r = rw is refl
+
+streams : (octets : List ℕ) (m : Machine) (line : List ℕ) → Streams octets (begun m line) m (with_front line (slice_split is_line_feed octets))
+streams [] m line = record { text = refl; after = ap (begun m) (sym (append-nil line)) }
+streams (octet ∷ octets) m line =
     elim (cases_Bool (is_line_feed octet)) [
-      | inl t ↦ subst at_test (sym t) (whole_text-line_feed octets m line (text_of-begun octets (line_step m line) [] ∙ ap (split_text (line_step m line)) (with_front-split octets)))
-      | inr e ↦ subst at_test (sym e) (ap (λ (l : Option (List ℕ)). whole_text (record { machine = m; begun = l }) octets) (kept-longer_by line octet)
-          ∙ (text_of-begun octets m (line ++ octet ∷ [])
-          ∙ ap (split_text m) (sym (with_front-onto_first line octet (slice_split is_line_feed octets)))))
+      | inl t ↦
+          let s = split_some octets in
+          let pieces : with_front line (slice_split is_line_feed (octet ∷ octets)) ≡ line ∷ s.0 ∷ s.1 =
+          ap (with_front line) (slice_split-cons_yes is_line_feed octet octets t) ∙ (ap (λ (x : List ℕ). x ∷ slice_split is_line_feed octets) (append-nil line) ∙ ap (λ (x : List (List ℕ)). line ∷ x) s.2) in
+          subst (Streams (octet ∷ octets) (begun m line) m) (sym pieces)
+          (Streams-line_feed octet octets m line s.0 s.1 t
+          (subst (Streams octets (begun (line_step m line) []) (line_step m line)) (ap (with_front []) s.2) (streams octets (line_step m line) [])))
+      | inr e ↦
+          let pieces : with_front line (slice_split is_line_feed (octet ∷ octets)) ≡ with_front (line ++ octet ∷ []) (slice_split is_line_feed octets) =
+          ap (with_front line) (slice_split-cons_no is_line_feed octet octets e) ∙ with_front-onto_first line octet (slice_split is_line_feed octets) in
+          subst (Streams (octet ∷ octets) (begun m line) m) (sym pieces)
+          (Streams-other octet octets m line (with_front (line ++ octet ∷ []) (slice_split is_line_feed octets)) e (streams octets m (line ++ octet ∷ [])))
     ]
 
--- From the start of a run to the end of its input, octet by octet it prints the text of the lines.
-pub text_of-lines : (m : Machine) (octets : List ℕ) → text_of (from_machine m) octets ++ end_text (after (from_machine m) octets) ≡ run_text m (lines octets true)
-text_of-lines m octets = text_of-begun octets m [] ∙ ap (split_text m) (with_front-split octets)
+from_start : (m : Machine) (octets : List ℕ) → Streams octets (from_machine m) m (slice_split is_line_feed octets)
+from_start m octets =
+    let s = split_some octets in
+    subst (Streams octets (from_machine m) m) (ap (with_front []) s.2 ∙ sym s.2) (streams octets m [])
+
+-- From the start of a run on, octet by octet it prints the text of the whole lines, and comes to the machine after them.
+pub text_of-lines : (m : Machine) (octets : List ℕ) → text_of (from_machine m) octets ≡ run_text m (lines octets false)
+text_of-lines m octets = (from_start m octets).text
+
+pub after-lines : (m : Machine) (octets : List ℕ) → after (from_machine m) octets ≡ begun (machine_after m (lines octets false)) (open_end octets)
+after-lines m octets = (from_start m octets).after
+
+-- where the input has ended, what stands behind the last line feed is a line too, unless it is empty
+without_open_end-closed : (pieces : List (List ℕ)) → eqb (length (last_piece pieces)) 0 ≡ true → without_open_end true pieces ≡ without_open_end false pieces
+without_open_end-closed [] is = refl
+without_open_end-closed (piece ∷ []) is = rw is refl
+without_open_end-closed (piece ∷ other ∷ pieces) is = ap (λ (x : List (List ℕ)). piece ∷ x) (without_open_end-closed (other ∷ pieces) is)
+
+without_open_end-open : (pieces : List (List ℕ)) → eqb (length (last_piece pieces)) 0 ≡ false → without_open_end true pieces ≡ without_open_end false pieces ++ last_piece pieces ∷ []
+without_open_end-open [] is = absurd cc
+without_open_end-open (piece ∷ []) is = rw is refl
+without_open_end-open (piece ∷ other ∷ pieces) is = ap (λ (x : List (List ℕ)). piece ∷ x) (without_open_end-open (other ∷ pieces) is)
+
+pub lines-open : (octets : List ℕ) → is_nothing_kept (kept (open_end octets)) ≡ false → lines octets true ≡ lines octets false ++ open_end octets ∷ []
+lines-open octets is = without_open_end-open (slice_split is_line_feed octets) (sym (is_nothing-kept (open_end octets)) ∙ is)
+
+lines-closed : (octets : List ℕ) → is_nothing_kept (kept (open_end octets)) ≡ true → lines octets true ≡ lines octets false
+lines-closed octets is = without_open_end-closed (slice_split is_line_feed octets) (sym (is_nothing-kept (open_end octets)) ∙ is)
+
+-- a line feed ends a line, and what follows begins anew
+slice_split-line_feed : (octets : List ℕ) (octet : ℕ) (rest : List ℕ) → is_line_feed octet ≡ true
+    → slice_split is_line_feed (octets ++ octet ∷ rest) ≡ slice_split is_line_feed octets ++ slice_split is_line_feed rest
+slice_split-line_feed [] octet rest is = slice_split-cons_yes is_line_feed octet rest is
+slice_split-line_feed (first ∷ octets) octet rest is =
+    elim (cases_Bool (is_line_feed first)) [
+      | inl t ↦ slice_split-cons_yes is_line_feed first (octets ++ octet ∷ rest) t
+          ∙ (ap (λ (x : List (List ℕ)). [] ∷ x) (slice_split-line_feed octets octet rest is)
+          ∙ ap (λ (x : List (List ℕ)). x ++ slice_split is_line_feed rest) (sym (slice_split-cons_yes is_line_feed first octets t)))
+      | inr e ↦
+          let s = split_some octets in
+          slice_split-cons_no is_line_feed first (octets ++ octet ∷ rest) e
+          ∙ (ap (onto_first first) (slice_split-line_feed octets octet rest is ∙ ap (λ (x : List (List ℕ)). x ++ slice_split is_line_feed rest) s.2)
+          ∙ ap (λ (x : List (List ℕ)). x ++ slice_split is_line_feed rest) (sym (slice_split-cons_no is_line_feed first octets e ∙ ap (onto_first first) s.2)))
+    ]
+
+without_open_end-append : (ended : Bool) (first : List ℕ) (pieces : List (List ℕ)) (piece : List ℕ) (others : List (List ℕ))
+    → without_open_end ended ((first ∷ pieces) ++ piece ∷ others) ≡ without_open_end false (first ∷ pieces) ++ last_piece (first ∷ pieces) ∷ without_open_end ended (piece ∷ others)
+without_open_end-append ended first [] piece others = refl
+without_open_end-append ended first (second ∷ pieces) piece others = ap (λ (x : List (List ℕ)). first ∷ x) (without_open_end-append ended second pieces piece others)
+
+pub lines-line_feed : (octets rest : List ℕ) (ended : Bool) → lines (octets ++ 10 ∷ rest) ended ≡ lines octets false ++ open_end octets ∷ lines rest ended
+lines-line_feed octets rest ended =
+    let s = split_some octets in
+    let t = split_some rest in
+    ap (without_open_end ended) (slice_split-line_feed octets 10 rest refl)
+    ∙ subst (λ (ps : List (List ℕ)). without_open_end ended (ps ++ slice_split is_line_feed rest) ≡ without_open_end false ps ++ last_piece ps ∷ lines rest ended) (sym s.2)
+    (subst (λ (qs : List (List ℕ)). without_open_end ended ((s.0 ∷ s.1) ++ qs) ≡ without_open_end false (s.0 ∷ s.1) ++ last_piece (s.0 ∷ s.1) ∷ without_open_end ended qs) (sym t.2)
+    (without_open_end-append ended s.0 s.1 t.0 t.1))
+
+-- The whole lines of octets stay, whatever octets follow.
+onto_first-prefix : (octet : ℕ) (first : List ℕ) (pieces : List (List ℕ)) (piece : List ℕ) (others : List (List ℕ))
+    → (next : List ℕ) × (behind : List (List ℕ)) × (onto_first octet (without_open_end false (first ∷ pieces) ++ piece ∷ others) ≡ without_open_end false (onto_first octet (first ∷ pieces)) ++ next ∷ behind)
+onto_first-prefix octet first [] piece others = (octet ∷ piece, others, refl)
+onto_first-prefix octet first (second ∷ pieces) piece others = (piece, others, refl)
+
+split-prefix : (octets rest : List ℕ) → (next : List ℕ) × (behind : List (List ℕ)) × (slice_split is_line_feed (octets ++ rest) ≡ lines octets false ++ next ∷ behind)
+split-prefix [] rest = split_some rest
+split-prefix (octet ∷ octets) rest =
+    let tail = split-prefix octets rest in
+    let s = split_some octets in
+    elim (cases_Bool (is_line_feed octet)) [
+      | inl t ↦
+          let here : lines (octet ∷ octets) false ≡ [] ∷ lines octets false =
+          ap (without_open_end false) (slice_split-cons_yes is_line_feed octet octets t)
+          ∙ subst (λ (ps : List (List ℕ)). without_open_end false ([] ∷ ps) ≡ [] ∷ without_open_end false ps) (sym s.2) refl in (
+            tail.0,
+            tail.1,
+            slice_split-cons_yes is_line_feed octet (octets ++ rest) t
+                ∙ (ap (λ (x : List (List ℕ)). [] ∷ x) tail.2 ∙ ap (λ (x : List (List ℕ)). x ++ tail.0 ∷ tail.1) (sym here)),
+          )
+      | inr e ↦
+          let longer = onto_first-prefix octet s.0 s.1 tail.0 tail.1 in
+          let here : lines (octet ∷ octets) false ≡ without_open_end false (onto_first octet (s.0 ∷ s.1)) =
+          ap (without_open_end false) (slice_split-cons_no is_line_feed octet octets e ∙ ap (onto_first octet) s.2) in (
+            longer.0,
+            longer.1,
+            slice_split-cons_no is_line_feed octet (octets ++ rest) e
+                ∙ (ap (onto_first octet) (tail.2 ∙ ap (λ (x : List (List ℕ)). without_open_end false x ++ tail.0 ∷ tail.1) s.2)
+                ∙ (longer.2 ∙ ap (λ (x : List (List ℕ)). x ++ longer.0 ∷ longer.1) (sym here))),
+          )
+    ]
+
+without_open_end-behind : (ended : Bool) (whole : List (List ℕ)) (piece : List ℕ) (pieces : List (List ℕ)) → without_open_end ended (whole ++ piece ∷ pieces) ≡ whole ++ without_open_end ended (piece ∷ pieces)
+without_open_end-behind ended [] piece pieces = refl
+without_open_end-behind ended (line ∷ []) piece pieces = refl
+without_open_end-behind ended (line ∷ other ∷ whole) piece pieces = ap (λ (x : List (List ℕ)). line ∷ x) (without_open_end-behind ended (other ∷ whole) piece pieces)
+
+pub lines-prefix : (octets rest : List ℕ) (ended : Bool) → (more : List (List ℕ)) × (lines (octets ++ rest) ended ≡ lines octets false ++ more)
+lines-prefix octets rest ended =
+    let pieces = split-prefix octets rest in
+    (without_open_end ended (pieces.0 ∷ pieces.1), ap (without_open_end ended) pieces.2 ∙ without_open_end-behind ended (lines octets false) pieces.0 pieces.1)
+
+-- one line more
+run_text-more : (m : Machine) (clean : List (List ℕ)) (line : List ℕ) → run_text m (clean ++ line ∷ []) ≡ run_text m clean ++ line_text (machine_after m clean) line
+run_text-more m [] line = append-nil (line_text m line)
+run_text-more m (first ∷ clean) line =
+    ap (λ (x : List ℕ). line_text m first ++ x) (run_text-more (line_step m first) clean line)
+    ∙ sym (append_assoc (line_text m first) (run_text (line_step m first) clean) (line_text (machine_after (line_step m first) clean) line))
+
+machine_after-more : (m : Machine) (clean : List (List ℕ)) (line : List ℕ) → machine_after m (clean ++ line ∷ []) ≡ line_step (machine_after m clean) line
+machine_after-more m [] line = refl
+machine_after-more m (first ∷ clean) line = machine_after-more (line_step m first) clean line
+
+-- the run at the end of its input
+pub text_of-ended : (m : Machine) (octets : List ℕ) → text_of (from_machine m) octets ++ end_text (after (from_machine m) octets) ≡ run_text m (lines octets true)
+text_of-ended m octets =
+    let clean : List (List ℕ) = lines octets false in
+    let line : List ℕ = open_end octets in
+    ap (λ (x : List ℕ). x ++ end_text (after (from_machine m) octets)) (text_of-lines m octets)
+    ∙ (ap (λ (r : Running). run_text m clean ++ end_text r) (after-lines m octets)
+    ∙ elim (cases_Bool (is_nothing_kept (kept line))) [
+      | inl t ↦ rw t (append-nil (run_text m clean) ∙ ap (run_text m) (sym (lines-closed octets t)))
+      | inr e ↦ rw e (ap (λ (x : List ℕ). run_text m clean ++ x) (begun_text-kept (machine_after m clean) line) ∙ (sym (run_text-more m clean line) ∙ ap (run_text m) (sym (lines-open octets e))))
+    ])
+
+pub after_end-lines : (m : Machine) (octets : List ℕ) → (after_end (after (from_machine m) octets)).machine ≡ machine_after m (lines octets true)
+after_end-lines m octets =
+    ap (λ (r : Running). (after_end r).machine) (after-lines m octets)
+    ∙ elim (cases_Bool (is_nothing_kept (kept (open_end octets)))) [
+      | inl t ↦ rw t (ap (machine_after m) (sym (lines-closed octets t)))
+      | inr e ↦ rw e (ap (λ (r : Running). r.machine) (after_begun-kept (machine_after m (lines octets false)) (open_end octets))
+          ∙ (sym (machine_after-more m (lines octets false) (open_end octets)) ∙ ap (machine_after m) (sym (lines-open octets e))))
+    ]
 
 -- Octets in two parts.
 pub after-append : (xs ys : List ℕ) (r : Running) → after r (xs ++ ys) ≡ after (after r xs) ys

@@ -1,22 +1,35 @@
 -- What was taken of the input goes on, and ends.
-use Rattle.std.proofs.Common.{◌≡◌, ℕ, ◌-◌, ◌≤◌, true, List, [], ◌++◌, length, take, Option, Err, refl, sym, ap, subst, ◌∙◌, arith, append-nil, append_assoc, length-append}
-use Rattle.eeprom.specs.Chip.{Becomes}
+use Rattle.std.proofs.Common.{◌≡◌, ℕ, ◌+◌, ◌-◌, ◌≤◌, true, false, List, [], ◌∷◌, ◌++◌, length, take, drop, Option, refl, sym, ap, subst, ◌∙◌, arith, append-nil, append_assoc, length-append, take-append-drop}
+use Rattle.std.proofs.lemmas.List.{length-take-le, take-append-le}
+use Rattle.std.proofs.Math.Seq.{take-append_seam}
 use Rattle.eeprom.specs.Input.{Takes}
+use Rattle.std.specs.Prelude.{IsSome}
+use Rattle.eeprom.specs.Chip.{Chip, Becomes, Throughout}
 use Rattle.scql_model.specs.Machine.{Machine}
-use Rattle.scql_model.specs.Lines.{lines, run_text}
+use Rattle.scql_model.specs.Lines.{lines, machine_after}
+use Rattle.card.specs.Card.{IsReady, IsAt}
+use Rattle.card.proofs.Leaving.{Opens-at}
 use Rattle.card_cli.specs.declared.stop.Stop.{Stop}
 use Rattle.card_cli.specs.declared.stop.Stop.TheVariants.{Eeprom, Outlet}
+use Rattle.card_cli.specs.declared.status.Status.TheVariants.{Done, ReadFault, TooLong}
 use Rattle.card_cli.specs.StatusNumber.{status_of}
-use Rattle.card_cli.specs.Running.{Running, from_machine, after, text_of, end_text}
-use Rattle.card_cli.specs.RunState.{Prints, RunState, IsRunning, Feeds, Faults, Causes}
-use Rattle.card_cli.specs.Ends.{EndsBy, longest_input, HasTaken}
+use Rattle.card_cli.specs.Running.{Running, from_machine, after, text_of, end_text, after_end}
+use Rattle.card_cli.specs.RunState.{Prints, RunState, IsRunning, Feeds}
+use Rattle.card_cli.specs.Ends.{LeavesOff, longest_input, HasTaken}
+use Rattle.card_cli.specs.Line.{kept_reading, is_nothing_kept}
+use Rattle.card_cli.specs.Moments.{IsInLine, IsAtEnd, IfGiven}
+use Rattle.card_cli.specs.Keeping.{AreKept, KeepsTo}
+use Rattle.card_cli.proofs.Keeping.{kept-taken, kept-until, kept-ended, until-last}
+use Rattle.card_cli.proofs.Moving.{told-before}
+use Rattle.card_cli.specs.CutOff.{HasAnswered, StopsIn}
+use Rattle.card_cli.specs.Halting.{FailsAt, HaltsAt, Halts}
+use Rattle.card_cli.proofs.Stopping.{Halts-within, StopsIn-halted, StopsIn-last}
 use Rattle.card_cli.proofs.Feeding.{Feeds-nothing, Feeds-then, Prints-then}
-use Rattle.card_cli.proofs.Streaming.{text_of-lines}
-use Rattle.std.proofs.lemmas.List.{length-take-le}
+use Rattle.card_cli.proofs.Streaming.{open_end, text_of-lines, after-lines, text_of-ended, after_end-lines, lines-open, lines-line_feed}
 
 -- before the first read
-pub HasTaken-nothing : (state : RunState) (left : Option (List ℕ)) → Becomes (HasTaken longest_input state state) left left
-HasTaken-nothing state left = λ all told. (all, told, record { taken = []; split = refl; count = refl; feeds = Feeds-nothing state })
+pub HasTaken-nothing : (state : RunState) (left : Option (List ℕ)) → IsReady state.card state.chip → Becomes (HasTaken longest_input state state) left left
+HasTaken-nothing state left ready = λ all told. (all, told, record { taken = []; split = refl; count = refl; feeds = Feeds-nothing state ready })
 
 -- a piece more
 pub HasTaken-more : (room count : ℕ) (piece : List ℕ) (old mid new : RunState) (start before now : Option (List ℕ)) → count ≤ length piece → count ≤ room
@@ -36,23 +49,218 @@ HasTaken-more room count piece old mid new start before now within fits so_far t
       },
     )
 
--- nothing is left
-pub text_whole : (room : ℕ) (piece : List ℕ) (old mid : RunState) (given : Option (List ℕ)) (start before now : Option (List ℕ)) (m : Machine)
-    → IsRunning old (from_machine m) → Becomes (HasTaken room old mid) start before → Takes 0 piece before now
-    → ((r : Running) → IsRunning mid r → Prints (end_text r) mid.given given)
-    → Becomes (λ (input left : List ℕ). Prints (run_text m (lines input true)) old.given given) start now
-text_whole room piece old mid given start before now m running so_far takes ends = λ all told.
-    let last = takes.octets all told in
-    let first = so_far last.0 last.1 in
-    let input = first.0 in
-    let taken = first.2.taken in
-    let is : input ≡ taken = first.2.split ∙ (ap (λ (x : List ℕ). taken ++ x) (last.2.1 refl) ∙ append-nil taken) in
-    let follows = first.2.feeds (from_machine m) running in
-    let printed = Prints-then (text_of (from_machine m) taken) (end_text (after (from_machine m) taken)) old.given mid.given given follows.text (ends (after (from_machine m) taken) follows.running) in
-    (input, first.1, subst (λ (t : List ℕ). Prints t old.given given) (text_of-lines m taken ∙ ap (λ (x : List ℕ). run_text m (lines x true)) (sym is)) printed)
+-- what was taken so far was answered
+HasAnswered-taken : (taken : List ℕ) (old mid : RunState) (m : Machine) → IsReady mid.card mid.chip → IsRunning old (from_machine m) → Feeds taken old mid
+    → HasAnswered m (lines taken false) old.chip.still.given mid.chip
+HasAnswered-taken taken old mid m ready running feeds =
+    let follows = feeds (from_machine m) running in
+    record {
+      text = subst (λ (t : List ℕ). Prints t old.chip.still.given mid.chip.still.given) (text_of-lines m taken) follows.text;
+      image = Opens-at mid.card mid.chip (machine_after m (lines taken false)) ready (subst (λ (r : Running). IsAt mid.card mid.chip r.machine) (after-lines m taken) follows.running.at);
+    }
 
--- a device stops the run
-pub EndsBy-stopped : (stop : Stop) (old new : Faults) (source source' : ℕ) → Causes {T = Unit {0}} old new (Err stop)
-    → EndsBy (status_of stop) (record { eeprom = old.eeprom; source = source; outlet = old.outlet }) (record { eeprom = new.eeprom; source = source'; outlet = new.outlet })
-EndsBy-stopped Eeprom old new source source' causes = causes.eeprom refl
-EndsBy-stopped Outlet old new source source' causes = causes.outlet refl
+-- the source failed
+pub leaves-read_fault : (room : ℕ) (old mid : RunState) (start before now : Option (List ℕ)) (m : Machine)
+    → IsReady mid.card mid.chip → IsRunning old (from_machine m) → Becomes (HasTaken room old mid) start before → now ≡ before
+    → Becomes (λ (input left : List ℕ). LeavesOff ReadFault m input left old.chip.still.given mid.chip) start now
+leaves-read_fault room old mid start before now m ready running so_far same = λ left told.
+    let first = so_far left (sym same ∙ told) in
+    (first.0, first.1, (first.2.taken, first.2.split, HasAnswered-taken first.2.taken old mid m ready running first.2.feeds))
+
+-- nothing is left, and all was taken
+taken_all : (room : ℕ) (piece : List ℕ) (old mid : RunState) (start before now : Option (List ℕ)) → Becomes (HasTaken room old mid) start before → Takes 0 piece before now
+    → Becomes (λ (input left : List ℕ). Feeds input old mid) start now
+taken_all room piece old mid start before now so_far takes = λ left told.
+    let last = takes.octets left told in
+    let first = so_far last.0 last.1 in
+    let taken = first.2.taken in
+    let is : first.0 ≡ taken = first.2.split ∙ (ap (λ (x : List ℕ). taken ++ x) (last.2.1 refl) ∙ append-nil taken) in
+    (first.0, first.1, subst (λ (input : List ℕ). Feeds input old mid) (sym is) first.2.feeds)
+
+pub leaves-done : (room : ℕ) (piece : List ℕ) (old mid new : RunState) (start before now : Option (List ℕ)) (m : Machine)
+    → IsRunning old (from_machine m) → Becomes (HasTaken room old mid) start before → Takes 0 piece before now → IsReady new.card new.chip
+    → ((r : Running) → IsRunning mid r → IsAt new.card new.chip (after_end r).machine)
+    → ((r : Running) → IsRunning mid r → Prints (end_text r) mid.chip.still.given new.chip.still.given)
+    → Becomes (λ (input left : List ℕ). LeavesOff Done m input left old.chip.still.given new.chip) start now
+leaves-done room piece old mid new start before now m running so_far takes ready at text = λ left told.
+    let found = taken_all room piece old mid start before now so_far takes left told in
+    let input : List ℕ = found.0 in
+    let r : Running = after (from_machine m) input in
+    let follows = found.2 (from_machine m) running in (
+      input,
+      found.1,
+      record {
+        text = subst (λ (t : List ℕ). Prints t old.chip.still.given new.chip.still.given) (text_of-ended m input)
+            (Prints-then (text_of (from_machine m) input) (end_text r) old.chip.still.given mid.chip.still.given new.chip.still.given follows.text (text r follows.running));
+        image = Opens-at new.card new.chip (machine_after m (lines input true)) ready (subst (λ (after : Machine). IsAt new.card new.chip after) (after_end-lines m input) (at r follows.running));
+      },
+    )
+
+-- the first octets of a piece, and the others
+take-part : (k count : ℕ) (piece : List ℕ) → k ≤ count → count ≤ length piece → take count piece ≡ take k piece ++ drop k (take count piece)
+take-part k count piece fits within =
+    let short : k ≤ length (take count piece) = omega (arith, length-take-le count piece within, fits) in
+    sym (take-append-drop k (take count piece))
+    ∙ ap (λ (x : List ℕ). x ++ drop k (take count piece)) (sym (take-append-le k (take count piece) (drop count piece) short) ∙ ap (take k) (take-append-drop count piece))
+
+-- What was taken of the input, when of the next piece so many octets are looked at.
+record LooksAt (k room : ℕ) (piece : List ℕ) (old mid : RunState) (input : List ℕ) : Type 0 where
+  taken : List ℕ
+  rest : List ℕ
+  split : input ≡ taken ++ (take k piece ++ rest)
+  count : length taken + room ≡ longest_input
+  feeds : Feeds taken old mid
+
+looks_at : (room count k : ℕ) (piece : List ℕ) (old mid : RunState) (start before now : Option (List ℕ)) → k ≤ count
+    → Becomes (HasTaken room old mid) start before → Takes count piece before now → Becomes (λ (input left : List ℕ). LooksAt k room piece old mid input) start now
+looks_at room count k piece old mid start before now fits so_far takes = λ left told.
+    let last = takes.octets left told in
+    let first = so_far last.0 last.1 in
+    let taken = first.2.taken in
+    let others = drop k (take count piece) in (
+      first.0,
+      first.1,
+      record {
+        taken = taken;
+        rest = others ++ left;
+        split = first.2.split ∙ (ap (λ (x : List ℕ). taken ++ x) (last.2.0
+            ∙ (ap (λ (x : List ℕ). x ++ left) (take-part k count piece fits takes.fits) ∙ append_assoc (take k piece) others left)));
+        count = first.2.count;
+        feeds = first.2.feeds;
+      },
+    )
+
+-- where as many octets were taken as a run takes, they are the first ones of the input
+looked_at-whole : (room : ℕ) (piece : List ℕ) (old mid : RunState) (input : List ℕ) → room ≤ length piece → (seen : LooksAt room room piece old mid input)
+    → (input ≡ (seen.taken ++ take room piece) ++ seen.rest) × (take longest_input input ≡ seen.taken ++ take room piece)
+looked_at-whole room piece old mid input within seen =
+    let all : List ℕ = seen.taken ++ take room piece in
+    let long : length all ≡ longest_input = omega (arith, length-append seen.taken (take room piece), length-take-le room piece within, seen.count) in
+    let split : input ≡ all ++ seen.rest = seen.split ∙ sym (append_assoc seen.taken (take room piece) seen.rest) in
+    (split, ap (take longest_input) split ∙ (ap (λ (k : ℕ). take k (all ++ seen.rest)) (sym long) ∙ take-append_seam all seen.rest))
+
+-- more came than a run takes
+pub leaves-too_long : (room count : ℕ) (piece : List ℕ) (old mid new : RunState) (start before now : Option (List ℕ)) (m : Machine) → room ≤ count → count ≤ length piece
+    → IsReady new.card new.chip → IsRunning old (from_machine m) → Becomes (HasTaken room old mid) start before → Takes count piece before now → Feeds (take room piece) mid new
+    → Becomes (λ (input left : List ℕ). LeavesOff TooLong m input left old.chip.still.given new.chip) start now
+leaves-too_long room count piece old mid new start before now m over within ready running so_far takes feeds = λ left told.
+    let found = looks_at room count room piece old mid start before now over so_far takes left told in
+    let seen = found.2 in
+    let all = looked_at-whole room piece old mid found.0 (omega (arith, over, within)) seen in (
+      found.0,
+      found.1,
+      subst (λ (taken : List ℕ). HasAnswered m (lines taken false) old.chip.still.given new.chip) (sym all.1)
+          (HasAnswered-taken (seen.taken ++ take room piece) old new m ready running (Feeds-then seen.taken (take room piece) old mid new seen.feeds feeds)),
+    )
+
+LeavesOff-stopped : (stop : Stop) (m : Machine) (input left : List ℕ) (before : Option (List ℕ)) (now : Chip) → StopsIn stop m (lines input true) before now → LeavesOff (status_of stop) m input left before now
+LeavesOff-stopped Eeprom m input left before now stops = stops
+LeavesOff-stopped Outlet m input left before now stops = stops
+
+-- a device stopped the run among the octets of a piece, of which so many were looked at
+pub leaves-halted : (stop : Stop) (room count k : ℕ) (piece : List ℕ) (old mid : RunState) (now : Chip) (start before after : Option (List ℕ)) (m : Machine) → k ≤ count
+    → IsRunning old (from_machine m) → Becomes (HasTaken room old mid) start before → Takes count piece before after → Halts stop (take k piece) mid now
+    → Becomes (λ (input left : List ℕ). LeavesOff (status_of stop) m input left old.chip.still.given now) start after
+leaves-halted stop room count k piece old mid now start before after m fits running so_far takes halts = λ left told.
+    let found = looks_at room count k piece old mid start before after fits so_far takes left told in
+    let seen = found.2 in
+    let halted : HaltsAt stop (seen.taken ++ (take k piece ++ seen.rest)) (from_machine m) old.chip now =
+    Halts-within stop seen.taken (take k piece) seen.rest old mid now seen.feeds halts (from_machine m) running in (
+      found.0,
+      found.1,
+      LeavesOff-stopped stop m found.0 left old.chip.still.given now
+          (StopsIn-halted stop m found.0 old.chip now (subst (λ (x : List ℕ). HaltsAt stop x (from_machine m) old.chip now) (sym seen.split) halted)),
+    )
+
+-- a device stopped the run in the last line
+pub leaves-last : (stop : Stop) (room : ℕ) (piece : List ℕ) (old mid : RunState) (now : Chip) (start before after : Option (List ℕ)) (m : Machine)
+    → IsRunning old (from_machine m) → Becomes (HasTaken room old mid) start before → Takes 0 piece before after
+    → ((r : Running) → IsRunning mid r → (is_nothing_kept r.begun ≡ false) × FailsAt stop [] r mid.chip.still.given now)
+    → Becomes (λ (input left : List ℕ). LeavesOff (status_of stop) m input left old.chip.still.given now) start after
+leaves-last stop room piece old mid now start before after m running so_far takes ends = λ left told.
+    let found = taken_all room piece old mid start before after so_far takes left told in
+    (found.0, found.1, LeavesOff-stopped stop m found.0 left old.chip.still.given now (StopsIn-last stop m found.0 old mid now running found.2 ends))
+
+-- What is kept at each moment, by the ends of the run in the same order.
+pub keeps-read_fault : (room : ℕ) (old mid : RunState) (start before now : Option (List ℕ)) (m : Machine) → IsRunning old (from_machine m)
+    → Becomes (HasTaken room old mid) start before → now ≡ before → IsSome mid.chip.still.given
+    → Becomes (λ (input left : List ℕ). KeepsTo ReadFault m input left old.chip mid.chip) start now
+keeps-read_fault room old mid start before now m running so_far same given = λ left told.
+    let first = so_far left (sym same ∙ told) in
+    let taken = first.2.taken in (
+      first.0,
+      first.1,
+      (
+        taken,
+        first.2.split,
+        kept-taken m first.0 taken left (length (lines taken false)) old.chip mid.chip first.2.split (omega arith) ((first.2.feeds (from_machine m) running).passes given).moments,
+      ),
+    )
+
+pub keeps-done : (room : ℕ) (piece : List ℕ) (old mid new : RunState) (start before now : Option (List ℕ)) (m : Machine)
+    → IsRunning old (from_machine m) → Becomes (HasTaken room old mid) start before → Takes 0 piece before now
+    → ((r : Running) → IsRunning mid r → Prints (end_text r) mid.chip.still.given new.chip.still.given)
+    → ((r : Running) → IsRunning mid r → IfGiven new.chip (Throughout mid.chip new.chip (IsAtEnd r mid.chip.still.mark)))
+    → IsSome new.chip.still.given → Becomes (λ (input left : List ℕ). KeepsTo Done m input left old.chip new.chip) start now
+keeps-done room piece old mid new start before now m running so_far takes text last given = λ left told.
+    let found = taken_all room piece old mid start before now so_far takes left told in
+    let input : List ℕ = found.0 in
+    let r : Running = after (from_machine m) input in
+    let follows = found.2 (from_machine m) running in
+    let given_before : IsSome mid.chip.still.given = told-before (end_text r) mid.chip.still.given new.chip.still.given (text r follows.running) given in
+    (input, found.1, kept-ended m input old.chip mid.chip new.chip (follows.passes given_before) (last r follows.running given))
+
+pub keeps-too_long : (room count : ℕ) (piece : List ℕ) (old mid new : RunState) (start before now : Option (List ℕ)) (m : Machine) → room ≤ count → count ≤ length piece
+    → IsRunning old (from_machine m) → Becomes (HasTaken room old mid) start before → Takes count piece before now → Feeds (take room piece) mid new → IsSome new.chip.still.given
+    → Becomes (λ (input left : List ℕ). KeepsTo TooLong m input left old.chip new.chip) start now
+keeps-too_long room count piece old mid new start before now m over within running so_far takes feeds given = λ left told.
+    let found = looks_at room count room piece old mid start before now over so_far takes left told in
+    let seen = found.2 in
+    let all = looked_at-whole room piece old mid found.0 (omega (arith, over, within)) seen in
+    let whole : List ℕ = seen.taken ++ take room piece in (
+      found.0,
+      found.1,
+      subst (λ (taken : List ℕ). AreKept m (lines found.0 true) (length (lines taken false)) old.chip new.chip) (sym all.1)
+          (kept-taken m found.0 whole seen.rest (length (lines whole false)) old.chip new.chip all.0 (omega arith)
+          ((Feeds-then seen.taken (take room piece) old mid new seen.feeds feeds (from_machine m) running).passes given).moments),
+    )
+
+KeepsTo-stopped : (stop : Stop) (m : Machine) (input left : List ℕ) (old now : Chip) (stops : StopsIn stop m (lines input true) old.still.given now)
+    → AreKept m (lines input true) (length stops.clean) old now → KeepsTo (status_of stop) m input left old now
+KeepsTo-stopped Eeprom m input left old now stops kept = (stops, kept)
+KeepsTo-stopped Outlet m input left old now stops kept = (stops, kept)
+
+pub keeps-halted : (stop : Stop) (room count k : ℕ) (piece : List ℕ) (old mid : RunState) (now : Chip) (start before taken : Option (List ℕ)) (m : Machine) → k ≤ count
+    → IsRunning old (from_machine m) → Becomes (HasTaken room old mid) start before → Takes count piece before taken → Halts stop (take k piece) mid now → IsSome now.still.given
+    → Becomes (λ (input left : List ℕ). KeepsTo (status_of stop) m input left old.chip now) start taken
+keeps-halted stop room count k piece old mid now start before taken m fits running so_far takes halts given = λ left told.
+    let found = looks_at room count k piece old mid start before taken fits so_far takes left told in
+    let seen = found.2 in
+    let halted : HaltsAt stop found.0 (from_machine m) old.chip now =
+    subst (λ (x : List ℕ). HaltsAt stop x (from_machine m) old.chip now) (sym seen.split) (Halts-within stop seen.taken (take k piece) seen.rest old mid now seen.feeds halts (from_machine m) running) in (
+      found.0,
+      found.1,
+      KeepsTo-stopped stop m found.0 left old.chip now (StopsIn-halted stop m found.0 old.chip now halted)
+          (kept-until m found.0 halted.taken (10 ∷ halted.rest) (lines halted.rest true) old.chip now halted.split
+          (ap (λ (x : List ℕ). lines x true) halted.split ∙ lines-line_feed halted.taken halted.rest true) (halted.moments given)),
+    )
+
+pub keeps-last : (stop : Stop) (room : ℕ) (piece : List ℕ) (old mid : RunState) (now : Chip) (start before taken : Option (List ℕ)) (m : Machine)
+    → IsRunning old (from_machine m) → Becomes (HasTaken room old mid) start before → Takes 0 piece before taken
+    → ((r : Running) → IsRunning mid r → (is_nothing_kept r.begun ≡ false) × FailsAt stop [] r mid.chip.still.given now)
+    → ((r : Running) → IsRunning mid r → Throughout mid.chip now (IsInLine r.machine (kept_reading r.begun) mid.chip.still.mark))
+    → IsSome now.still.given → Becomes (λ (input left : List ℕ). KeepsTo (status_of stop) m input left old.chip now) start taken
+keeps-last stop room piece old mid now start before taken m running so_far takes ends last given = λ left told.
+    let found = taken_all room piece old mid start before taken so_far takes left told in
+    let input : List ℕ = found.0 in
+    let r : Running = after (from_machine m) input in
+    let follows = found.2 (from_machine m) running in
+    let failing = ends r follows.running in
+    let given_before : IsSome mid.chip.still.given = told-before failing.1.said mid.chip.still.given now.still.given failing.1.given given in
+    let cut : lines input true ≡ lines input false ++ open_end input ∷ [] = lines-open input (subst (λ (s : Running). is_nothing_kept s.begun ≡ false) (after-lines m input) failing.0) in (
+      input,
+      found.1,
+      KeepsTo-stopped stop m input left old.chip now (StopsIn-last stop m input old mid now running found.2 ends)
+          (kept-until m input input [] [] old.chip now (sym (append-nil input)) cut
+          (until-last input (from_machine m) old.chip mid.chip now (follows.passes given_before) (last r follows.running))),
+    )

@@ -1,9 +1,14 @@
 -- How a run over its input ends.
-use Rattle.std.specs.Prelude.{◌≡◌, ℕ, ◌+◌, List, ◌++◌, length}
+use Rattle.std.specs.Prelude.{◌≡◌, ℕ, ◌+◌, Bool, true, false, List, ◌++◌, length, take, Option}
+use Rattle.eeprom.specs.Chip.{Chip}
 use Rattle.eeprom.specs.Fault.{Rose}
+use Rattle.scql_model.specs.Machine.{Machine}
+use Rattle.scql_model.specs.Lines.{lines}
 use Rattle.card_cli.specs.declared.status.Status.{Status}
-use Rattle.card_cli.specs.declared.status.Status.TheVariants.{Done, Refused, Usage, Eeprom, ReadFault, WriteFault, NotACard, NoMemory, TooLong, TooSmall}
+use Rattle.card_cli.specs.declared.status.Status.TheVariants.{Done, Eeprom, ReadFault, WriteFault, TooLong}
+use Rattle.card_cli.specs.declared.stop.Stop.TheVariants as stop
 use Rattle.card_cli.specs.RunState.{RunState, Feeds}
+use Rattle.card_cli.specs.CutOff.{HasAnswered, StopsIn}
 
 -- how many octets of input a run takes
 abbrev pub longest_input : ℕ
@@ -15,18 +20,30 @@ pub record AllFaults : Type 0 where
   pub source : ℕ
   pub outlet : ℕ
 
--- a run over input is done or cut off with no fault, or a device failed
+-- How the counts of faults move where a run ends so: a device that failed counted it, and else they stay. Of several faults the last one tells.
 abbrev pub EndsBy : Status → AllFaults → AllFaults → Type 0
-EndsBy Done old new = new ≡ old
-EndsBy TooLong old new = new ≡ old
-EndsBy Eeprom old new = Rose old.eeprom new.eeprom
-EndsBy ReadFault old new = Rose old.source new.source
-EndsBy WriteFault old new = Rose old.outlet new.outlet
-EndsBy Refused old new = ⊥
-EndsBy Usage old new = ⊥
-EndsBy NotACard old new = ⊥
-EndsBy NoMemory old new = ⊥
-EndsBy TooSmall old new = ⊥
+EndsBy Eeprom old new = Rose old.eeprom new.eeprom × (new.source ≡ old.source) × (new.outlet ≡ old.outlet)
+EndsBy ReadFault old new = Rose old.source new.source × (new.eeprom ≡ old.eeprom) × (new.outlet ≡ old.outlet)
+EndsBy WriteFault old new = Rose old.outlet new.outlet × (new.source ≡ old.source)
+EndsBy status old new = new ≡ old
+
+-- the ends of a run over its input
+abbrev pub ends_input : Status → Bool
+ends_input Done = true
+ends_input TooLong = true
+ends_input Eeprom = true
+ends_input ReadFault = true
+ends_input WriteFault = true
+ends_input status = false
+
+-- How a run of lines from a machine on ends, of whose input this is left.
+abbrev pub LeavesOff : Status → Machine → List ℕ → List ℕ → Option (List ℕ) → Chip → Type 0
+LeavesOff Done m input left before now = HasAnswered m (lines input true) before now
+LeavesOff ReadFault m input left before now = (taken : List ℕ) × (input ≡ taken ++ left) × HasAnswered m (lines taken false) before now
+LeavesOff TooLong m input left before now = HasAnswered m (lines (take longest_input input) false) before now
+LeavesOff Eeprom m input left before now = StopsIn stop.Eeprom m (lines input true) before now
+LeavesOff WriteFault m input left before now = StopsIn stop.Outlet m (lines input true) before now
+LeavesOff status m input left before now = ⊥
 
 -- what was taken of the input so far, so that so many octets may still come
 pub record HasTaken (room : ℕ) (old new : RunState) (input left : List ℕ) : Type 0 where

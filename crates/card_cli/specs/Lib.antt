@@ -1,6 +1,10 @@
+pub mod CutOff
 pub mod Ends
 pub mod FileChip
+pub mod Halting
+pub mod Keeping
 pub mod Line
+pub mod Moments
 pub mod Run
 pub mod RunState
 pub mod Running

@@ -4,7 +4,7 @@ use Rattle.scql_model.specs.Lines as model
 use Rattle.card_cli.specs.declared.line.Line.{Line}
 use Rattle.card_cli.specs.declared.line.Line.TheVariants.{Kept, TooLong}
 use Rattle.card_cli.specs.declared.line.Reading.{Reading}
-use Rattle.card_cli.specs.declared.line.Reading.TheVariants.{TooLong as ReadTooLong, Nothing, NotHexadecimal, Command}
+use Rattle.card_cli.specs.declared.line.Reading.TheVariants.{TooLong as ReadTooLong, Nothing, Reset, NotHexadecimal, Command}
 
 -- its octets, or none where it is too long
 abbrev pub kept_line : Line → Option (List ℕ)
@@ -28,5 +28,6 @@ kept_reading (Some line) = model.reading_without_blanks (model.without_blanks li
 abbrev pub reading_view : Reading → model.Reading
 reading_view ReadTooLong = model.too_long
 reading_view Nothing = model.nothing
+reading_view Reset = model.resets
 reading_view NotHexadecimal = model.not_hexadecimal
 reading_view (Command octets) = model.command octets.items

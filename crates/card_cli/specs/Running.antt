@@ -35,6 +35,9 @@ abbrev pub after : Running → List ℕ → Running
 after r [] = r
 after r (octet ∷ octets) = after (after_octet r octet) octets
 
--- what is printed at the end of the input: the text of the last line, where it has an octet
+-- what is printed at the end of the input: the text of the last line, where it has an octet; and the run after it
 abbrev pub end_text : Running → List ℕ
 end_text r = if is_nothing_kept r.begun then [] else begun_text r
+
+abbrev pub after_end : Running → Running
+after_end r = if is_nothing_kept r.begun then r else after_begun r

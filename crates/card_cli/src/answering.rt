@@ -1,5 +1,5 @@
 // The answers to lines, as they come in.
-ghost use Rattle.std.specs.Prelude.{◌≡◌, ◌+◌, ◌*◌, ◌≤◌, ◌++◌, ◌∷◌, [], length, OnOk, codes};
+ghost use Rattle.std.specs.Prelude.{◌≡◌, ◌+◌, ◌*◌, ◌≤◌, ◌++◌, ◌∷◌, [], length, OnOk, IfErr, codes};
 ghost use Rattle.hex.specs.Hex.{encode_upper};
 ghost use Rattle.scql_model.specs.Machine.{Machine};
 ghost use Rattle.scql_model.specs.Step.{step};
@@ -8,6 +8,10 @@ ghost use Rattle.card.specs.Card.{IsReady, IsAt};
 ghost use Rattle.card.specs.Answering.{reply_of};
 ghost use Rattle.card_cli.specs.Line.{kept_line, kept_reading};
 ghost use Rattle.card_cli.specs.RunState.{Prints, Feeds, Faults, Causes};
+ghost use Rattle.card_cli.specs.CutOff.{FailsIn, IsCutShort};
+ghost use Rattle.card_cli.specs.Halting.{Halts};
+ghost use Rattle.card_cli.specs.Moments.{IsInLine, IsAnswered, IfGiven};
+ghost use Rattle.eeprom.specs.Chip.{Gives, Throughout};
 
 use crate::line::{Line, Reading};
 use crate::stop::Stop;
@@ -27,9 +31,11 @@ pub(crate) fn take_octets<B: Bench>(
     octets: &[u8],
 ) -> Result<(), Stop>
     requires ready { IsReady card.old (B.chip bench.old) }
+    ensures halts { IfErr result (λ stop. Halts stop octets.now
+        (record { card = card.old; line = kept_line line.old; chip = B.chip bench.old }) (B.chip bench.new)) }
     ensures feeds { OnOk result (Feeds octets.now
-        (record { card = card.old; line = kept_line line.old; chip = B.chip bench.old; given = B.given bench.old })
-        (record { card = card.new; line = kept_line line.new; chip = B.chip bench.new; given = B.given bench.new })) }
+        (record { card = card.old; line = kept_line line.old; chip = B.chip bench.old })
+        (record { card = card.new; line = kept_line line.new; chip = B.chip bench.new })) }
     ensures ready { OnOk result (IsReady card.new (B.chip bench.new)) }
     ensures causes { Causes (record { eeprom = B.faults bench.old; outlet = B.sink_faults bench.old }) (record { eeprom = B.faults bench.new; outlet = B.sink_faults bench.new }) result }
 {
@@ -46,9 +52,11 @@ fn take_octet<B: Bench>(
     octet: u8,
 ) -> Result<(), Stop>
     requires ready { IsReady card.old (B.chip bench.old) }
+    ensures halts { IfErr result (λ stop. Halts stop (octet ∷ [])
+        (record { card = card.old; line = kept_line line.old; chip = B.chip bench.old }) (B.chip bench.new)) }
     ensures feeds { OnOk result (Feeds (octet ∷ [])
-        (record { card = card.old; line = kept_line line.old; chip = B.chip bench.old; given = B.given bench.old })
-        (record { card = card.new; line = kept_line line.new; chip = B.chip bench.new; given = B.given bench.new })) }
+        (record { card = card.old; line = kept_line line.old; chip = B.chip bench.old })
+        (record { card = card.new; line = kept_line line.new; chip = B.chip bench.new })) }
     ensures ready { OnOk result (IsReady card.new (B.chip bench.new)) }
     ensures causes { Causes (record { eeprom = B.faults bench.old; outlet = B.sink_faults bench.old }) (record { eeprom = B.faults bench.new; outlet = B.sink_faults bench.new }) result }
 {
@@ -67,13 +75,25 @@ pub(crate) fn answer_line<B: Bench>(card: &mut Card, bench: &mut B, line: &Line)
     ensures at { (m : Machine) → IsAt card.old (B.chip bench.old) m
         → OnOk result (IsAt card.new (B.chip bench.new) (model.reading_step m (kept_reading (kept_line line.now)))) }
     ensures text { (m : Machine) → IsAt card.old (B.chip bench.old) m
-        → OnOk result (Prints (model.reading_text m (kept_reading (kept_line line.now))) (B.given bench.old) (B.given bench.new)) }
+        → OnOk result (Prints (model.reading_text m (kept_reading (kept_line line.now))) (B.chip bench.old).still.given (B.chip bench.new).still.given) }
+    ensures fails { (m : Machine) → IsAt card.old (B.chip bench.old) m
+        → IfErr result (λ stop. FailsIn stop [] m (kept_reading (kept_line line.now)) (B.chip bench.old).still.given (B.chip bench.new)) }
+    // At each moment a power loss leaves what the line commits, all of it once an octet of its text has gone out,
+    ensures answered { (m : Machine) → IsAt card.old (B.chip bench.old) m
+        → OnOk result (IfGiven (B.chip bench.new) (IsAnswered m (kept_reading (kept_line line.now)) (B.chip bench.old) (B.chip bench.new))) }
+    // also where a device fails.
+    ensures moments { (m : Machine) → IsAt card.old (B.chip bench.old) m
+        → Throughout (B.chip bench.old) (B.chip bench.new) (IsInLine m (kept_reading (kept_line line.now)) (B.chip bench.old).still.mark) }
     ensures ready { OnOk result (IsReady card.new (B.chip bench.new)) }
     ensures causes { Causes (record { eeprom = B.faults bench.old; outlet = B.sink_faults bench.old }) (record { eeprom = B.faults bench.new; outlet = B.sink_faults bench.new }) result }
 {
     match line.read() {
         Reading::Nothing => Ok(()),
         Reading::TooLong => give(bench, b"line too long\n"),
+        Reading::Reset => {
+            card.reset();
+            give(bench, b"reset\n")
+        }
         Reading::NotHexadecimal => give(bench, b"not hexadecimal\n"),
         Reading::Command(octets) => answer_command(card, bench, &octets),
     }
@@ -83,7 +103,13 @@ fn answer_command<B: Bench>(card: &mut Card, bench: &mut B, octets: &[u8]) -> Re
     requires ready { IsReady card.old (B.chip bench.old) }
     ensures at { (m : Machine) → IsAt card.old (B.chip bench.old) m → OnOk result (IsAt card.new (B.chip bench.new) (step m octets.now).machine) }
     ensures text { (m : Machine) → IsAt card.old (B.chip bench.old) m
-        → OnOk result (Prints (encode_upper (model.reply_octets (step m octets.now).reply) ++ codes "\n") (B.given bench.old) (B.given bench.new)) }
+        → OnOk result (Prints (encode_upper (model.reply_octets (step m octets.now).reply) ++ codes "\n") (B.chip bench.old).still.given (B.chip bench.new).still.given) }
+    ensures fails { (m : Machine) → IsAt card.old (B.chip bench.old) m
+        → IfErr result (λ stop. FailsIn stop [] m (model.command octets.now) (B.chip bench.old).still.given (B.chip bench.new)) }
+    ensures answered { (m : Machine) → IsAt card.old (B.chip bench.old) m
+        → OnOk result (IfGiven (B.chip bench.new) (IsAnswered m (model.command octets.now) (B.chip bench.old) (B.chip bench.new))) }
+    ensures moments { (m : Machine) → IsAt card.old (B.chip bench.old) m
+        → Throughout (B.chip bench.old) (B.chip bench.new) (IsInLine m (model.command octets.now) (B.chip bench.old).still.mark) }
     ensures ready { OnOk result (IsReady card.new (B.chip bench.new)) }
     ensures causes { Causes (record { eeprom = B.faults bench.old; outlet = B.sink_faults bench.old }) (record { eeprom = B.faults bench.new; outlet = B.sink_faults bench.new }) result }
 {
@@ -132,9 +158,12 @@ fn print_into(octets: &[u8], digits: &mut [u8])
 }
 
 fn give<B: Bench>(bench: &mut B, text: &[u8]) -> Result<(), Stop>
-    ensures text { OnOk result (Prints text.now (B.given bench.old) (B.given bench.new)) }
+    ensures text { OnOk result (Prints text.now (B.chip bench.old).still.given (B.chip bench.new).still.given) }
+    ensures fails { IfErr result (λ stop. IsCutShort stop text.now (B.chip bench.old).still.given (B.chip bench.new).still.given) }
     ensures image { (B.chip bench.new).image ≡ (B.chip bench.old).image }
     ensures size { (B.chip bench.new).still.size ≡ (B.chip bench.old).still.size }
+    ensures gives { Gives (B.chip bench.old) (B.chip bench.new) }
+    ensures mark { OnOk result (IfGiven (B.chip bench.new) ((B.chip bench.new).still.mark ≡ (B.chip bench.old).still.mark + length text.now)) }
     ensures causes { Causes (record { eeprom = B.faults bench.old; outlet = B.sink_faults bench.old }) (record { eeprom = B.faults bench.new; outlet = B.sink_faults bench.new }) result }
 {
     match bench.give(text) {

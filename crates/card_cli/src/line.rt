@@ -27,6 +27,8 @@ pub(crate) enum Reading {
     TooLong,
     /// Blank, or a note.
     Nothing,
+    /// The word `reset`.
+    Reset,
     NotHexadecimal,
     /// The octets of a command.
     Command(ArrayVec<u8, LONGEST_COMMAND>),
@@ -86,6 +88,7 @@ fn read_digits(line: &[u8]) -> Reading
 {
     match line {
         [] | [b'#', ..] => Reading::Nothing,
+        b"reset" => Reading::Reset,
         digits => match octets_of(digits) {
             None => Reading::NotHexadecimal,
             Some(octets) => Reading::Command(octets),

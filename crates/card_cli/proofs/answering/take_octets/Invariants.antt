@@ -10,6 +10,6 @@ invariant-loop-octet g l = record {
   faults : g.B.Eeprom.faults l.bench ≡ g.B.Eeprom.faults l.fn.bench;
   sink_faults : g.B.Outlet.sink_faults l.bench ≡ g.B.Outlet.sink_faults l.fn.bench;
   feeds : Feeds (take l.octet-index l.octets)
-      (record { card = l.fn.card; line = kept_line l.fn.line; chip = g.B.Eeprom.chip l.fn.bench; given = g.B.Outlet.given l.fn.bench })
-      (record { card = l.card; line = kept_line l.line; chip = g.B.Eeprom.chip l.bench; given = g.B.Outlet.given l.bench });
+      (record { card = l.fn.card; line = kept_line l.fn.line; chip = g.B.Eeprom.chip l.fn.bench })
+      (record { card = l.card; line = kept_line l.line; chip = g.B.Eeprom.chip l.bench });
 }

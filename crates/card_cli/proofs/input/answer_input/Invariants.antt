@@ -13,8 +13,8 @@ invariant-loop-count g l = record {
   sink_faults : g.B.Outlet.sink_faults l.bench ≡ g.B.Outlet.sink_faults l.fn.bench;
   taken : Becomes
       (HasTaken l.room
-      (record { card = l.fn.card; line = Some []; chip = g.B.Eeprom.chip l.fn.bench; given = g.B.Outlet.given l.fn.bench })
-      (record { card = l.card; line = kept_line l.line; chip = g.B.Eeprom.chip l.bench; given = g.B.Outlet.given l.bench }))
+      (record { card = l.fn.card; line = Some []; chip = g.B.Eeprom.chip l.fn.bench })
+      (record { card = l.card; line = kept_line l.line; chip = g.B.Eeprom.chip l.bench }))
       (g.S.Source.left l.fn.source) (g.S.Source.left l.source);
 }
 

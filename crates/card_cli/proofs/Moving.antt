@@ -1,0 +1,247 @@
+-- How moments of a run go on: of a piece of output, of a line, of octets of input.
+use Rattle.std.proofs.Common.{◌≡◌, inl, inr, ℕ, ◌+◌, ◌≤◌, List, [], ◌∷◌, ◌++◌, length, drop, Option, Some, None, IfSome, Result, Ok, Err, false, refl, sym, ap, subst, ◌∙◌, arith, length-append, append_assoc, append-nil}
+use Rattle.std.specs.Prelude.{IsSome, is_some, OnOk}
+use Rattle.eeprom.specs.Chip.{Chip, Still, giving, LeftIn, Gives, Throughout}
+use Rattle.eeprom.proofs.Moments.{left-in-more, drop-more, left-told, left-cases, throughout-weaker}
+use Rattle.scql_model.specs.Machine.{Machine}
+use Rattle.scql_model.specs.Lines.{Reading, is_line_feed, reading_text, reading_step, reading_commits}
+use Rattle.scql_model.specs.Opens.{Opens, OpensToOneOf}
+use Rattle.card.specs.Answering.{LeavesOneOf}
+use Rattle.card.specs.Card.{Kept, IsReady, IsAt, committed_slots}
+use Rattle.card.proofs.Leaving.{Opens-at, unwritten_leaves}
+use Rattle.card_cli.specs.declared.stop.Stop.{Stop}
+use Rattle.card_cli.specs.RunState.{Prints}
+use Rattle.card_cli.specs.Line.{kept_reading, is_nothing_kept}
+use Rattle.card_cli.specs.Running.{Running, after, text_of}
+use Rattle.card_cli.specs.Moments.{IsInLine, IsInAnswered, IsAnswered, IsWhile, IsUntil, IsAtEnd, Passes, IfGiven}
+use Rattle.card_cli.proofs.Streaming.{after-append, text_of-append}
+
+-- one run of calls, and then another
+pub throughout-both : (old mid new : Chip) (P Q R : ℕ → List ℕ → Type 0) → Throughout old mid P → Throughout mid new Q
+    → ((g : ℕ) (left : List ℕ) → P g left → R g left) → ((g : ℕ) (left : List ℕ) → Q g left → R g left) → Throughout old new R
+throughout-both old mid new P Q R first second of_first of_second = record {
+  later = omega (arith, first.later, second.later);
+  only = λ t g left since there. elim (second.only t g left (omega (arith, since, first.later)) there) [
+    | inl before ↦ elim (first.only t g left since before) [
+      | inl earlier ↦ inl earlier
+      | inr now ↦ inr (of_first g left now)
+    ]
+    | inr now ↦ inr (of_second g left now)
+  ];
+  now = λ image told. of_second new.still.mark image (second.now image told);
+}
+
+-- nothing happens
+pub throughout-same : (chip : Chip) (P : ℕ → List ℕ → Type 0) → ((image : List ℕ) → chip.image ≡ Some image → P chip.still.mark image) → Throughout chip chip P
+throughout-same chip P now = record { later = omega arith; only = λ t g left since there. inl there; now = now }
+
+-- while a piece of output goes out, the image stays
+abbrev pub IsInPiece : Chip → ℕ → ℕ → List ℕ → Type 0
+IsInPiece old to g left = (old.still.mark ≤ g) × (g ≤ to) × (old.image ≡ Some left)
+
+pub gives-throughout : (old new : Chip) → IfSome old.past (λ past. length past ≡ old.clock) → Gives old new → Throughout old new (IsInPiece old new.still.mark)
+gives-throughout old new clocked gives = record {
+  later = gives.later;
+  only = λ t g left since there.
+      let case = left-cases new t g left there in
+      let told = gives.past case.0 case.1 in
+      let within : t ≤ length told.0 = omega (arith, since, rw (told.1) at clocked) in
+      elim case.2 [
+        | inl now ↦ inr (omega (arith, gives.mark, now.1), omega (arith, now.1), sym gives.image ∙ now.0)
+        | inr past ↦ elim (told.2) [
+          | inl more ↦
+              let longer : LeftIn (drop t told.0 ++ giving more.0 old.still.mark new.still.mark ∷ []) g left =
+              rw (drop-more t told.0 (giving more.0 old.still.mark new.still.mark) within) at (rw (more.2) at past) in
+              elim (left-in-more (drop t told.0) (giving more.0 old.still.mark new.still.mark) g left longer) [
+                | inl before ↦ inl (left-told old told.0 t g left told.1 before)
+                | inr during ↦ inr (during.0, during.1, more.1 ∙ ap Some (sym during.2))
+              ]
+          | inr none ↦ inl (left-told old told.0 t g left told.1 (rw (none.0) at past))
+        ]
+      ];
+  now = λ image told. (gives.mark, omega arith, sym gives.image ∙ told);
+}
+
+-- what was given is told before where it is told now
+pub told-before : (text : List ℕ) (before now : Option (List ℕ)) → Prints text before now → IsSome now → IsSome before
+told-before text before None prints told = absurd cc
+told-before text before (Some all) prints told = let was = prints all refl in ap is_some was.1
+
+-- A line was carried out, and then a piece of its answer went out.
+pub line-moments : (m : Machine) (reading : Reading) (old mid new : Chip) → LeavesOneOf (m.committed ∷ reading_commits m reading) old mid → mid.still ≡ old.still
+    → Throughout mid new (IsInPiece mid new.still.mark) → Throughout old new (IsInLine m reading old.still.mark)
+line-moments m reading old mid new leaves still gives =
+    throughout-both old mid new (λ g left. (g ≡ old.still.mark) × OpensToOneOf (m.committed ∷ reading_commits m reading) left) (IsInPiece mid new.still.mark) (IsInLine m reading old.still.mark) leaves gives
+    (λ g left during. record { later = omega (arith, during.0); opens = during.1 })
+    (λ g left during. record {
+      later = subst (λ (s : Still). s.mark ≤ g) still during.0;
+      opens = (leaves.now left during.2).1;
+    })
+
+-- the whole text went out, once all of the line's commits were done
+pub line-answered : (m : Machine) (reading : Reading) (old mid new : Chip) → LeavesOneOf (m.committed ∷ reading_commits m reading) old mid → mid.still ≡ old.still
+    → Throughout mid new (IsInPiece mid new.still.mark) → ((image : List ℕ) → mid.image ≡ Some image → Opens image (reading_step m reading).committed)
+    → new.still.mark ≡ mid.still.mark + length (reading_text m reading) → IsAnswered m reading old new
+line-answered m reading old mid new leaves still gives opens mark =
+    let same : mid.still.mark ≡ old.still.mark = ap (λ (s : Still). s.mark) still in
+    record {
+      mark = omega (arith, mark, same);
+      moments = throughout-both old mid new (λ g left. (g ≡ old.still.mark) × OpensToOneOf (m.committed ∷ reading_commits m reading) left) (IsInPiece mid new.still.mark) (IsInAnswered m reading old.still.mark) leaves gives
+          (λ g left during. record {
+            line = record { later = omega (arith, during.0); opens = during.1 };
+            within = omega (arith, during.0);
+            done = λ past. absurd (omega (arith, past, during.0));
+          })
+          (λ g left during. record {
+            line = record { later = omega (arith, same, during.0); opens = (leaves.now left during.2).1 };
+            within = omega (arith, same, mark, during.1);
+            done = λ past. opens left during.2;
+          });
+    }
+
+-- nothing is printed, and nothing happens
+pub line-silent : (m : Machine) (reading : Reading) (chip : Chip) → length (reading_text m reading) ≡ 0
+    → ((image : List ℕ) → chip.image ≡ Some image → Opens image m.committed) → IsAnswered m reading chip chip
+line-silent m reading chip none opens = record {
+  mark = omega (arith, none);
+  moments = throughout-same chip (IsInAnswered m reading chip.still.mark) (λ image told. record {
+    line = record { later = omega arith; opens = inl (opens image told) };
+    within = omega arith;
+    done = λ past. absurd (omega (arith, past));
+  });
+}
+
+-- of a call that was done
+pub on_given : {P Q : Type 0} → (result : Result (Unit {0}) Stop) (now : Chip) → OnOk result (IfGiven now P) → (P → Q) → OnOk result (IfGiven now Q)
+on_given (Ok x) now holds then = λ told. then (holds told)
+on_given (Err stop) now holds then = tt
+
+-- where the image stays, card and EEPROM stay at their machine, whether or not a piece of output could be given
+pub at_stays : (result : Result (Unit {0}) Stop) (card : Kept) (mid now : Chip) (m : Machine) → now.image ≡ mid.image → IsAt card mid m → OnOk result (IsAt card now m)
+at_stays (Ok x) card mid now m same at = record {
+  slots = at.slots;
+  committed = subst (λ (image : Option (List ℕ)). committed_slots card.store image ≡ Some at.slots) (sym same) at.committed;
+  holds = at.holds;
+  valid = at.valid;
+  transaction = at.transaction;
+  sessions = at.sessions;
+}
+at_stays (Err stop) card mid now m same at = tt
+
+-- A line that is no command leaves the EEPROM, and its text goes out.
+pub note-moments : (m : Machine) (reading : Reading) (card : Kept) (old now : Chip) → IsReady card old → IsAt card old m
+    → IfSome old.past (λ past. length past ≡ old.clock) → Gives old now → Throughout old now (IsInLine m reading old.still.mark)
+note-moments m reading card old now ready at clocked gives =
+    line-moments m reading old old now (unwritten_leaves card old old m (reading_commits m reading) ready at refl) refl (gives-throughout old now clocked gives)
+
+pub note-answered : (result : Result (Unit {0}) Stop) (m : Machine) (reading : Reading) (text : List ℕ) (card : Kept) (old now : Chip) → IsReady card old → IsAt card old m
+    → text ≡ reading_text m reading → m.committed ≡ (reading_step m reading).committed
+    → IfSome old.past (λ past. length past ≡ old.clock) → Gives old now → OnOk result (IfGiven now (now.still.mark ≡ old.still.mark + length text)) → OnOk result (IfGiven now (IsAnswered m reading old now))
+note-answered result m reading text card old now ready at is same clocked gives mark =
+    on_given result now mark (λ mark. line-answered m reading old old now (unwritten_leaves card old old m (reading_commits m reading) ready at refl) refl (gives-throughout old now clocked gives)
+    (λ image told. subst (Opens image) same (Opens-at card old m ready at image told)) (mark ∙ ap (λ (t : List ℕ). old.still.mark + length t) is))
+
+-- A moment among octets is one among more of them.
+while-longer : (xs ys : List ℕ) (r : Running) (mark g : ℕ) (left : List ℕ) → IsWhile xs r mark g left → IsWhile (xs ++ ys) r mark g left
+while-longer xs ys r mark g left (inl between) = inl (record {
+  taken = between.taken;
+  rest = between.rest ++ ys;
+  split = ap (λ (x : List ℕ). x ++ ys) between.split ∙ append_assoc between.taken between.rest ys;
+  mark_is = between.mark_is;
+  opens = between.opens;
+})
+while-longer xs ys r mark g left (inr answering) = inr (record {
+  taken = answering.taken;
+  rest = answering.rest ++ ys;
+  split = ap (λ (x : List ℕ). x ++ ys) answering.split ∙ append_assoc answering.taken (10 ∷ answering.rest) ys;
+  answered = answering.answered;
+})
+
+-- the mark behind octets in two parts
+mark-append : (xs ys : List ℕ) (r : Running) (mark : ℕ) → mark + length (text_of r xs) + length (text_of (after r xs) ys) ≡ mark + length (text_of r (xs ++ ys))
+mark-append xs ys r mark = omega (arith, ap length (text_of-append xs ys r), length-append (text_of r xs) (text_of (after r xs) ys))
+
+-- a moment behind other octets
+while-behind : (xs ys : List ℕ) (r : Running) (mark g : ℕ) (left : List ℕ) → IsWhile ys (after r xs) (mark + length (text_of r xs)) g left → IsWhile (xs ++ ys) r mark g left
+while-behind xs ys r mark g left (inl between) = inl (record {
+  taken = xs ++ between.taken;
+  rest = between.rest;
+  split = ap (λ (y : List ℕ). xs ++ y) between.split ∙ sym (append_assoc xs between.taken between.rest);
+  mark_is = between.mark_is ∙ mark-append xs between.taken r mark;
+  opens = subst (λ (s : Running). Opens left s.machine.committed) (sym (after-append xs between.taken r)) between.opens;
+})
+while-behind xs ys r mark g left (inr answering) = inr (record {
+  taken = xs ++ answering.taken;
+  rest = answering.rest;
+  split = ap (λ (y : List ℕ). xs ++ y) answering.split ∙ sym (append_assoc xs answering.taken (10 ∷ answering.rest));
+  answered = subst (λ (mark : ℕ). IsInAnswered (after r (xs ++ answering.taken)).machine (kept_reading (after r (xs ++ answering.taken)).begun) mark g left) (mark-append xs answering.taken r mark)
+      (subst (λ (s : Running). IsInAnswered s.machine (kept_reading s.begun) (mark + length (text_of r xs) + length (text_of (after r xs) answering.taken)) g left) (sym (after-append xs answering.taken r)) answering.answered);
+})
+
+-- So it is where a device fails behind the later octets.
+until-behind : (xs ys : List ℕ) (r : Running) (mark g : ℕ) (left : List ℕ) → IsUntil ys (after r xs) (mark + length (text_of r xs)) g left → IsUntil (xs ++ ys) r mark g left
+until-behind xs ys r mark g left (inl during) = inl (while-behind xs ys r mark g left during)
+until-behind xs ys r mark g left (inr line) =
+    inr (subst (λ (mark : ℕ). IsInLine (after r (xs ++ ys)).machine (kept_reading (after r (xs ++ ys)).begun) mark g left) (mark-append xs ys r mark)
+    (subst (λ (s : Running). IsInLine s.machine (kept_reading s.begun) (mark + length (text_of r xs) + length (text_of (after r xs) ys)) g left) (sym (after-append xs ys r)) line))
+
+pub Passes-nothing : (r : Running) (chip : Chip) → ((image : List ℕ) → chip.image ≡ Some image → Opens image r.machine.committed) → Passes [] r chip chip
+Passes-nothing r chip opens = record {
+  mark = omega arith;
+  moments = throughout-same chip (IsWhile [] r chip.still.mark) (λ image told. inl (record { taken = []; rest = []; split = refl; mark_is = omega arith; opens = opens image told }));
+}
+
+-- any other octet than a line feed is one more of the line
+pub Passes-other : (octet : ℕ) (r : Running) (chip : Chip) → is_line_feed octet ≡ false → ((image : List ℕ) → chip.image ≡ Some image → Opens image r.machine.committed)
+    → Passes (octet ∷ []) r chip chip
+Passes-other octet r chip other opens = record {
+  mark = rw other (omega arith);
+  moments = throughout-same chip (IsWhile (octet ∷ []) r chip.still.mark)
+      (λ image told. inl (record { taken = []; rest = octet ∷ []; split = refl; mark_is = omega arith; opens = opens image told }));
+}
+
+pub Passes-then : (xs ys : List ℕ) (r : Running) (a b c : Chip) → Passes xs r a b → Passes ys (after r xs) b c → Passes (xs ++ ys) r a c
+Passes-then xs ys r a b c first second = record {
+  mark = omega (arith, first.mark, second.mark, mark-append xs ys r a.still.mark);
+  moments = throughout-both a b c (IsWhile xs r a.still.mark) (IsWhile ys (after r xs) b.still.mark) (IsWhile (xs ++ ys) r a.still.mark) first.moments second.moments
+      (λ g left during. while-longer xs ys r a.still.mark g left during)
+      (λ g left during. while-behind xs ys r a.still.mark g left (subst (λ (mark : ℕ). IsWhile ys (after r xs) mark g left) first.mark during));
+}
+
+-- a device fails behind octets that were taken
+pub until-then : (xs ys : List ℕ) (r : Running) (a b now : Chip) → Passes xs r a b → Throughout b now (IsUntil ys (after r xs) b.still.mark) → Throughout a now (IsUntil (xs ++ ys) r a.still.mark)
+until-then xs ys r a b now first second =
+    throughout-both a b now (IsWhile xs r a.still.mark) (IsUntil ys (after r xs) b.still.mark) (IsUntil (xs ++ ys) r a.still.mark) first.moments second
+    (λ g left during. inl (while-longer xs ys r a.still.mark g left during))
+    (λ g left during. until-behind xs ys r a.still.mark g left (subst (λ (mark : ℕ). IsUntil ys (after r xs) mark g left) first.mark during))
+
+-- a line feed ends the line that has begun, which is answered
+pub Passes-line_feed : (r : Running) (old new : Chip) → IsAnswered r.machine (kept_reading r.begun) old new → Passes (10 ∷ []) r old new
+Passes-line_feed r old new answered =
+    let text : List ℕ = reading_text r.machine (kept_reading r.begun) in
+    record {
+      mark = omega (arith, answered.mark, ap length (append-nil text));
+      moments = throughout-weaker old new (IsInAnswered r.machine (kept_reading r.begun) old.still.mark) (IsWhile (10 ∷ []) r old.still.mark) answered.moments
+          (λ g left during. inr (record {
+            taken = [];
+            rest = [];
+            split = refl;
+            answered = subst (λ (mark : ℕ). IsInAnswered r.machine (kept_reading r.begun) mark g left) (omega arith) during;
+          }));
+    }
+
+-- or a device fails in it
+pub until-line_feed : (r : Running) (old now : Chip) → Throughout old now (IsInLine r.machine (kept_reading r.begun) old.still.mark) → Throughout old now (IsUntil [] r old.still.mark)
+until-line_feed r old now moments =
+    throughout-weaker old now (IsInLine r.machine (kept_reading r.begun) old.still.mark) (IsUntil [] r old.still.mark) moments
+    (λ g left during. inr (subst (λ (mark : ℕ). IsInLine r.machine (kept_reading r.begun) mark g left) (omega arith) during))
+
+-- The last line is answered.
+pub at_end-answered : (r : Running) (line : Option (List ℕ)) (old new : Chip) → line ≡ r.begun → is_nothing_kept line ≡ false → IsAnswered r.machine (kept_reading line) old new
+    → Throughout old new (IsAtEnd r old.still.mark)
+at_end-answered r line old new is some answered =
+    throughout-weaker old new (IsInAnswered r.machine (kept_reading line) old.still.mark) (IsAtEnd r old.still.mark) answered.moments
+    (λ g left during. inr (
+      subst (λ (l : Option (List ℕ)). is_nothing_kept l ≡ false) is some,
+      subst (λ (l : Option (List ℕ)). IsInAnswered r.machine (kept_reading l) old.still.mark g left) is during,
+    ))

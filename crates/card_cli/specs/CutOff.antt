@@ -1,0 +1,49 @@
+-- Where a run ends: what was given until then, and to which databases the image may open.
+use Rattle.std.specs.Prelude.{◌≡◌, ◌⊎◌, ℕ, List, ◌∷◌, ◌++◌, Option, Some, codes}
+use Rattle.eeprom.specs.Chip.{Chip}
+use Rattle.scql_model.specs.Machine.{Machine}
+use Rattle.scql_model.specs.Lines.{Reading, reading_of, reading_text, reading_commits, run_text, machine_after}
+use Rattle.scql_model.specs.Opens.{Opens, OpensToOneOf}
+use Rattle.card_cli.specs.declared.stop.Stop.{Stop}
+use Rattle.card_cli.specs.declared.stop.Stop.TheVariants.{Eeprom, Outlet}
+use Rattle.card_cli.specs.RunState.{Prints}
+
+-- These lines were answered: their text follows what was given before, and the image opens to the database after them.
+pub record HasAnswered (m : Machine) (lines : List (List ℕ)) (before : Option (List ℕ)) (now : Chip) : Type 0 where
+  pub text : Prints (run_text m lines) before now.still.given
+  pub image : (image : List ℕ) → now.image ≡ Some image → Opens image (machine_after m lines).committed
+
+-- the last answer of a card that goes mute
+abbrev pub mute_text : List ℕ
+mute_text = codes "6581\n"
+
+-- a text begins so
+abbrev pub IsStartOf : List ℕ → List ℕ → Type 0
+IsStartOf said text = (rest : List ℕ) × (text ≡ said ++ rest)
+
+-- What is said of a line with this text in which a device fails: a card tells that its EEPROM did, and an outlet gives the start of an answer.
+abbrev pub Says : Stop → List ℕ → List ℕ → Type 0
+Says Eeprom text said = said ≡ mute_text
+Says Outlet text said = IsStartOf said text ⊎ IsStartOf said mute_text
+
+-- A device failed in a line that reads so. What was said of it follows this text of the lines before, and the image opens to the database before the line or to one that the line commits.
+pub record FailsIn (stop : Stop) (clean : List ℕ) (m : Machine) (reading : Reading) (before : Option (List ℕ)) (now : Chip) : Type 0 where
+  pub said : List ℕ
+  pub says : Says stop (reading_text m reading) said
+  pub given : Prints (clean ++ said) before now.still.given
+  pub image : (image : List ℕ) → now.image ≡ Some image → OpensToOneOf (m.committed ∷ reading_commits m reading) image
+
+-- The clean lines were answered, and in the one after them a device failed.
+pub record StopsIn (stop : Stop) (m : Machine) (lines : List (List ℕ)) (before : Option (List ℕ)) (now : Chip) : Type 0 where
+  pub clean : List (List ℕ)
+  pub line : List ℕ
+  pub rest : List (List ℕ)
+  pub split : lines ≡ clean ++ line ∷ rest
+  pub fails : FailsIn stop (run_text m clean) (machine_after m clean) (reading_of line) before now
+
+-- An outlet failed, and gave the start of a text.
+pub record IsCutShort (stop : Stop) (text : List ℕ) (before now : Option (List ℕ)) : Type 0 where
+  pub outlet : stop ≡ Outlet
+  pub said : List ℕ
+  pub start : IsStartOf said text
+  pub given : Prints said before now

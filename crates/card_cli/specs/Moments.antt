@@ -1,0 +1,64 @@
+-- Moments of a run: where in it power is lost, and what the EEPROM then holds.
+use Rattle.std.specs.Prelude.{◌≡◌, ◌⊎◌, ℕ, ◌+◌, ◌<◌, ◌≤◌, false, List, ◌∷◌, ◌++◌, length, IsSome}
+use Rattle.eeprom.specs.Chip.{Chip, Throughout}
+use Rattle.scql_model.specs.Machine.{Machine}
+use Rattle.scql_model.specs.Lines.{Reading, reading_text, reading_step, reading_commits}
+use Rattle.scql_model.specs.Opens.{Opens, OpensToOneOf}
+use Rattle.card_cli.specs.Line.{kept_reading, is_nothing_kept}
+use Rattle.card_cli.specs.Running.{Running, after, text_of}
+
+-- In a line that was begun at this mark: the image opens to the database before it, or to one that it commits.
+pub record IsInLine (m : Machine) (reading : Reading) (mark g : ℕ) (left : List ℕ) : Type 0 where
+  pub later : mark ≤ g
+  pub opens : OpensToOneOf (m.committed ∷ reading_commits m reading) left
+
+-- In a line that is answered: at most its text has gone out, and the first octet of it not before all that the line commits.
+pub record IsInAnswered (m : Machine) (reading : Reading) (mark g : ℕ) (left : List ℕ) : Type 0 where
+  pub line : IsInLine m reading mark g left
+  pub within : g ≤ mark + length (reading_text m reading)
+  pub done : mark < g → Opens left (reading_step m reading).committed
+
+-- An answer raised the mark by its text.
+pub record IsAnswered (m : Machine) (reading : Reading) (old new : Chip) : Type 0 where
+  pub mark : new.still.mark ≡ old.still.mark + length (reading_text m reading)
+  pub moments : Throughout old new (IsInAnswered m reading old.still.mark)
+
+-- Between two octets of input the image opens to the database of the machine there.
+pub record IsBetween (octets : List ℕ) (r : Running) (mark g : ℕ) (left : List ℕ) : Type 0 where
+  pub taken : List ℕ
+  pub rest : List ℕ
+  pub split : octets ≡ taken ++ rest
+  pub mark_is : g ≡ mark + length (text_of r taken)
+  pub opens : Opens left (after r taken).machine.committed
+
+-- A line is answered, which a line feed among the octets ends.
+pub record IsAnswering (octets : List ℕ) (r : Running) (mark g : ℕ) (left : List ℕ) : Type 0 where
+  pub taken : List ℕ
+  pub rest : List ℕ
+  pub split : octets ≡ taken ++ 10 ∷ rest
+  pub answered : IsInAnswered (after r taken).machine (kept_reading (after r taken).begun) (mark + length (text_of r taken)) g left
+
+-- while octets of input are taken
+abbrev pub IsWhile : List ℕ → Running → ℕ → ℕ → List ℕ → Type 0
+IsWhile octets r mark g left = IsBetween octets r mark g left ⊎ IsAnswering octets r mark g left
+
+-- while octets are taken, or in the line that has begun behind them, in which a device fails
+abbrev pub IsUntil : List ℕ → Running → ℕ → ℕ → List ℕ → Type 0
+IsUntil octets r mark g left =
+    IsWhile octets r mark g left
+    ⊎ IsInLine (after r octets).machine (kept_reading (after r octets).begun) (mark + length (text_of r octets)) g left
+
+-- at the end of the input, where a line that has begun is answered
+abbrev pub IsAtEnd : Running → ℕ → ℕ → List ℕ → Type 0
+IsAtEnd r mark g left =
+    ((g ≡ mark) × Opens left r.machine.committed)
+    ⊎ ((is_nothing_kept r.begun ≡ false) × IsInAnswered r.machine (kept_reading r.begun) mark g left)
+
+-- Octets of input raise the mark by their text.
+pub record Passes (octets : List ℕ) (r : Running) (old new : Chip) : Type 0 where
+  pub mark : new.still.mark ≡ old.still.mark + length (text_of r octets)
+  pub moments : Throughout old new (IsWhile octets r old.still.mark)
+
+-- where what was given is told
+abbrev pub IfGiven : Chip → Type 0 → Type 0
+IfGiven now P = IsSome now.still.given → P
