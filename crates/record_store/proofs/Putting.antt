@@ -95,40 +95,6 @@ weights-but image n links (first ∷ rest) chains (suc slot) new octets few coun
     let weights = sum_by-cons cells_of (slot_of image n parts.0) (set (map (slot_of image n) parts.1) slot (Some octets)) in
     rw (parts.4) (omega (arith, one, more.0, split, lengths), omega (arith, cells.1, one, more.1, split, weights))
 
--- the record of a chain that was written
-cut : (xs : List ℕ) (a b : ℕ) → a ≤ b → slice_range xs a b ≡ drop a (take b xs)
-cut xs a b within = let whole : a + (b - a) ≡ b = omega arith in sym (rw whole at (drop-take a (b - a) xs))
-
-number-front : (payload : List ℕ) (m : ℕ) → 2 ≤ m → number_at (take m payload) 0 ≡ number_at payload 0
-number-front payload m long = rw (get_or-take m payload 0 0 (omega arith), get_or-take m payload 1 0 (omega arith)) refl
-
-record-front : (payload : List ℕ) (m : ℕ) → 2 + number_at payload 0 ≤ m → record_in (take m payload) ≡ record_in payload
-record-front payload m long =
-    let k = number_at payload 0 in
-    let number : number_at (take m payload) 0 ≡ k = number-front payload m (omega arith) in
-    ap (λ (k : ℕ). slice_range (take m payload) 2 (2 + k)) number
-    ∙ cut (take m payload) 2 (2 + k) (omega arith)
-    ∙ ap (λ (xs : List ℕ). drop 2 xs) (take-take (2 + k) m payload long)
-    ∙ sym (cut payload 2 (2 + k) (omega arith))
-
-record-written : (image : List ℕ) (n : ℕ) (payload octets : List ℕ) (count : ℕ) (chain : List ℕ) (start marks : List Bool) → 70 * n + 34 ≤ length image → length chain ≡ count → count ≡ cells_for (length octets) → 1 ≤ length octets → length octets ≤ 512
-    → number_at payload 0 ≡ length octets → record_in payload ≡ octets → flat_map (payload_of image n) chain ≡ slice_range payload 0 (30 * count) → AllByRecursion (IsTaken n start marks) chain
-    → (is_record image n chain ≡ true) × (slot_of image n chain ≡ Some octets)
-record-written image n payload octets count [] start marks room size cells some most number record_is flat taken = absurd (omega arith)
-record-written image n payload octets count (cell ∷ chain) start marks room size cells some most number record_is flat taken =
-    let m : ℕ = 30 * count in
-    let front : flat_map (payload_of image n) (cell ∷ chain) ≡ take m payload = flat ∙ cut payload 0 m (omega arith) in
-    let one : length (payload_of image n cell) ≡ 30 = length-payload image n cell taken.0.inside room in
-    let size_is : number_at (payload_of image n cell) 0 ≡ length octets =
-    rw⁻¹ (
-      get_or_append_left (payload_of image n cell) (flat_map (payload_of image n) chain) 0 0 (omega arith),
-      get_or_append_left (payload_of image n cell) (flat_map (payload_of image n) chain) 0 1 (omega arith),
-    ) (ap (λ (xs : List ℕ). number_at xs 0) front ∙ number-front payload m (omega arith) ∙ number) in
-    let low : nat_le 1 (length octets) ≡ true = le-leb 1 (length octets) some in
-    let high : nat_le (length octets) 512 ≡ true = le-leb (length octets) 512 most in
-    let exact : (length (cell ∷ chain) == cells_for (length octets)) ≡ true = eq-eqb (length (cell ∷ chain)) (cells_for (length octets)) (size ∙ cells) in
-    (rw (size_is, low, high, exact) refl, ap (λ (xs : List ℕ). Some (record_in xs)) front ∙ ap (λ (xs : List ℕ). Some xs) (record-front payload m (omega arith) ∙ record_is))
-
 -- an image that keeps the marked cells has the same committed records
 some-slots : {X : Type 0} (o : Option X) → IsSome o → (x : X) × (o ≡ Some x)
 some-slots None h = absurd (cc)

@@ -1,0 +1,120 @@
+-- Chains of an image: their cells, their payload and their records.
+use Rattle.std.proofs.Common.{◌≡◌, ℕ, zero, suc, ◌+◌, ◌*◌, ◌<◌, ◌≤◌, ◌==◌, ◌&&◌, Bool, true, false, List, [], ◌∷◌, ◌++◌, length, flat_map, nat_lt, nat_le, Option, Some, None, option_map, option_and_then, IfSome, if◌then◌else◌, sym, refl, ap, ◌∙◌, arith, length-append, length-take, length-drop, leb-true, eqb-true, ltb-true, ◌⊎◌, inl, inr}
+use Rattle.std.proofs.lemmas.Option.{same_Some, none-some}
+use Rattle.std.proofs.lemmas.List.{get_or_append_left}
+use Rattle.eeprom.specs.StoreOf.{chain_of, cell_place, cells_for, cells_of, payload_of, number_at, is_record, record_in, slot_of}
+use Rattle.cell_store.specs.Chains.{IsRecordChain}
+
+pub both : (a b : Bool) → a && b ≡ true → (a ≡ true) × (b ≡ true)
+both true b h = (refl, h)
+both false b h = absurd (cc)
+
+-- the payload of a chain is 30 octets a cell
+pub length-payload : (image : List ℕ) (n cell : ℕ) → cell < 2 * n → 70 * n + 34 ≤ length image → length (payload_of image n cell) ≡ 30
+length-payload image n cell inside room = simp (length-take, length-drop) (omega arith)
+
+pub if-some : (test : Bool) (chain : List ℕ) → (if test then Some [] else None) ≡ Some chain → (test ≡ true) × (chain ≡ [])
+if-some true chain h = (refl, sym (same_Some _ _ h))
+if-some false chain h = absurd (none-some chain h)
+
+-- a chain is none, or a cell and the chain from its link on
+pub chain-cases : (is_end is_cell : Bool) (cell : ℕ) (tail : Option (List ℕ)) (chain : List ℕ) → (if is_end then Some [] else (if is_cell then option_map (λ cells. cell ∷ cells) tail else None)) ≡ Some chain
+    → ((is_end ≡ true) × (chain ≡ [])) ⊎ ((is_cell ≡ true) × (rest : List ℕ) × (tail ≡ Some rest) × (chain ≡ cell ∷ rest))
+chain-cases true is_cell cell tail chain h = inl (refl, sym (same_Some _ _ h))
+chain-cases false true cell None chain h = absurd (none-some chain h)
+chain-cases false true cell (Some rest) chain h = inr (refl, rest, refl, sym (same_Some _ _ h))
+chain-cases false false cell tail chain h = absurd (none-some chain h)
+
+pub length-chain : (image : List ℕ) (n most cell : ℕ) (chain : List ℕ) → 70 * n + 34 ≤ length image → chain_of image n most cell ≡ Some chain → length (flat_map (payload_of image n) chain) ≡ 30 * length chain
+length-chain image n zero cell chain room h = rw ((if-some (cell == 65535) chain h).1) refl
+length-chain image n (suc most) cell chain room h =
+    elim (chain-cases (cell == 65535) (nat_lt cell (2 * n)) cell (chain_of image n most (number_at image (cell_place n cell))) chain h) [
+      | inl none ↦ rw (none.1) refl
+      | inr some ↦
+          let inside : cell < 2 * n = ltb-true cell (2 * n) some.0 in
+          rw (some.3) (omega (
+            arith,
+            length-append (payload_of image n cell) (flat_map (payload_of image n) some.1),
+            length-payload image n cell inside room,
+            length-chain image n most (number_at image (cell_place n cell)) some.1 room some.2,
+          ))
+    ]
+
+-- a chain of no cell is one that begins nowhere
+pub chain-empty : (image : List ℕ) (n most cell : ℕ) → chain_of image n most cell ≡ Some [] → cell ≡ 65535
+chain-empty image n zero cell h = eqb-true cell 65535 (if-some (cell == 65535) [] h).0
+chain-empty image n (suc most) cell h =
+    elim (chain-cases (cell == 65535) (nat_lt cell (2 * n)) cell (chain_of image n most (number_at image (cell_place n cell))) [] h) [
+      | inl none ↦ eqb-true cell 65535 none.0
+      | inr some ↦ absurd (let e = some.3 in cc)
+    ]
+
+pub chain-first : (image : List ℕ) (n most first cell : ℕ) (cells : List ℕ) → chain_of image n most first ≡ Some (cell ∷ cells) → cell < 2 * n
+chain-first image n zero first cell cells h = absurd (let e = (if-some (first == 65535) (cell ∷ cells) h).1 in cc)
+chain-first image n (suc most) first cell cells h =
+    elim (chain-cases (first == 65535) (nat_lt first (2 * n)) first (chain_of image n most (number_at image (cell_place n first))) (cell ∷ cells) h) [
+      | inl none ↦ absurd (let e = none.1 in cc)
+      | inr some ↦ let e : cell ≡ first = (let f = some.3 in cc) in rw e (ltb-true first (2 * n) some.0)
+    ]
+
+pub chain-nowhere : (image : List ℕ) (n most : ℕ) (chain : List ℕ) → chain_of image n most 65535 ≡ Some chain → chain ≡ []
+chain-nowhere image n zero chain h = sym (same_Some _ _ h)
+chain-nowhere image n (suc most) chain h = sym (same_Some _ _ h)
+
+record-of : (n first : ℕ) (image payload out : List ℕ) (cell : ℕ) (cells : List ℕ) → 70 * n + 34 ≤ length image
+    → (length (cell ∷ cells) ≤ 18 → payload ≡ flat_map (payload_of image n) (cell ∷ cells))
+    → (number_at payload 0 ≤ 512 → 2 + number_at payload 0 ≤ length payload → out ≡ record_in payload)
+    → chain_of image n (2 * n) first ≡ Some (cell ∷ cells) → is_record image n (cell ∷ cells) ≡ true
+    → slot_of image n (cell ∷ cells) ≡ Some out
+record-of n first image payload out cell cells room read copied h is =
+    let size : ℕ = number_at (payload_of image n cell) 0 in
+    let tests = both (nat_le 1 size && nat_le size 512) (length (cell ∷ cells) == cells_for size) is in
+    let high : size ≤ 512 = leb-true size 512 (both (nat_le 1 size) (nat_le size 512) tests.0).1 in
+    let count : length (cell ∷ cells) ≡ cells_for size = eqb-true (length (cell ∷ cells)) (cells_for size) tests.1 in
+    let octets : payload ≡ payload_of image n cell ++ flat_map (payload_of image n) cells = read (omega arith) in
+    let one : length (payload_of image n cell) ≡ 30 = length-payload image n cell (chain-first image n (2 * n) first cell cells h) room in
+    let number : number_at payload 0 ≡ size =
+    rw (
+      octets,
+      get_or_append_left (payload_of image n cell) (flat_map (payload_of image n) cells) 0 0 (omega arith),
+      get_or_append_left (payload_of image n cell) (flat_map (payload_of image n) cells) 0 1 (omega arith),
+    ) refl in
+    let total : length payload ≡ 30 * length (cell ∷ cells) = ap (length {A = ℕ}) octets ∙ length-chain image n (2 * n) first (cell ∷ cells) room h in
+    let copy = copied (omega arith) (omega arith) in
+    rw (copy, octets) refl
+
+pub record-some : (n first : ℕ) (image : Option (List ℕ)) (size : ℕ) (payload out : List ℕ) → 70 * n + 34 ≤ size → IfSome image (λ image. length image ≡ size)
+    → IfSome image (λ image. (chain : List ℕ) → chain_of image n (2 * n) first ≡ Some chain → length chain ≤ 18 → payload ≡ flat_map (payload_of image n) chain)
+    → (number_at payload 0 ≤ 512 → 2 + number_at payload 0 ≤ length payload → out ≡ record_in payload)
+    → IfSome image (λ image. (chain : List ℕ) → IsRecordChain image n first chain → slot_of image n chain ≡ Some out)
+record-some n first None size payload out room sized read copied = tt
+record-some n first (Some image) size payload out room sized read copied =
+    λ chain r. elim chain as (λ chain. IsRecordChain image n first chain → slot_of image n chain ≡ Some out) [
+      | [] ↦ λ r. absurd (omega (arith, r.some))
+      | cell ∷ cells ↦ λ r. record-of n first image payload out cell cells (omega arith) (read (cell ∷ cells) r.of) copied r.of r.is
+    ] r
+
+pub chains-parts : (first : Option (List ℕ)) (rest : Option (List (List ℕ))) (chains : List (List ℕ)) → option_and_then (λ cells. option_map (λ others. cells ∷ others) rest) first ≡ Some chains
+    → (chain : List ℕ) × (others : List (List ℕ)) × (first ≡ Some chain) × (rest ≡ Some others) × (chains ≡ chain ∷ others)
+chains-parts None rest chains h = absurd (none-some chains h)
+chains-parts (Some chain) None chains h = absurd (none-some chains h)
+chains-parts (Some chain) (Some others) chains h = (chain, others, refl, refl, sym (same_Some _ _ h))
+
+-- a record's chain has the cells of its octets
+pub cells-chain : (image : List ℕ) (n first : ℕ) (chain : List ℕ) → 70 * n + 34 ≤ length image → chain_of image n (2 * n) first ≡ Some chain → is_record image n chain ≡ true → (length chain ≤ 18) × (length chain ≡ cells_of (slot_of image n chain))
+cells-chain image n first [] room h is = (omega arith, refl)
+cells-chain image n first (cell ∷ cells) room h is =
+    let size : ℕ = number_at (payload_of image n cell) 0 in
+    let payload : List ℕ = payload_of image n cell ++ flat_map (payload_of image n) cells in
+    let tests = both (nat_le 1 size && nat_le size 512) (length (cell ∷ cells) == cells_for size) is in
+    let high : size ≤ 512 = leb-true size 512 (both (nat_le 1 size) (nat_le size 512) tests.0).1 in
+    let count : length (cell ∷ cells) ≡ cells_for size = eqb-true (length (cell ∷ cells)) (cells_for size) tests.1 in
+    let one : length (payload_of image n cell) ≡ 30 = length-payload image n cell (chain-first image n (2 * n) first cell cells h) room in
+    let number : number_at payload 0 ≡ size =
+    rw (
+      get_or_append_left (payload_of image n cell) (flat_map (payload_of image n) cells) 0 0 (omega arith),
+      get_or_append_left (payload_of image n cell) (flat_map (payload_of image n) cells) 0 1 (omega arith),
+    ) refl in
+    let total : length payload ≡ 30 * length (cell ∷ cells) = length-chain image n (2 * n) first (cell ∷ cells) room h in
+    let octets : length (record_in payload) ≡ size = rw number (simp (length-take, length-drop) (omega arith)) in
+    (omega arith, count ∙ ap cells_for (sym octets))

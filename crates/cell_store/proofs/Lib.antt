@@ -1,0 +1,17 @@
+pub mod Among
+pub mod Cells
+pub mod Chains
+pub mod Claiming
+pub mod FreeRuns
+pub mod Freeing
+pub mod Linking
+pub mod Marking
+pub mod Overwrite
+pub mod Placements
+pub mod Places
+pub mod Reading
+pub mod Regions
+pub mod Runs
+pub mod SameChains
+pub mod Walking
+pub mod Writing

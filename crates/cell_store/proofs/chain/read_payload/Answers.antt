@@ -1,0 +1,44 @@
+use Rattle.std.proofs.Common.{refl, rules, arith, length-append, length-take, length-drop}
+use Rattle.cell_store.proofs.Reading.{reads-none, reads-more, reads-end, reads-full}
+use Rattle.cell_store.proofs.Walking.{Walked-start, Walked-more, Walked-end, Walked-full}
+use Rattle.cell_store.proofs.chain.read_payload.Goals as goal
+
+pub loop-step-init : goal.loop-step-init
+loop-step-init g c = record {
+  size = rw c.clear.ensures refl;
+  walked = Walked-start c.args.cells c.args.first c.clear.new.self.items (g.B.Eeprom.chip c.args.bench.now).image c.clear.ensures;
+  read = reads-none (g.B.Eeprom.octets_read c.args.bench.now);
+  same = refl;
+  faults = refl;
+}
+
+pub loop-step-preserved : goal.loop-step-preserved
+loop-step-preserved g c = record {
+  size = rw c.append.ensures.appends (simp (length-append, length-take, length-drop) (omega arith));
+  walked =
+      let read = rw (c.loop-step.invariant.same, c.cell_place.ensures) at c.in_ok-read.ensures.octets in
+      Walked-more c.args.cells c.args.first c.loop-step.cell c.loop-step.payload.items c.append.new.payload.items c.loop-step._step c.number_of-cell.result
+      (g.B.Eeprom.chip c.args.bench.now).image c.read.new.into c.requires.many c.if-cell-cells.false read c.number_of-cell.ensures.number c.append.ensures.appends
+      c.loop-step.invariant.walked;
+  read = reads-more c.loop-step._step (g.B.Eeprom.octets_read c.args.bench.now) (g.B.Eeprom.octets_read c.loop-step.bench) (g.B.Eeprom.octets_read c.read.new.self) c.loop-step.invariant.read c.read.ensures.read;
+  same = search rules;
+  faults = search rules;
+}
+
+pub returns-after-loop-step-clause-payload : goal.returns-after-loop-step-clause-payload
+returns-after-loop-step-clause-payload g c =
+    Walked-full c.args.cells c.args.first c.loop-step.cell c.loop-step.payload.items c.loop-step._step 18 (g.B.Eeprom.chip c.args.bench.now).image (omega arith) c.loop-step.invariant.walked
+
+pub returns-then-cell-cells-clause-payload : goal.returns-then-cell-cells-clause-payload
+returns-then-cell-cells-clause-payload g c =
+    Walked-end c.args.cells c.args.first c.loop-step.cell c.loop-step.payload.items c.loop-step._step 18 (g.B.Eeprom.chip c.args.bench.now).image (omega arith) c.loop-step.invariant.walked
+
+pub returns-after-loop-step-clause-octets_read : goal.returns-after-loop-step-clause-octets_read
+returns-after-loop-step-clause-octets_read g c =
+    reads-full c.args.cells c.args.first c.loop-step.cell c.loop-step.payload.items c.loop-step._step 18 (g.B.Eeprom.chip c.args.bench.now).image (g.B.Eeprom.octets_read c.args.bench.now) (g.B.Eeprom.octets_read c.loop-step.bench) (omega arith)
+    c.loop-step.invariant.read c.loop-step.invariant.walked
+
+pub returns-then-cell-cells-clause-octets_read : goal.returns-then-cell-cells-clause-octets_read
+returns-then-cell-cells-clause-octets_read g c =
+    reads-end c.args.cells c.args.first c.loop-step.cell c.loop-step.payload.items c.loop-step._step 18 (g.B.Eeprom.chip c.args.bench.now).image (g.B.Eeprom.octets_read c.args.bench.now) (g.B.Eeprom.octets_read c.loop-step.bench) (omega arith)
+    c.loop-step.invariant.read c.loop-step.invariant.walked

@@ -1,0 +1,53 @@
+-- What a store of cells keeps in memory, and of which images it speaks.
+use Rattle.std.specs.Prelude.{◌≡◌, ℕ, ◌*◌, ◌≤◌, Bool, true, false, List, length, replicate, slice_index}
+use Rattle.std.specs.List.{AllByRecursion}
+use Rattle.eeprom.specs.StoreOf.{number_at, cell_place}
+use Rattle.cell_store.specs.Marks.{is_marked}
+use Rattle.cell_store.specs.Chains.{AreLinked, with_unmarked}
+
+-- the number of cells that records may have, of which there are twice as many; which cells are used; and of each used cell the number of the next one
+pub record Cells : Type 0 where
+  pub cells : ℕ
+  pub used : List Bool
+  pub links : List ℕ
+
+-- what holds of each store, whatever an EEPROM tells
+pub record IsInRange (store : Cells) : Type 0 where
+  pub few : 16 ≤ store.cells
+  pub many : store.cells ≤ 2048
+  pub used_count : length store.used ≡ 2 * store.cells
+  pub links_count : length store.links ≡ 2 * store.cells
+
+-- these marks and links
+abbrev pub kept : ℕ → List Bool → List ℕ → Cells
+kept n used links = record { cells = n; used = used; links = links }
+
+-- no cell is used
+abbrev pub all_free : ℕ → Cells
+all_free n = kept n (replicate (2 * n) false) (replicate (2 * n) 65535)
+
+-- the link of a cell in memory
+abbrev pub link_in : List ℕ → ℕ → ℕ
+link_in links cell = slice_index links cell
+
+-- these are the cells of a used chain, from its first one on
+pub record IsUsedChain (store : Cells) (first : ℕ) (chain : List ℕ) : Type 0 where
+  pub linked : AreLinked (link_in store.links) (length store.links) first chain
+  pub used : AllByRecursion (λ cell. is_marked store.used cell ≡ true) chain
+  pub short : length chain ≤ 18
+
+-- the image links each of these cells as it is linked in memory
+abbrev pub AreLinksOf : List ℕ → ℕ → List Bool → List ℕ → Type 0
+AreLinksOf image n used links = (cell : ℕ) → is_marked used cell ≡ true → slice_index links cell ≡ number_at image (cell_place n cell)
+
+-- the used chains of the image are those that are kept in memory
+pub record StandsFor (store : Cells) (image : List ℕ) : Type 0 where
+  pub links : AreLinksOf image store.cells store.used store.links
+
+-- cells that were used before are linked as they were
+abbrev pub StayLinked : List Bool → List ℕ → List ℕ → Type 0
+StayLinked used old new = (cell : ℕ) → is_marked used cell ≡ true → slice_index new cell ≡ slice_index old cell
+
+-- the cells of a chain are free again
+abbrev pub freed : Cells → List ℕ → Cells
+freed store chain = kept store.cells (with_unmarked store.used chain) store.links

@@ -1,0 +1,11 @@
+pub mod Cells
+pub mod Chains
+pub mod Claiming
+pub mod Claims
+pub mod CountsFaults
+pub mod Marks
+pub mod Placed
+pub mod Reading
+pub mod Runs
+pub mod Walk
+pub mod Writing

@@ -1,0 +1,54 @@
+-- A chain that is written into cells which no other chain has, from its last cell on.
+use Rattle.std.specs.Prelude.{◌≡◌, ℕ, ◌+◌, ◌*◌, ◌<◌, ◌≤◌, Bool, true, false, List, length, take, Some, slice_index, slice_range}
+use Rattle.std.specs.List.{flat_map, AllByRecursion}
+use Rattle.eeprom.specs.Chip.{Chip, Throughout}
+use Rattle.eeprom.specs.StoreOf.{chain_of, cell_place, payload_of, number_at, is_distinct}
+use Rattle.cell_store.specs.Marks.{is_marked}
+use Rattle.cell_store.specs.Chains.{AreLinked, AreFree, with_marked}
+use Rattle.cell_store.specs.Cells.{link_in, StayLinked}
+
+-- a cell has the same link and payload
+pub record SameCell (left was : List ℕ) (n cell : ℕ) : Type 0 where
+  pub link : number_at left (cell_place n cell) ≡ number_at was (cell_place n cell)
+  pub payload : payload_of left n cell ≡ payload_of was n cell
+
+-- all before the cells is the same, and each marked cell
+pub record Keeping (marks : List Bool) (n : ℕ) (left was : List ℕ) : Type 0 where
+  pub size : length left ≡ length was
+  pub front : take (34 + 6 * n) left ≡ take (34 + 6 * n) was
+  pub cells : (cell : ℕ) → is_marked marks cell ≡ true → SameCell left was n cell
+
+-- a cell that was taken for the chain
+pub record IsTaken (n : ℕ) (start marks : List Bool) (cell : ℕ) : Type 0 where
+  pub inside : cell < 2 * n
+  pub free : is_marked start cell ≡ false
+  pub now : is_marked marks cell ≡ true
+
+-- from this cell on the image has a chain with the payload from a piece of 30 octets on
+pub record Placed (n : ℕ) (start marks : List Bool) (payload : List ℕ) (piece count first : ℕ) (image : List ℕ) : Type 0 where
+  pub chain : List ℕ
+  pub of : (most : ℕ) → length chain ≤ most → chain_of image n most first ≡ Some chain
+  pub cells : length chain + piece ≡ count
+  pub octets : flat_map (payload_of image n) chain ≡ slice_range payload (30 * piece) (30 * count)
+  pub taken : AllByRecursion (IsTaken n start marks) chain
+  pub distinct : is_distinct chain ≡ true
+
+-- the same, and the image keeps what was marked, and links the cells that were taken as they are linked in memory
+pub record IsPlaced (n : ℕ) (start marks : List Bool) (payload : List ℕ) (piece count first : ℕ) (links was now : List ℕ) : Type 0 where
+  pub keeping : Keeping start n now was
+  pub placed : Placed n start marks payload piece count first now
+  pub new_links : (cell : ℕ) → is_marked marks cell ≡ true → is_marked start cell ≡ false → slice_index links cell ≡ number_at now (cell_place n cell)
+
+-- in memory there is that chain too, whatever the image tells: its cells were free, and are marked now
+pub record IsLaid (n : ℕ) (start marks : List Bool) (piece count first : ℕ) (before links : List ℕ) : Type 0 where
+  pub chain : List ℕ
+  pub linked : AreLinked (link_in links) (2 * n) first chain
+  pub free : AreFree start chain
+  pub cells : length chain + piece ≡ count
+  pub marks_are : marks ≡ with_marked start chain
+  pub stay : StayLinked start before links
+
+-- at each moment all before the cells is as it was, and each marked cell; nothing is given
+pub record KeepsMarked (marks : List Bool) (n : ℕ) (old new : Chip) : Type 0 where
+  pub still : new.still ≡ old.still
+  pub moments : Throughout old new (λ g left. (g ≡ old.still.mark) × (was : List ℕ) × (old.image ≡ Some was) × Keeping marks n left was)

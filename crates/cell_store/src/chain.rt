@@ -1,0 +1,93 @@
+// The record of a chain of cells. A cell has the number of the next one and 30 octets of payload.
+ghost use Rattle.std.specs.Prelude.{◌≡◌, ◌+◌, ◌*◌, ◌≤◌, ◌++◌, ℕ, List, [], Some, length, IfSome, OnOk};
+ghost use Rattle.std.specs.List.{flat_map};
+ghost use Rattle.arrayvec.specs.ArrayVec.{array_vec_len};
+ghost use Rattle.eeprom.specs.Chip.{Becomes};
+ghost use Rattle.eeprom.specs.Fault.{Counts};
+ghost use Rattle.eeprom.specs.StoreOf.{chain_of, payload_of, slot_of, record_in, number_at};
+ghost use Rattle.cell_store.specs.Chains.{IsRecordChain};
+ghost use Rattle.cell_store.specs.Reading.{ReadsCells, ReadsRecord};
+
+use crate::layout::{CELL, LINK, LONGEST, cell_place, number_of};
+use arrayvec::ArrayVec;
+use eeprom::{Eeprom, EepromFault};
+
+/// The octets of a record.
+pub type RecordOctets = ArrayVec<u8, 512>;
+
+/// The payload of the longest chain.
+pub type Payload = ArrayVec<u8, 540>;
+
+/// Reads the record whose chain begins at `first`.
+pub fn read_record<B: Eeprom>(
+    bench: &mut B,
+    cells: u16,
+    first: u16,
+    out: &mut RecordOctets,
+) -> Result<(), EepromFault>
+    requires many { cells ≤ 2048 }
+    requires room { 70 * cells + 34 ≤ (B.chip bench.old).still.size }
+    ensures record { OnOk result (IfSome (B.chip bench.old).image (λ image. (chain : List ℕ) → IsRecordChain image cells first chain → slot_of image cells chain ≡ Some out.new.items)) }
+    ensures octets_read { OnOk result (IfSome (B.chip bench.old).image (λ image. (chain : List ℕ) → IsRecordChain image cells first chain
+        → Becomes (ReadsRecord (Some out.new.items)) (B.octets_read bench.old) (B.octets_read bench.new))) }
+    ensures same { B.chip bench.new ≡ B.chip bench.old }
+    ensures cause { Counts (B.faults bench.old) (B.faults bench.new) result }
+{
+    let mut payload = Payload::new();
+    read_payload(bench, cells, first, &mut payload)?;
+    out.clear();
+    copy_record(payload.as_slice(), out);
+    Ok(())
+}
+
+/// Reads the payload of the chain that begins at `first`.
+fn read_payload<B: Eeprom>(
+    bench: &mut B,
+    cells: u16,
+    first: u16,
+    payload: &mut Payload,
+) -> Result<(), EepromFault>
+    requires many { cells ≤ 2048 }
+    requires room { 70 * cells + 34 ≤ (B.chip bench.old).still.size }
+    ensures payload { OnOk result (IfSome (B.chip bench.old).image (λ image. (chain : List ℕ) → chain_of image cells (2 * cells) first ≡ Some chain
+        → length chain ≤ LONGEST → payload.new.items ≡ flat_map (payload_of image cells) chain)) }
+    ensures octets_read { OnOk result (IfSome (B.chip bench.old).image (λ image. (chain : List ℕ) → chain_of image cells (2 * cells) first ≡ Some chain
+        → length chain ≤ LONGEST → Becomes (ReadsCells (length chain)) (B.octets_read bench.old) (B.octets_read bench.new))) }
+    ensures same { B.chip bench.new ≡ B.chip bench.old }
+    ensures cause { Counts (B.faults bench.old) (B.faults bench.new) result }
+{
+    payload.clear();
+    let mut cell = first;
+    for _step in 0..LONGEST {
+        if cell as u32 >= 2 * cells as u32 {
+            break;
+        }
+        let mut octets = [0; CELL];
+        bench.read(cell_place(cells, cell), &mut octets)?;
+        append(payload, &octets[LINK..]);
+        cell = number_of(octets[0], octets[1]);
+    }
+    Ok(())
+}
+
+pub fn append(payload: &mut Payload, octets: &[u8])
+    requires room { array_vec_len payload.old + length octets.now ≤ 540 }
+    ensures appends { payload.new.items ≡ payload.old.items ++ octets.now }
+{
+    for octet in octets {
+        payload.push(*octet);
+    }
+}
+
+/// Copies the record out of a chain's payload, where one is there.
+fn copy_record(payload: &[u8], out: &mut RecordOctets)
+    requires empty { out.old.items ≡ [] }
+    ensures record { number_at payload.now 0 ≤ 512 → 2 + number_at payload.now 0 ≤ length payload.now → out.new.items ≡ record_in payload.now }
+{
+    let [high, low, rest @ ..] = payload else {
+        return;
+    };
+    if let Some(octets) = rest.get(..number_of(*high, *low) as usize) {
+        let _ = out.try_extend_from_slice(octets);
+    }
+}

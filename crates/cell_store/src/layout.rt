@@ -1,0 +1,30 @@
+// Where an image has its cells. Places and lengths are in octets.
+ghost use Rattle.std.specs.Prelude.{◌≡◌, ◌+◌, ◌*◌};
+ghost use Rattle.eeprom.specs.StoreOf as image;
+
+/// What a cell or a directory says where no cell comes.
+pub const NO_CELL: u16 = 0xFFFF;
+
+/// The octets of a cell, of which the first two tell the next cell and the others are payload.
+pub const CELL: usize = 32;
+
+pub const LINK: usize = 2;
+
+/// How many cells a record has at most.
+pub const LONGEST: u16 = 18;
+
+/// The cells of the largest store.
+pub const CELLS: usize = 4096;
+
+pub fn cell_place(cells: u16, cell: u16) -> usize
+    ensures { result ≡ image.cell_place cells cell }
+{
+    34 + 6 * cells as usize + CELL * cell as usize
+}
+
+/// The number of two octets.
+pub fn number_of(high: u8, low: u8) -> u16
+    ensures number { result ≡ 256 * high + low }
+{
+    u16::from_be_bytes([high, low])
+}

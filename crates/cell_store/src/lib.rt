@@ -1,0 +1,15 @@
+//! Cells of a card's EEPROM: chains of them hold records, and no cell is in two chains.
+#![tactic(auto)]
+
+mod chain;
+mod claims;
+mod layout;
+mod marks;
+mod placing;
+mod refusal;
+mod store;
+
+pub use chain::RecordOctets;
+pub use layout::{NO_CELL, number_of};
+pub use refusal::{CellRefusal, ClaimRefusal};
+pub use store::{CellStore, cells_for};

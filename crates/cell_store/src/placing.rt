@@ -1,0 +1,130 @@
+// A record's chain, written into cells that no other chain has.
+ghost use Rattle.std.specs.Prelude.{◌≡◌, ◌+◌, ◌*◌, ◌≤◌, ◌<◌, ◌++◌, length, IfOk, is_some, OnOk};
+ghost use Rattle.arrayvec.specs.ArrayVec.{array_vec_len};
+ghost use Rattle.eeprom.specs.Chip.{Becomes};
+ghost use Rattle.eeprom.specs.Fault.{Counts};
+ghost use Rattle.eeprom.specs.StoreOf.{number_at, record_in, two_octets};
+ghost use Rattle.cell_store.specs.Marks.{unmarked};
+ghost use Rattle.cell_store.specs.Placed.{IsLaid, IsPlaced, KeepsMarked};
+ghost use Rattle.cell_store.specs.Cells.{StayLinked};
+ghost use Rattle.cell_store.specs.Runs as runs;
+
+use crate::chain::{Payload, append};
+use crate::layout::{LONGEST, NO_CELL, cell_place};
+use crate::marks::{Run, find_run};
+use arrayvec::ArrayVec;
+use eeprom::{Eeprom, EepromFault};
+
+/// The octets of payload in a cell.
+const PIECE: usize = 30;
+
+/// The payload of the longest chain.
+const LARGEST: usize = 540;
+
+/// The octets of the cells of the longest chain.
+type RunOctets = ArrayVec<u8, 576>;
+
+/// The payload of a record, with what is left over empty.
+pub fn payload_of_record(octets: &[u8]) -> Payload
+    requires fits { length octets.now ≤ 512 }
+    ensures number { number_at result.items 0 ≡ length octets.now }
+    ensures record { record_in result.items ≡ octets.now }
+    ensures size { length result.items ≡ 540 }
+{
+    let mut payload = Payload::new();
+    payload.push((octets.len() / 256) as u8);
+    payload.push((octets.len() % 256) as u8);
+    append(&mut payload, octets);
+    append(&mut payload, &[0; LARGEST][..LARGEST - 2 - octets.len()]);
+    payload
+}
+
+/// The octets of a run's cells, which have the payload from a piece on, and come before the cell `after`.
+fn run_octets(run: Run, after: u16, payload: &[u8], piece: u16) -> RunOctets
+    requires most { run.count ≤ LONGEST }
+    requires there { run.cell + run.count ≤ 4096 }
+    requires payload { 30 * (piece + run.count) ≤ length payload.now }
+    ensures octets { result.items ≡ runs.run_octets run.cell run.count after payload.now piece }
+    ensures size { length result.items ≡ 32 * run.count }
+{
+    let mut octets = RunOctets::new();
+    for step in 0..run.count {
+        let next = if step + 1 < run.count {
+            run.cell + step + 1
+        } else {
+            after
+        };
+        let place = PIECE * (piece as usize + step as usize);
+        push_cell(&mut octets, next, &payload[place..place + PIECE]);
+    }
+    octets
+}
+
+/// A cell's octets behind those of others: the number of the next cell, and a piece of payload.
+fn push_cell(octets: &mut RunOctets, next: u16, piece: &[u8])
+    requires size { length piece.now ≡ 30 }
+    requires room { array_vec_len octets.old + 32 ≤ 576 }
+    ensures octets { octets.new.items ≡ octets.old.items ++ (two_octets next ++ piece.now) }
+{
+    octets.push((next / 256) as u8);
+    octets.push((next % 256) as u8);
+    for octet in piece {
+        octets.push(*octet);
+    }
+}
+
+/// Marks a run's cells, and links each to the next one, and the last to `after`.
+fn take_run(marks: &mut [bool], links: &mut [u16], run: Run, after: u16)
+    requires few { length marks.old ≤ 4096 }
+    requires marks { run.cell + run.count ≤ length marks.old }
+    requires links { run.cell + run.count ≤ length links.old }
+    ensures marks { marks.new ≡ runs.run_marked marks.old run.cell run.count }
+    ensures links { links.new ≡ runs.run_linked links.old run.cell run.count after }
+{
+    let mut next = after;
+    for step in 0..run.count {
+        let cell = run.cell + (run.count - 1 - step);
+        marks[cell as usize] = true;
+        links[cell as usize] = next;
+        next = cell;
+    }
+}
+
+/// Writes a payload of so many pieces into cells that aren't marked, and answers the chain's first cell.
+/// Each run of cells is one write, the last run first.
+pub fn write_cells<B: Eeprom>(
+    bench: &mut B,
+    cells: u16,
+    marks: &mut [bool],
+    links: &mut [u16],
+    payload: &[u8],
+    count: u16,
+) -> Result<u16, EepromFault>
+    requires many { cells ≤ 2048 }
+    requires room { 70 * cells + 34 ≤ (B.chip bench.old).still.size }
+    requires marks { length marks.old ≡ 2 * cells }
+    requires links { length links.old ≡ 2 * cells }
+    requires payload { 30 * count ≤ length payload.now }
+    requires some { 1 ≤ count }
+    requires free { count ≤ unmarked marks.old }
+    ensures placed { IfOk result (λ first. Becomes (IsPlaced cells marks.old marks.new payload.now 0 count first links.new) (B.chip bench.old).image (B.chip bench.new).image) }
+    ensures laid { IfOk result (λ first. IsLaid cells marks.old marks.new 0 count first links.old links.new) }
+    ensures stay { StayLinked marks.old links.old links.new }
+    ensures there { IfOk result (λ first. first < 2 * cells) }
+    ensures told { OnOk result (is_some (B.chip bench.new).image ≡ is_some (B.chip bench.old).image) }
+    ensures links { length links.new ≡ length links.old }
+    ensures moments { KeepsMarked marks.old cells (B.chip bench.old) (B.chip bench.new) }
+    ensures cause { Counts (B.faults bench.old) (B.faults bench.new) result }
+{
+    let mut first = NO_CELL;
+    let mut left = count;
+    while left > 0 {
+        let run = find_run(marks, left.min(LONGEST));
+        left -= run.count;
+        let octets = run_octets(run, first, payload, left);
+        bench.write(cell_place(cells, run.cell), octets.as_slice())?;
+        take_run(marks, links, run, first);
+        first = run.cell;
+    }
+    Ok(first)
+}

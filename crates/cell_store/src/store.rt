@@ -1,0 +1,181 @@
+// The cells of an EEPROM, of which it is kept in memory which are used, and how these are linked.
+ghost use Rattle.std.specs.Prelude.{◌≡◌, ◌↔◌, ◌+◌, ◌*◌, ◌≤◌, ◌<◌, ℕ, List, false, Some, length, is_some, replicate, IfSome, IfOk, OnOk, IsErrOf};
+ghost use Rattle.eeprom.specs.Chip.{Becomes};
+ghost use Rattle.eeprom.specs.Fault.{Counts};
+ghost use Rattle.eeprom.specs.StoreOf.{slot_of};
+ghost use Rattle.eeprom.specs.StoreOf as image;
+ghost use Rattle.cell_store.specs.Marks.{StaysMarked, unmarked};
+ghost use Rattle.cell_store.specs.Chains.{IsRecordChain, steps};
+ghost use Rattle.cell_store.specs.Cells.{all_free, freed, StandsFor, IsUsedChain};
+ghost use Rattle.cell_store.specs.Claims.{TakesChain, HasRecord, HasNoRecord};
+ghost use Rattle.cell_store.specs.Writing.{IsWritten, KeepsChains};
+ghost use Rattle.cell_store.specs.Placed.{KeepsMarked};
+ghost use Rattle.cell_store.specs.Reading.{ReadsRecord};
+ghost use Rattle.cell_store.specs.CountsFaults.{CountsClaimFaults, CountsWriteFaults};
+
+use crate::chain::{RecordOctets, read_record};
+use crate::claims::claim_cells;
+use crate::layout::{CELLS, LONGEST, NO_CELL};
+use crate::marks::count_free;
+use crate::placing::{payload_of_record, write_cells};
+use crate::{CellRefusal, ClaimRefusal};
+use eeprom::{Eeprom, EepromFault};
+use std::alloc::{AllocError, Global};
+use std::marker::Model;
+
+/// Cells, twice as many as records may have. Chains of them are used, and the others are free.
+#[derive(Drop)]
+pub struct CellStore {
+    cells: u16,
+    used: Vec<bool>,
+    /// The number of the next cell, for each cell that is used.
+    links: Vec<u16>,
+}
+
+impl Model for CellStore {
+    ghost use Rattle.cell_store.specs.Cells.{Cells, IsInRange, kept};
+
+    ghost Value = { Cells };
+
+    ghost view = { λ store. kept store.cells store.used.items store.links.items };
+
+    ghost invariant = { λ store. IsInRange (kept store.cells store.used.items store.links.items) };
+}
+
+impl CellStore {
+    /// A store of cells of which none is used. All memory that it needs is taken here.
+    pub fn with_room(alloc: Global, cells: u16) -> Result<CellStore, AllocError>
+        requires few { 16 ≤ cells }
+        requires many { cells ≤ 2048 }
+        ensures { IfOk result (λ store. store ≡ all_free cells) }
+    {
+        let count = 2 * cells as usize;
+        Ok(CellStore {
+            cells,
+            used: vec![in alloc; false; count]?,
+            links: vec![in alloc; NO_CELL; count]?,
+        })
+    }
+
+    /// Claims the chain that begins at a cell, which the image has a record in, and answers how many cells it has.
+    /// After a refusal the store of cells isn't to be used again.
+    pub fn claim_chain<B: Eeprom>(&mut self, bench: &mut B, first: u16) -> Result<u16, ClaimRefusal>
+        requires room { 70 * self.old.cells + 34 ≤ (B.chip bench.old).still.size }
+        ensures takes { IfOk result (λ count. TakesChain self.old self.new first count) }
+        ensures stands { OnOk result (IfSome (B.chip bench.old).image (λ image. StandsFor self.old image → StandsFor self.new image)) }
+        ensures record { OnOk result (IfSome (B.chip bench.old).image (HasRecord self.new first)) }
+        ensures bad_chain { IsErrOf result ClaimRefusal.BadChain → IfSome (B.chip bench.old).image (HasNoRecord self.old first) }
+        ensures same { B.chip bench.new ≡ B.chip bench.old }
+        ensures cause { CountsClaimFaults (B.faults bench.old) (B.faults bench.new) result }
+    {
+        let used = self.used.as_mut_slice();
+        let links = self.links.as_mut_slice();
+        let count = claim_cells(bench, self.cells, used, links, first)?;
+        Ok(count)
+    }
+
+    /// Writes a record into a chain of free cells, and answers its first cell. The cells are used once all is written.
+    pub fn write_chain<B: Eeprom>(
+        &mut self,
+        bench: &mut B,
+        octets: &[u8],
+    ) -> Result<u16, CellRefusal>
+        requires some { 1 ≤ length octets.now }
+        requires most { length octets.now ≤ 512 }
+        requires room { 70 * self.old.cells + 34 ≤ (B.chip bench.old).still.size }
+        ensures takes { IfOk result (λ first. TakesChain self.old self.new first (image.cells_for (length octets.now))) }
+        ensures written { IfOk result (λ first. Becomes (IsWritten self.old self.new first octets.now) (B.chip bench.old).image (B.chip bench.new).image) }
+        ensures no_cell { IsErrOf result CellRefusal.NoCell ↔ (unmarked self.old.used < image.cells_for (length octets.now)) }
+        ensures unchanged { IsErrOf result CellRefusal.NoCell → (self.new ≡ self.old) × (bench.new ≡ bench.old) }
+        ensures fault { IsErrOf result CellRefusal.Fault → KeepsChains self.old self.new }
+        ensures there { IfOk result (λ first. first < 2 * self.old.cells) }
+        ensures told { OnOk result (is_some (B.chip bench.new).image ≡ is_some (B.chip bench.old).image) }
+        ensures moments { KeepsMarked self.old.used self.old.cells (B.chip bench.old) (B.chip bench.new) }
+        ensures cause { CountsWriteFaults (B.faults bench.old) (B.faults bench.new) result }
+    {
+        let count = cells_for(octets.len());
+        if count as usize > count_free(self.used.as_slice()) {
+            return Err(CellRefusal::NoCell);
+        }
+        let mut marks = [false; CELLS];
+        let marks = &mut marks[..2 * self.cells as usize];
+        marks.copy_from_slice(self.used.as_slice());
+        let payload = payload_of_record(octets);
+        let first = write_cells(
+            bench,
+            self.cells,
+            marks,
+            self.links.as_mut_slice(),
+            payload.as_slice(),
+            count,
+        )?;
+        self.used.copy_from_slice(marks);
+        Ok(first)
+    }
+
+    /// Reads the record in the chain that begins at a cell.
+    pub fn read_chain<B: Eeprom>(
+        &self,
+        bench: &mut B,
+        first: u16,
+        out: &mut RecordOctets,
+    ) -> Result<(), EepromFault>
+        requires room { 70 * self.now.cells + 34 ≤ (B.chip bench.old).still.size }
+        ensures record { OnOk result (IfSome (B.chip bench.old).image (λ image. (chain : List ℕ) → IsRecordChain image self.now.cells first chain
+            → slot_of image self.now.cells chain ≡ Some out.new.items)) }
+        ensures octets_read { OnOk result (IfSome (B.chip bench.old).image (λ image. (chain : List ℕ) → IsRecordChain image self.now.cells first chain
+            → Becomes (ReadsRecord (Some out.new.items)) (B.octets_read bench.old) (B.octets_read bench.new))) }
+        ensures same { B.chip bench.new ≡ B.chip bench.old }
+        ensures cause { Counts (B.faults bench.old) (B.faults bench.new) result }
+    {
+        read_record(bench, self.cells, first, out)
+    }
+
+    /// Frees the cells of the used chain that begins at a cell.
+    pub fn free_chain(&mut self, first: u16)
+        ensures freed { (chain : List ℕ) → IsUsedChain self.old first chain → self.new ≡ freed self.old chain }
+        ensures cells { self.new.cells ≡ self.old.cells }
+        ensures links { self.new.links ≡ self.old.links }
+        ensures fewer { StaysMarked self.new.used self.old.used }
+        ensures count { length self.new.used ≡ length self.old.used }
+    {
+        let mut cell = first as usize;
+        for _step in 0..LONGEST {
+            if cell >= self.used.len() || !self.used[cell] {
+                return;
+            }
+            self.used[cell] = false;
+            cell = self.links[cell] as usize;
+        }
+    }
+
+    /// How many cells are free.
+    pub fn free_cells(&self) -> u16
+        ensures { result ≡ unmarked self.now.used }
+    {
+        count_free(self.used.as_slice()) as u16
+    }
+
+    /// How many cells the used chain has that begins at a cell.
+    pub fn length_of_chain(&self, first: u16) -> u16
+        ensures length { result ≡ steps self.now.links LONGEST first }
+        ensures most { result ≤ LONGEST }
+    {
+        let mut cell = first as usize;
+        for count in 0..LONGEST {
+            if cell >= self.links.len() {
+                return count;
+            }
+            cell = self.links[cell] as usize;
+        }
+        LONGEST
+    }
+}
+
+/// The cells of a record with so many octets.
+pub fn cells_for(size: usize) -> u16
+    requires most { size ≤ 512 }
+    ensures { result ≡ image.cells_for size }
+{
+    ((size + 31) / 30) as u16
+}
