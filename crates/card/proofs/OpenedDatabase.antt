@@ -8,7 +8,8 @@ use Rattle.eeprom.specs.StoreOf.{Slots, store_of, cells_of}
 use Rattle.eeprom.specs.Slots.{Rises, in_order, in_slot}
 use Rattle.eeprom.proofs.InOrder.{Rises-in_order}
 use Rattle.record_store.specs.declared.side.Side.TheVariants.{Committed}
-use Rattle.record_store.specs.Held.{Held, IsInRange, StandsFor, contents}
+use Rattle.record_store.specs.Held.{Held, StandsFor, contents}
+use Rattle.record_store.specs.Sound.{IsSound}
 use Rattle.record_store.proofs.Weights.{steps-firsts}
 use Rattle.scql_model.specs.Records.{User, counter_record, user_in}
 use Rattle.scql_model.specs.Database.{Database}
@@ -33,7 +34,7 @@ holds-gathered slots cells next users counted g = record {
 }
 
 -- slots that pass the test hold a valid database
-opens-gathered : (store : Held) (image : List ℕ) (slots : Slots) (next : ℕ) (users : List User) → IsInRange store → StandsFor store image → store_of image ≡ Some slots → contents store Committed image ≡ Some slots
+opens-gathered : (store : Held) (image : List ℕ) (slots : Slots) (next : ℕ) (users : List User) → IsSound store → StandsFor store image → store_of image ≡ Some slots → contents store Committed image ≡ Some slots
     → Gathers slots (next ∷ []) users → are_valid_users next users ≡ true → Opens image (of_users store.cells next users)
 opens-gathered store image slots next users range stands stored told g valid =
     let counted : length slots ≡ store.cells = rw told at (length-committed store image stands) in
@@ -46,7 +47,7 @@ opens-gathered store image slots next users range stands stored told g valid =
       slots = slots;
       stored = stored;
       holds = holds;
-      valid = IsValid-of_users store.cells next users range.few range.many (subst (λ (w : ℕ). w ≤ store.cells) weight room) counter g.user_limits
+      valid = IsValid-of_users store.cells next users range.range.few range.range.many (subst (λ (w : ℕ). w ≤ store.cells) weight room) counter g.user_limits
           (subst (Rises stamp_of) g.users (Rises-in_order stamp_of (filter_map (in_slot user_in) slots) g.apart)) valid;
     }
 
@@ -64,7 +65,7 @@ none-gathered slots next users g invalid = λ db holds valid.
     alike e f = rw (e, f) refl
 
 -- The same where the image may not be told.
-pub opens_told : (store : Held) (image : Option (List ℕ)) (next : ℕ) (users : List User) (valid : Bool) → IsInRange store → IfSome image (StandsFor store) → IfSome image (λ image. store_of image ≡ contents store Committed image)
+pub opens_told : (store : Held) (image : Option (List ℕ)) (next : ℕ) (users : List User) (valid : Bool) → IsSound store → IfSome image (StandsFor store) → IfSome image (λ image. store_of image ≡ contents store Committed image)
     → IfSome (committed_slots store image) (λ slots. Gathers slots (next ∷ []) users) → valid ≡ are_valid_users next users → valid ≡ true → IfSome image (λ image. (db : Database) × Opens image db)
 unfolding committed_slots
 opens_told store None next users valid range stands stored g tested passed = tt

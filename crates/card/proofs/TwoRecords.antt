@@ -10,7 +10,7 @@ use Rattle.eeprom.specs.StoreOf.{Slots, store_of, cells_for}
 use Rattle.record_store.specs.Held.{Held, contents, record_at, StandsFor}
 use Rattle.eeprom.specs.StoreOf.{weight_of, cells_of}
 use Rattle.record_store.specs.Put.{IsPut, IsWithin, IsFull, weight_with}
-use Rattle.record_store.specs.Transaction.{Commits, IsCommitted, after_commit}
+use Rattle.record_store.specs.Transaction.{Commits, IsCommitted}
 use Rattle.record_store.specs.declared.side.Side.TheVariants.{Committed, Working}
 use Rattle.eeprom.proofs.Moments.{throughout-then}
 use Rattle.card.specs.Adding.{IsAdded, AddedTo, LeavesAdded, IsWritten, IsAsLong, IfCommitted}
@@ -120,15 +120,14 @@ commit_leaves start store added slot changed old mid new still put before commit
         )
 
 -- what is committed then
-pub both_written : (s0 s2 s3 : Held) (added : List ℕ) (slot : ℕ) (changed : List ℕ) (i0 i2 i3 : Option (List ℕ)) → s3 ≡ after_commit s2
+pub both_written : (s0 s2 s3 : Held) (added : List ℕ) (slot : ℕ) (changed : List ℕ) (i0 i2 i3 : Option (List ℕ))
     → Becomes (λ was now. (contents s2 Committed now ≡ contents s0 Committed was) × AddedTo s0.cells added slot changed (contents s0 Committed was) (contents s2 Working now)) i0 i2
-    → Becomes (IsCommitted s2) i2 i3 → Becomes (IsWritten s0 s3 added slot changed) i0 i3
-both_written s0 s2 s3 added slot changed i0 i2 i3 ended put committed = λ now told.
+    → Becomes (IsCommitted s2 s3) i2 i3 → Becomes (IsWritten s0 s3 added slot changed) i0 i3
+both_written s0 s2 s3 added slot changed i0 i2 i3 put committed = λ now told.
     let c = committed now told in
     let b = put c.0 c.1 in
-    let stored : contents (after_commit s2) Committed now ≡ contents s2 Working c.0 = sym (store_of-stands (after_commit s2) now c.2.stands) ∙ c.2.store in (
+    let stored : contents s3 Committed now ≡ contents s2 Working c.0 = sym (store_of-stands s3 now c.2.stands) ∙ c.2.store in (
       b.0,
       b.1,
-      subst (λ (s : Held). IsWritten s0 s added slot changed b.0 now) (sym ended)
-          (c.2.stands, subst (λ (o : Option Slots). AddedTo s0.cells added slot changed (contents s0 Committed b.0) o) (sym stored) b.2.1),
+      (c.2.stands, subst (λ (o : Option Slots). AddedTo s0.cells added slot changed (contents s0 Committed b.0) o) (sym stored) b.2.1),
     )

@@ -2,15 +2,12 @@
 use Rattle.std.proofs.Common.{◌≡◌, ℕ, ◌==◌, ◌||◌, not, Bool, true, false, List, [], ◌∷◌, ◌++◌, sym, refl, ◌∙◌, true≢false}
 use Rattle.std.specs.List.{AllByRecursion, list_any}
 use Rattle.eeprom.specs.StoreOf.{is_distinct}
+use Rattle.cell_store.specs.Chains.{is_among, AreNotAmong}
 use Rattle.cell_store.proofs.Chains.{both}
 
--- whether a cell is among others
-abbrev pub among : ℕ → List ℕ → Bool
-among x xs = list_any (λ y. x == y) xs
-
-pub among-append : (x : ℕ) (xs ys : List ℕ) → among x (xs ++ ys) ≡ (among x xs || among x ys)
+pub among-append : (x : ℕ) (xs ys : List ℕ) → is_among x (xs ++ ys) ≡ (is_among x xs || is_among x ys)
 among-append x [] ys = refl
-among-append x (y ∷ xs) ys = or-more (x == y) (among x (xs ++ ys)) (among x xs) (among x ys) (among-append x xs ys)
+among-append x (y ∷ xs) ys = or-more (x == y) (is_among x (xs ++ ys)) (is_among x xs) (is_among x ys) (among-append x xs ys)
   where
     or-more : (t a b c : Bool) → a ≡ (b || c) → (t || a) ≡ ((t || b) || c)
     or-more true a b c e = refl
@@ -20,14 +17,11 @@ pub neither : (a b : Bool) → (a || b) ≡ false → (a ≡ false) × (b ≡ fa
 neither true b h = absurd (true≢false h)
 neither false b h = (refl, h)
 
-pub among-none : (x : ℕ) (xs ys : List ℕ) → among x xs ≡ false → among x ys ≡ false → among x (xs ++ ys) ≡ false
+pub among-none : (x : ℕ) (xs ys : List ℕ) → is_among x xs ≡ false → is_among x ys ≡ false → is_among x (xs ++ ys) ≡ false
 among-none x xs ys a b = among-append x xs ys ∙ rw (a, b) refl
 
-pub among-parts : (x : ℕ) (xs ys : List ℕ) → among x (xs ++ ys) ≡ false → (among x xs ≡ false) × (among x ys ≡ false)
-among-parts x xs ys h = neither (among x xs) (among x ys) (sym (among-append x xs ys) ∙ h)
-
-abbrev pub AreNotAmong : List ℕ → List ℕ → Type 0
-AreNotAmong xs ys = AllByRecursion (λ x. among x ys ≡ false) xs
+pub among-parts : (x : ℕ) (xs ys : List ℕ) → is_among x (xs ++ ys) ≡ false → (is_among x xs ≡ false) × (is_among x ys ≡ false)
+among-parts x xs ys h = neither (is_among x xs) (is_among x ys) (sym (among-append x xs ys) ∙ h)
 
 pub not-true : (b : Bool) → not b ≡ true → b ≡ false
 not-true true h = absurd (true≢false (sym h))
@@ -36,13 +30,13 @@ not-true false h = refl
 pub distinct-parts : (xs ys : List ℕ) → is_distinct (xs ++ ys) ≡ true → (is_distinct xs ≡ true) × (is_distinct ys ≡ true) × AreNotAmong xs ys
 distinct-parts [] ys h = (refl, h, tt)
 distinct-parts (x ∷ xs) ys h =
-    let tests = both (not (among x (xs ++ ys))) (is_distinct (xs ++ ys)) h in
-    let apart = among-parts x xs ys (not-true (among x (xs ++ ys)) tests.0) in
+    let tests = both (not (is_among x (xs ++ ys))) (is_distinct (xs ++ ys)) h in
+    let apart = among-parts x xs ys (not-true (is_among x (xs ++ ys)) tests.0) in
     let rest = distinct-parts xs ys tests.1 in
     (rw (apart.0) (rest.0), rest.1, (apart.1, rest.2))
 
 pub distinct-join : (xs ys : List ℕ) → is_distinct xs ≡ true → is_distinct ys ≡ true → AreNotAmong xs ys → is_distinct (xs ++ ys) ≡ true
 distinct-join [] ys a b apart = b
 distinct-join (x ∷ xs) ys a b apart =
-    let tests = both (not (among x xs)) (is_distinct xs) a in
-    rw (among-none x xs ys (not-true (among x xs) tests.0) apart.0) (distinct-join xs ys tests.1 b apart.1)
+    let tests = both (not (is_among x xs)) (is_distinct xs) a in
+    rw (among-none x xs ys (not-true (is_among x xs) tests.0) apart.0) (distinct-join xs ys tests.1 b apart.1)

@@ -5,42 +5,42 @@ use Rattle.std.proofs.lemmas.Bool.Decides.{nat_tests}
 use Rattle.std.proofs.lemmas.List.{length-set, get_or-set_same, get_or-set_other}
 use Rattle.eeprom.specs.StoreOf.{is_distinct, is_record, number_at, cell_place, cells_for, payload_of}
 use Rattle.cell_store.specs.Cells.{Cells, link_in, StandsFor, StayLinked}
-use Rattle.cell_store.specs.Chains.{AreLinked, AreFree, link_of, with_marked, IsRecordChain}
+use Rattle.cell_store.specs.Chains.{AreLinked, AreFree, link_of, with_marked, is_among, IsRecordChain}
 use Rattle.cell_store.specs.Claiming.{ClaimsCell, IsFrontOf, IsTakenCell}
 use Rattle.cell_store.specs.Claims.{TakesChain, HasRecord, HasNoRecord}
 use Rattle.cell_store.specs.Marks.{is_marked}
-use Rattle.cell_store.proofs.Among.{among, neither, not-true}
+use Rattle.cell_store.proofs.Among.{neither, not-true}
 use Rattle.cell_store.proofs.Chains.{both, cells-chain}
 use Rattle.cell_store.proofs.Linking.{chain-linked, linked-chain, linked-same, linked-one, IsPath, path-more, path-same, path-end, path-rest, path-inside}
 use Rattle.cell_store.proofs.Marking.{marked-here, with_marked-append, with_marked-stays, with_marked-all, marked-with}
 
--- the cell that is marked isn't among those that are still free, and the others are free as they were
-free-apart : (marks : List Bool) (cell : ℕ) (cells : List ℕ) → cell < length marks → AllByRecursion (λ cell. is_marked marks cell ≡ false) cells → is_marked marks cell ≡ true → among cell cells ≡ false
+-- the cell that is marked isn't is_among those that are still free, and the others are free as they were
+free-apart : (marks : List Bool) (cell : ℕ) (cells : List ℕ) → cell < length marks → AllByRecursion (λ cell. is_marked marks cell ≡ false) cells → is_marked marks cell ≡ true → is_among cell cells ≡ false
 free-apart marks cell [] inside free is = refl
 free-apart marks cell (next ∷ cells) inside free is =
     let other : cell ≢ next = λ e. true≢false (sym is ∙ rw e (free.0)) in
     let test : (cell == next) ≡ false = grind (arith, nat_tests) in
     rw test (free-apart marks cell cells inside free.1 is)
 
-free-before : (marks : List Bool) (cell : ℕ) (cells : List ℕ) → among cell cells ≡ false → AllByRecursion (λ next. is_marked (set marks cell true) next ≡ false) cells → AllByRecursion (λ next. is_marked marks next ≡ false) cells
+free-before : (marks : List Bool) (cell : ℕ) (cells : List ℕ) → is_among cell cells ≡ false → AllByRecursion (λ next. is_marked (set marks cell true) next ≡ false) cells → AllByRecursion (λ next. is_marked marks next ≡ false) cells
 free-before marks cell [] apart free = tt
 free-before marks cell (next ∷ cells) apart free =
-    let parts = neither (cell == next) (among cell cells) apart in
+    let parts = neither (cell == next) (is_among cell cells) apart in
     let other : next ≢ cell = grind (arith, nat_tests, parts.0) in
     (sym (get_or-set_other marks cell next true false other) ∙ free.0, free-before marks cell cells parts.1 free.1)
 
-free-behind : (marks : List Bool) (cell : ℕ) (cells : List ℕ) → among cell cells ≡ false → AllByRecursion (λ next. is_marked marks next ≡ false) cells → AllByRecursion (λ next. is_marked (set marks cell true) next ≡ false) cells
+free-behind : (marks : List Bool) (cell : ℕ) (cells : List ℕ) → is_among cell cells ≡ false → AllByRecursion (λ next. is_marked marks next ≡ false) cells → AllByRecursion (λ next. is_marked (set marks cell true) next ≡ false) cells
 free-behind marks cell [] apart free = tt
 free-behind marks cell (next ∷ cells) apart free =
-    let parts = neither (cell == next) (among cell cells) apart in
+    let parts = neither (cell == next) (is_among cell cells) apart in
     let other : next ≢ cell = grind (arith, nat_tests, parts.0) in
     (get_or-set_other marks cell next true false other ∙ free.0, free-behind marks cell cells parts.1 free.1)
 
 -- a cell and others are free where it is, and the others are once it is marked
 free-first : (marks : List Bool) (cell : ℕ) (cells : List ℕ) → AreFree marks (cell ∷ cells) → (is_marked marks cell ≡ false) × AreFree (set marks cell true) cells
 free-first marks cell cells f =
-    let tests = both (not (among cell cells)) (is_distinct cells) f.distinct in
-    (f.free.0, record { free = free-behind marks cell cells (not-true (among cell cells) tests.0) f.free.1; distinct = tests.1 })
+    let tests = both (not (is_among cell cells)) (is_distinct cells) f.distinct in
+    (f.free.0, record { free = free-behind marks cell cells (not-true (is_among cell cells) tests.0) f.free.1; distinct = tests.1 })
 
 free-more : (marks : List Bool) (cell : ℕ) (cells : List ℕ) → cell < length marks → is_marked marks cell ≡ false → AreFree (set marks cell true) cells → AreFree marks (cell ∷ cells)
 free-more marks cell cells inside here f =
@@ -234,9 +234,9 @@ or-cases : (a b : Bool) → (a || b) ≡ true → (a ≡ true) ⊎ (b ≡ true)
 or-cases true b h = inl refl
 or-cases false b h = inr h
 
-told-at : (image links : List ℕ) (n : ℕ) (path : List ℕ) (x : ℕ) → among x path ≡ true → AllByRecursion (λ x. number_at image (cell_place n x) ≡ slice_index links x) path → slice_index links x ≡ number_at image (cell_place n x)
+told-at : (image links : List ℕ) (n : ℕ) (path : List ℕ) (x : ℕ) → is_among x path ≡ true → AllByRecursion (λ x. number_at image (cell_place n x) ≡ slice_index links x) path → slice_index links x ≡ number_at image (cell_place n x)
 told-at image links n [] x is told = absurd (true≢false (sym is))
-told-at image links n (y ∷ path) x is told = elim (or-cases (x == y) (among x path) is) [
+told-at image links n (y ∷ path) x is told = elim (or-cases (x == y) (is_among x path) is) [
   | inl here ↦ let same : x ≡ y = eqb-true x y here in rw same (sym told.0)
   | inr later ↦ told-at image links n path x later told.1
 ]
@@ -246,8 +246,8 @@ Claiming-stands start now None first count cell used_size c = tt
 Claiming-stands start now (Some image) first count cell used_size c = λ stands. record {
   links = λ x is.
       let within = path-inside (link_in now.links) (2 * start.cells) first c.path cell c.is in
-      let parts : (is_marked start.used x || among x c.path) ≡ true = sym (marked-with (2 * start.cells) start.used c.path x used_size within) ∙ (ap (λ (used : List Bool). is_marked used x) (sym c.used) ∙ is) in
-      let there : slice_index now.links x ≡ number_at image (cell_place start.cells x) = elim (or-cases (is_marked start.used x) (among x c.path) parts) [
+      let parts : (is_marked start.used x || is_among x c.path) ≡ true = sym (marked-with (2 * start.cells) start.used c.path x used_size within) ∙ (ap (λ (used : List Bool). is_marked used x) (sym c.used) ∙ is) in
+      let there : slice_index now.links x ≡ number_at image (cell_place start.cells x) = elim (or-cases (is_marked start.used x) (is_among x c.path) parts) [
         | inl before ↦ c.stay x before ∙ stands.links x before
         | inr now_is ↦ told-at image now.links start.cells c.path x now_is c.told
       ] in

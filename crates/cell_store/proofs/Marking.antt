@@ -6,7 +6,7 @@ use Rattle.std.proofs.lemmas.List.{length-set, get_or-set_other}
 use Rattle.std.proofs.lemmas.List.Sums.{sum_by-cons, sum_by-set}
 use Rattle.cell_store.specs.Chains.{with_marked, with_unmarked}
 use Rattle.cell_store.specs.Marks.{StaysMarked, is_marked, marked, unmarked}
-use Rattle.cell_store.proofs.Among.{among}
+use Rattle.cell_store.specs.Chains.{is_among}
 
 pub marked-here : (marks : List Bool) (cell : ℕ) → cell < length marks → is_marked (set marks cell true) cell ≡ true
 marked-here [] cell inside = absurd (omega arith)
@@ -88,7 +88,7 @@ pub length-with_unmarked : (marks : List Bool) (chain : List ℕ) → length (wi
 length-with_unmarked marks [] = refl
 length-with_unmarked marks (cell ∷ chain) = length-with_unmarked (set marks cell false) chain ∙ length-set marks cell false
 
-pub marked-with : (size : ℕ) (marks : List Bool) (chain : List ℕ) (x : ℕ) → length marks ≡ size → AllByRecursion (λ cell. cell < size) chain → is_marked (with_marked marks chain) x ≡ (is_marked marks x || among x chain)
+pub marked-with : (size : ℕ) (marks : List Bool) (chain : List ℕ) (x : ℕ) → length marks ≡ size → AllByRecursion (λ cell. cell < size) chain → is_marked (with_marked marks chain) x ≡ (is_marked marks x || is_among x chain)
 marked-with size marks [] x count inside = or-false (is_marked marks x)
   where
     or-false : (b : Bool) → b ≡ (b || false)
@@ -96,14 +96,14 @@ marked-with size marks [] x count inside = or-false (is_marked marks x)
     or-false false = refl
 marked-with size marks (cell ∷ chain) x count inside =
     marked-with size (set marks cell true) chain x (length-set marks cell true ∙ count) inside.1
-    ∙ ap (λ (t : Bool). t || among x chain) (marked-set marks cell x (omega (arith, inside.0)))
-    ∙ or-assoc (is_marked marks x) (x == cell) (among x chain)
+    ∙ ap (λ (t : Bool). t || is_among x chain) (marked-set marks cell x (omega (arith, inside.0)))
+    ∙ or-assoc (is_marked marks x) (x == cell) (is_among x chain)
   where
     or-assoc : (a b c : Bool) → ((a || b) || c) ≡ (a || (b || c))
     or-assoc true b c = refl
     or-assoc false b c = refl
 
-pub unmarked-with : (marks : List Bool) (chain : List ℕ) (x : ℕ) → is_marked (with_unmarked marks chain) x ≡ (is_marked marks x && not (among x chain))
+pub unmarked-with : (marks : List Bool) (chain : List ℕ) (x : ℕ) → is_marked (with_unmarked marks chain) x ≡ (is_marked marks x && not (is_among x chain))
 unmarked-with marks [] x = and-true (is_marked marks x)
   where
     and-true : (b : Bool) → b ≡ (b && true)
@@ -111,8 +111,8 @@ unmarked-with marks [] x = and-true (is_marked marks x)
     and-true false = refl
 unmarked-with marks (cell ∷ chain) x =
     unmarked-with (set marks cell false) chain x
-    ∙ ap (λ (t : Bool). t && not (among x chain)) (unmarked-set marks cell x)
-    ∙ neither (is_marked marks x) (x == cell) (among x chain)
+    ∙ ap (λ (t : Bool). t && not (is_among x chain)) (unmarked-set marks cell x)
+    ∙ neither (is_marked marks x) (x == cell) (is_among x chain)
   where
     neither : (a b c : Bool) → ((a && not b) && not c) ≡ (a && not (b || c))
     neither true true c = refl

@@ -11,7 +11,7 @@ use Rattle.eeprom.proofs.Moments.{write-throughout, throughout-then}
 use Rattle.cell_store.proofs.Overwrite.{map-some}
 use Rattle.cell_store.proofs.Runs.{placed-run}
 
-nowhere : (image : List ℕ) (n most : ℕ) → chain_of image n most 65535 ≡ Some []
+pub nowhere : (image : List ℕ) (n most : ℕ) → chain_of image n most 65535 ≡ Some []
 nowhere image n zero = refl
 nowhere image n (suc most) = refl
 

@@ -1,6 +1,6 @@
 -- Chains of cells along links, and marks of their cells.
-use Rattle.std.specs.Prelude.{◌≡◌, ℕ, zero, suc, ◌*◌, ◌<◌, nat_lt, Bool, true, false, List, [], ◌∷◌, length, set, Some, if◌then◌else◌, slice_index}
-use Rattle.std.specs.List.{AllByRecursion}
+use Rattle.std.specs.Prelude.{◌≡◌, ℕ, zero, suc, ◌*◌, ◌<◌, ◌==◌, nat_lt, Bool, true, false, List, [], ◌∷◌, length, set, Some, if◌then◌else◌, slice_index}
+use Rattle.std.specs.List.{AllByRecursion, list_any}
 use Rattle.eeprom.specs.StoreOf.{chain_of, is_record, is_distinct, number_at, cell_place}
 use Rattle.cell_store.specs.Marks.{is_marked}
 
@@ -17,6 +17,14 @@ link_of image n cell = number_at image (cell_place n cell)
 abbrev pub steps : List ℕ → ℕ → ℕ → ℕ
 steps links zero cell = 0
 steps links (suc most) cell = if nat_lt cell (length links) then suc (steps links most (slice_index links cell)) else 0
+
+-- whether a cell is among others
+abbrev pub is_among : ℕ → List ℕ → Bool
+is_among cell cells = list_any (λ other. cell == other) cells
+
+-- none of these cells is among the others
+abbrev pub AreNotAmong : List ℕ → List ℕ → Type 0
+AreNotAmong cells others = AllByRecursion (λ cell. is_among cell others ≡ false) cells
 
 -- none of these cells is marked, and none comes twice
 pub record AreFree (marks : List Bool) (cells : List ℕ) : Type 0 where

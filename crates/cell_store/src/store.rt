@@ -57,6 +57,15 @@ impl CellStore {
         })
     }
 
+    /// How many cells records may have; there are twice as many.
+    pub fn cells(&self) -> u16
+        ensures number { result ≡ self.now.cells }
+        ensures few { 16 ≤ result }
+        ensures many { result ≤ 2048 }
+    {
+        self.cells
+    }
+
     /// Claims the chain that begins at a cell, which the image has a record in, and answers how many cells it has.
     /// After a refusal the store of cells isn't to be used again.
     pub fn claim_chain<B: Eeprom>(&mut self, bench: &mut B, first: u16) -> Result<u16, ClaimRefusal>

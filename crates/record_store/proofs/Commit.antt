@@ -1,17 +1,19 @@
 -- A commit: the directory that isn't selected, and then the selector.
-use Rattle.std.proofs.Common.{◌≡◌, ◌⊎◌, inl, inr, ℕ, zero, suc, ◌+◌, ◌*◌, ◌-◌, ◌%◌, ◌<◌, ◌≤◌, true, List, [], ◌∷◌, ◌++◌, length, drop, slice_index, Option, Some, None, IsSome, option_map, IfSome, sym, refl, ap, ◌∙◌, arith, subst, add-zero, eqb-true, ◌==◌, false, append_assoc}
+use Rattle.std.proofs.Common.{◌≡◌, ◌⊎◌, inl, inr, ℕ, zero, suc, ◌+◌, ◌*◌, ◌-◌, ◌%◌, ◌<◌, ◌≤◌, true, Bool, List, [], ◌∷◌, ◌++◌, length, drop, slice_index, Option, Some, None, IsSome, option_map, IfSome, sym, refl, ap, ◌∙◌, arith, subst, add-zero, eqb-true, ◌==◌, false, append_assoc}
 use Rattle.std.proofs.lemmas.List.{get_or_append_left, get_or-append-add}
 use Rattle.std.proofs.lemmas.Bool.Decides.{nat_tests}
 use Rattle.eeprom.specs.Chip.{Chip, Writes, Becomes}
 use Rattle.eeprom.specs.Image.{overwrite, IsTorn}
 use Rattle.eeprom.specs.StoreOf.{Slots, number_at, numbers_at, directory, slots_at, starts_with_magic, has_header, store_of}
-use Rattle.record_store.specs.Held.{Held, IsInRange, StandsFor, firsts, contents}
-use Rattle.record_store.specs.Transaction.{IsCommitted, Commits}
+use Rattle.cell_store.specs.Marks.{StaysMarked}
+use Rattle.record_store.specs.Held.{Held, StandsFor, firsts, contents}
+use Rattle.record_store.specs.Sound.{IsSound}
+use Rattle.record_store.specs.Transaction.{IsCommitted, Commits, after_commit}
 use Rattle.record_store.specs.declared.side.Side.TheVariants.{Committed, Working}
-use Rattle.record_store.proofs.Overwrite.{map-some}
+use Rattle.cell_store.proofs.Overwrite.{map-some}
 use Rattle.eeprom.proofs.Moments.{write-throughout, throughout-then}
-use Rattle.record_store.proofs.Places.{numbers_at-more}
-use Rattle.record_store.proofs.Regions.{length-overwrite, take-overwrite, drop-overwrite, get-before, get-inside, get-behind, numbers-agree, numbers-written, SameFront, same-magic, same-cells, same-header}
+use Rattle.cell_store.proofs.Places.{numbers_at-more}
+use Rattle.cell_store.proofs.Regions.{length-overwrite, take-overwrite, drop-overwrite, get-before, get-inside, get-behind, numbers-agree, numbers-written, SameFront, same-magic, same-cells, same-header}
 use Rattle.record_store.proofs.SameSlots.{slots-beside, links-beside}
 use Rattle.record_store.proofs.Weights.{header-room}
 
@@ -49,22 +51,22 @@ slots_stay n firsts left was few beside None of there = absurd (cc)
 slots_stay n firsts left was few beside (Some slots) of there = slots-beside left was n firsts slots few beside.cells of ∙ sym of
 
 -- the store of such an image is that of the directory which it selects
-store_selects : (held : Held) (left was firsts : List ℕ) → IsInRange held → StandsFor held was → Beside held.cells left was → directory left held.cells ≡ firsts → IsSome (slots_at was held.cells firsts)
+store_selects : (held : Held) (left was firsts : List ℕ) → IsSound held → StandsFor held was → Beside held.cells left was → directory left held.cells ≡ firsts → IsSome (slots_at was held.cells firsts)
     → store_of left ≡ slots_at was held.cells firsts
 store_selects held left was firsts range stands beside selects there =
     let magic : starts_with_magic left ≡ true = same-magic left was beside.front ∙ stands.front in
     let header : has_header left ≡ true = same-header left was beside.front ∙ stands.header in
     let number : number_at left 6 ≡ held.cells = same-cells left was beside.front ∙ stands.cells in
-    rw (magic, header, number, selects) (slots_stay held.cells firsts left was range.many beside (slots_at was held.cells firsts) refl there)
+    rw (magic, header, number, selects) (slots_stay held.cells firsts left was range.range.many beside (slots_at was held.cells firsts) refl there)
 
-room-for : (held : Held) (was : List ℕ) → IsInRange held → StandsFor held was → (32 + 2 * held.cells * (1 - held.selector)) + 2 * held.cells ≤ length was
+room-for : (held : Held) (was : List ℕ) → IsSound held → StandsFor held was → (32 + 2 * held.cells * (1 - held.selector)) + 2 * held.cells ≤ length was
 room-for held was range stands = omega (arith, header-room was held.cells stands.header stands.cells, before-cells held.cells held.selector range.selector)
 
 -- the image once the other directory is written
 abbrev with_other : Held → List ℕ → List ℕ → List ℕ
 with_other held was octets = overwrite was (32 + 2 * held.cells * (1 - held.selector)) octets
 
-beside-directory : (held : Held) (was octets : List ℕ) → IsInRange held → StandsFor held was → length octets ≡ 2 * held.cells → Beside held.cells (with_other held was octets) was
+beside-directory : (held : Held) (was octets : List ℕ) → IsSound held → StandsFor held was → length octets ≡ 2 * held.cells → Beside held.cells (with_other held was octets) was
 beside-directory held was octets range stands size =
     let n = held.cells in
     let at : ℕ = 32 + 2 * n * (1 - held.selector) in
@@ -76,7 +78,7 @@ beside-directory held was octets range stands size =
     }
 
 -- the selected directory is the same, whatever was written into the other
-committed-stays : (held : Held) (was octets : List ℕ) → IsInRange held → StandsFor held was → length octets ≡ 2 * held.cells
+committed-stays : (held : Held) (was octets : List ℕ) → IsSound held → StandsFor held was → length octets ≡ 2 * held.cells
     → numbers_at (with_other held was octets) (32 + 2 * held.cells * held.selector) held.cells ≡ held.committed
 committed-stays held was octets range stands size =
     let n = held.cells in
@@ -90,7 +92,7 @@ committed-stays held was octets range stands size =
     ] in
     numbers-agree (overwrite was at octets) was (32 + 2 * n * s) n agree ∙ rw (stands.selector) at stands.selected
 
-torn-directory : (held : Held) (was left : List ℕ) → IsInRange held → StandsFor held was → IsTorn was (32 + 2 * held.cells * (1 - held.selector)) (2 * held.cells) left → store_of left ≡ contents held Committed was
+torn-directory : (held : Held) (was left : List ℕ) → IsSound held → StandsFor held was → IsTorn was (32 + 2 * held.cells * (1 - held.selector)) (2 * held.cells) left → store_of left ≡ contents held Committed was
 torn-directory held was left range stands torn =
     let n = held.cells in
     let at : ℕ = 32 + 2 * n * (1 - held.selector) in
@@ -100,12 +102,12 @@ torn-directory held was left range stands torn =
     rw (same, stands.selector) (committed-stays held was torn.octets range stands torn.count_is) in
     rw (torn.is) (store_selects held (overwrite was at torn.octets) was held.committed range stands (beside-directory held was torn.octets range stands torn.count_is) selects stands.committed)
 
-room-for-selector : (held : Held) (was octets : List ℕ) → IsInRange held → StandsFor held was → length octets ≡ 2 * held.cells → 9 ≤ length (with_other held was octets)
+room-for-selector : (held : Held) (was octets : List ℕ) → IsSound held → StandsFor held was → length octets ≡ 2 * held.cells → 9 ≤ length (with_other held was octets)
 room-for-selector held was octets range stands size =
     omega (arith, (beside-directory held was octets range stands size).front.size, header-room was held.cells stands.header stands.cells)
 
 -- once the other directory is there, an octet of the selector selects one of the two
-beside-selector : (held : Held) (was octets selector : List ℕ) → IsInRange held → StandsFor held was → length octets ≡ 2 * held.cells → length selector ≡ 1 → Beside held.cells (overwrite (with_other held was octets) 8 selector) was
+beside-selector : (held : Held) (was octets selector : List ℕ) → IsSound held → StandsFor held was → length octets ≡ 2 * held.cells → length selector ≡ 1 → Beside held.cells (overwrite (with_other held was octets) 8 selector) was
 beside-selector held was octets selector range stands size one =
     let mid : List ℕ = with_other held was octets in
     let first = beside-directory held was octets range stands size in
@@ -121,7 +123,7 @@ beside-selector held was octets selector range stands size one =
 selector-written : (image selector : List ℕ) → 9 ≤ length image → length selector ≡ 1 → slice_index (overwrite image 8 selector) 8 ≡ slice_index selector 0
 selector-written image selector room one = rw add-zero at (get-inside image 8 selector 0 (omega arith) (omega arith))
 
-selects-one : (held : Held) (was octets selector : List ℕ) (t : ℕ) → IsInRange held → StandsFor held was → length octets ≡ 2 * held.cells → length selector ≡ 1 → slice_index selector 0 % 2 ≡ t
+selects-one : (held : Held) (was octets selector : List ℕ) (t : ℕ) → IsSound held → StandsFor held was → length octets ≡ 2 * held.cells → length selector ≡ 1 → slice_index selector 0 % 2 ≡ t
     → directory (overwrite (with_other held was octets) 8 selector) held.cells ≡ numbers_at (with_other held was octets) (32 + 2 * held.cells * t) held.cells
 selects-one held was octets selector t range stands size one parity =
     let mid : List ℕ = with_other held was octets in
@@ -129,7 +131,7 @@ selects-one held was octets selector t range stands size one parity =
     rw (selector-written mid selector room one, parity)
     (numbers-agree (overwrite mid 8 selector) mid (32 + 2 * held.cells * t) held.cells (λ k from below. get-behind mid 8 selector k (omega arith) (omega arith)))
 
-working-there : (held : Held) (was octets : List ℕ) → IsInRange held → StandsFor held was → length octets ≡ 2 * held.cells → numbers_at octets 0 held.cells ≡ held.working
+working-there : (held : Held) (was octets : List ℕ) → IsSound held → StandsFor held was → length octets ≡ 2 * held.cells → numbers_at octets 0 held.cells ≡ held.working
     → numbers_at (with_other held was octets) (32 + 2 * held.cells * (1 - held.selector)) held.cells ≡ held.working
 working-there held was octets range stands size is =
     numbers-written was (32 + 2 * held.cells * (1 - held.selector)) octets held.cells (omega (arith, room-for held was range stands)) (omega arith) ∙ is
@@ -156,7 +158,7 @@ other-parity (suc (suc s)) small = absurd (omega arith)
 working-firsts : (held : Held) → held.begun ≡ true → firsts held Working ≡ held.working
 working-firsts held begun = rw begun refl
 
-torn-selector : (held : Held) (was octets left : List ℕ) → IsInRange held → StandsFor held was → held.begun ≡ true → length octets ≡ 2 * held.cells → numbers_at octets 0 held.cells ≡ held.working
+torn-selector : (held : Held) (was octets left : List ℕ) → IsSound held → StandsFor held was → held.begun ≡ true → length octets ≡ 2 * held.cells → numbers_at octets 0 held.cells ≡ held.working
     → IsTorn (with_other held was octets) 8 1 left → (store_of left ≡ contents held Committed was) ⊎ (store_of left ≡ contents held Working was)
 torn-selector held was octets left range stands begun size is torn =
     let beside = beside-selector held was octets torn.octets range stands size torn.count_is in
@@ -169,9 +171,9 @@ torn-selector held was octets left range stands begun size is torn =
           (selects-one held was octets torn.octets (1 - held.selector) range stands size torn.count_is other ∙ working-there held was octets range stands size is) (rw working at stands.working)))
     ]
 
-committed-image : (held : Held) (was octets : List ℕ) → IsInRange held → StandsFor held was → held.begun ≡ true → length octets ≡ 2 * held.cells → numbers_at octets 0 held.cells ≡ held.working
-    → IsCommitted held was (overwrite (with_other held was octets) 8 ((1 - held.selector) ∷ []))
-committed-image held was octets range stands begun size is =
+committed-image : (held : Held) (used : List Bool) (was octets : List ℕ) → StaysMarked used held.used → IsSound held → StandsFor held was → held.begun ≡ true → length octets ≡ 2 * held.cells → numbers_at octets 0 held.cells ≡ held.working
+    → IsCommitted held (after_commit held used) was (overwrite (with_other held was octets) 8 ((1 - held.selector) ∷ []))
+committed-image held used was octets fewer range stands begun size is =
     let n = held.cells in
     let mid : List ℕ = with_other held was octets in
     let selector : List ℕ = (1 - held.selector) ∷ [] in
@@ -181,7 +183,7 @@ committed-image held was octets range stands begun size is =
     let working = working-firsts held begun in
     let there : IsSome (slots_at was n held.working) = rw working at stands.working in
     let selects : directory now n ≡ held.working = selects-one held was octets selector (1 - held.selector) range stands size refl parity ∙ working-there held was octets range stands size is in
-    let slots = slots_stay n held.working now was range.many beside (slots_at was n held.working) refl there in
+    let slots = slots_stay n held.working now was range.range.many beside (slots_at was n held.working) refl there in
     let octet : slice_index now 8 ≡ 1 - held.selector = selector-written mid selector (room-for-selector held was octets range stands size) refl in
     record {
       store = rw working (store_selects held now was held.working range stands beside selects there);
@@ -191,7 +193,7 @@ committed-image held was octets range stands begun size is =
         cells = same-cells now was beside.front ∙ stands.cells;
         selector = rw octet parity;
         selected = selects;
-        links = λ cell inside. stands.links cell inside ∙ sym (links-beside now was n cell beside.cells);
+        links = λ cell is. stands.links cell (fewer cell is) ∙ sym (links-beside now was n cell beside.cells);
         committed = rw slots there;
         working = rw slots there;
       };
@@ -199,13 +201,13 @@ committed-image held was octets range stands begun size is =
 
 -- what a commit writes: these octets at this place, and then this selector
 pub record Ready (held : Held) (at : ℕ) (octets : List ℕ) (other : ℕ) : Type 0 where
-  pub range : IsInRange held
+  pub range : IsSound held
   pub place : at ≡ 32 + 2 * held.cells * (1 - held.selector)
   pub count : length octets ≡ 2 * held.cells
   pub numbers : numbers_at octets 0 held.cells ≡ held.working
   pub selector : other ≡ 1 - held.selector
 
-pub ready-from : (view held : Held) (slice octets : List ℕ) (at selector : ℕ) → view ≡ held → IsInRange view → slice ≡ view.working → numbers_at octets 0 (length slice) ≡ slice → length octets ≡ 2 * length slice
+pub ready-from : (view held : Held) (slice octets : List ℕ) (at selector : ℕ) → view ≡ held → IsSound view → slice ≡ view.working → numbers_at octets 0 (length slice) ≡ slice → length octets ≡ 2 * length slice
     → at ≡ 32 + 2 * view.cells * (1 - view.selector) → selector ≡ 1 - view.selector → Ready held at octets selector
 ready-from view held slice octets at selector same range is numbers count place other =
     let size : length slice ≡ view.cells = ap (length {A = ℕ}) is ∙ range.working_count in
@@ -250,11 +252,11 @@ commits-second held at octets selector old mid new ready begun clocked clocked' 
           (mark, from.0, from.1, torn-selector held from.0 octets left ready.range (rw (from.1) at stands) begun ready.count ready.numbers during)));
     }
 
-pub commit-done : (held : Held) (at : ℕ) (octets : List ℕ) (selector : ℕ) (old mid new : Option (List ℕ)) → Ready held at octets selector → held.begun ≡ true → IfSome old (StandsFor held)
-    → mid ≡ option_map (λ image. overwrite image at octets) old → new ≡ option_map (λ image. overwrite image 8 (selector ∷ [])) mid → Becomes (IsCommitted held) old new
-commit-done held at octets selector old mid new ready begun stands first second = λ now told.
-    let between = map-some (λ image. overwrite image 8 (selector ∷ [])) mid now (sym second ∙ told) in
+pub commit-done : (held new : Held) (used : List Bool) (at : ℕ) (octets : List ℕ) (selector : ℕ) (old mid now : Option (List ℕ)) → Ready held at octets selector → held.begun ≡ true → StaysMarked used held.used → new ≡ after_commit held used → IfSome old (StandsFor held)
+    → mid ≡ option_map (λ image. overwrite image at octets) old → now ≡ option_map (λ image. overwrite image 8 (selector ∷ [])) mid → Becomes (IsCommitted held new) old now
+commit-done held new used at octets selector old mid now ready begun fewer is stands first second = λ after told.
+    let between = map-some (λ image. overwrite image 8 (selector ∷ [])) mid after (sym second ∙ told) in
     let from = map-some (λ image. overwrite image at octets) old between.0 (sym first ∙ between.1) in
-    let is : now ≡ overwrite (overwrite from.0 (32 + 2 * held.cells * (1 - held.selector)) octets) 8 ((1 - held.selector) ∷ []) =
-    written-at now between.0 from.0 octets at _ selector _ ready.place ready.selector between.2 from.2 in
-    (from.0, from.1, subst (λ (image : List ℕ). IsCommitted held from.0 image) (sym is) (committed-image held from.0 octets ready.range (rw (from.1) at stands) begun ready.count ready.numbers))
+    let image_is : after ≡ overwrite (overwrite from.0 (32 + 2 * held.cells * (1 - held.selector)) octets) 8 ((1 - held.selector) ∷ []) =
+    written-at after between.0 from.0 octets at _ selector _ ready.place ready.selector between.2 from.2 in
+    (from.0, from.1, subst (λ (image : List ℕ). IsCommitted held new from.0 image) (sym image_is) (subst (λ (new : Held). IsCommitted held new from.0 (overwrite (with_other held from.0 octets) 8 ((1 - held.selector) ∷ []))) (sym is) (committed-image held used from.0 octets fewer ready.range (rw (from.1) at stands) begun ready.count ready.numbers)))

@@ -1,5 +1,14 @@
 -- The chain of a slot, and its record.
-USES
+use Rattle.std.proofs.Common.{◌≡◌, ℕ, zero, suc, ◌*◌, ◌<◌, ◌≢◌, ◌&&◌, Bool, true, false, List, [], ◌∷◌, length, map, slice_index, slice_index_or, Option, Some, None, IsSome, option_and_then, IfSome, if◌then◌else◌, sym, refl, ap, ◌∙◌, arith, subst}
+use Rattle.std.specs.List.{list_all}
+use Rattle.eeprom.specs.Chip.{Becomes}
+use Rattle.eeprom.specs.StoreOf.{chain_of, chains_of, is_record, slot_of, slots_at, are_apart}
+use Rattle.cell_store.specs.Chains.{IsRecordChain}
+use Rattle.cell_store.specs.Reading.{ReadsRecord}
+use Rattle.cell_store.proofs.Chains.{both, chains-parts, chain-empty, chain-nowhere}
+use Rattle.record_store.specs.declared.side.Side.{Side}
+use Rattle.record_store.specs.declared.side.Side.TheVariants.{Committed, Working}
+use Rattle.record_store.specs.Held.{Held, firsts, contents, record_at, StandsFor}
 
 -- the chain of a slot
 pub record ChainOf (image : List ℕ) (n : ℕ) (first : ℕ) (entry : Option (List ℕ)) : Type 0 where
@@ -42,14 +51,48 @@ pub chain-entry : (image : List ℕ) (n : ℕ) (firsts : List ℕ) (slot : ℕ) 
     → ChainOf image n (slice_index firsts slot) (option_and_then (λ slots. slice_index_or slots slot None) (slots_at image n firsts))
 chain-entry image n firsts slot inside h = entry-at image n firsts slot inside (chains_of image n firsts) refl h
 
-pub record-found : (held : Held) (side : Side) (slot n first : ℕ) (image : Option (List ℕ)) {E : Type 0} (result : Result Bool E) (out : List ℕ) → n ≡ held.cells → first ≡ slice_index (firsts held side) slot → slot < length (firsts held side)
-    → IfSome image (StandsFor held)
-    → IfOk result (λ found. IfSome image (λ image. (chain : List ℕ) → chain_of image n (2 * n) first ≡ Some chain → is_record image n chain ≡ true → slot_of image n chain ≡ (if found then Some out else None)))
-    → IfOk result (λ found. IfSome image (λ image. record_at held side slot image ≡ (if found then Some out else None)))
-record-found held side slot n first image (Err error) out cells start inside stands got = tt
-record-found held side slot n first None (Ok found) out cells start inside stands got = tt
-record-found held side slot n first (Some image) (Ok found) out cells start inside stands got =
-    let there : IsSome (contents held side image) = elim side as (λ side. IsSome (contents held side image)) [ Committed ↦ stands.committed | Working ↦ stands.working ] in
-    let entry = chain-entry image held.cells (firsts held side) slot inside there in
-    let read = rw (cells, start) at got in
-    entry.entry_is ∙ read entry.chain entry.of entry.is
+contents-there : (held : Held) (side : Side) (image : List ℕ) → StandsFor held image → IsSome (contents held side image)
+contents-there held side image stands = elim side as (λ side. IsSome (contents held side image)) [ Committed ↦ stands.committed | Working ↦ stands.working ]
+
+-- a slot that begins at a cell has the record of its chain
+record-told : (held : Held) (side : Side) (slot n first : ℕ) (image : List ℕ) → n ≡ held.cells → first ≡ slice_index (firsts held side) slot → slot < length (firsts held side) → first ≢ 65535 → StandsFor held image
+    → (chain : List ℕ) × IsRecordChain image n first chain × (record_at held side slot image ≡ slot_of image n chain)
+record-told held side slot n first image cells start inside some stands =
+    let entry = chain-entry image held.cells (firsts held side) slot inside (contents-there held side image stands) in
+    let there : 0 < length entry.chain = nonempty entry.chain entry.of in (
+      entry.chain,
+      subst (λ (n : ℕ). IsRecordChain image n first entry.chain) (sym cells) (subst (λ (first : ℕ). IsRecordChain image held.cells first entry.chain) (sym start) (record { of = entry.of; is = entry.is; some = there })),
+      entry.entry_is ∙ ap (λ (n : ℕ). slot_of image n entry.chain) (sym cells),
+    )
+  where
+    nonempty : (chain : List ℕ) → chain_of image held.cells (2 * held.cells) (slice_index (firsts held side) slot) ≡ Some chain → 0 < length chain
+    nonempty [] of = absurd (some (start ∙ chain-empty image held.cells (2 * held.cells) (slice_index (firsts held side) slot) of))
+    nonempty (cell ∷ cells) of = omega arith
+
+pub record-found : (held : Held) (side : Side) (slot n first : ℕ) (image : Option (List ℕ)) (out : List ℕ) → n ≡ held.cells → first ≡ slice_index (firsts held side) slot → slot < length (firsts held side) → first ≢ 65535
+    → IfSome image (StandsFor held) → IfSome image (λ image. (chain : List ℕ) → IsRecordChain image n first chain → slot_of image n chain ≡ Some out) → IfSome image (λ image. record_at held side slot image ≡ Some out)
+record-found held side slot n first None out cells start inside some stands got = tt
+record-found held side slot n first (Some image) out cells start inside some stands got =
+    let told = record-told held side slot n first image cells start inside some stands in
+    told.2 ∙ got told.0 told.1
+
+pub record-read : (held : Held) (side : Side) (slot n first : ℕ) (image : Option (List ℕ)) (out : List ℕ) (old new : Option ℕ) → n ≡ held.cells → first ≡ slice_index (firsts held side) slot → slot < length (firsts held side) → first ≢ 65535
+    → IfSome image (StandsFor held) → IfSome image (λ image. (chain : List ℕ) → IsRecordChain image n first chain → Becomes (ReadsRecord (Some out)) old new) → IfSome image (λ _. Becomes (ReadsRecord (Some out)) old new)
+record-read held side slot n first None out old new cells start inside some stands got = tt
+record-read held side slot n first (Some image) out old new cells start inside some stands got =
+    let told = record-told held side slot n first image cells start inside some stands in
+    got told.0 told.1
+
+-- one that begins nowhere has none
+pub record-nowhere : (held : Held) (side : Side) (slot first : ℕ) (image : Option (List ℕ)) → first ≡ slice_index (firsts held side) slot → slot < length (firsts held side) → first ≡ 65535 → IfSome image (StandsFor held) → IfSome image (λ image. record_at held side slot image ≡ None)
+record-nowhere held side slot first None start inside none stands = tt
+record-nowhere held side slot first (Some image) start inside none stands =
+    let entry = chain-entry image held.cells (firsts held side) slot inside (contents-there held side image stands) in
+    let at : slice_index (firsts held side) slot ≡ 65535 = sym start ∙ none in
+    let no_chain : entry.chain ≡ [] = chain-nowhere image held.cells (2 * held.cells) entry.chain (rw at at entry.of) in
+    entry.entry_is ∙ rw no_chain refl
+
+-- and nothing is read of it
+pub reads-nothing : (image : Option (List ℕ)) (count : Option ℕ) → IfSome image (λ _. Becomes (ReadsRecord None) count count)
+reads-nothing None count = tt
+reads-nothing (Some image) count = λ after e. (after, e, refl)

@@ -1,17 +1,20 @@
--- The links of cells, and the cells of the records along them.
-use Rattle.std.proofs.Common.{◌≡◌, ℕ, zero, suc, ◌+◌, ◌*◌, ◌-◌, ◌<◌, ◌≤◌, ◌==◌, ◌&&◌, Bool, true, false, List, [], ◌∷◌, ◌++◌, length, map, slice_index, flat_map, nat_lt, nat_le, Option, Some, None, IsSome, ◌%◌, option_and_then, if◌then◌else◌, sum_by, sym, refl, ap, ◌∙◌, arith, length-append, length-take, length-drop, leb-true, eqb-true, ltb-true, inl, inr}
-use Rattle.std.specs.List.{list_all}
-use Rattle.std.proofs.lemmas.Bool.Decides.{nat_tests}
+-- The chains of slots: those in memory are the image's, and weigh what their records do.
+use Rattle.std.proofs.Common.{◌≡◌, ℕ, zero, suc, ◌+◌, ◌*◌, ◌<◌, ◌≤◌, ◌==◌, ◌&&◌, Bool, true, false, List, [], ◌∷◌, ◌++◌, length, map, set, take, slice_index, nat_le, Option, Some, None, IsSome, ◌%◌, option_and_then, if◌then◌else◌, sum_by, sym, refl, ap, ◌∙◌, arith, subst, length-append, leb-true}
+use Rattle.std.specs.List.{list_all, AllByRecursion}
 use Rattle.std.proofs.lemmas.Option.{same_Some, none-some}
-use Rattle.std.proofs.lemmas.List.{get_or_append_left}
 use Rattle.std.proofs.lemmas.List.Sums.{sum_by-cons}
-use Rattle.eeprom.specs.StoreOf.{Slots, chain_of, chains_of, cell_place, cells_for, payload_of, number_at, is_record, record_in, slot_of, slots_at, are_apart, is_distinct, has_header}
-use Rattle.record_store.specs.Held.{Held, IsInRange, StandsFor, firsts, contents}
+use Rattle.eeprom.specs.StoreOf.{Slots, chain_of, chains_of, cell_place, number_at, is_record, slot_of, slots_at, are_apart, has_header, cells_of, weight_of}
+use Rattle.cell_store.specs.Cells.{link_in, AreLinksOf}
+use Rattle.cell_store.specs.Chains.{AreLinked, link_of, steps}
+use Rattle.cell_store.specs.Marks.{is_marked}
+use Rattle.cell_store.proofs.Chains.{both, cells-chain, chains-parts}
+use Rattle.cell_store.proofs.Linking.{linked-chain, linked-same, steps-linked}
+use Rattle.record_store.specs.Held.{Held, StandsFor, firsts, contents}
+use Rattle.record_store.specs.Slots.{steps_without}
+use Rattle.record_store.specs.Sound.{AreChains, HasChains, IsSound, cells_in}
 use Rattle.record_store.specs.declared.side.Side.{Side}
 use Rattle.record_store.specs.declared.side.Side.TheVariants.{Committed, Working}
-use Rattle.record_store.specs.Links.{AreLinks, steps}
-use Rattle.eeprom.specs.StoreOf.{cells_of, weight_of}
-use Rattle.record_store.proofs.Records.{both, if-some, chain-cases, chain-first, chains-parts, length-chain, length-payload}
+use Rattle.record_store.proofs.Sides.{committed-marked, working-marked, small-links}
 
 -- the chains of slots that are told
 pub record Chains (image : List ℕ) (n : ℕ) (firsts : List ℕ) (slots : Slots) : Type 0 where
@@ -35,22 +38,6 @@ slots-of image n firsts slots (Some chains) of h = slots-if image n firsts slots
 pub slots-chains : (image : List ℕ) (n : ℕ) (firsts : List ℕ) (slots : Slots) → slots_at image n firsts ≡ Some slots → Chains image n firsts slots
 slots-chains image n firsts slots h = slots-of image n firsts slots (chains_of image n firsts) refl h
 
--- the walks from all first cells go through the chains, which have the cells of the records
-pub steps-chains : (image : List ℕ) (n : ℕ) (links firsts : List ℕ) (chains : List (List ℕ)) → n ≤ 2048 → length links ≡ 2 * n → AreLinks image n (2 * n) links → 70 * n + 34 ≤ length image
-    → chains_of image n firsts ≡ Some chains → list_all (is_record image n) chains ≡ true
-    → (sum_by (steps links 18) firsts ≡ sum_by cells_of (map (slot_of image n) chains)) × (sum_by (steps links 18) firsts ≡ length (flat_map (λ (chain : List ℕ). chain) chains))
-steps-chains image n links [] chains few count all room h records = let e : chains ≡ [] = sym (same_Some _ _ h) in rw e (refl, refl)
-steps-chains image n links (first ∷ rest) chains few count all room h records =
-    let parts = chains-parts (chain_of image n (2 * n) first) (chains_of image n rest) chains h in
-    let tests = both (is_record image n parts.0) (list_all (is_record image n) parts.1) (rw (parts.4) at records) in
-    let cells = cells-chain image n first parts.0 room parts.2 tests.0 in
-    let one = steps-chain image n links (2 * n) first 18 parts.0 few count all parts.2 cells.0 in
-    let more = steps-chains image n links rest parts.1 few count all room parts.3 tests.1 in
-    let split = sum_by-cons (steps links 18) first rest in
-    let weights = sum_by-cons cells_of (slot_of image n parts.0) (map (slot_of image n) parts.1) in
-    let lengths = length-append parts.0 (flat_map (λ (chain : List ℕ). chain) parts.1) in
-    rw (parts.4) (omega (arith, cells.1, one, more.0, split, weights), omega (arith, one, more.1, split, lengths))
-
 -- the room of an image with a header
 pub header-room : (image : List ℕ) (n : ℕ) → has_header image ≡ true → number_at image 6 ≡ n → 70 * n + 34 ≤ length image
 header-room image n header number =
@@ -58,29 +45,109 @@ header-room image n header number =
     let tests = both ((slice_index image 4 == 1) && (slice_index image 5 % 2 == 0) && nat_le 16 m && nat_le m 2048) (nat_le (70 * m + 34) (length image)) header in
     rw number at (leb-true (70 * m + 34) (length image) tests.1)
 
-pub steps-firsts : (held : Held) (side : Side) (image : List ℕ) (slots : Slots) → IsInRange held → StandsFor held image → contents held side image ≡ Some slots
-    → (sum_by (steps held.links 18) (firsts held side) ≡ weight_of slots) × (sum_by (steps held.links 18) (firsts held side) ≤ held.cells)
-steps-firsts held side image slots range stands h =
-    let n = held.cells in
-    let c = slots-chains image n (firsts held side) slots h in
-    let sums = steps-chains image n held.links (firsts held side) c.chains range.many range.links_count stands.links (header-room image n stands.header stands.cells) c.of c.records in
-    let cells = flat_map (λ (chain : List ℕ). chain) c.chains in
-    let most : length cells ≤ n = leb-true (length cells) n (both (is_distinct cells) (nat_le (length cells) n) c.apart).1 in
-    (sums.0 ∙ ap weight_of (sym c.is), omega (arith, sums.1, most))
+-- the records of chains weigh as many cells as the chains have
+pub cells-chains : (image : List ℕ) (n : ℕ) (firsts : List ℕ) (chains : List (List ℕ)) → 70 * n + 34 ≤ length image → chains_of image n firsts ≡ Some chains → list_all (is_record image n) chains ≡ true → sum_by cells_of (map (slot_of image n) chains) ≡ length (cells_in chains)
+cells-chains image n [] chains room h records = let e : chains ≡ [] = sym (same_Some _ _ h) in rw e refl
+cells-chains image n (first ∷ rest) chains room h records =
+    let parts = chains-parts (chain_of image n (2 * n) first) (chains_of image n rest) chains h in
+    let tests = both (is_record image n parts.0) (list_all (is_record image n) parts.1) (rw (parts.4) at records) in
+    let cells = cells-chain image n first parts.0 room parts.2 tests.0 in
+    let more = cells-chains image n rest parts.1 room parts.3 tests.1 in
+    let weights = sum_by-cons cells_of (slot_of image n parts.0) (map (slot_of image n) parts.1) in
+    let lengths = length-append parts.0 (cells_in parts.1) in
+    rw (parts.4) (omega (arith, cells.1, more, weights, lengths))
 
-pub weight-is : (held : Held) (side : Side) (links first_cells : List ℕ) (result : ℕ) → IsInRange held → links ≡ held.links → first_cells ≡ firsts held side → result ≡ sum_by (steps links 18) first_cells
-    → (image : List ℕ) → (slots : Slots) → StandsFor held image → contents held side image ≡ Some slots → result ≡ weight_of slots
-weight-is held side links first_cells result range links_are firsts_are is = λ image slots stands h.
-    is ∙ rw (links_are, firsts_are) ((steps-firsts held side image slots range stands h).0)
+-- so many cells are counted along the links
+pub walk-chains : (links firsts : List ℕ) (chains : List (List ℕ)) → length links ≤ 65535 → AreChains links firsts chains → sum_by (steps links 18) firsts ≡ length (cells_in chains)
+walk-chains links [] [] few are = refl
+walk-chains links [] (chain ∷ chains) few are = absurd are
+walk-chains links (first ∷ firsts) [] few are = absurd are
+walk-chains links (first ∷ firsts) (chain ∷ chains) few are =
+    omega (arith, sum_by-cons (steps links 18) first firsts, steps-linked links first 18 chain few are.0 are.1, walk-chains links firsts chains few are.2, length-append chain (cells_in chains))
+
+pub walk-without : (links firsts : List ℕ) (chains : List (List ℕ)) (slot : ℕ) → length links ≤ 65535 → slot < length firsts → AreChains links firsts chains → steps_without links firsts slot ≡ length (cells_in (set chains slot []))
+walk-without links [] chains slot few inside are = absurd (omega arith)
+walk-without links (first ∷ firsts) [] slot few inside are = absurd are
+walk-without links (first ∷ firsts) (chain ∷ chains) zero few inside are = omega (arith, walk-chains links firsts chains few are.2)
+walk-without links (first ∷ firsts) (chain ∷ chains) (suc slot) few inside are =
+    let next : suc slot + 1 ≡ suc (slot + 1) = omega arith in
+    rw next (omega (arith, sum_by-cons (steps links 18) first (take slot firsts), steps-linked links first 18 chain few are.0 are.1, walk-without links firsts chains slot few (omega arith) are.2, length-append chain (cells_in (set chains slot []))))
+
+-- chains in memory are the image's
+pub chains-told : (image : List ℕ) (n : ℕ) (used : List Bool) (links firsts : List ℕ) (chains : List (List ℕ)) → 16 ≤ n → n ≤ 2048 → length links ≡ 2 * n → AreLinksOf image n used links → AllByRecursion (λ cell. is_marked used cell ≡ true) (cells_in chains) → AreChains links firsts chains
+    → chains_of image n firsts ≡ Some chains
+chains-told image n used links [] [] few many size all marked are = refl
+chains-told image n used links [] (chain ∷ chains) few many size all marked are = absurd are
+chains-told image n used links (first ∷ firsts) [] few many size all marked are = absurd are
+chains-told image n used links (first ∷ firsts) (chain ∷ chains) few many size all marked are =
+    let parts = marked-parts chain (cells_in chains) marked in
+    let linked = linked-same (link_in links) (link_of image n) (2 * n) first chain (agree chain parts.0) (subst (λ (k : ℕ). AreLinked (link_in links) k first chain) size are.0) in
+    let one : chain_of image n (2 * n) first ≡ Some chain = linked-chain image n (2 * n) first chain many linked (omega (arith, are.1)) in
+    let rest = chains-told image n used links firsts chains few many size all parts.1 are.2 in
+    rw (one, rest) refl
+  where
+    marked-parts : (xs ys : List ℕ) → AllByRecursion (λ cell. is_marked used cell ≡ true) (xs ++ ys) → AllByRecursion (λ cell. is_marked used cell ≡ true) xs × AllByRecursion (λ cell. is_marked used cell ≡ true) ys
+    marked-parts [] ys all = (tt, all)
+    marked-parts (x ∷ xs) ys all = (let rest = marked-parts xs ys all.1 in ((all.0, rest.0), rest.1))
+
+    agree : (cells : List ℕ) → AllByRecursion (λ cell. is_marked used cell ≡ true) cells → AllByRecursion (λ cell. number_at image (cell_place n cell) ≡ slice_index links cell) cells
+    agree [] marked = tt
+    agree (cell ∷ cells) marked = (sym (all cell marked.0), agree cells marked.1)
+
+-- the chains of a side
+pub record SideChains (held : Held) (side : Side) : Type 0 where
+  pub chains : List (List ℕ)
+  pub has : HasChains held.cells held.links (firsts held side) chains
+  pub marked : AllByRecursion (λ cell. is_marked held.used cell ≡ true) (cells_in chains)
+
+pub side-chains : (held : Held) (side : Side) → IsSound held → SideChains held side
+side-chains held Committed sound = record { chains = sound.sides.committed; has = sound.sides.committed_has; marked = committed-marked held sound.sides }
+side-chains held Working sound = record { chains = sound.sides.working; has = sound.sides.working_has; marked = working-marked held sound.sides }
+
+-- they are those of the image, and their records are the side's
+pub record Told (held : Held) (image : List ℕ) (firsts : List ℕ) (chains : List (List ℕ)) (slots : Slots) : Type 0 where
+  pub of : chains_of image held.cells firsts ≡ Some chains
+  pub records : list_all (is_record image held.cells) chains ≡ true
+  pub apart : are_apart held.cells chains ≡ true
+  pub is : slots ≡ map (slot_of image held.cells) chains
+  pub weight : weight_of slots ≡ length (cells_in chains)
+
+pub told-chains : (held : Held) (image firsts : List ℕ) (chains : List (List ℕ)) (slots : Slots) → IsSound held → StandsFor held image → HasChains held.cells held.links firsts chains → AllByRecursion (λ cell. is_marked held.used cell ≡ true) (cells_in chains)
+    → slots_at image held.cells firsts ≡ Some slots → Told held image firsts chains slots
+told-chains held image firsts chains slots sound stands has marked there =
+    let n = held.cells in
+    let c = slots-chains image n firsts slots there in
+    let of = chains-told image n held.used held.links firsts chains sound.range.few sound.range.many sound.range.links_count stands.links marked has.are in
+    let same : c.chains ≡ chains = same_Some _ _ (sym c.of ∙ of) in
+    let records : list_all (is_record image n) chains ≡ true = rw same at c.records in
+    record {
+      of = of;
+      records = records;
+      apart = rw same at c.apart;
+      is = rw same at c.is;
+      weight = ap weight_of (rw same at c.is) ∙ cells-chains image n firsts chains (header-room image n stands.header stands.cells) of records;
+    }
 
 pub some-slots : {X : Type 0} (o : Option X) → IsSome o → (x : X) × (o ≡ Some x)
 some-slots None h = absurd (cc)
 some-slots (Some x) h = (x, refl)
 
-pub weight-most : (held : Held) (side : Side) (links first_cells : List ℕ) (result : ℕ) → IsInRange held → links ≡ held.links → first_cells ≡ firsts held side → result ≡ sum_by (steps links 18) first_cells
-    → (image : List ℕ) → StandsFor held image → result ≤ held.cells
-weight-most held side links first_cells result range links_are firsts_are is = λ image stands.
-    let there : IsSome (contents held side image) = elim side as (λ side. IsSome (contents held side image)) [ Committed ↦ stands.committed | Working ↦ stands.working ] in
-    let slots = some-slots (contents held side image) there in
+pub steps-firsts : (held : Held) (side : Side) (image : List ℕ) (slots : Slots) → IsSound held → StandsFor held image → contents held side image ≡ Some slots
+    → (sum_by (steps held.links 18) (firsts held side) ≡ weight_of slots) × (sum_by (steps held.links 18) (firsts held side) ≤ held.cells)
+steps-firsts held side image slots sound stands h =
+    let s = side-chains held side sound in
+    let told = told-chains held image (firsts held side) s.chains slots sound stands s.has s.marked h in
+    let walk = walk-chains held.links (firsts held side) s.chains (small-links held sound) s.has.are in
+    (walk ∙ sym told.weight, omega (arith, walk, s.has.few))
+
+pub weight-is : (held : Held) (side : Side) (links first_cells : List ℕ) (result : ℕ) → IsSound held → links ≡ held.links → first_cells ≡ firsts held side → result ≡ sum_by (steps links 18) first_cells
+    → (image : List ℕ) → (slots : Slots) → StandsFor held image → contents held side image ≡ Some slots → result ≡ weight_of slots
+weight-is held side links first_cells result sound links_are firsts_are is = λ image slots stands h.
+    is ∙ rw (links_are, firsts_are) ((steps-firsts held side image slots sound stands h).0)
+
+pub weight-most : (held : Held) (side : Side) (links first_cells : List ℕ) (result : ℕ) → IsSound held → links ≡ held.links → first_cells ≡ firsts held side → result ≡ sum_by (steps links 18) first_cells → result ≤ held.cells
+weight-most held side links first_cells result sound links_are firsts_are is =
+    let s = side-chains held side sound in
+    let walk = walk-chains held.links (firsts held side) s.chains (small-links held sound) s.has.are in
     let sum : result ≡ sum_by (steps held.links 18) (firsts held side) = is ∙ rw (links_are, firsts_are) refl in
-    omega (arith, sum, (steps-firsts held side image slots.0 range stands slots.1).1)
+    omega (arith, sum, walk, s.has.few)

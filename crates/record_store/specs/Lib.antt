@@ -1,14 +1,9 @@
 pub mod Appends
-pub mod Claims
 pub mod CountsFaults
 pub mod FreshImage
 pub mod Header
 pub mod Held
-pub mod Links
-pub mod Marks
-pub mod Placed
 pub mod Put
-pub mod Reading
-pub mod Runs
+pub mod Slots
+pub mod Sound
 pub mod Transaction
-pub mod Walk

@@ -1,5 +1,5 @@
 -- What putting a record makes of a store.
-use Rattle.std.specs.Prelude.{◌≡◌, ℕ, ◌+◌, ◌<◌, ◌≤◌, List, length, Option, None, Some, IfSome, option_map, slice_set}
+use Rattle.std.specs.Prelude.{◌≡◌, ℕ, ◌+◌, ◌<◌, ◌≤◌, Bool, List, length, Option, None, Some, IfSome, option_map, slice_set}
 use Rattle.eeprom.specs.StoreOf.{Slots, cells_for}
 use Rattle.record_store.specs.Held.{Held, contents, StandsFor}
 use Rattle.eeprom.specs.StoreOf.{weight_of}
@@ -28,6 +28,10 @@ weight_after (Some slot) octets slots = weight_with slot octets slots
 abbrev pub IsFull : Held → Option ℕ → List ℕ → List ℕ → Type 0
 IsFull held slot octets image = IfSome (contents held Working image) (λ slots. held.cells < weight_after slot octets slots)
 
+-- a slot was emptied, and these cells are used then
+abbrev pub emptied : Held → ℕ → List Bool → Held
+emptied held slot used = record { cells = held.cells; used = used; links = held.links; selector = held.selector; committed = held.committed; working = slice_set held.working slot 65535; begun = held.begun }
+
 -- a record was put, whose chain begins at this cell
-abbrev pub put_into : Held → ℕ → ℕ → List ℕ → Held
-put_into held slot first links = record { cells = held.cells; selector = held.selector; committed = held.committed; working = slice_set held.working slot first; links = links; begun = held.begun }
+abbrev pub put_into : Held → ℕ → ℕ → List Bool → List ℕ → Held
+put_into held slot first used links = record { cells = held.cells; used = used; links = links; selector = held.selector; committed = held.committed; working = slice_set held.working slot first; begun = held.begun }

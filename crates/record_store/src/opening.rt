@@ -1,14 +1,14 @@
 // What is read of an image to open its store.
-ghost use Rattle.std.specs.Prelude.{◌≡◌, ◌+◌, ◌*◌, ◌%◌, ◌<◌, ◌↔◌, None, length, is_some, slice_index, IfSome, IfOk, IsErrOf, IsTrue, All};
-ghost use Rattle.eeprom.specs.StoreOf.{store_of, slots_at, number_at, numbers_at};
-ghost use Rattle.record_store.specs.Held.{IsCellOrNone};
+ghost use Rattle.std.specs.Prelude.{◌≡◌, ◌+◌, ◌*◌, ◌%◌, ◌<◌, None, length, is_some, slice_index, IfSome, IfOk, IsErrOf};
+ghost use Rattle.eeprom.specs.StoreOf.{store_of, number_at, numbers_at};
 ghost use Rattle.record_store.specs.Header.{begins_store, IsHeader, IsHeaderOf};
 ghost use Rattle.record_store.specs.CountsFaults.{CountsFaults};
 
 use crate::OpenRefusal;
-use crate::layout::{FORMAT, NO_CELL, directory_place, image_size, number_of};
+use crate::layout::{FORMAT, directory_place, image_size};
+use cell_store::number_of;
 use eeprom::Eeprom;
-use std::alloc::Global;
+use std::alloc::{AllocError, Global};
 
 /// How many octets of an image say whether it has a store, and of which size.
 const FRONT: usize = 9;
@@ -71,41 +71,26 @@ pub fn read_directory<B: Eeprom>(
     ensures directory { IfOk result (λ firsts. IfSome (B.chip bench.old).image
         (λ image. firsts.items ≡ numbers_at image (32 + 2 * header.cells * header.selector) header.cells)) }
     ensures count { IfOk result (λ firsts. length firsts.items ≡ header.cells) }
-    ensures range { IfOk result (λ firsts. All (IsCellOrNone header.cells) firsts.items) }
-    ensures not_a_card { IsErrOf result OpenRefusal.NotACard → IfSome (B.chip bench.old).image
-        (λ image. slots_at image header.cells (numbers_at image (32 + 2 * header.cells * header.selector) header.cells) ≡ None) }
+    ensures a_card { ¬ (IsErrOf result OpenRefusal.NotACard) }
     ensures same { B.chip bench.new ≡ B.chip bench.old }
     ensures cause { CountsFaults (B.faults bench.old) (B.faults bench.new) result }
 {
     let mut octets = [0; DIRECTORY];
     let directory = &mut octets[..2 * header.cells as usize];
     bench.read(directory_place(header.cells, header.selector), directory)?;
-    cells_in(alloc, directory, header.cells)
+    Ok(numbers_of(alloc, directory, header.cells)?)
 }
 
-/// The numbers of a directory's octets, where each is a cell's or says that there is none.
-fn cells_in(alloc: Global, octets: &[u8], cells: u16) -> Result<Vec<u16>, OpenRefusal>
-    requires size { length octets.now ≡ 2 * cells }
-    ensures numbers { IfOk result (λ firsts. firsts.items ≡ numbers_at octets.now 0 cells) }
-    ensures count { IfOk result (λ firsts. length firsts.items ≡ cells) }
-    ensures range { IfOk result (λ firsts. All (IsCellOrNone cells) firsts.items) }
-    ensures not_a_card { IsErrOf result OpenRefusal.NotACard → ¬ (All (IsCellOrNone cells) (numbers_at octets.now 0 cells)) }
-    ensures no_fault { ¬ (IsErrOf result OpenRefusal.Fault) }
+/// The numbers of a directory's octets.
+fn numbers_of(alloc: Global, octets: &[u8], count: u16) -> Result<Vec<u16>, AllocError>
+    requires size { length octets.now ≡ 2 * count }
+    ensures numbers { IfOk result (λ firsts. firsts.items ≡ numbers_at octets.now 0 count) }
+    ensures count { IfOk result (λ firsts. length firsts.items ≡ count) }
 {
-    let count = cells as usize;
+    let count = count as usize;
     let mut firsts = Vec::with_capacity(alloc, count)?;
     for slot in 0..count {
-        let first = number_of(octets[2 * slot], octets[2 * slot + 1]);
-        if !is_cell_or_none(cells, first) {
-            return Err(OpenRefusal::NotACard);
-        }
-        firsts.push(first)?;
+        firsts.push(number_of(octets[2 * slot], octets[2 * slot + 1]))?;
     }
     Ok(firsts)
-}
-
-fn is_cell_or_none(cells: u16, first: u16) -> bool
-    ensures { IsTrue result ↔ IsCellOrNone cells first }
-{
-    (first as u32) < 2 * cells as u32 || first == NO_CELL
 }

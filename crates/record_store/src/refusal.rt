@@ -1,9 +1,11 @@
 // Why a store wasn't made or opened, and why a record wasn't put into it.
 ghost use Rattle.std.specs.Prelude.{◌≡◌};
 ghost use Rattle.record_store.specs.declared.refusal.FormatRefusal.TheVariants.{Fault};
-ghost use Rattle.record_store.specs.declared.refusal.OpenRefusal.TheVariants.{NoMemory, Fault as OpenFault};
+ghost use Rattle.record_store.specs.declared.refusal.OpenRefusal.TheVariants.{NoMemory, NotACard, Fault as OpenFault};
+ghost use Rattle.cell_store.specs.declared.refusal.ClaimRefusal.TheVariants.{BadChain, Fault as ClaimFault};
 ghost use Rattle.record_store.specs.declared.refusal.StoreRefusal.TheVariants.{Fault as StoreFault};
 
+use cell_store::ClaimRefusal;
 use eeprom::EepromFault;
 use std::alloc::{AllocError, AllocFailed};
 
@@ -38,6 +40,17 @@ impl From<EepromFault> for OpenRefusal {
 
     fn from(_fault: EepromFault) -> OpenRefusal {
         OpenRefusal::Fault
+    }
+}
+
+impl From<ClaimRefusal> for OpenRefusal {
+    ghost from_gives = { λ claim refusal. (claim ≡ BadChain → refusal ≡ NotACard) × (claim ≡ ClaimFault → refusal ≡ OpenFault) };
+
+    fn from(refusal: ClaimRefusal) -> OpenRefusal {
+        match refusal {
+            ClaimRefusal::BadChain => OpenRefusal::NotACard,
+            ClaimRefusal::Fault => OpenRefusal::Fault,
+        }
     }
 }
 

@@ -6,47 +6,45 @@ ghost use Rattle.eeprom.specs.StoreOf.{Slots, store_of};
 ghost use Rattle.record_store.specs.Held.{firsts, contents, record_at, StandsFor};
 ghost use Rattle.record_store.specs.CountsFaults.{CountsFaults, CountsPutFaults};
 ghost use Rattle.eeprom.specs.StoreOf.{weight_of};
-ghost use Rattle.record_store.specs.Put.{IsPut, IsFull, IsWithin};
-ghost use Rattle.record_store.specs.Reading.{ReadsRecord};
+ghost use Rattle.record_store.specs.Put.{IsPut, IsFull, IsWithin, emptied};
+ghost use Rattle.cell_store.specs.Marks.{StaysMarked};
+ghost use Rattle.cell_store.specs.Reading.{ReadsRecord};
 ghost use Rattle.record_store.specs.Transaction.{begun_from, rolled_back, after_commit, IsCommitted, Commits};
 ghost use Rattle.record_store.specs.declared.side.Side.TheVariants.{Committed, Working};
 
-use crate::chain::{RecordOctets, read_record};
 use crate::claims::claim_chains;
 use crate::directory::directory_octets;
 use crate::layout::{SELECTOR, directory_place};
-use crate::links::{cells_for, length_of_chains, length_without, named_or_empty, read_links};
-use crate::marks::{CELLS, count_free, mark_kept};
 use crate::opening::{read_directory, read_header};
-use crate::placing::{payload_of_record, write_chain};
+use crate::slots::{free_replaced, length_of_chains, length_without, named_or_empty};
 use crate::{OpenRefusal, Side, StoreRefusal};
+use cell_store::{CellRefusal, CellStore, NO_CELL, RecordOctets, cells_for};
 use eeprom::{Eeprom, EepromFault};
 use std::alloc::Global;
 use std::marker::Model;
 
 #[derive(Drop)]
 pub struct Store {
-    cells: u16,
+    chains: CellStore,
     selector: u8,
     committed: Vec<u16>,
     working: Vec<u16>,
-    /// The number of the next cell, for each cell.
-    links: Vec<u16>,
     begun: bool,
 }
 
 impl Model for Store {
-    ghost use Rattle.record_store.specs.Held.{Held, IsInRange};
+    ghost use Rattle.record_store.specs.Held.{Held};
+    ghost use Rattle.record_store.specs.Sound.{IsSound};
 
     ghost Value = { Held };
 
-    ghost view = { λ store. record { cells = store.cells; selector = store.selector; committed = store.committed.items; working = store.working.items; links = store.links.items; begun = store.begun } };
+    ghost view = { λ store. record { cells = store.chains.cells; used = store.chains.used; links = store.chains.links; selector = store.selector; committed = store.committed.items; working = store.working.items; begun = store.begun } };
 
-    ghost invariant = { λ store. IsInRange (record { cells = store.cells; selector = store.selector; committed = store.committed.items; working = store.working.items; links = store.links.items; begun = store.begun }) };
+    ghost invariant = { λ store. IsSound (record { cells = store.chains.cells; used = store.chains.used; links = store.chains.links; selector = store.selector; committed = store.committed.items; working = store.working.items; begun = store.begun }) };
 }
 
 impl Store {
-    /// Opens the store of an image, where it has one. The memory of both directories and of the links is taken here.
+    /// Opens the store of an image, where it has one. The memory of both directories and of the cells is taken here.
     pub fn open<B: Eeprom>(alloc: Global, bench: &mut B) -> Result<Store, OpenRefusal>
         ensures stored { OnOk result (IfSome (B.chip bench.old).image (λ image. IsSome (store_of image))) }
         ensures stands { IfOk result (λ store. IfSome (B.chip bench.old).image (StandsFor store)) }
@@ -60,14 +58,12 @@ impl Store {
         let header = read_header(bench)?;
         let committed = read_directory(alloc, bench, header)?;
         let working = Vec::from_slice(alloc, committed.as_slice())?;
-        let links = read_links(alloc, bench, header.cells)?;
-        claim_chains(bench, header.cells, links.as_slice(), committed.as_slice())?;
+        let chains = claim_chains(alloc, bench, header.cells, committed.as_slice())?;
         Ok(Store {
-            cells: header.cells,
+            chains,
             selector: header.selector,
             committed,
             working,
-            links,
             begun: false,
         })
     }
@@ -78,7 +74,7 @@ impl Store {
         ensures few { 16 ≤ result }
         ensures many { result ≤ 2048 }
     {
-        self.cells
+        self.chains.cells()
     }
 
     /// Whether a transaction was begun.
@@ -91,9 +87,9 @@ impl Store {
     /// How many cells the records of a side have.
     pub fn weight(&self, side: Side) -> u16
         ensures weight { (image : List ℕ) → (slots : Slots) → StandsFor self.now image → contents self.now side image ≡ Some slots → result ≡ weight_of slots }
-        ensures most { (image : List ℕ) → StandsFor self.now image → result ≤ self.now.cells }
+        ensures most { result ≤ self.now.cells }
     {
-        length_of_chains(self.links.as_slice(), self.first_cells(side))
+        length_of_chains(&self.chains, self.first_cells(side))
     }
 
     /// Reads the record of a slot, and answers whether there is one.
@@ -115,7 +111,12 @@ impl Store {
         ensures cause { Counts (B.faults bench.old) (B.faults bench.new) result }
     {
         let first = self.first_cell(side, slot);
-        read_record(bench, self.cells(), first, out)
+        if first == NO_CELL {
+            out.clear();
+            return Ok(false);
+        }
+        self.chains.read_chain(bench, first, out)?;
+        Ok(true)
     }
 
     /// Begins a transaction, whose records are those that were committed.
@@ -160,31 +161,33 @@ impl Store {
         let Some(slot) = named_or_empty(slot, self.working.as_slice()) else {
             return Err(StoreRefusal::Full);
         };
-        let count = cells_for(octets.len());
-        let weight = length_without(self.links.as_slice(), self.working.as_slice(), slot);
-        let mut marks = [false; CELLS];
-        let marks = &mut marks[..2 * self.cells as usize];
-        mark_kept(
-            marks,
-            self.links.as_slice(),
-            self.committed.as_slice(),
-            self.working.as_slice(),
-            slot,
-        );
-        if weight + count > self.cells || count as usize > count_free(marks) {
+        let weight = length_without(&self.chains, self.working.as_slice(), slot);
+        if weight + cells_for(octets.len()) > self.chains.cells() {
             return Err(StoreRefusal::Full);
         }
-        let payload = payload_of_record(octets);
-        let first = write_chain(
-            bench,
-            self.cells,
-            marks,
-            self.links.as_mut_slice(),
-            payload.as_slice(),
-            count,
-        )?;
-        self.working[slot as usize] = first;
-        Ok(slot)
+        self.empty(slot);
+        match self.chains.write_chain(bench, octets) {
+            Ok(first) => {
+                self.working[slot as usize] = first;
+                Ok(slot)
+            }
+            Err(CellRefusal::Fault) => Err(StoreRefusal::Fault),
+            Err(CellRefusal::NoCell) => unreachable!(),
+        }
+    }
+
+    /// Empties a working slot. Its chain is freed, unless it is the one that was committed.
+    fn empty(&mut self, slot: u16)
+        requires begun { IsTrue self.old.begun }
+        requires slot { slot < self.old.cells }
+        ensures emptied { self.new ≡ emptied self.old slot self.new.used }
+        ensures fewer { StaysMarked self.new.used self.old.used }
+    {
+        let first = self.working[slot as usize];
+        if first != self.committed[slot as usize] {
+            self.chains.free_chain(first);
+        }
+        self.working[slot as usize] = NO_CELL;
     }
 
     /// Commits the transaction: its records are written down as the store's, in one step.
@@ -194,19 +197,24 @@ impl Store {
         requires begun { IsTrue self.old.begun }
         requires room { 70 * self.old.cells + 34 ≤ (B.chip bench.old).still.size }
         requires stands { IfSome (B.chip bench.old).image (StandsFor self.old) }
-        ensures ended { OnOk result (self.new ≡ after_commit self.old) }
+        ensures ended { OnOk result (self.new ≡ after_commit self.old self.new.used) }
         ensures told { OnOk result (is_some (B.chip bench.new).image ≡ is_some (B.chip bench.old).image) }
-        ensures done { OnOk result (Becomes (IsCommitted self.old) (B.chip bench.old).image (B.chip bench.new).image) }
+        ensures done { OnOk result (Becomes (IsCommitted self.old self.new) (B.chip bench.old).image (B.chip bench.new).image) }
         ensures moments { Commits self.old (B.chip bench.old) (B.chip bench.new) }
         ensures unchanged { OnErr result (self.new ≡ self.old) }
         ensures cause { Counts (B.faults bench.old) (B.faults bench.new) result }
     {
         let selector = 1 - self.selector;
-        let place = directory_place(self.cells, selector);
+        let place = directory_place(self.chains.cells(), selector);
         let directory = directory_octets(self.working.as_slice());
         let octets = directory.as_slice();
         bench.write(place, octets)?;
         bench.write(SELECTOR, &[selector])?;
+        free_replaced(
+            &mut self.chains,
+            self.committed.as_slice(),
+            self.working.as_slice(),
+        );
         self.selector = selector;
         self.committed.copy_from_slice(self.working.as_slice());
         self.begun = false;
@@ -216,10 +224,15 @@ impl Store {
     /// Ends the transaction, and what was committed stays.
     pub fn rollback(&mut self)
         requires begun { IsTrue self.old.begun }
-        ensures ended { self.new ≡ rolled_back self.old }
+        ensures ended { self.new ≡ rolled_back self.old self.new.used }
         ensures stands { (image : List ℕ) → StandsFor self.old image → StandsFor self.new image }
         ensures committed { (image : List ℕ) → contents self.new Committed image ≡ contents self.old Committed image }
     {
+        free_replaced(
+            &mut self.chains,
+            self.working.as_slice(),
+            self.committed.as_slice(),
+        );
         self.begun = false;
     }
 

@@ -9,7 +9,7 @@ use Rattle.card.specs.Users.{user_of}
 use Rattle.card.specs.Card.{committed_slots}
 use Rattle.card.proofs.Told.{if_some-at}
 use Rattle.card.proofs.Preparing.{taken-slots}
-use Rattle.record_store.proofs.Placements.{is_some-map}
+use Rattle.cell_store.proofs.Placements.{is_some-map}
 use Rattle.card.proofs.creating.is_taken.Goals as goal
 
 pub returns-clause-taken : goal.returns-clause-taken

@@ -1,15 +1,17 @@
-use Rattle.std.proofs.Common.{◌≡◌, ℕ, ◌*◌, ◌<◌, None, ◌++◌, false, take, drop, replicate, length, slice_index, ap, ◌∙◌, rules, arith, subst}
+use Rattle.std.proofs.Common.{◌≡◌, ◌<◌, ℕ, List, None, length, slice_index, ap, ap₂, ◌∙◌, refl, arith, rules, subst}
 use Rattle.eeprom.specs.Chip.{Keeps}
-use Rattle.eeprom.specs.StoreOf.{store_of}
-use Rattle.record_store.specs.Held.{Held, IsInRange}
+use Rattle.eeprom.specs.StoreOf.{store_of, cells_for}
+use Rattle.record_store.specs.Held.{Held}
+use Rattle.record_store.specs.Slots.{steps_without}
+use Rattle.record_store.specs.Sound.{IsSound}
 use Rattle.record_store.proofs.Emptying.{empty-record, full-found, full-none, working-of}
-use Rattle.record_store.proofs.Putting.{Planned, planned-from, marked-none, length-none, put-over, put-free, put-within, put-becomes, put-view, with-items, range-put, keeps-store}
-use Rattle.record_store.proofs.store.Store.put.Goals.{then-weight-count-via-then-weight-count, then-weight-count-via-else-weight-count+then-count-count_free}
-use Rattle.record_store.proofs.store.Store.put.Goals.{In-Some, After-as_slice, After-mark_kept, After-write_chain, In_ok-first}
+use Rattle.record_store.proofs.Filling.{Emptied, room-enough, filled-sound, failed-sound, filled-becomes, filled-keeps}
+use Rattle.record_store.proofs.Putting.{put-over, put-within}
+use Rattle.record_store.proofs.store.Store.put.Goals.{In-Some, After-as_slice, After-length_without-weight, After-write_chain}
 use Rattle.record_store.proofs.store.Store.put.Goals as goal
 
-range : (g : _) (c : After-as_slice g) → IsInRange c.args.self.now
-range g c = subst IsInRange c.self.view_is c.self.invariant
+sound : (g : _) (c : After-as_slice g) → IsSound c.args.self.now
+sound g c = subst IsSound c.self.view_is c.self.invariant
 
 working : (g : _) (c : After-as_slice g) → c.as_slice.result.now ≡ c.args.self.now.working
 working g c = working-of _ c.args.self.now c.as_slice.result.now c.self.view_is c.as_slice.ensures.value
@@ -18,93 +20,95 @@ working g c = working-of _ c.args.self.now c.as_slice.result.now c.self.view_is 
 inside : (g : _) (c : In-Some g) → c.in-Some.slot < c.args.self.now.cells
 inside g c =
     let there : c.in-Some.slot < length c.args.self.now.working = rw (working g (goal.at.In-Some g c).After-as_slice) at c.in-Some.ensures.there in
-    omega (arith, there, (range g (goal.at.In-Some g c).After-as_slice).working_count)
+    omega (arith, there, (sound g (goal.at.In-Some g c).After-as_slice).working_count)
 
 empty : (g : _) (c : In-Some g) → c.args.slot ≡ None → slice_index c.args.self.now.working c.in-Some.slot ≡ 65535
 empty g c = λ none. rw (working g (goal.at.In-Some g c).After-as_slice) at (c.in-Some.ensures.empty none)
 
--- what was marked
-plan : (g : _) (c : After-mark_kept g) → Planned c.args.self.now c.mark_kept.new.marks c.in-Some.slot c.length_without-weight.result
-plan g c =
-    planned-from _ c.args.self.now (take (2 * c.self.inside.cells) (replicate 4096 false)) c.mark_kept.new.marks c.as_slice-4.result.now c.as_slice-5.result.now c.as_slice-6.result.now c.as_slice-2.result.now c.as_slice-3.result.now c.in-Some.slot
-    c.length_without-weight.result c.self.view_is c.self.invariant c.as_slice-4.ensures.value c.as_slice-5.ensures.value c.as_slice-6.ensures.value c.as_slice-2.ensures.value c.as_slice-3.ensures.value
-    (marked-none (2 * c.self.inside.cells) 4096) c.mark_kept.ensures.size (length-none (2 * c.self.inside.cells) 4096 (omega (arith, c.self.invariant.many))) c.mark_kept.ensures.committed c.mark_kept.ensures.before c.mark_kept.ensures.behind
-    c.mark_kept.ensures.few c.length_without-weight.ensures.sum
-
-cells : (g : _) (c : After-as_slice g) → c.self.inside.cells ≡ c.args.self.now.cells
-cells g c = ap (λ (held : Held). held.cells) c.self.view_is
-
--- the links that were written back
-abbrev view : (g : _) (c : In_ok-first g) → Held
-view g c = record { cells = c.self.inside.cells; selector = c.self.inside.selector; committed = c.self.inside.committed.items; working = c.self.inside.working.items; links = c.self.inside.links.items; begun = c.self.inside.begun }
-
-size : (g : _) (c : In_ok-first g) → length c.write_chain.new.links ≡ c.self.inside.links.len
-size g c = omega (arith, c.write_chain.ensures.links, ap (length {A = ℕ}) c.as_mut_slice.ensures.value, c.self.inside.links.ok.0)
-
-links : (g : _) (c : In_ok-first g) → take c.self.inside.links.len (c.write_chain.new.links ++ drop (length c.write_chain.new.links) c.self.inside.links.items) ≡ c.write_chain.new.links
-links g c = with-items c.self.inside.links.len c.write_chain.new.links c.self.inside.links.items (size g c)
-
--- at each moment, also where the write failed
-moments : (g : _) (c : After-write_chain g) → Keeps store_of (g.B.Eeprom.chip c.args.bench.now) (g.B.Eeprom.chip c.write_chain.new.bench)
-moments g c =
-    let plan = plan g (goal.at.After-write_chain g c).After-mark_kept in
-    keeps-store c.args.self.now c.mark_kept.new.marks c.self.inside.cells (g.B.Eeprom.chip c.args.bench.now) (g.B.Eeprom.chip c.write_chain.new.bench) (cells g (goal.at.After-write_chain g c).After-as_slice) plan.range
-    c.requires.stands plan.committed c.write_chain.ensures.moments
+-- what the other records weigh
+weight : (g : _) (c : After-length_without-weight g) → c.length_without-weight.result ≡ steps_without c.args.self.now.links c.args.self.now.working c.in-Some.slot
+weight g c =
+    let links : c.self.inside.chains.links ≡ c.args.self.now.links = ap (λ (held : Held). held.links) c.self.view_is in
+    let slots : c.as_slice-2.result.now ≡ c.args.self.now.working = working-of _ c.args.self.now c.as_slice-2.result.now c.self.view_is c.as_slice-2.ensures.value in
+    c.length_without-weight.ensures.sum ∙ ap₂ (λ (links firsts : List ℕ). steps_without links firsts c.in-Some.slot) links slots
 
 pub returns-in_default-clause-full : goal.returns-in_default-clause-full
 returns-in_default-clause-full g c = λ _.
     let here = (goal.at.returns-in_default-clause-full g c).After-as_slice in
     let none = c.in_default.ensures.none in
-    rw (none.0) (full-none c.args.self.now (g.B.Eeprom.chip c.args.bench.now).image c.args.octets.now (range g here) c.requires.begun c.requires.stands c.requires.some (rw (working g here) at none.1))
+    rw (none.0) (full-none c.args.self.now (g.B.Eeprom.chip c.args.bench.now).image c.args.octets.now (sound g here) c.requires.begun c.requires.stands c.requires.some (rw (working g here) at none.1))
 
-pub returns-then-weight-count-clause-full : goal.returns-then-weight-count-clause-full
-returns-then-weight-count-clause-full g c = λ _.
-    let at = goal.at.returns-then-weight-count-clause-full g c in
-    let plan = plan g at.After-mark_kept in
-    let cells = cells g at.After-as_slice in
-    let inside = inside g at.In-Some in
+pub returns-then-weight-cells_for-clause-full : goal.returns-then-weight-cells_for-clause-full
+returns-then-weight-cells_for-clause-full g c = λ _.
+    let at = goal.at.returns-then-weight-cells_for-clause-full g c in
+    let cells : c.self.inside.chains.cells ≡ c.args.self.now.cells = ap (λ (held : Held). held.cells) c.self.view_is in
     let image = (g.B.Eeprom.chip c.args.bench.now).image in
-    full-found c.args.self.now c.args.slot c.in-Some.slot image c.args.octets.now plan.range c.requires.begun inside c.in-Some.ensures.named (empty g at.In-Some)
-    (elim c.then-weight-count.branch [
-      | then-weight-count-via-then-weight-count w ↦
-          put-over c.args.self.now c.mark_kept.new.marks c.in-Some.slot c.length_without-weight.result c.cells_for-count.result c.args.octets.now image plan c.requires.begun c.requires.stands inside
-          (search rules) (omega (arith, cells, w.if-weight-count.true))
-      | then-weight-count-via-else-weight-count+then-count-count_free w ↦
-          put-free c.args.self.now c.mark_kept.new.marks c.in-Some.slot c.length_without-weight.result c.cells_for-count.result c.args.octets.now image plan c.requires.stands
-          (omega (arith, cells, w.if-weight-count.false)) (omega (arith, w.count_free.ensures, w.if-count-count_free.true))
-    ])
+    let sound = sound g at.After-as_slice in
+    let inside = inside g at.In-Some in
+    full-found c.args.self.now c.args.slot c.in-Some.slot image c.args.octets.now sound c.requires.begun c.requires.stands inside c.in-Some.ensures.named (empty g at.In-Some)
+    (put-over c.args.self.now c.in-Some.slot c.length_without-weight.result c.args.octets.now image sound c.requires.begun c.requires.stands inside (weight g at.After-length_without-weight)
+    (omega (arith, c.if-weight-cells_for.true, c.cells.ensures.number, cells, c.cells_for.ensures)))
 
-pub returns-in_err-first-clause-moments : goal.returns-in_err-first-clause-moments
-returns-in_err-first-clause-moments g c = moments g (goal.at.returns-in_err-first-clause-moments g c).After-write_chain
+-- the store once the slot was emptied
+abbrev mid : (g : _) (c : After-write_chain g) → Held
+mid g c = record { cells = c.self-2.inside.chains.cells; used = c.self-2.inside.chains.used; links = c.self-2.inside.chains.links; selector = c.self-2.inside.selector; committed = c.self-2.inside.committed.items; working = c.self-2.inside.working.items; begun = c.self-2.inside.begun }
 
-pub invariant_of-self-2 : goal.invariant_of-self-2
-invariant_of-self-2 g c =
-    let at = goal.at.invariant_of-self-2 g c in
-    let links = links g at.In_ok-first in
-    range-put (view g at.In_ok-first) c.in-Some.slot c.in_ok-first.first _ c.self.invariant (omega (arith, cells g at.After-as_slice, inside g at.In-Some)) c.in_ok-first.ensures.there
-    (ap (length {A = ℕ}) links ∙ omega (arith, size g at.In_ok-first, c.self.inside.links.ok.0, c.self.invariant.links_count))
+-- there is room in it for the record
+emptied : (g : _) (c : After-write_chain g) → Emptied c.args.self.now (mid g c) c.empty.new.self.used c.in-Some.slot c.length_without-weight.result (cells_for (length c.args.octets.now))
+emptied g c =
+    let at = goal.at.After-write_chain g c in
+    let cells : c.self.inside.chains.cells ≡ c.args.self.now.cells = ap (λ (held : Held). held.cells) c.self.view_is in
+    record {
+      sound = sound g at.After-as_slice;
+      mid_sound = c.self-2.invariant;
+      is = c.self-2.view_is ∙ c.empty.ensures.emptied;
+      fewer = c.empty.ensures.fewer;
+      begun = c.requires.begun;
+      inside = inside g at.In-Some;
+      weight_is = weight g at.After-length_without-weight;
+      fits = omega (arith, c.if-weight-cells_for.false, c.cells.ensures.number, cells, c.cells_for.ensures);
+    }
 
-pub returns-clause-empty : goal.returns-clause-empty
-returns-clause-empty g c = λ none.
-    let at = goal.at.returns-clause-empty g c in
-    empty-record c.args.self.now c.in-Some.slot (g.B.Eeprom.chip c.args.bench.now).image (range g at.After-as_slice) c.requires.begun c.requires.stands (inside g at.In-Some) (empty g at.In-Some none)
+pub invariant_of-self : goal.invariant_of-self
+invariant_of-self g c =
+    let at = (goal.at.invariant_of-self g c).After-write_chain in
+    filled-sound c.args.self.now (mid g at) c.empty.new.self.used c.in-Some.slot c.length_without-weight.result (cells_for (length c.args.octets.now)) c.in-Ok.first c.write_chain.new.self (emptied g at) c.in-Ok.ensures.takes
 
-pub returns-clause-put : goal.returns-clause-put
-returns-clause-put g c =
-    let at = goal.at.returns-clause-put g c in
-    let plan = plan g at.After-mark_kept in
-    let cells = cells g at.After-as_slice in
-    put-becomes c.args.self.now _ c.mark_kept.new.marks c.write_chain.new.marks c.write_chain.new.links c.write_chain.new.links c.as_mut_slice.result.now c.as_slice-7.result.now c.args.octets.now c.self.inside.cells c.in-Some.slot
-    c.length_without-weight.result c.cells_for-count.result c.in_ok-first.first (g.B.Eeprom.chip c.args.bench.now).image (g.B.Eeprom.chip c.write_chain.new.bench).image plan c.requires.begun c.requires.stands (inside g at.In-Some)
-    c.requires.some c.requires.most (rw c.as_slice-7.ensures.value c.payload_of_record-payload.ensures.number) (rw c.as_slice-7.ensures.value c.payload_of_record-payload.ensures.record)
-    (search rules) (omega (arith, cells, c.if-weight-count.false)) cells (c.as_mut_slice.ensures.value ∙ ap (λ (held : Held). held.links) c.self.view_is)
-    (put-view (view g at.In_ok-first) c.args.self.now c.in-Some.slot c.in_ok-first.first c.write_chain.new.links _ c.self.view_is (links g at.In_ok-first)) c.in_ok-first.ensures.placed
+pub invariant_of-self-in-Err-Fault : goal.invariant_of-self-in-Err-Fault
+invariant_of-self-in-Err-Fault g c = failed-sound _ c.write_chain.new.self c.self-2.invariant (c.in-Err-Fault.ensures.fault (search rules))
 
-pub returns-clause-within : goal.returns-clause-within
-returns-clause-within g c =
-    let at = goal.at.returns-clause-within g c in
-    put-within c.args.self.now c.mark_kept.new.marks c.in-Some.slot c.length_without-weight.result c.cells_for-count.result c.args.octets.now (g.B.Eeprom.chip c.args.bench.now).image (plan g at.After-mark_kept) c.requires.begun
-    c.requires.stands (inside g at.In-Some) (search rules) (omega (arith, cells g at.After-as_slice, c.if-weight-count.false))
+pub unreachable-requires : goal.unreachable-requires
+unreachable-requires g c =
+    let at = (goal.at.unreachable-requires g c).After-write_chain in
+    let few = c.in-Err-NoCell.ensures.no_cell.0 (search rules) in
+    absurd (omega (arith, few, room-enough c.args.self.now (mid g at) c.empty.new.self.used c.in-Some.slot c.length_without-weight.result (cells_for (length c.args.octets.now)) (emptied g at)))
 
-pub returns-clause-moments : goal.returns-clause-moments
-returns-clause-moments g c = moments g (goal.at.returns-clause-moments g c).After-write_chain
+pub returns-in-Ok-clause-put : goal.returns-in-Ok-clause-put
+returns-in-Ok-clause-put g c =
+    let at = (goal.at.returns-in-Ok-clause-put g c).After-write_chain in
+    filled-becomes c.args.self.now (mid g at) c.empty.new.self.used c.in-Some.slot c.length_without-weight.result (cells_for (length c.args.octets.now)) c.in-Ok.first c.write_chain.new.self c.args.octets.now
+    (g.B.Eeprom.chip c.args.bench.now).image (g.B.Eeprom.chip c.write_chain.new.bench).image (emptied g at) c.requires.stands c.in-Ok.ensures.takes c.in-Ok.ensures.written
+
+-- at each moment, also where the write failed
+moments : (g : _) (c : After-write_chain g) → Keeps store_of (g.B.Eeprom.chip c.args.bench.now) (g.B.Eeprom.chip c.write_chain.new.bench)
+moments g c =
+    filled-keeps c.args.self.now (mid g c) c.empty.new.self.used c.self-2.inside.chains.used c.in-Some.slot c.length_without-weight.result (cells_for (length c.args.octets.now)) c.self-2.inside.chains.cells
+    (g.B.Eeprom.chip c.args.bench.now) (g.B.Eeprom.chip c.write_chain.new.bench) (emptied g c) c.requires.stands refl refl c.write_chain.ensures.moments
+
+pub returns-in-Ok-clause-moments : goal.returns-in-Ok-clause-moments
+returns-in-Ok-clause-moments g c = moments g (goal.at.returns-in-Ok-clause-moments g c).After-write_chain
+
+pub returns-in-Err-Fault-clause-moments : goal.returns-in-Err-Fault-clause-moments
+returns-in-Err-Fault-clause-moments g c = moments g (goal.at.returns-in-Err-Fault-clause-moments g c).After-write_chain
+
+pub returns-in-Ok-clause-empty : goal.returns-in-Ok-clause-empty
+returns-in-Ok-clause-empty g c = λ none.
+    let at = goal.at.returns-in-Ok-clause-empty g c in
+    empty-record c.args.self.now c.in-Some.slot (g.B.Eeprom.chip c.args.bench.now).image (sound g at.After-as_slice) c.requires.begun c.requires.stands (inside g at.In-Some) (empty g at.In-Some none)
+
+pub returns-in-Ok-clause-within : goal.returns-in-Ok-clause-within
+returns-in-Ok-clause-within g c =
+    let at = goal.at.returns-in-Ok-clause-within g c in
+    let cells : c.self.inside.chains.cells ≡ c.args.self.now.cells = ap (λ (held : Held). held.cells) c.self.view_is in
+    put-within c.args.self.now c.in-Some.slot c.length_without-weight.result c.args.octets.now (g.B.Eeprom.chip c.args.bench.now).image (sound g at.After-as_slice) c.requires.begun c.requires.stands (inside g at.In-Some)
+    (weight g at.After-length_without-weight) (omega (arith, c.if-weight-cells_for.false, c.cells.ensures.number, cells, c.cells_for.ensures))

@@ -1,11 +1,9 @@
-use Rattle.std.proofs.Common.{◌≡◌, length, All}
+use Rattle.std.proofs.Common.{◌≡◌, length}
 use Rattle.eeprom.specs.StoreOf.{numbers_at}
-use Rattle.record_store.specs.Held.{IsCellOrNone}
-use Rattle.record_store.proofs.opening.cells_in.Given as goal
+use Rattle.record_store.proofs.opening.numbers_of.Given as goal
 
 abbrev pub invariant-loop-slot : goal.invariant-loop-slot
 invariant-loop-slot l = record {
   numbers : l.firsts.items ≡ numbers_at l.octets 0 l.slot;
   count : length l.firsts.items ≡ l.slot;
-  range : All (IsCellOrNone l.cells) l.firsts.items;
 }

@@ -1,0 +1,5 @@
+use Rattle.record_store.proofs.Replaced.{Freeing}
+use Rattle.record_store.proofs.slots.free_replaced.Given as goal
+
+abbrev pub invariant-loop-slot : goal.invariant-loop-slot
+invariant-loop-slot l = Freeing l.fn.cells l.cells l.replaced l.kept l.slot
