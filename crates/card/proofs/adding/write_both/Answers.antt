@@ -59,7 +59,7 @@ returns-in_err-commit-clause-adds g c = record {
 pub returns-clause-adds : goal.returns-clause-adds
 returns-clause-adds g c = record {
   written = both_written c.args.store.now c.put-2.new.self c.commit.new.self c.args.added.now c.args.slot c.args.changed.now (g.B.Eeprom.chip c.args.bench.now).image (g.B.Eeprom.chip c.put-2.new.bench).image
-      (g.B.Eeprom.chip c.commit.new.bench).image c.in_ok-commit.ensures.ended (both g (goal.at.returns-clause-adds g c).After-commit) c.in_ok-commit.ensures.done;
+      (g.B.Eeprom.chip c.commit.new.bench).image (both g (goal.at.returns-clause-adds g c).After-commit) c.in_ok-commit.ensures.done;
   told = search rules;
   full = search rules;
   stands = search rules;

@@ -2,7 +2,7 @@
 use Rattle.std.proofs.Common.{ap, sym, subst, ◌∙◌, rules}
 use Rattle.std.specs.Prelude.{IsErrOf}
 use Rattle.eeprom.specs.Chip.{Chip}
-use Rattle.record_store.specs.Held.{IsInRange}
+use Rattle.record_store.specs.Sound.{IsSound}
 use Rattle.record_store.specs.declared.refusal.OpenRefusal.TheVariants.{NotACard}
 use Rattle.card.specs.Sessions.{sessions_of}
 use Rattle.card.specs.Opening.{users_of}
@@ -18,7 +18,7 @@ returns-clause-starts g c =
 pub returns-clause-opens : goal.returns-clause-opens
 returns-clause-opens g c =
     opens_told c.in_ok-store.store (g.B.Eeprom.chip c.args.bench.now).image c.in_ok-records.records.next (users_of c.in_ok-records.records.users) c.in_ok-are_valid.field-0
-    (subst IsInRange c.store.view_is c.store.invariant) c.in_ok-store.ensures.stands c.in_ok-store.ensures.opened (rw c.in_ok-store.ensures.same at c.in_ok-records.ensures.gathers)
+    (subst IsSound c.store.view_is c.store.invariant) c.in_ok-store.ensures.stands c.in_ok-store.ensures.opened (rw c.in_ok-store.ensures.same at c.in_ok-records.ensures.gathers)
     c.in_ok-are_valid.ensures.valid c.if-not-branch.false
 
 pub returns-then-not-branch-clause-not_a_card : goal.returns-then-not-branch-clause-not_a_card
