@@ -3,6 +3,7 @@ mod Feeding
 mod Finishing
 mod Keeping
 mod Moving
+mod Preparing
 mod Stopping
 mod Streaming
 mod Taking

@@ -36,6 +36,14 @@ ends_input ReadFault = true
 ends_input WriteFault = true
 ends_input status = false
 
+-- the ends of a run that came to read its input
+abbrev pub has_read : Status → Bool
+has_read Done = true
+has_read TooLong = true
+has_read ReadFault = true
+has_read WriteFault = true
+has_read status = false
+
 -- How a run of lines from a machine on ends, of whose input this is left.
 abbrev pub LeavesOff : Status → Machine → List ℕ → List ℕ → Option (List ℕ) → Chip → Type 0
 LeavesOff Done m input left before now = HasAnswered m (lines input true) before now

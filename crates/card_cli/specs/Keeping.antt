@@ -1,15 +1,16 @@
 -- What a power loss leaves at any moment of a run over its input.
 use Rattle.std.specs.Prelude.{◌≡◌, ℕ, ◌+◌, true, false, List, ◌++◌, length, take, IfSome}
 use Rattle.eeprom.specs.Chip.{Chip, Throughout}
-use Rattle.scql_model.specs.Database.{fresh}
+use Rattle.scql_model.specs.Database.{Database}
 use Rattle.scql_model.specs.Machine.{Machine, start}
 use Rattle.scql_model.specs.Lines.{lines}
 use Rattle.scql_model.specs.Heard.{IsKept}
 use Rattle.scql_model.specs.Opens.{Opens}
-use Rattle.card.specs.Making.{LeavesMade}
 use Rattle.card_cli.specs.declared.status.Status.{Status}
 use Rattle.card_cli.specs.declared.status.Status.TheVariants.{Done, Eeprom, ReadFault, WriteFault, TooLong}
 use Rattle.card_cli.specs.declared.stop.Stop.TheVariants as stop
+use Rattle.card_cli.specs.declared.words.Form.{Form}
+use Rattle.card_cli.specs.Beginning.{LeavesUntilOpen}
 use Rattle.card_cli.specs.CutOff.{StopsIn}
 use Rattle.card_cli.specs.Ends.{longest_input}
 
@@ -28,10 +29,10 @@ KeepsTo WriteFault m input left old new =
     (stops : StopsIn stop.Outlet m (lines input true) old.still.given new) × AreKept m (lines input true) (length stops.clean) old new
 KeepsTo status m input left old new = ⊥
 
--- A card of n cells was made and opened, and its run over the input ended so. Until it was opened a power loss leaves what it leaves while a card is made, and from then on what is kept of the lines.
-pub record MakesAndRuns (n : ℕ) (status : Status) (input left : List ℕ) (old new : Chip) : Type 0 where
+-- The card of this form was opened at this database, and its run over the input ended so. Until it was open a power loss leaves what it leaves in that form, and from then on what is kept of the lines.
+pub record OpensAndRuns (form : Form) (db : Database) (status : Status) (input left : List ℕ) (old new : Chip) : Type 0 where
   pub opened : Chip
   pub still : opened.still ≡ old.still
-  pub opens : IfSome opened.image (λ image. Opens image (fresh n))
-  pub makes : LeavesMade n old opened
-  pub runs : KeepsTo status (start (fresh n)) input left opened new
+  pub opens : IfSome opened.image (λ image. Opens image db)
+  pub until : LeavesUntilOpen form old opened
+  pub runs : KeepsTo status (start db) input left opened new

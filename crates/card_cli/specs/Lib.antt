@@ -1,3 +1,4 @@
+pub mod Beginning
 pub mod CutOff
 pub mod Ends
 pub mod FileChip

@@ -1,8 +1,10 @@
 -- The words of the command line behind the file's name.
-use Rattle.std.specs.Prelude.{ℕ, ◌+◌, ◌-◌, ◌*◌, ◌==◌, nat_le, nat_lt, not, ◌&&◌, ◌||◌, Bool, List, [], ◌∷◌, length, Option, Some, None, option_and_then, if◌then◌else◌, codes}
+use Rattle.std.specs.Prelude.{ℕ, ◌≤◌, ◌+◌, ◌-◌, ◌*◌, ◌==◌, nat_le, nat_lt, not, ◌&&◌, ◌||◌, Bool, List, [], ◌∷◌, length, Option, Some, None, option_map, option_and_then, if◌then◌else◌, codes}
 use Rattle.std.specs.List.{fold, list_all}
 use Rattle.std.specs.Char.{is_ascii_digit}
 use Rattle.std.specs.Str.{bytes_eq}
+use Rattle.card_cli.specs.declared.words.Form.{Form}
+use Rattle.card_cli.specs.declared.words.Form.TheVariants.{New, Apdu}
 
 -- one to five decimal digits
 abbrev pub is_number : List ℕ → Bool
@@ -19,7 +21,17 @@ decimal_in digits = if is_number digits then Some (fold with_digit 0 digits) els
 abbrev pub in_limits : ℕ → Option ℕ
 in_limits cells = if nat_lt cells 16 || nat_lt 2048 cells then None else Some cells
 
--- the number of cells that `new N` tells, where the words are of that form
-abbrev pub cells_in : List (List ℕ) → Option ℕ
-cells_in (word ∷ digits ∷ []) = if bytes_eq word (codes "new") then option_and_then in_limits (decimal_in digits) else None
-cells_in words = None
+-- the number of cells that digits tell
+abbrev pub cells_in : List ℕ → Option ℕ
+cells_in digits = option_and_then in_limits (decimal_in digits)
+
+-- what the words ask for: `apdu`, or `new` and a number of cells
+abbrev pub form_in : List (List ℕ) → Option Form
+form_in (word ∷ []) = if bytes_eq word (codes "apdu") then Some Apdu else None
+form_in (word ∷ digits ∷ []) = if bytes_eq word (codes "new") then option_map New (cells_in digits) else None
+form_in words = None
+
+-- the card that is to be made has 16 to 2,048 cells
+abbrev pub IsWithinLimits : Form → Type 0
+IsWithinLimits (New n) = (16 ≤ n) × (n ≤ 2048)
+IsWithinLimits form = Unit {0}

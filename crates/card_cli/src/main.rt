@@ -86,7 +86,7 @@ term         runs each line of standard input, a statement
 check        counts what the card holds
 load K SEED  makes K inputs (0 to 1000) from SEED (0 to 65535) and runs them
 
-Of these, new alone is built.
+Of these, new and apdu are built.
 
 FILE is created by new alone. Exit status: 0 done, 1 refused, 2 usage,
 3 EEPROM fault, 4 read fault, 5 write fault, 6 not a card, 7 no memory,

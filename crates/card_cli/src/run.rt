@@ -1,23 +1,24 @@
 // The run of a card by the words of the command line: the program's one call.
-ghost use Rattle.std.specs.Prelude.{◌≡◌, ◌⊎◌, ◌↔◌, ◌<◌, ◌≤◌, ◌+◌, ◌*◌, ◌++◌, ℕ, List, [], Some, None, IsSome, true, false, map, take, length};
+ghost use Rattle.std.specs.Prelude.{◌≡◌, ◌⊎◌, ◌↔◌, ◌<◌, ◌≤◌, ◌+◌, ◌*◌, ◌++◌, ℕ, List, [], Some, None, IsSome, true, false, map, take, length, OnOk, IfSome, IsErrOf};
 ghost use Rattle.std.specs.String.{string_bytes};
 ghost use Rattle.eeprom.specs.Chip.{Becomes};
 ghost use Rattle.eeprom.specs.Fault.{Rose};
-ghost use Rattle.scql_model.specs.Database.{fresh};
+ghost use Rattle.scql_model.specs.Database.{Database};
 ghost use Rattle.scql_model.specs.Machine.{start};
 ghost use Rattle.scql_model.specs.Lines.{lines, run_text};
-ghost use Rattle.card_cli.specs.Words.{cells_in};
+ghost use Rattle.card.specs.Making.{OpensToNone};
+ghost use Rattle.card_cli.specs.Words.{form_in, IsWithinLimits};
 ghost use Rattle.card_cli.specs.declared.stop.Stop.TheVariants as stop;
+ghost use Rattle.card_cli.specs.Beginning.{IsOpenTo, Begins, BeginsWith, LacksCard, FindsNoCard, LeavesUntilOpen, EndsUnread};
 ghost use Rattle.card_cli.specs.CutOff.{HasAnswered, StopsIn};
-ghost use Rattle.card_cli.specs.Ends.{longest_input, AllFaults, EndsBy};
-ghost use Rattle.card_cli.specs.Run.{IsQuiet, AnswersAll};
-ghost use Rattle.card.specs.Making.{LeavesMade};
+ghost use Rattle.card_cli.specs.Ends.{longest_input, has_read, AllFaults, EndsBy};
+ghost use Rattle.card_cli.specs.Run.{IsQuiet, AnswersAll, IsWithoutCard};
 ghost use Rattle.card_cli.specs.Moments.{IfGiven};
-ghost use Rattle.card_cli.specs.Keeping.{MakesAndRuns};
+ghost use Rattle.card_cli.specs.Keeping.{OpensAndRuns};
 
 use crate::input::answer_input;
 use crate::status::Status;
-use crate::words::cells_of;
+use crate::words::{Form, form_of};
 use card::{Card, FormatRefusal, OpenRefusal};
 use eeprom::{Bench, Source};
 use std::alloc::Global;
@@ -29,56 +30,61 @@ pub fn run_card<S: Source, B: Bench>(
     source: &mut S,
     bench: &mut B,
 ) -> Status
-    // The words are of no form: nothing is read, given or written.
-    ensures usage { (result ≡ Status.Usage) ↔ (cells_in (map string_bytes words.now) ≡ None) }
-    // The EEPROM has too few octets for the cells: it stays as it was.
-    ensures too_small { (result ≡ Status.TooSmall) ↔ ((n : ℕ) × (cells_in (map string_bytes words.now) ≡ Some n) × ((B.chip bench.old).still.size < 70 * n + 34)) }
+    // The words are of no form.
+    ensures usage { (result ≡ Status.Usage) ↔ (form_in (map string_bytes words.now) ≡ None) }
+    // The EEPROM has too few octets for the cells that a new card is to have.
+    ensures too_small { (result ≡ Status.TooSmall) ↔ ((n : ℕ) × (form_in (map string_bytes words.now) ≡ Some (Form.New n)) × ((B.chip bench.old).still.size < 70 * n + 34)) }
+    // In both cases nothing is read, given or written.
     ensures untouched { (result ≡ Status.Usage) ⊎ (result ≡ Status.TooSmall) → (source.new ≡ source.old) × (bench.new ≡ bench.old) }
-    // There was no memory: no line was read, and nothing was given.
-    ensures no_memory { result ≡ Status.NoMemory → (source.new ≡ source.old) × (B.given bench.new ≡ B.given bench.old) }
+    // Without memory or a card no line is read and nothing is given, and an image that was to be opened stays as it was.
+    ensures unread { (result ≡ Status.NoMemory) ⊎ (result ≡ Status.NotACard) → EndsUnread (map string_bytes words.now) source.old source.new (B.chip bench.old) (B.chip bench.new) }
+    // The words ask for the card that is there, and the image, where told, opens to no database;
+    ensures not_a_card { result ≡ Status.NotACard → IsSome (B.chip bench.old).image → FindsNoCard (map string_bytes words.now) (B.chip bench.old) }
+    // and then the run ends so, unless the EEPROM fails or there is no memory: nothing is read, given or written.
+    ensures no_card { FindsNoCard (map string_bytes words.now) (B.chip bench.old)
+        → IsWithoutCard result × (source.new ≡ source.old) × (B.chip bench.new ≡ B.chip bench.old) }
+    // A run that reads its input has a database with which it began, where the image is told.
+    ensures begins { has_read result ≡ true → IsSome (B.chip bench.old).image → (db : Database) × BeginsWith (map string_bytes words.now) (B.chip bench.old) db }
     // The input was read to its end, or more came than a run takes.
     ensures done { result ≡ Status.Done → Becomes (λ input left. (left ≡ []) × (length input ≤ longest_input)) (S.left source.old) (S.left source.new) }
     ensures too_long { result ≡ Status.TooLong → Becomes (λ input left. longest_input < length input) (S.left source.old) (S.left source.new) }
     ensures never_refused { ¬ result ≡ Status.Refused }
-    // A card that was just made is no card only where its image isn't told.
-    ensures not_a_card { result ≡ Status.NotACard → (B.chip bench.old).image ≡ None }
     // Each fault has its cause, and without one the counts stay.
     ensures ends { EndsBy result
         (record { eeprom = B.faults bench.old; source = S.source_faults source.old; outlet = B.sink_faults bench.old })
         (record { eeprom = B.faults bench.new; source = S.source_faults source.new; outlet = B.sink_faults bench.new }) }
-    // Without a fault the output is exactly the text of the run from the start of a fresh card, or memory was missing.
-    ensures text { (n : ℕ) → cells_in (map string_bytes words.now) ≡ Some n → 70 * n + 34 ≤ (B.chip bench.old).still.size
+    // Without a fault the output is exactly the text of the run from the database with which it begins, or memory was missing.
+    ensures text { (db : Database) → BeginsWith (map string_bytes words.now) (B.chip bench.old) db
         → IsQuiet (record { eeprom = B.faults bench.old; source = S.source_faults source.old; outlet = B.sink_faults bench.old })
         (record { eeprom = B.faults bench.new; source = S.source_faults source.new; outlet = B.sink_faults bench.new })
-        → (image input left : List ℕ) → (B.chip bench.old).image ≡ Some image → S.left source.old ≡ Some input → S.left source.new ≡ Some left → length input ≤ longest_input
-        → AnswersAll result (run_text (start (fresh n)) (lines input true)) (B.given bench.old) (B.given bench.new) }
-    // Where the EEPROM and the input are told, the card of `new N` answered all lines,
-    ensures answered { result ≡ Status.Done → (n : ℕ) → cells_in (map string_bytes words.now) ≡ Some n → IsSome (B.chip bench.old).image
-        → Becomes (λ input left. HasAnswered (start (fresh n)) (lines input true) (B.given bench.old) (B.chip bench.new)) (S.left source.old) (S.left source.new) }
+        → (input left : List ℕ) → S.left source.old ≡ Some input → S.left source.new ≡ Some left → length input ≤ longest_input
+        → AnswersAll result (run_text (start db) (lines input true)) (B.given bench.old) (B.given bench.new) }
+    // Where the EEPROM and the input are told, the card answered all lines,
+    ensures answered { result ≡ Status.Done → (db : Database) → BeginsWith (map string_bytes words.now) (B.chip bench.old) db
+        → Becomes (λ input left. HasAnswered (start db) (lines input true) (B.given bench.old) (B.chip bench.new)) (S.left source.old) (S.left source.new) }
     // or those that had come whole when the source failed,
-    ensures read_fault { result ≡ Status.ReadFault → (n : ℕ) → cells_in (map string_bytes words.now) ≡ Some n → IsSome (B.chip bench.old).image
-        → Becomes (λ input left. (taken : List ℕ) × (input ≡ taken ++ left) × HasAnswered (start (fresh n)) (lines taken false) (B.given bench.old) (B.chip bench.new)) (S.left source.old) (S.left source.new) }
+    ensures read_fault { result ≡ Status.ReadFault → (db : Database) → BeginsWith (map string_bytes words.now) (B.chip bench.old) db
+        → Becomes (λ input left. (taken : List ℕ) × (input ≡ taken ++ left) × HasAnswered (start db) (lines taken false) (B.given bench.old) (B.chip bench.new)) (S.left source.old) (S.left source.new) }
     // or those that are whole within the longest input,
-    ensures longest { result ≡ Status.TooLong → (n : ℕ) → cells_in (map string_bytes words.now) ≡ Some n → IsSome (B.chip bench.old).image
-        → Becomes (λ input left. HasAnswered (start (fresh n)) (lines (take longest_input input) false) (B.given bench.old) (B.chip bench.new)) (S.left source.old) (S.left source.new) }
+    ensures longest { result ≡ Status.TooLong → (db : Database) → BeginsWith (map string_bytes words.now) (B.chip bench.old) db
+        → Becomes (λ input left. HasAnswered (start db) (lines (take longest_input input) false) (B.given bench.old) (B.chip bench.new)) (S.left source.old) (S.left source.new) }
     // or those before the line in which it went mute, unless the EEPROM failed before a line was read,
-    ensures mute { result ≡ Status.Eeprom → (n : ℕ) → cells_in (map string_bytes words.now) ≡ Some n → IsSome (B.chip bench.old).image
-        → ((source.new ≡ source.old) × (B.given bench.new ≡ B.given bench.old))
-        ⊎ Becomes (λ input left. StopsIn stop.Eeprom (start (fresh n)) (lines input true) (B.given bench.old) (B.chip bench.new)) (S.left source.old) (S.left source.new) }
+    ensures mute { result ≡ Status.Eeprom → (db : Database) → BeginsWith (map string_bytes words.now) (B.chip bench.old) db
+        → EndsUnread (map string_bytes words.now) source.old source.new (B.chip bench.old) (B.chip bench.new)
+        ⊎ Becomes (λ input left. StopsIn stop.Eeprom (start db) (lines input true) (B.given bench.old) (B.chip bench.new)) (S.left source.old) (S.left source.new) }
     // or those before the line whose answer the outlet cut short.
-    ensures write_fault { result ≡ Status.WriteFault → (n : ℕ) → cells_in (map string_bytes words.now) ≡ Some n → IsSome (B.chip bench.old).image
-        → Becomes (λ input left. StopsIn stop.Outlet (start (fresh n)) (lines input true) (B.given bench.old) (B.chip bench.new)) (S.left source.old) (S.left source.new) }
-    // At each moment a power loss leaves what it leaves while a card is made, where no line was read;
-    // or from the opening of the new card on each commit of the lines that were heard by then, and else at most commits of the line after them.
-    ensures moments { (n : ℕ) → cells_in (map string_bytes words.now) ≡ Some n
-        → ((source.new ≡ source.old) × LeavesMade n (B.chip bench.old) (B.chip bench.new))
-        ⊎ (IsSome (B.chip bench.old).image → IfGiven (B.chip bench.new)
-        (Becomes (λ input left. MakesAndRuns n result input left (B.chip bench.old) (B.chip bench.new)) (S.left source.old) (S.left source.new))) }
+    ensures write_fault { result ≡ Status.WriteFault → (db : Database) → BeginsWith (map string_bytes words.now) (B.chip bench.old) db
+        → Becomes (λ input left. StopsIn stop.Outlet (start db) (lines input true) (B.given bench.old) (B.chip bench.new)) (S.left source.old) (S.left source.new) }
+    // At each moment a power loss leaves what it leaves until the card is open, where no line was read;
+    // or from the opening on each commit of the lines that were heard by then, and else at most commits of the line after them.
+    ensures moments { EndsUnread (map string_bytes words.now) source.old source.new (B.chip bench.old) (B.chip bench.new)
+        ⊎ ((db : Database) → (starts : BeginsWith (map string_bytes words.now) (B.chip bench.old) db) → IfGiven (B.chip bench.new)
+        (Becomes (λ input left. OpensAndRuns starts.form db result input left (B.chip bench.old) (B.chip bench.new)) (S.left source.old) (S.left source.new))) }
 {
-    let Some(cells) = cells_of(words) else {
+    let Some(form) = form_of(words) else {
         return Status::Usage;
     };
-    match Card::format(bench, cells) {
+    match prepare(form, bench) {
         Err(FormatRefusal::TooSmall) => return Status::TooSmall,
         Err(FormatRefusal::Fault) => return Status::Eeprom,
         Ok(()) => {}
@@ -88,5 +94,26 @@ pub fn run_card<S: Source, B: Bench>(
         Err(OpenRefusal::NotACard) => Status::NotACard,
         Err(OpenRefusal::Fault) => Status::Eeprom,
         Ok(mut card) => answer_input(&mut card, source, bench),
+    }
+}
+
+// Makes the card that the words ask for, where it isn't to be there already.
+fn prepare<B: Bench>(form: Form, bench: &mut B) -> Result<(), FormatRefusal>
+    requires { IsWithinLimits form }
+    ensures begins { OnOk result ((db : Database) → Begins form (B.chip bench.old) db → IsOpenTo (B.chip bench.new) db) }
+    ensures began { OnOk result ((db : Database) → IsOpenTo (B.chip bench.new) db → (first : Database) × Begins form (B.chip bench.old) first) }
+    ensures told { OnOk result (IsSome (B.chip bench.old).image → IsSome (B.chip bench.new).image) }
+    ensures lacks { OnOk result (IsSome (B.chip bench.old).image → IfSome (B.chip bench.new).image OpensToNone → LacksCard form (B.chip bench.old)) }
+    ensures leaves { LeavesUntilOpen form (B.chip bench.old) (B.chip bench.new) }
+    ensures still { (B.chip bench.new).still ≡ (B.chip bench.old).still }
+    ensures too_small { IsErrOf result FormatRefusal.TooSmall ↔ ((n : ℕ) × (form ≡ Form.New n) × ((B.chip bench.old).still.size < 70 * n + 34)) }
+    ensures unchanged { IsErrOf result FormatRefusal.TooSmall → bench.new ≡ bench.old }
+    ensures fault { IsErrOf result FormatRefusal.Fault → Rose (B.faults bench.old) (B.faults bench.new) }
+    ensures quiet { OnOk result (B.faults bench.new ≡ B.faults bench.old) }
+    ensures never_falls { B.faults bench.old ≤ B.faults bench.new }
+{
+    match form {
+        Form::New { cells } => Card::format(bench, cells),
+        Form::Apdu => Ok(()),
     }
 }

@@ -1,4 +1,7 @@
 // Worked rows over a bench in memory.
+mod opening;
+mod power_loss;
+
 use crate::run::run_card;
 use crate::status::Status;
 use eeprom::{FaultPlan, MemBench, MemSource, SteadySource};
@@ -76,13 +79,38 @@ const FULL_CARD_ANSWERS: &str = "9000
 
 // A bench of so many equal octets, which never fails.
 fn bench_of(alloc: Global, size: usize, octet: u8) -> Result<MemBench, AllocError> {
-    let plan = FaultPlan {
+    MemBench::new(alloc, vec![in alloc; octet; size]?, no_faults(alloc))
+}
+
+fn no_faults(alloc: Global) -> FaultPlan {
+    FaultPlan {
         reads: Vec::new(alloc),
         writes: Vec::new(alloc),
         gives: Vec::new(alloc),
         fill: 0,
-    };
-    MemBench::new(alloc, vec![in alloc; octet; size]?, plan)
+    }
+}
+
+// A run over an image and an input, and the bench after it. The input comes in pieces of 100 octets.
+fn run_over(
+    alloc: Global,
+    words: &[&str],
+    input: &str,
+    image: &[u8],
+    plan: FaultPlan,
+) -> Result<(Status, MemBench), AllocError> {
+    let words = words_of(alloc, words)?;
+    let mut source = SteadySource::new(Vec::from_slice(alloc, input.as_bytes())?, 100);
+    let mut bench = MemBench::new(alloc, Vec::from_slice(alloc, image)?, plan)?;
+    let status = run_card(alloc, &words, &mut source, &mut bench);
+    Ok((status, bench))
+}
+
+// The image of a fresh card of 16 cells.
+fn fresh_card(alloc: Global) -> Result<Vec<u8>, AllocError> {
+    let mut image = vec![in alloc; 0u8; 1154]?;
+    lay(image.as_mut_slice(), &FRESH_CARD);
+    Ok(image)
 }
 
 fn words_of(alloc: Global, words: &[&str]) -> Result<Vec<String>, AllocError> {
@@ -96,7 +124,7 @@ fn words_of(alloc: Global, words: &[&str]) -> Result<Vec<String>, AllocError> {
 #[test]
 fn worked_rows(rt: HostRuntime) -> Result<(), Fail> {
     let alloc = rt.alloc();
-    let rows: [(&[&str], &str, Status, &str); 12] = [
+    let rows: [(&[&str], &str, Status, &str); 13] = [
         (
             &["new", "64"],
             "0014008006054F574E4552\n",
@@ -134,6 +162,7 @@ fn worked_rows(rt: HostRuntime) -> Result<(), Fail> {
             Status::Done,
             "6E00\n6D00\n6881\n6A86\n",
         ),
+        (&["apdu"], "00", Status::NotACard, ""),
         (&["new", "15"], "00", Status::Usage, ""),
         (&["new", "2049"], "00", Status::Usage, ""),
         (&["new"], "00", Status::Usage, ""),
@@ -166,9 +195,11 @@ fn least_size(rt: HostRuntime) -> Result<(), Fail> {
     let mut bench = bench_of(alloc, 1154, 0xA5)?;
     let status = run_card(alloc, &words, &mut source, &mut bench);
     assert!(rt; status == Status::Done, "large enough");
-    let mut image = vec![in alloc; 0u8; 1154]?;
-    lay(image.as_mut_slice(), &FRESH_CARD);
-    assert_eq!(rt; bench.image(), image.as_slice(), "a fresh card");
+    assert_eq!(rt;
+        bench.image(),
+        fresh_card(alloc)?.as_slice(),
+        "a fresh card"
+    );
     Ok(())
 }
 
@@ -194,8 +225,7 @@ fn committed_user(rt: HostRuntime) -> Result<(), Fail> {
     let status = run_card(alloc, &words, &mut source, &mut bench);
     assert!(rt; status == Status::Done);
     assert_eq!(rt; bench.given(), b"9000\n9000\n".as_slice());
-    let mut image = vec![in alloc; 0u8; 1154]?;
-    lay(image.as_mut_slice(), &FRESH_CARD);
+    let mut image = fresh_card(alloc)?;
     lay(image.as_mut_slice(), &WITH_ANN);
     assert_eq!(rt; bench.image(), image.as_slice(), "a card with ANN");
     Ok(())

@@ -10,17 +10,34 @@ const FEWEST: u32 = 16;
 
 const MOST: u32 = 2048;
 
-/// The number of cells that the words `new N` tell.
-pub(crate) fn cells_of(words: &[String]) -> Option<u16>
-    ensures { result ≡ forms.cells_in (map string_bytes words.now) }
+/// What the words ask for.
+#[derive(Clone, Copy, PartialEq, Eq, Debug)]
+pub(crate) enum Form {
+    /// `new N`: a card is made of so many cells, and answers the lines.
+    New { cells: u16 },
+    /// `apdu`: the card that is there answers the lines.
+    Apdu,
+}
+
+/// The form that the words are of.
+pub(crate) fn form_of(words: &[String]) -> Option<Form>
+    ensures { result ≡ forms.form_in (map string_bytes words.now) }
 {
-    let [word, digits] = words else {
-        return None;
-    };
-    if word.as_bytes() != b"new".as_slice() {
-        return None;
+    match words {
+        [word] if word.as_bytes() == b"apdu".as_slice() => Some(Form::Apdu),
+        [word, digits] if word.as_bytes() == b"new".as_slice() => {
+            let cells = cells_of(digits.as_bytes())?;
+            Some(Form::New { cells })
+        }
+        _ => None,
     }
-    let cells = decimal_of(digits.as_bytes())?;
+}
+
+// The number of cells that digits tell.
+fn cells_of(digits: &[u8]) -> Option<u16>
+    ensures { result ≡ forms.cells_in digits.now }
+{
+    let cells = decimal_of(digits)?;
     if cells < FEWEST || MOST < cells {
         return None;
     }

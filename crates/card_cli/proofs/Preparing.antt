@@ -1,0 +1,39 @@
+-- A card that was just made is open to the fresh database with which its run begins.
+use Rattle.std.proofs.Common.{◌≡◌, ℕ, ◌+◌, ◌*◌, ◌<◌, ◌≤◌, List, Option, Some, None, Result, Ok, Err, refl, sym, subst, arith}
+use Rattle.std.specs.Prelude.{◌↔◌, IsSome, IfSome, OnOk, IsErrOf, option_map}
+use Rattle.eeprom.specs.Chip.{Chip}
+use Rattle.scql_model.specs.Database.{Database, fresh}
+use Rattle.scql_model.specs.Opens.{Opens}
+use Rattle.card_cli.specs.declared.words.Form.{Form}
+use Rattle.card_cli.specs.declared.words.Form.TheVariants.{New}
+use Rattle.card_cli.specs.Beginning.{IsOpenTo, Begins}
+
+-- what was made of an image that was told is told, and opens to what all of it opens to
+opens_made : (before after : Option (List ℕ)) (make : List ℕ → List ℕ) (db : Database) → IsSome before → after ≡ option_map make before → IfSome after (λ (image : List ℕ). Opens image db)
+    → (image : List ℕ) × (after ≡ Some image) × Opens image db
+opens_made None after make db told made opens = absurd cc
+opens_made (Some was) after make db told made opens = (make was, made, subst (λ (o : Option (List ℕ)). IfSome o (λ (image : List ℕ). Opens image db)) made opens)
+
+-- what was made is told only of an image that was told
+told_before : (before after : Option (List ℕ)) (make : List ℕ → List ℕ) (image : List ℕ) → after ≡ option_map make before → after ≡ Some image → IsSome before
+told_before None after make image made told = absurd cc
+told_before (Some was) after make image made told = refl
+
+pub begins-new : {E : Type 0} (result : Result (Unit {0}) E) (old new : Chip) (form : Form) (n : ℕ) (make : List ℕ → List ℕ) → form ≡ New n
+    → OnOk result (new.image ≡ option_map make old.image) → OnOk result (IfSome new.image (λ (image : List ℕ). Opens image (fresh n)))
+    → OnOk result ((db : Database) → Begins form old db → IsOpenTo new db)
+begins-new (Err e) old new form n make is made opens = tt
+begins-new (Ok x) old new form n make is made opens = λ db begins.
+    let of_new : Begins (New n) old db = subst (λ (f : Form). Begins f old db) is begins in
+    subst (λ (d : Database). IsOpenTo new d) (sym of_new.2) (opens_made old.image new.image make (fresh n) of_new.0 made opens)
+
+pub began-new : {E : Type 0} (result : Result (Unit {0}) E) (too_small : E) (old new : Chip) (form : Form) (n : ℕ) (make : List ℕ → List ℕ) → form ≡ New n
+    → OnOk result (new.image ≡ option_map make old.image) → (IsErrOf result too_small ↔ (old.still.size < 70 * n + 34))
+    → OnOk result ((db : Database) → IsOpenTo new db → (first : Database) × Begins form old first)
+began-new (Err e) too_small old new form n make is made small = tt
+began-new (Ok x) too_small old new form n make is made small = λ db opens.
+    let not_small : ¬ (old.still.size < 70 * n + 34) = λ less. let is_error : Ok x ≡ Err too_small = small.1 less in absurd cc in
+    let room : 70 * n + 34 ≤ old.still.size = omega arith in (
+      fresh n,
+      subst (λ (f : Form). Begins f old (fresh n)) (sym is) (told_before old.image new.image make opens.0 made opens.1, room, refl),
+    )

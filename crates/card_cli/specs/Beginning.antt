@@ -1,0 +1,46 @@
+-- With which database a run begins, and what a power loss leaves until its card is open.
+use Rattle.std.specs.Prelude.{◌≡◌, ℕ, ◌+◌, ◌*◌, ◌≤◌, List, Some, IsSome}
+use Rattle.eeprom.specs.Chip.{Chip}
+use Rattle.scql_model.specs.Database.{Database, fresh}
+use Rattle.scql_model.specs.Opens.{Opens}
+use Rattle.card.specs.Making.{LeavesMade, OpensToNone}
+use Rattle.card_cli.specs.declared.words.Form.{Form}
+use Rattle.card_cli.specs.declared.words.Form.TheVariants.{New, Apdu}
+use Rattle.card_cli.specs.Words.{form_in}
+
+-- the EEPROM tells its image, which opens to this database
+abbrev pub IsOpenTo : Chip → Database → Type 0
+IsOpenTo chip db = (image : List ℕ) × (chip.image ≡ Some image) × Opens image db
+
+-- A run of this form over an EEPROM that tells its image begins with this database: `new` with a fresh one, for which there is room, and `apdu` with the one to which the image opens.
+abbrev pub Begins : Form → Chip → Database → Type 0
+Begins (New n) chip db = IsSome chip.image × (70 * n + 34 ≤ chip.still.size) × (db ≡ fresh n)
+Begins Apdu chip db = IsOpenTo chip db
+
+-- The words are of a form, and over this EEPROM their run begins with this database.
+pub record BeginsWith (words : List (List ℕ)) (chip : Chip) (db : Database) : Type 0 where
+  pub form : Form
+  pub asked : form_in words ≡ Some form
+  pub begins : Begins form chip db
+
+-- A run of this form asks for the card that is there, and the EEPROM tells an image that opens to no database.
+abbrev pub LacksCard : Form → Chip → Type 0
+LacksCard (New n) chip = ⊥
+LacksCard Apdu chip = (image : List ℕ) × (chip.image ≡ Some image) × OpensToNone image
+
+-- The words are of a form that asks for a card where there is none.
+pub record FindsNoCard (words : List (List ℕ)) (chip : Chip) : Type 0 where
+  pub form : Form
+  pub asked : form_in words ≡ Some form
+  pub lacks : LacksCard form chip
+
+-- Until the card is open a power loss leaves what it leaves while a card is made; opening one that is there writes nothing.
+abbrev pub LeavesUntilOpen : Form → Chip → Chip → Type 0
+LeavesUntilOpen (New n) old opened = LeavesMade n old opened
+LeavesUntilOpen Apdu old opened = opened ≡ old
+
+-- The run ended before it read a line: the source is as it was, nothing was given, and the EEPROM is as it may be until the card is open.
+pub record EndsUnread {S : Type 0} (words : List (List ℕ)) (before after : S) (old new : Chip) : Type 0 where
+  pub source : after ≡ before
+  pub given : new.still.given ≡ old.still.given
+  pub leaves : (form : Form) → form_in words ≡ Some form → LeavesUntilOpen form old new

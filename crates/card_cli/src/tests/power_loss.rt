@@ -1,0 +1,113 @@
+// Power is lost within each write of a run: the image opens, and has each user whose making was answered.
+use super::{WITH_ANN, fresh_card, lay, no_faults, run_over};
+use crate::status::Status;
+use eeprom::MemBench;
+use std::alloc::{AllocError, Global};
+use std::test::Fail;
+
+/// OWNER is presented, and makes ANN, BOB and EVE.
+const MAKES_THREE: &str = "0014008006054F574E4552
+001400810703414E4E010300
+001400810703424F42010300
+001400810703455645010300
+";
+
+const PRESENT_THREE: &str = "001400800403414E4E
+001400800403424F42
+001400800403455645
+";
+
+/// What is answered to these, by how many of the three are there.
+const ANSWERS: [&str; 4] = [
+    "6A88\n6A88\n6A88\n",
+    "9000\n6A88\n6A88\n",
+    "9000\n9000\n6A88\n",
+    "9000\n9000\n9000\n",
+];
+
+/// What a power loss left.
+#[derive(Clone, Copy)]
+enum Left {
+    NoCard,
+    /// A card with so many of the three users.
+    Users(usize),
+    /// The run over it ended in another way, or wrote.
+    Else,
+}
+
+fn look_at(alloc: Global, image: &[u8]) -> Result<Left, AllocError> {
+    let (status, bench) = run_over(alloc, &["apdu"], PRESENT_THREE, image, no_faults(alloc))?;
+    if bench.writes() != 0 || bench.image() != image {
+        return Ok(Left::Else);
+    }
+    Ok(match status {
+        Status::NotACard => Left::NoCard,
+        Status::Done => match users_by(bench.given()) {
+            Some(users) => Left::Users(users),
+            None => Left::Else,
+        },
+        _ => Left::Else,
+    })
+}
+
+fn users_by(output: &[u8]) -> Option<usize> {
+    ANSWERS
+        .iter()
+        .position(|answers| answers.as_bytes() == output)
+}
+
+// Whether that may be left where so many octets had gone out, of five an answer: the first answer is OWNER's,
+// and each further one a user's.
+fn may_be_left(left: Left, given: usize, was_new: bool) -> bool {
+    let made = (given / 5).saturating_sub(1);
+    match left {
+        Left::NoCard => was_new && given == 0,
+        Left::Users(users) => users == made || users == made.saturating_add(1),
+        Left::Else => false,
+    }
+}
+
+// How many of the images that a power loss leaves in the writes of a run aren't allowed.
+fn count_wrong(alloc: Global, bench: &MemBench, was_new: bool) -> Result<usize, AllocError> {
+    let mut wrong = 0usize;
+    for write in 0..bench.writes() {
+        for fill in [0x00, 0xFF, 0x5A] {
+            let found = bench.image_within(alloc, write, fill)?;
+            let is_right = match (found, bench.given_at(write)) {
+                (Some(image), Some(given)) => {
+                    may_be_left(look_at(alloc, &image)?, given, was_new)
+                }
+                _ => false,
+            };
+            if !is_right {
+                wrong = wrong.saturating_add(1);
+            }
+        }
+    }
+    Ok(wrong)
+}
+
+#[test]
+fn cut_in_each_write(rt: HostRuntime) -> Result<(), Fail> {
+    let alloc = rt.alloc();
+    let fresh = fresh_card(alloc)?;
+    let mut with_ann = fresh_card(alloc)?;
+    lay(with_ann.as_mut_slice(), &WITH_ANN);
+    let rows: [(&[&str], &[u8], bool); 3] = [
+        (&["apdu"], &fresh, false),
+        (&["new", "16"], &[0xA5; 1154], true),
+        (&["new", "16"], &with_ann, true),
+    ];
+    for (words, image, was_new) in rows {
+        let (status, bench) = run_over(alloc, words, MAKES_THREE, image, no_faults(alloc))?;
+        assert!(rt; status == Status::Done, "{was_new}");
+        // Each user's record, directory and selector.
+        assert!(rt; 9 <= bench.writes(), "{was_new}");
+        assert!(rt;
+            matches!(look_at(alloc, bench.image())?, Left::Users(3)),
+            "{was_new}"
+        );
+        assert_eq!(rt; count_wrong(alloc, &bench, was_new)?, 0, "{was_new}");
+    }
+    Ok(())
+}
