@@ -1,9 +1,8 @@
 -- Cells among others.
 use Rattle.std.proofs.Common.{◌≡◌, ℕ, ◌==◌, ◌||◌, not, Bool, true, false, List, [], ◌∷◌, ◌++◌, sym, refl, ◌∙◌, true≢false}
-use Rattle.std.specs.List.{AllByRecursion, list_any}
+use Rattle.std.proofs.lemmas.Bool.{and_parts}
 use Rattle.eeprom.specs.StoreOf.{is_distinct}
 use Rattle.cell_store.specs.Chains.{is_among, AreNotAmong}
-use Rattle.cell_store.proofs.Chains.{both}
 
 pub among-append : (x : ℕ) (xs ys : List ℕ) → is_among x (xs ++ ys) ≡ (is_among x xs || is_among x ys)
 among-append x [] ys = refl
@@ -30,7 +29,7 @@ not-true false h = refl
 pub distinct-parts : (xs ys : List ℕ) → is_distinct (xs ++ ys) ≡ true → (is_distinct xs ≡ true) × (is_distinct ys ≡ true) × AreNotAmong xs ys
 distinct-parts [] ys h = (refl, h, tt)
 distinct-parts (x ∷ xs) ys h =
-    let tests = both (not (is_among x (xs ++ ys))) (is_distinct (xs ++ ys)) h in
+    let tests = and_parts (not (is_among x (xs ++ ys))) (is_distinct (xs ++ ys)) h in
     let apart = among-parts x xs ys (not-true (is_among x (xs ++ ys)) tests.0) in
     let rest = distinct-parts xs ys tests.1 in
     (rw (apart.0) (rest.0), rest.1, (apart.1, rest.2))
@@ -38,5 +37,5 @@ distinct-parts (x ∷ xs) ys h =
 pub distinct-join : (xs ys : List ℕ) → is_distinct xs ≡ true → is_distinct ys ≡ true → AreNotAmong xs ys → is_distinct (xs ++ ys) ≡ true
 distinct-join [] ys a b apart = b
 distinct-join (x ∷ xs) ys a b apart =
-    let tests = both (not (is_among x xs)) (is_distinct xs) a in
+    let tests = and_parts (not (is_among x xs)) (is_distinct xs) a in
     rw (among-none x xs ys (not-true (is_among x xs) tests.0) apart.0) (distinct-join xs ys tests.1 b apart.1)

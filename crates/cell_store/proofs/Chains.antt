@@ -1,13 +1,10 @@
 -- Chains of an image: their cells, their payload and their records.
 use Rattle.std.proofs.Common.{◌≡◌, ℕ, zero, suc, ◌+◌, ◌*◌, ◌<◌, ◌≤◌, ◌==◌, ◌&&◌, Bool, true, false, List, [], ◌∷◌, ◌++◌, length, flat_map, nat_lt, nat_le, Option, Some, None, option_map, option_and_then, IfSome, if◌then◌else◌, sym, refl, ap, ◌∙◌, arith, length-append, length-take, length-drop, leb-true, eqb-true, ltb-true, ◌⊎◌, inl, inr}
+use Rattle.std.proofs.lemmas.Bool.{and_parts}
 use Rattle.std.proofs.lemmas.Option.{same_Some, none-some}
 use Rattle.std.proofs.lemmas.List.{get_or_append_left}
 use Rattle.eeprom.specs.StoreOf.{chain_of, cell_place, cells_for, cells_of, payload_of, number_at, is_record, record_in, slot_of}
 use Rattle.cell_store.specs.Chains.{IsRecordChain}
-
-pub both : (a b : Bool) → a && b ≡ true → (a ≡ true) × (b ≡ true)
-both true b h = (refl, h)
-both false b h = absurd (cc)
 
 -- the payload of a chain is 30 octets a cell
 pub length-payload : (image : List ℕ) (n cell : ℕ) → cell < 2 * n → 70 * n + 34 ≤ length image → length (payload_of image n cell) ≡ 30
@@ -68,8 +65,8 @@ record-of : (n first : ℕ) (image payload out : List ℕ) (cell : ℕ) (cells :
     → slot_of image n (cell ∷ cells) ≡ Some out
 record-of n first image payload out cell cells room read copied h is =
     let size : ℕ = number_at (payload_of image n cell) 0 in
-    let tests = both (nat_le 1 size && nat_le size 512) (length (cell ∷ cells) == cells_for size) is in
-    let high : size ≤ 512 = leb-true size 512 (both (nat_le 1 size) (nat_le size 512) tests.0).1 in
+    let tests = and_parts (nat_le 1 size && nat_le size 512) (length (cell ∷ cells) == cells_for size) is in
+    let high : size ≤ 512 = leb-true size 512 (and_parts (nat_le 1 size) (nat_le size 512) tests.0).1 in
     let count : length (cell ∷ cells) ≡ cells_for size = eqb-true (length (cell ∷ cells)) (cells_for size) tests.1 in
     let octets : payload ≡ payload_of image n cell ++ flat_map (payload_of image n) cells = read (omega arith) in
     let one : length (payload_of image n cell) ≡ 30 = length-payload image n cell (chain-first image n (2 * n) first cell cells h) room in
@@ -106,8 +103,8 @@ cells-chain image n first [] room h is = (omega arith, refl)
 cells-chain image n first (cell ∷ cells) room h is =
     let size : ℕ = number_at (payload_of image n cell) 0 in
     let payload : List ℕ = payload_of image n cell ++ flat_map (payload_of image n) cells in
-    let tests = both (nat_le 1 size && nat_le size 512) (length (cell ∷ cells) == cells_for size) is in
-    let high : size ≤ 512 = leb-true size 512 (both (nat_le 1 size) (nat_le size 512) tests.0).1 in
+    let tests = and_parts (nat_le 1 size && nat_le size 512) (length (cell ∷ cells) == cells_for size) is in
+    let high : size ≤ 512 = leb-true size 512 (and_parts (nat_le 1 size) (nat_le size 512) tests.0).1 in
     let count : length (cell ∷ cells) ≡ cells_for size = eqb-true (length (cell ∷ cells)) (cells_for size) tests.1 in
     let one : length (payload_of image n cell) ≡ 30 = length-payload image n cell (chain-first image n (2 * n) first cell cells h) room in
     let number : number_at payload 0 ≡ size =

@@ -1,6 +1,7 @@
 -- A claim of a chain, cell by cell: which cells are free before it, and after.
-use Rattle.std.proofs.Common.{◌≡◌, ℕ, ◌+◌, ◌*◌, ◌<◌, ◌≤◌, ◌≢◌, ◌==◌, ◌&&◌, not, Bool, true, false, List, [], ◌∷◌, ◌++◌, length, set, slice_index, nat_le, Option, Some, None, IfSome, sym, refl, ap, ◌∙◌, arith, subst, true≢false, length-append, append-nil, ◌⊎◌, inl, inr, ◌||◌, eqb-true}
+use Rattle.std.proofs.Common.{◌≡◌, ℕ, ◌+◌, ◌*◌, ◌<◌, ◌≤◌, ◌≢◌, ◌==◌, ◌&&◌, not, Bool, true, false, List, [], ◌∷◌, ◌++◌, length, set, slice_index, nat_le, Option, Some, None, IfSome, sym, refl, ap, ◌∙◌, arith, subst, true≢false, length-append, append-nil, inl, inr, ◌||◌, eqb-true}
 use Rattle.std.specs.List.{AllByRecursion}
+use Rattle.std.proofs.lemmas.Bool.{and_parts, or_cases}
 use Rattle.std.proofs.lemmas.Bool.Decides.{nat_tests}
 use Rattle.std.proofs.lemmas.List.{length-set, get_or-set_same, get_or-set_other}
 use Rattle.eeprom.specs.StoreOf.{is_distinct, is_record, number_at, cell_place, cells_for, payload_of}
@@ -10,7 +11,7 @@ use Rattle.cell_store.specs.Claiming.{ClaimsCell, IsFrontOf, IsTakenCell}
 use Rattle.cell_store.specs.Claims.{TakesChain, HasRecord, HasNoRecord}
 use Rattle.cell_store.specs.Marks.{is_marked}
 use Rattle.cell_store.proofs.Among.{neither, not-true}
-use Rattle.cell_store.proofs.Chains.{both, cells-chain}
+use Rattle.cell_store.proofs.Chains.{cells-chain}
 use Rattle.cell_store.proofs.Linking.{chain-linked, linked-chain, linked-same, linked-one, IsPath, path-more, path-same, path-end, path-rest, path-inside}
 use Rattle.cell_store.proofs.Marking.{marked-here, with_marked-append, with_marked-stays, with_marked-all, marked-with}
 
@@ -39,7 +40,7 @@ free-behind marks cell (next ∷ cells) apart free =
 -- a cell and others are free where it is, and the others are once it is marked
 free-first : (marks : List Bool) (cell : ℕ) (cells : List ℕ) → AreFree marks (cell ∷ cells) → (is_marked marks cell ≡ false) × AreFree (set marks cell true) cells
 free-first marks cell cells f =
-    let tests = both (not (is_among cell cells)) (is_distinct cells) f.distinct in
+    let tests = and_parts (not (is_among cell cells)) (is_distinct cells) f.distinct in
     (f.free.0, record { free = free-behind marks cell cells (not-true (is_among cell cells) tests.0) f.free.1; distinct = tests.1 })
 
 free-more : (marks : List Bool) (cell : ℕ) (cells : List ℕ) → cell < length marks → is_marked marks cell ≡ false → AreFree (set marks cell true) cells → AreFree marks (cell ∷ cells)
@@ -230,13 +231,9 @@ Claiming-takes start now image first count cell start_size links_size none some 
 }
 
 -- what was claimed stands for the image too
-or-cases : (a b : Bool) → (a || b) ≡ true → (a ≡ true) ⊎ (b ≡ true)
-or-cases true b h = inl refl
-or-cases false b h = inr h
-
 told-at : (image links : List ℕ) (n : ℕ) (path : List ℕ) (x : ℕ) → is_among x path ≡ true → AllByRecursion (λ x. number_at image (cell_place n x) ≡ slice_index links x) path → slice_index links x ≡ number_at image (cell_place n x)
 told-at image links n [] x is told = absurd (true≢false (sym is))
-told-at image links n (y ∷ path) x is told = elim (or-cases (x == y) (is_among x path) is) [
+told-at image links n (y ∷ path) x is told = elim (or_cases (x == y) (is_among x path) is) [
   | inl here ↦ let same : x ≡ y = eqb-true x y here in rw same (sym told.0)
   | inr later ↦ told-at image links n path x later told.1
 ]
@@ -247,7 +244,7 @@ Claiming-stands start now (Some image) first count cell used_size c = λ stands.
   links = λ x is.
       let within = path-inside (link_in now.links) (2 * start.cells) first c.path cell c.is in
       let parts : (is_marked start.used x || is_among x c.path) ≡ true = sym (marked-with (2 * start.cells) start.used c.path x used_size within) ∙ (ap (λ (used : List Bool). is_marked used x) (sym c.used) ∙ is) in
-      let there : slice_index now.links x ≡ number_at image (cell_place start.cells x) = elim (or-cases (is_marked start.used x) (is_among x c.path) parts) [
+      let there : slice_index now.links x ≡ number_at image (cell_place start.cells x) = elim (or_cases (is_marked start.used x) (is_among x c.path) parts) [
         | inl before ↦ c.stay x before ∙ stands.links x before
         | inr now_is ↦ told-at image now.links start.cells c.path x now_is c.told
       ] in

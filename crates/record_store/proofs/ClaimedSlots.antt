@@ -1,6 +1,7 @@
 -- The chains of all slots, claimed one after another: there is a store where each one is.
 use Rattle.std.proofs.Common.{◌≡◌, ℕ, zero, suc, ◌+◌, ◌*◌, ◌<◌, ◌≤◌, ◌≢◌, ◌||◌, Bool, true, false, List, [], ◌∷◌, ◌++◌, length, take, drop, get_or, replicate, flat_map, nat_le, Option, Some, None, IsSome, IfSome, sym, refl, ap, ◌∙◌, arith, subst, true≢false, leb-true, length-append, append-nil, append_assoc}
 use Rattle.std.specs.List.{AllByRecursion, list_all}
+use Rattle.std.proofs.lemmas.Bool.{and_parts, or_right}
 use Rattle.std.proofs.lemmas.Bool.Decides.{nat_tests}
 use Rattle.std.proofs.lemmas.List.{drop_more, drop_all, take_more, take_all, length-replicate}
 use Rattle.std.proofs.lemmas.Option.{same_Some}
@@ -9,13 +10,13 @@ use Rattle.cell_store.specs.Cells.{Cells, IsInRange, all_free, link_in, StandsFo
 use Rattle.cell_store.specs.Chains.{AreLinked, AreFree, link_of, is_among, with_marked}
 use Rattle.cell_store.specs.Claims.{TakesChain, HasRecord, HasNoRecord}
 use Rattle.cell_store.specs.Marks.{is_marked}
-use Rattle.cell_store.proofs.Chains.{both, chain-empty, chains-parts}
+use Rattle.cell_store.proofs.Chains.{chain-empty, chains-parts}
 use Rattle.cell_store.proofs.Claiming.{free-parts, free-join}
 use Rattle.cell_store.proofs.Linking.{chain-linked, linked-inside}
 use Rattle.cell_store.proofs.Marking.{marked-with, with_marked-append, length-with_marked}
 use Rattle.cell_store.proofs.Placements.{nowhere}
 use Rattle.record_store.specs.Sound.{AreChains, Claimed, cells_in}
-use Rattle.record_store.proofs.Sides.{all-among, chains-stay, or-right}
+use Rattle.record_store.proofs.Sides.{all-among, chains-stay}
 use Rattle.record_store.proofs.Weights.{slots-chains, some-slots}
 
 chain-inside : (image : List ℕ) (n first : ℕ) (chain : List ℕ) → chain_of image n (2 * n) first ≡ Some chain → AllByRecursion (λ cell. cell < 2 * n) chain
@@ -52,7 +53,7 @@ claim-first : (image : List ℕ) (n : ℕ) (marks : List Bool) (total first : �
 claim-first image n marks total first rest size c =
     let parts = chains-parts (chain_of image n (2 * n) first) (chains_of image n rest) c.chains c.of in
     let cells = flat_map (λ (chain : List ℕ). chain) parts.1 in
-    let tests = both (is_record image n parts.0) (list_all (is_record image n) parts.1) (rw (parts.4) at c.records) in
+    let tests = and_parts (is_record image n parts.0) (list_all (is_record image n) parts.1) (rw (parts.4) at c.records) in
     let whole : AreFree marks (parts.0 ++ cells) = subst (λ (chains : List (List ℕ)). AreFree marks (flat_map (λ (chain : List ℕ). chain) chains)) parts.4 c.free in
     let free = free-parts marks (2 * n) parts.0 cells size (chain-inside image n first parts.0 parts.2) whole in
     let count : length (flat_map (λ (chain : List ℕ). chain) c.chains) ≡ length parts.0 + length cells = ap (λ (chains : List (List ℕ)). length (flat_map (λ (chain : List ℕ). chain) chains)) parts.4 ∙ length-append parts.0 cells in
@@ -93,7 +94,7 @@ slots-claim image n m firsts there =
     let slots = some-slots (slots_at image n firsts) there in
     let c = slots-chains image n firsts slots.0 slots.1 in
     let cells = flat_map (λ (chain : List ℕ). chain) c.chains in
-    let tests = both (is_distinct cells) (nat_le (length cells) n) c.apart in
+    let tests = and_parts (is_distinct cells) (nat_le (length cells) n) c.apart in
     record { chains = c.chains; of = c.of; records = c.records; free = record { free = all-free m cells; distinct = tests.0 }; few = omega (arith, leb-true (length cells) n tests.1) }
 
 -- there are slots just where the chains that are left can be claimed
@@ -205,7 +206,7 @@ inside-chains links (x ∷ firsts) (y ∷ chains) are = joined y (cells_in chain
 
 all-used : (store : Cells) (cells : List ℕ) → length store.used ≡ 2 * store.cells → AllByRecursion (λ cell. cell < 2 * store.cells) cells → store.used ≡ with_marked (replicate (2 * store.cells) false) cells → length (replicate (2 * store.cells) false) ≡ 2 * store.cells → (cell : ℕ) → is_among cell cells ≡ true → is_marked store.used cell ≡ true
 all-used store cells size inside used none cell here =
-    ap (λ (used : List Bool). is_marked used cell) used ∙ (marked-with (2 * store.cells) (replicate (2 * store.cells) false) cells cell none inside ∙ or-right (is_marked (replicate (2 * store.cells) false) cell) (is_among cell cells) here)
+    ap (λ (used : List Bool). is_marked used cell) used ∙ (marked-with (2 * store.cells) (replicate (2 * store.cells) false) cells cell none inside ∙ or_right (is_marked (replicate (2 * store.cells) false) cell) (is_among cell cells) here)
 
 pub claimed-more : (old new : Cells) (firsts : List ℕ) (total count k : ℕ) → IsInRange old → k < length firsts → TakesChain old new (get_or firsts k 0) count → ClaimedSoFar old (take k firsts) total → ClaimedSoFar new (take (k + 1) firsts) (total + count)
 claimed-more old new firsts total count k range inside takes c =

@@ -1,6 +1,7 @@
 -- A record put into a slot: the store of the image stays, and the slot has the record.
 use Rattle.std.proofs.Common.{◌≡◌, inl, inr, ℕ, zero, suc, ◌+◌, ◌*◌, ◌%◌, ◌<◌, ◌≤◌, ◌==◌, ◌&&◌, ◌||◌, not, Bool, true, false, cond, List, [], ◌∷◌, ◌++◌, length, take, set, get_or, map, slice_index, sum_by, nat_le, Option, Some, None, IsSome, IfSome, option_map, sym, refl, ap, ◌∙◌, arith, subst, le-leb, get_or-take, take-take, length-append}
 use Rattle.std.specs.List.{list_all}
+use Rattle.std.proofs.lemmas.Bool.{and_parts}
 use Rattle.std.proofs.lemmas.List.{length-map}
 use Rattle.std.proofs.lemmas.Option.{same_Some}
 use Rattle.std.proofs.lemmas.List.Sums.{sum_by-cons, sum_by-set}
@@ -14,20 +15,20 @@ use Rattle.cell_store.specs.Placed.{Keeping, KeepsMarked}
 use Rattle.cell_store.specs.Writing.{IsWritten}
 use Rattle.cell_store.proofs.Among.{among-append}
 use Rattle.cell_store.proofs.Cells.{Keeping-same}
-use Rattle.cell_store.proofs.Chains.{both, cells-chain, chains-parts}
+use Rattle.cell_store.proofs.Chains.{cells-chain, chains-parts}
 use Rattle.cell_store.proofs.Linking.{steps-end}
 use Rattle.cell_store.proofs.Marking.{marked-all, unmarked-set}
 use Rattle.cell_store.proofs.Placements.{nowhere}
 use Rattle.cell_store.proofs.Regions.{SameFront, same-magic, same-cells, same-header, numbers-agree}
 use Rattle.record_store.specs.Held.{Held, cells_of_store, StandsFor, firsts, contents}
-use Rattle.record_store.specs.Put.{IsPut, emptied, put_into, weight_with, IsFull, IsWithin}
+use Rattle.record_store.specs.Put.{IsPut, emptied, weight_with, IsFull, IsWithin}
 use Rattle.record_store.specs.Slots.{steps_without}
 use Rattle.record_store.specs.Sound.{IsSound, AreChains, cells_in}
 use Rattle.record_store.specs.declared.side.Side.{Side}
 use Rattle.record_store.specs.declared.side.Side.TheVariants.{Committed, Working}
 use Rattle.record_store.proofs.Replacing.{marked-chains, all-marked-same, replaced}
 use Rattle.record_store.proofs.SameSlots.{slots-same}
-use Rattle.record_store.proofs.Sides.{small-links, length-put, length-chains}
+use Rattle.record_store.proofs.Sides.{put_into, small-links, length-put, length-chains}
 use Rattle.record_store.proofs.Weights.{side-chains, told-chains, chains-told, some-slots, header-room, walk-chains, walk-without}
 
 -- the front of an image that keeps all before the cells
@@ -219,7 +220,7 @@ weight-put held slot octets image slots sound begun stands inside there =
     chain-cells image n [] chains slot room h records = let e : chains ≡ [] = sym (same_Some _ _ h) in rw e refl
     chain-cells image n (first ∷ rest) chains slot room h records =
         let parts = chains-parts (chain_of image n (2 * n) first) (chains_of image n rest) chains h in
-        let tests = both (is_record image n parts.0) (list_all (is_record image n) parts.1) (rw (parts.4) at records) in
+        let tests = and_parts (is_record image n parts.0) (list_all (is_record image n) parts.1) (rw (parts.4) at records) in
         rw (parts.4) (at-slot slot parts.0 parts.1 (cells-chain image n first parts.0 room parts.2 tests.0).1 (λ slot. chain-cells image n rest parts.1 slot room parts.3 tests.1))
       where
         at-slot : (slot : ℕ) (chain : List ℕ) (chains : List (List ℕ)) → length chain ≡ cells_of (slot_of image n chain) → ((slot : ℕ) → cells_of (get_or (map (slot_of image n) chains) slot None) ≡ length (get_or chains slot []))

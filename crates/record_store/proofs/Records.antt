@@ -1,11 +1,12 @@
 -- The chain of a slot, and its record.
 use Rattle.std.proofs.Common.{◌≡◌, ℕ, zero, suc, ◌*◌, ◌<◌, ◌≢◌, ◌&&◌, Bool, true, false, List, [], ◌∷◌, length, map, slice_index, slice_index_or, Option, Some, None, IsSome, option_and_then, IfSome, if◌then◌else◌, sym, refl, ap, ◌∙◌, arith, subst}
 use Rattle.std.specs.List.{list_all}
+use Rattle.std.proofs.lemmas.Bool.{and_parts}
 use Rattle.eeprom.specs.Chip.{Becomes}
 use Rattle.eeprom.specs.StoreOf.{chain_of, chains_of, is_record, slot_of, slots_at, are_apart}
 use Rattle.cell_store.specs.Chains.{IsRecordChain}
 use Rattle.cell_store.specs.Reading.{ReadsRecord}
-use Rattle.cell_store.proofs.Chains.{both, chains-parts, chain-empty, chain-nowhere}
+use Rattle.cell_store.proofs.Chains.{chains-parts, chain-empty, chain-nowhere}
 use Rattle.record_store.specs.declared.side.Side.{Side}
 use Rattle.record_store.specs.declared.side.Side.TheVariants.{Committed, Working}
 use Rattle.record_store.specs.Held.{Held, firsts, contents, record_at, StandsFor}
@@ -25,13 +26,13 @@ chain-slot image n (first ∷ rest) chains zero inside h all =
     record {
       chain = parts.0;
       of = parts.2;
-      is = (both (is_record image n parts.0) (list_all (is_record image n) parts.1) (rw (parts.4) at all)).0;
+      is = (and_parts (is_record image n parts.0) (list_all (is_record image n) parts.1) (rw (parts.4) at all)).0;
       entry_is = ap (λ (all : List (List ℕ)). slice_index_or (map (slot_of image n) all) 0 None) parts.4;
     }
 chain-slot image n (first ∷ rest) chains (suc slot) inside h all =
     let parts = chains-parts (chain_of image n (2 * n) first) (chains_of image n rest) chains h in
     subst (λ (all : List (List ℕ)). ChainOf image n (slice_index rest slot) (slice_index_or (map (slot_of image n) all) (suc slot) None)) (sym parts.4)
-    (chain-slot image n rest parts.1 slot (omega arith) parts.3 (both (is_record image n parts.0) (list_all (is_record image n) parts.1) (rw (parts.4) at all)).1)
+    (chain-slot image n rest parts.1 slot (omega arith) parts.3 (and_parts (is_record image n parts.0) (list_all (is_record image n) parts.1) (rw (parts.4) at all)).1)
 
 entry-if : (image : List ℕ) (n : ℕ) (firsts : List ℕ) (slot : ℕ) → slot < length firsts → (chains : List (List ℕ)) → chains_of image n firsts ≡ Some chains
     → (all apart : Bool) → list_all (is_record image n) chains ≡ all → IsSome (if all && apart then Some (map (slot_of image n) chains) else None)

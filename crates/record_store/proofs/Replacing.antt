@@ -1,10 +1,11 @@
 -- One slot's chain in place of another.
 use Rattle.std.proofs.Common.{◌≡◌, ℕ, zero, suc, ◌*◌, ◌<◌, ◌≤◌, Bool, true, List, [], ◌∷◌, ◌++◌, length, set, map, Option, Some, sym, refl, ap, ap₂, arith, subst}
 use Rattle.std.specs.List.{AllByRecursion, list_all}
+use Rattle.std.proofs.lemmas.Bool.{and_parts}
 use Rattle.eeprom.specs.StoreOf.{Slots, chain_of, chains_of, is_record, slot_of}
 use Rattle.cell_store.specs.Marks.{is_marked}
 use Rattle.cell_store.specs.Placed.{Keeping}
-use Rattle.cell_store.proofs.Chains.{both, chains-parts}
+use Rattle.cell_store.proofs.Chains.{chains-parts}
 use Rattle.cell_store.proofs.SameChains.{SameChain, chain-same, chains-same, record-same, slot-same}
 use Rattle.record_store.specs.Sound.{cells_in}
 use Rattle.record_store.proofs.SameSlots.{records-same, map-same}
@@ -33,7 +34,7 @@ replaced marks now was n (old ∷ rest) chains zero first new few keeping inside
     let parts = chains-parts (chain_of was n (2 * n) old) (chains_of was n rest) chains of in
     let marked : AllByRecursion (IsMarkedChain marks) (parts.0 ∷ parts.1) = subst (AllByRecursion (IsMarkedChain marks)) parts.4 but in
     let same = all-marked-same marks n now was parts.1 keeping marked.1 in
-    let tests = both (is_record was n parts.0) (list_all (is_record was n) parts.1) (rw (parts.4) at records) in
+    let tests = and_parts (is_record was n parts.0) (list_all (is_record was n) parts.1) (rw (parts.4) at records) in
     let others = chains-same now was n rest parts.1 few parts.3 same in
     subst (λ (all : List (List ℕ)). Replaced now was n (old ∷ rest) all zero first new) (sym parts.4) (record {
       of = rw (there, others) refl;
@@ -44,7 +45,7 @@ replaced marks now was n (old ∷ rest) chains (suc slot) first new few keeping 
     let parts = chains-parts (chain_of was n (2 * n) old) (chains_of was n rest) chains of in
     let marked : AllByRecursion (IsMarkedChain marks) (parts.0 ∷ parts.1) = subst (AllByRecursion (IsMarkedChain marks)) parts.4 but in
     let same = marked-same marks n now was parts.0 keeping marked.0 in
-    let tests = both (is_record was n parts.0) (list_all (is_record was n) parts.1) (rw (parts.4) at records) in
+    let tests = and_parts (is_record was n parts.0) (list_all (is_record was n) parts.1) (rw (parts.4) at records) in
     let one = chain-same now was n (2 * n) old parts.0 few parts.2 same in
     let others = replaced marks now was n rest parts.1 slot first new few keeping (omega arith) parts.3 tests.1 marked.1 there is in
     subst (λ (all : List (List ℕ)). Replaced now was n (old ∷ rest) all (suc slot) first new) (sym parts.4) (record {

@@ -1,6 +1,7 @@
 -- The chains of both sides of a store in memory, as slots are emptied and filled, and as a transaction ends.
-use Rattle.std.proofs.Common.{◌≡◌, ◌≢◌, ◌⊎◌, inl, inr, ℕ, zero, suc, ◌+◌, ◌*◌, ◌<◌, ◌≤◌, ◌==◌, ◌||◌, if◌then◌else◌, Bool, true, false, List, [], ◌∷◌, ◌++◌, length, set, get_or, slice_index, sym, refl, ap, ◌∙◌, arith, subst, true≢false, length-append, eqb-true, eq-eqb}
+use Rattle.std.proofs.Common.{◌≡◌, ◌≢◌, ◌⊎◌, inl, inr, ℕ, zero, suc, ◌+◌, ◌*◌, ◌<◌, ◌≤◌, ◌==◌, ◌||◌, if◌then◌else◌, Bool, true, false, List, [], ◌∷◌, ◌++◌, length, set, get_or, slice_index, slice_set, sym, refl, ap, ◌∙◌, arith, subst, true≢false, length-append, eqb-true, eq-eqb}
 use Rattle.std.specs.List.{AllByRecursion}
+use Rattle.std.proofs.lemmas.Bool.{false_from_ne_true, or_cases, or_left, or_right}
 use Rattle.std.proofs.lemmas.List.{length-set, get_or-set_same, get_or-set_other}
 use Rattle.eeprom.specs.StoreOf.{is_distinct}
 use Rattle.cell_store.specs.Cells.{Cells, link_in, StayLinked}
@@ -11,32 +12,21 @@ use Rattle.cell_store.proofs.Among.{among-append, distinct-parts, distinct-join}
 use Rattle.cell_store.proofs.Linking.{linked-same, linked-one, linked-inside}
 use Rattle.cell_store.proofs.Marking.{marked-with, length-with_marked}
 use Rattle.record_store.specs.Held.{Held, cells_of_store, firsts}
-use Rattle.record_store.specs.Put.{emptied, put_into}
+use Rattle.record_store.specs.Put.{emptied}
 use Rattle.record_store.specs.Slots.{AreUsedChains, AreReplaced}
 use Rattle.record_store.specs.Sound.{AreChains, AreBeside, HasChains, KeepsSides, IsSound, cells_in}
 use Rattle.record_store.specs.Transaction.{begun_from, rolled_back, after_commit}
 use Rattle.record_store.specs.declared.side.Side.TheVariants.{Working}
+
+-- a record was put, whose chain begins at this cell
+abbrev pub put_into : Held → ℕ → ℕ → List Bool → List ℕ → Held
+put_into held slot first used links = record { cells = held.cells; used = used; links = links; selector = held.selector; committed = held.committed; working = slice_set held.working slot first; begun = held.begun }
 
 -- tests that are each true where the other is
 same-test : (a b : Bool) → (a ≡ true → b ≡ true) → (b ≡ true → a ≡ true) → a ≡ b
 same-test true b there back = sym (there refl)
 same-test false true there back = back refl
 same-test false false there back = refl
-
-pub either-of : (a b : Bool) → (a || b) ≡ true → (a ≡ true) ⊎ (b ≡ true)
-either-of true b h = inl refl
-either-of false b h = inr h
-
-pub or-left : (a b : Bool) → a ≡ true → (a || b) ≡ true
-or-left a b h = rw h refl
-
-pub or-right : (a b : Bool) → b ≡ true → (a || b) ≡ true
-or-right true b h = refl
-or-right false b h = h
-
-not-true-is : (b : Bool) → ¬ (b ≡ true) → b ≡ false
-not-true-is true wrong = absurd (wrong refl)
-not-true-is false wrong = refl
 
 pub same-or-other : (a b : ℕ) → (a ≡ b) ⊎ (a ≢ b)
 same-or-other a b = elim (a == b) as (λ t. (a == b) ≡ t → (a ≡ b) ⊎ (a ≢ b)) [
@@ -47,19 +37,19 @@ same-or-other a b = elim (a == b) as (λ t. (a == b) ≡ t → (a ≡ b) ⊎ (a 
 -- a cell of chains is in one of them
 pub at-chain : (cell : ℕ) (chains : List (List ℕ)) → is_among cell (cells_in chains) ≡ true → (slot : ℕ) × (slot < length chains) × (is_among cell (get_or chains slot []) ≡ true)
 at-chain cell [] h = absurd (true≢false (sym h))
-at-chain cell (chain ∷ chains) h = elim (either-of (is_among cell chain) (is_among cell (cells_in chains)) (sym (among-append cell chain (cells_in chains)) ∙ h)) [
+at-chain cell (chain ∷ chains) h = elim (or_cases (is_among cell chain) (is_among cell (cells_in chains)) (sym (among-append cell chain (cells_in chains)) ∙ h)) [
   | inl here ↦ (0, omega arith, here)
   | inr later ↦ (let from = at-chain cell chains later in (suc from.0, omega (arith, from.1), from.2))
 ]
 
 pub in-chains : (cell : ℕ) (chains : List (List ℕ)) (slot : ℕ) → is_among cell (get_or chains slot []) ≡ true → is_among cell (cells_in chains) ≡ true
 in-chains cell [] slot h = absurd (true≢false (sym h))
-in-chains cell (chain ∷ chains) zero h = among-append cell chain (cells_in chains) ∙ or-left (is_among cell chain) (is_among cell (cells_in chains)) h
-in-chains cell (chain ∷ chains) (suc slot) h = among-append cell chain (cells_in chains) ∙ or-right (is_among cell chain) (is_among cell (cells_in chains)) (in-chains cell chains slot h)
+in-chains cell (chain ∷ chains) zero h = among-append cell chain (cells_in chains) ∙ or_left (is_among cell chain) (is_among cell (cells_in chains)) h
+in-chains cell (chain ∷ chains) (suc slot) h = among-append cell chain (cells_in chains) ∙ or_right (is_among cell chain) (is_among cell (cells_in chains)) (in-chains cell chains slot h)
 
 not-among-at : (cell : ℕ) (xs ys : List ℕ) → AreNotAmong xs ys → is_among cell xs ≡ true → is_among cell ys ≡ false
 not-among-at cell [] ys none h = absurd (true≢false (sym h))
-not-among-at cell (x ∷ xs) ys none h = elim (either-of (cell == x) (is_among cell xs) h) [
+not-among-at cell (x ∷ xs) ys none h = elim (or_cases (cell == x) (is_among cell xs) h) [
   | inl here ↦ (let same : cell ≡ x = eqb-true cell x here in rw same none.0)
   | inr later ↦ not-among-at cell xs ys none.1 later
 ]
@@ -80,11 +70,11 @@ one-slot (chain ∷ chains) cell (suc a) (suc b) distinct first second =
 -- what holds of each cell among others
 pub all-among : (P : ℕ → Type 0) (cells : List ℕ) → ((cell : ℕ) → is_among cell cells ≡ true → P cell) → AllByRecursion P cells
 all-among P [] each = tt
-all-among P (cell ∷ cells) each = (each cell (or-left (cell == cell) (is_among cell cells) (eq-eqb cell cell refl)), all-among P cells (λ x h. each x (or-right (x == cell) (is_among x cells) h)))
+all-among P (cell ∷ cells) each = (each cell (or_left (cell == cell) (is_among cell cells) (eq-eqb cell cell refl)), all-among P cells (λ x h. each x (or_right (x == cell) (is_among x cells) h)))
 
 pub among-all : (P : ℕ → Type 0) (cells : List ℕ) → AllByRecursion P cells → (cell : ℕ) → is_among cell cells ≡ true → P cell
 among-all P [] all cell here = absurd (true≢false (sym here))
-among-all P (x ∷ cells) all cell here = elim (either-of (cell == x) (is_among cell cells) here) [
+among-all P (x ∷ cells) all cell here = elim (or_cases (cell == x) (is_among cell cells) here) [
   | inl same ↦ subst P (sym (eqb-true cell x same)) all.0
   | inr later ↦ among-all P cells all.1 cell later
 ]
@@ -162,12 +152,12 @@ distinct-put [] slot chain distinct one apart = distinct
 distinct-put (old ∷ chains) zero chain distinct one apart =
     let parts = distinct-parts old (cells_in chains) distinct in
     distinct-join chain (cells_in chains) one parts.1
-    (not-among-all chain (cells_in chains) (λ cell h. not-true-is (is_among cell (cells_in chains)) (λ there. let from = at-chain cell chains there in apart cell (suc from.0) (λ e. let no : suc from.0 ≡ 0 = e in absurd (omega arith)) h from.2)))
+    (not-among-all chain (cells_in chains) (λ cell h. false_from_ne_true (is_among cell (cells_in chains)) (λ there. let from = at-chain cell chains there in apart cell (suc from.0) (λ e. let no : suc from.0 ≡ 0 = e in absurd (omega arith)) h from.2)))
 distinct-put (old ∷ chains) (suc slot) chain distinct one apart =
     let parts = distinct-parts old (cells_in chains) distinct in
     let rest = distinct-put chains slot chain parts.1 one (λ cell at other h there. apart cell (suc at) (λ e. other (let f : suc at ≡ suc slot = e in omega arith)) h there) in
     distinct-join old (cells_in (set chains slot chain)) parts.0 rest
-    (not-among-all old (cells_in (set chains slot chain)) (λ cell h. not-true-is (is_among cell (cells_in (set chains slot chain))) (λ there.
+    (not-among-all old (cells_in (set chains slot chain)) (λ cell h. false_from_ne_true (is_among cell (cells_in (set chains slot chain))) (λ there.
     elim (among-set cell chains slot chain there) [
       | inl new ↦ apart cell 0 (λ e. let no : 0 ≡ suc slot = e in absurd (omega arith)) new h
       | inr before ↦ true≢false (sym (in-chains cell chains before.0 before.2) ∙ not-among-at cell old (cells_in chains) parts.2 h)
@@ -175,13 +165,13 @@ distinct-put (old ∷ chains) (suc slot) chain distinct one apart =
 
 -- what is known of a used cell
 pub used-cases : (held : Held) (k : KeepsSides held) (cell : ℕ) → is_marked held.used cell ≡ true → (is_among cell (cells_in k.committed) ≡ true) ⊎ (is_among cell (cells_in k.working) ≡ true)
-used-cases held k cell is = either-of (is_among cell (cells_in k.committed)) (is_among cell (cells_in k.working)) (sym (k.used cell) ∙ is)
+used-cases held k cell is = or_cases (is_among cell (cells_in k.committed)) (is_among cell (cells_in k.working)) (sym (k.used cell) ∙ is)
 
 pub committed-used : (held : Held) (k : KeepsSides held) (cell : ℕ) → is_among cell (cells_in k.committed) ≡ true → is_marked held.used cell ≡ true
-committed-used held k cell is = k.used cell ∙ or-left (is_among cell (cells_in k.committed)) (is_among cell (cells_in k.working)) is
+committed-used held k cell is = k.used cell ∙ or_left (is_among cell (cells_in k.committed)) (is_among cell (cells_in k.working)) is
 
 pub working-used : (held : Held) (k : KeepsSides held) (cell : ℕ) → is_among cell (cells_in k.working) ≡ true → is_marked held.used cell ≡ true
-working-used held k cell is = k.used cell ∙ or-right (is_among cell (cells_in k.committed)) (is_among cell (cells_in k.working)) is
+working-used held k cell is = k.used cell ∙ or_right (is_among cell (cells_in k.committed)) (is_among cell (cells_in k.working)) is
 
 pub committed-marked : (held : Held) (k : KeepsSides held) → AllByRecursion (λ cell. is_marked held.used cell ≡ true) (cells_in k.committed)
 committed-marked held k = all-among (λ cell. is_marked held.used cell ≡ true) (cells_in k.committed) (committed-used held k)
@@ -228,13 +218,13 @@ emptied-used held sound slot used begun inside e cell = same-test (is_marked use
     there is =
         let less = e.less cell is in
         elim (used-cases held k cell less.0) [
-          | inl committed ↦ or-left (is_among cell (cells_in k.committed)) (is_among cell (cells_in (set k.working slot []))) committed
+          | inl committed ↦ or_left (is_among cell (cells_in k.committed)) (is_among cell (cells_in (set k.working slot []))) committed
           | inr working ↦ (let from = at-chain cell k.working working in
               elim (same-or-other from.0 slot) [
-                | inr other ↦ or-right (is_among cell (cells_in k.committed)) (is_among cell (cells_in (set k.working slot []))) (set-among cell k.working slot [] from.0 other from.2)
+                | inr other ↦ or_right (is_among cell (cells_in k.committed)) (is_among cell (cells_in (set k.working slot []))) (set-among cell k.working slot [] from.0 other from.2)
                 | inl same ↦ (let here : is_among cell (get_or k.working slot []) ≡ true = rw same at from.2 in
                     elim (same-or-other (slice_index held.working slot) (slice_index held.committed slot)) [
-                      | inl alike ↦ or-left (is_among cell (cells_in k.committed)) (is_among cell (cells_in (set k.working slot [])))
+                      | inl alike ↦ or_left (is_among cell (cells_in k.committed)) (is_among cell (cells_in (set k.working slot [])))
                           (in-chains cell k.committed slot (sym (ap (is_among cell) (same-chain held sound slot inside (rw working_is alike))) ∙ here))
                       | inr unlike ↦ absurd (true≢false (sym here ∙ less.1 unlike))
                     ])
@@ -242,15 +232,15 @@ emptied-used held sound slot used begun inside e cell = same-test (is_marked use
         ]
 
     back : (is_among cell (cells_in k.committed) || is_among cell (cells_in (set k.working slot []))) ≡ true → is_marked used cell ≡ true
-    back h = elim (either-of (is_among cell (cells_in k.committed)) (is_among cell (cells_in (set k.working slot []))) h) [
+    back h = elim (or_cases (is_among cell (cells_in k.committed)) (is_among cell (cells_in (set k.working slot []))) h) [
       | inl committed ↦ e.rest cell (committed-used held k cell committed) (elim (k.beside slot) [
         | inl alike ↦ inl (rw working_is at alike)
-        | inr apart ↦ inr (not-true-is (is_among cell (get_or k.working slot [])) (λ here. true≢false (sym committed ∙ apart cell here)))
+        | inr apart ↦ inr (false_from_ne_true (is_among cell (get_or k.working slot [])) (λ here. true≢false (sym committed ∙ apart cell here)))
       ])
       | inr working ↦ elim (among-set cell k.working slot [] working) [
         | inl none ↦ absurd (true≢false (sym none))
         | inr from ↦ e.rest cell (working-used held k cell (in-chains cell k.working from.0 from.2))
-            (inr (not-true-is (is_among cell (get_or k.working slot [])) (λ here. from.1 (one-slot k.working cell from.0 slot k.working_has.distinct from.2 here))))
+            (inr (false_from_ne_true (is_among cell (get_or k.working slot [])) (λ here. from.1 (one-slot k.working cell from.0 slot k.working_has.distinct from.2 here))))
       ]
     ]
 
@@ -359,7 +349,7 @@ sound-put held slot first count used links sound begun inside empty p fits = rec
     there = omega (arith, inside, length-chains held.links (firsts held Working) k.working k.working_has.are, count-firsts held sound)
 
     not-committed : (cell : ℕ) → is_among cell p.chain ≡ true → is_among cell (cells_in k.committed) ≡ false
-    not-committed cell here = not-true-is (is_among cell (cells_in k.committed)) (λ committed. true≢false (sym (committed-used held k cell committed) ∙ free-cell held.used p.chain cell p.free.free here))
+    not-committed cell here = false_from_ne_true (is_among cell (cells_in k.committed)) (λ committed. true≢false (sym (committed-used held k cell committed) ∙ free-cell held.used p.chain cell p.free.free here))
 
     beside : AreBeside held.committed (set held.working slot first) (set k.working slot p.chain) (cells_in k.committed)
     beside at = elim (same-or-other at slot) [
@@ -382,20 +372,20 @@ sound-put held slot first count used links sound begun inside empty p fits = rec
 
     used_is : (cell : ℕ) → is_marked used cell ≡ (is_among cell (cells_in k.committed) || is_among cell (cells_in (set k.working slot p.chain)))
     used_is cell = same-test (is_marked used cell) (is_among cell (cells_in k.committed) || is_among cell (cells_in (set k.working slot p.chain)))
-        (λ is. elim (either-of (is_marked held.used cell) (is_among cell p.chain) (sym (marks cell) ∙ is)) [
-          | inr here ↦ or-right (is_among cell (cells_in k.committed)) (is_among cell (cells_in (set k.working slot p.chain))) (set-among-here cell k.working slot p.chain there here)
+        (λ is. elim (or_cases (is_marked held.used cell) (is_among cell p.chain) (sym (marks cell) ∙ is)) [
+          | inr here ↦ or_right (is_among cell (cells_in k.committed)) (is_among cell (cells_in (set k.working slot p.chain))) (set-among-here cell k.working slot p.chain there here)
           | inl before ↦ elim (used-cases held k cell before) [
-            | inl committed ↦ or-left (is_among cell (cells_in k.committed)) (is_among cell (cells_in (set k.working slot p.chain))) committed
+            | inl committed ↦ or_left (is_among cell (cells_in k.committed)) (is_among cell (cells_in (set k.working slot p.chain))) committed
             | inr working ↦ (let from = at-chain cell k.working working in
                 let other : from.0 ≢ slot = λ same. true≢false (sym (rw (same, was-empty) at from.2)) in
-                or-right (is_among cell (cells_in k.committed)) (is_among cell (cells_in (set k.working slot p.chain))) (set-among cell k.working slot p.chain from.0 other from.2))
+                or_right (is_among cell (cells_in k.committed)) (is_among cell (cells_in (set k.working slot p.chain))) (set-among cell k.working slot p.chain from.0 other from.2))
           ]
         ])
-        (λ h. elim (either-of (is_among cell (cells_in k.committed)) (is_among cell (cells_in (set k.working slot p.chain))) h) [
-          | inl committed ↦ marks cell ∙ or-left (is_marked held.used cell) (is_among cell p.chain) (committed-used held k cell committed)
+        (λ h. elim (or_cases (is_among cell (cells_in k.committed)) (is_among cell (cells_in (set k.working slot p.chain))) h) [
+          | inl committed ↦ marks cell ∙ or_left (is_marked held.used cell) (is_among cell p.chain) (committed-used held k cell committed)
           | inr working ↦ elim (among-set cell k.working slot p.chain working) [
-            | inl here ↦ marks cell ∙ or-right (is_marked held.used cell) (is_among cell p.chain) here
-            | inr from ↦ marks cell ∙ or-left (is_marked held.used cell) (is_among cell p.chain) (working-used held k cell (in-chains cell k.working from.0 from.2))
+            | inl here ↦ marks cell ∙ or_right (is_marked held.used cell) (is_among cell p.chain) here
+            | inr from ↦ marks cell ∙ or_left (is_marked held.used cell) (is_among cell p.chain) (working-used held k cell (in-chains cell k.working from.0 from.2))
           ]
         ])
 

@@ -1,13 +1,14 @@
 -- The chains of slots: those in memory are the image's, and weigh what their records do.
 use Rattle.std.proofs.Common.{◌≡◌, ℕ, zero, suc, ◌+◌, ◌*◌, ◌<◌, ◌≤◌, ◌==◌, ◌&&◌, Bool, true, false, List, [], ◌∷◌, ◌++◌, length, map, set, take, slice_index, nat_le, Option, Some, None, IsSome, ◌%◌, option_and_then, if◌then◌else◌, sum_by, sym, refl, ap, ◌∙◌, arith, subst, length-append, leb-true}
 use Rattle.std.specs.List.{list_all, AllByRecursion}
+use Rattle.std.proofs.lemmas.Bool.{and_parts}
 use Rattle.std.proofs.lemmas.Option.{same_Some, none-some}
 use Rattle.std.proofs.lemmas.List.Sums.{sum_by-cons}
 use Rattle.eeprom.specs.StoreOf.{Slots, chain_of, chains_of, cell_place, number_at, is_record, slot_of, slots_at, are_apart, has_header, cells_of, weight_of}
 use Rattle.cell_store.specs.Cells.{link_in, AreLinksOf}
 use Rattle.cell_store.specs.Chains.{AreLinked, link_of, steps}
 use Rattle.cell_store.specs.Marks.{is_marked}
-use Rattle.cell_store.proofs.Chains.{both, cells-chain, chains-parts}
+use Rattle.cell_store.proofs.Chains.{cells-chain, chains-parts}
 use Rattle.cell_store.proofs.Linking.{linked-chain, linked-same, steps-linked}
 use Rattle.record_store.specs.Held.{Held, StandsFor, firsts, contents}
 use Rattle.record_store.specs.Slots.{steps_without}
@@ -42,7 +43,7 @@ slots-chains image n firsts slots h = slots-of image n firsts slots (chains_of i
 pub header-room : (image : List ℕ) (n : ℕ) → has_header image ≡ true → number_at image 6 ≡ n → 70 * n + 34 ≤ length image
 header-room image n header number =
     let m = number_at image 6 in
-    let tests = both ((slice_index image 4 == 1) && (slice_index image 5 % 2 == 0) && nat_le 16 m && nat_le m 2048) (nat_le (70 * m + 34) (length image)) header in
+    let tests = and_parts ((slice_index image 4 == 1) && (slice_index image 5 % 2 == 0) && nat_le 16 m && nat_le m 2048) (nat_le (70 * m + 34) (length image)) header in
     rw number at (leb-true (70 * m + 34) (length image) tests.1)
 
 -- the records of chains weigh as many cells as the chains have
@@ -50,7 +51,7 @@ pub cells-chains : (image : List ℕ) (n : ℕ) (firsts : List ℕ) (chains : Li
 cells-chains image n [] chains room h records = let e : chains ≡ [] = sym (same_Some _ _ h) in rw e refl
 cells-chains image n (first ∷ rest) chains room h records =
     let parts = chains-parts (chain_of image n (2 * n) first) (chains_of image n rest) chains h in
-    let tests = both (is_record image n parts.0) (list_all (is_record image n) parts.1) (rw (parts.4) at records) in
+    let tests = and_parts (is_record image n parts.0) (list_all (is_record image n) parts.1) (rw (parts.4) at records) in
     let cells = cells-chain image n first parts.0 room parts.2 tests.0 in
     let more = cells-chains image n rest parts.1 room parts.3 tests.1 in
     let weights = sum_by-cons cells_of (slot_of image n parts.0) (map (slot_of image n) parts.1) in

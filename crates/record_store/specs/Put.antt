@@ -31,7 +31,3 @@ IsFull held slot octets image = IfSome (contents held Working image) (λ slots. 
 -- a slot was emptied, and these cells are used then
 abbrev pub emptied : Held → ℕ → List Bool → Held
 emptied held slot used = record { cells = held.cells; used = used; links = held.links; selector = held.selector; committed = held.committed; working = slice_set held.working slot 65535; begun = held.begun }
-
--- a record was put, whose chain begins at this cell
-abbrev pub put_into : Held → ℕ → ℕ → List Bool → List ℕ → Held
-put_into held slot first used links = record { cells = held.cells; used = used; links = links; selector = held.selector; committed = held.committed; working = slice_set held.working slot first; begun = held.begun }

@@ -1,8 +1,8 @@
 -- A user is found by its name or its stamp, in a list or among slots in no order.
-use Rattle.std.proofs.Common.{◌≡◌, ℕ, ◌≤◌, ◌==◌, Bool, true, false, List, [], ◌∷◌, map, count_by, not, ◌&&◌, refl, lit≤, sym, ap, subst, ◌∙◌, arith, inl, inr}
+use Rattle.std.proofs.Common.{◌≡◌, ℕ, ◌≤◌, ◌==◌, Bool, true, false, List, [], ◌∷◌, map, count_by, not, refl, lit≤, sym, ap, subst, ◌∙◌, arith, inl, inr}
 use Rattle.std.specs.List.{list_any, find, filter_map}
 use Rattle.std.specs.Str.{bytes_eq}
-use Rattle.std.proofs.lemmas.Bool.{cases_Bool, false≢true}
+use Rattle.std.proofs.lemmas.Bool.{cases_Bool, false≢true, and_parts}
 use Rattle.std.proofs.lemmas.Slice.Eq.{bytes_eq-Decides}
 use Rattle.eeprom.proofs.InOrder.{count_by-cons, count_by-in_order, find-in_order, AreApart-rising}
 use Rattle.eeprom.specs.Slots.{in_slot, in_order}
@@ -13,10 +13,6 @@ use Rattle.scql_model.specs.Opens.{Holds}
 
 abbrev names_of : List User → List (List ℕ)
 names_of users = map (λ (u : User). u.name) users
-
-both : (a b : Bool) → a && b ≡ true → (a ≡ true) × (b ≡ true)
-both true b h = (refl, h)
-both false b h = absurd (false≢true h)
 
 not-true : (b : Bool) → not b ≡ true → b ≡ false
 not-true true h = absurd (false≢true h)
@@ -33,7 +29,7 @@ none_named name (u ∷ users) none =
 one_named : (name : List ℕ) (users : List User) → are_different (names_of users) ≡ true → count_by (is_named name) users ≤ 1
 one_named name [] apart = lit≤ tt
 one_named name (u ∷ users) apart =
-    let parts = both (not (list_any (bytes_eq u.name) (names_of users))) (are_different (names_of users)) apart in
+    let parts = and_parts (not (list_any (bytes_eq u.name) (names_of users))) (are_different (names_of users)) apart in
     elim (cases_Bool (bytes_eq name u.name)) [
       | inl t ↦ (let same : name ≡ u.name = (bytes_eq-Decides name u.name).0 t in
           let none : count_by (is_named u.name) users ≡ 0 = none_named u.name users (not-true (list_any (bytes_eq u.name) (names_of users)) parts.0) in

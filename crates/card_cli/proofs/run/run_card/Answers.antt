@@ -15,7 +15,7 @@ use Rattle.card_cli.specs.Ends.{AllFaults, EndsBy, LeavesOff}
 use Rattle.card_cli.proofs.Finishing.{is_at, open_to, opens_if_told, not_to_none, lacks_none, answers_all, same_faults, until_same}
 use Rattle.card_cli.proofs.run.run_card.Given as given
 use Rattle.card_cli.proofs.run.run_card.Goals as goal
-use Rattle.card_cli.proofs.run.run_card.Goals.{After-drop-card-inside-in-Ok-open-2 as Ended}
+use Rattle.card_cli.proofs.run.run_card.Goals.{After-answer_input as Ended}
 
 still : (g : given.Over) (c : Ended g) → (g.B.Eeprom.chip c.open.new.bench).still ≡ (g.B.Eeprom.chip c.args.bench.now).still
 still g c = ap (λ (chip : Chip). chip.still) c.open.ensures.same ∙ c.prepare.ensures.still
@@ -43,19 +43,19 @@ ended g c status is db begins =
     subst (λ (s : Status). leaves s (g.B.Outlet.given c.args.bench.now)) is (subst (leaves c.answer_input.result) before (c.answer_input.ensures.leaves (start db) (starts g c db begins)))
 
 pub returns-in-Ok-open-clause-answered : goal.returns-in-Ok-open-clause-answered
-returns-in-Ok-open-clause-answered g c = ended g c Done
+returns-in-Ok-open-clause-answered g c = ended g (goal.at.returns-in-Ok-open-clause-answered g c).After-answer_input Done
 
 pub returns-in-Ok-open-clause-read_fault : goal.returns-in-Ok-open-clause-read_fault
-returns-in-Ok-open-clause-read_fault g c = ended g c ReadFault
+returns-in-Ok-open-clause-read_fault g c = ended g (goal.at.returns-in-Ok-open-clause-read_fault g c).After-answer_input ReadFault
 
 pub returns-in-Ok-open-clause-longest : goal.returns-in-Ok-open-clause-longest
-returns-in-Ok-open-clause-longest g c = ended g c TooLong
+returns-in-Ok-open-clause-longest g c = ended g (goal.at.returns-in-Ok-open-clause-longest g c).After-answer_input TooLong
 
 pub returns-in-Ok-open-clause-mute : goal.returns-in-Ok-open-clause-mute
-returns-in-Ok-open-clause-mute g c = λ is db begins. inr (ended g c Eeprom is db begins)
+returns-in-Ok-open-clause-mute g c = λ is db begins. inr (ended g (goal.at.returns-in-Ok-open-clause-mute g c).After-answer_input Eeprom is db begins)
 
 pub returns-in-Ok-open-clause-write_fault : goal.returns-in-Ok-open-clause-write_fault
-returns-in-Ok-open-clause-write_fault g c = ended g c WriteFault
+returns-in-Ok-open-clause-write_fault g c = ended g (goal.at.returns-in-Ok-open-clause-write_fault g c).After-answer_input WriteFault
 
 pub returns-in-Err-NotACard-clause-text : goal.returns-in-Err-NotACard-clause-text
 returns-in-Err-NotACard-clause-text g c = λ db begins quiet input left from to short.
@@ -77,9 +77,10 @@ returns-in-Ok-open-clause-begins g c = λ read told.
 
 pub returns-in-Ok-open-clause-text : goal.returns-in-Ok-open-clause-text
 returns-in-Ok-open-clause-text g c = λ db begins quiet input left from to short.
+    let run : Ended g = (goal.at.returns-in-Ok-open-clause-text g c).After-answer_input in
     let first = g.met.B.Bench.output c.args.bench.now in
     let second = g.met.B.Bench.output c.open.new.bench in
-    let sink : g.B.Outlet.sink_faults c.open.new.bench ≡ g.B.Outlet.sink_faults c.args.bench.now = sym second.1 ∙ (ap (λ (s : Still). s.sink_faults) (still g c) ∙ first.1) in
+    let sink : g.B.Outlet.sink_faults c.open.new.bench ≡ g.B.Outlet.sink_faults c.args.bench.now = sym second.1 ∙ (ap (λ (s : Still). s.sink_faults) (still g run) ∙ first.1) in
     let eeprom : g.B.Eeprom.faults c.open.new.bench ≡ g.B.Eeprom.faults c.args.bench.now = c.in-Ok-open.ensures.quiet (λ no. cc) ∙ c.in-Ok.ensures.quiet in
     let old : AllFaults = record { eeprom = g.B.Eeprom.faults c.args.bench.now; source = g.S.Source.source_faults c.args.source.now; outlet = g.B.Outlet.sink_faults c.args.bench.now } in
     let new : AllFaults = record { eeprom = g.B.Eeprom.faults c.answer_input.new.bench; source = g.S.Source.source_faults c.answer_input.new.source; outlet = g.B.Outlet.sink_faults c.answer_input.new.bench } in
@@ -87,22 +88,23 @@ returns-in-Ok-open-clause-text g c = λ db begins quiet input left from to short
     answers_all c.answer_input.result (start db) (g.B.Outlet.given c.args.bench.now) (g.B.Eeprom.chip c.answer_input.new.bench) (g.B.Outlet.given c.answer_input.new.bench) old new
     (g.S.Source.left c.args.source.now) (g.S.Source.left c.answer_input.new.source) input left
     c.answer_input.ensures.status (subst (λ (f : AllFaults). EndsBy c.answer_input.result f new) same c.answer_input.ensures.ends) quiet from to short c.answer_input.ensures.too_long
-    (ended g c c.answer_input.result refl db begins) (g.met.B.Bench.output c.answer_input.new.bench).0
+    (ended g run c.answer_input.result refl db begins) (g.met.B.Bench.output c.answer_input.new.bench).0
 
 pub returns-in-Ok-open-clause-moments : goal.returns-in-Ok-open-clause-moments
 returns-in-Ok-open-clause-moments g c = inr (λ db begins given left last.
+    let run : Ended g = (goal.at.returns-in-Ok-open-clause-moments g c).After-answer_input in
     let old : Chip = g.B.Eeprom.chip c.args.bench.now in
     let mid : Chip = g.B.Eeprom.chip c.prepare.new.bench in
     let now : Chip = g.B.Eeprom.chip c.open.new.bench in
     let same : c.in-Some.form ≡ begins.form = cc (c.in-Some.ensures, begins.asked) in
-    let run = c.answer_input.ensures.moments (start db) (starts g c db begins) given left last in (
-      run.0,
-      run.1,
+    let moments = c.answer_input.ensures.moments (start db) (starts g run db begins) given left last in (
+      moments.0,
+      moments.1,
       record {
         opened = now;
-        still = still g c;
-        opens = subst (λ (chip : Chip). IfSome chip.image (λ (image : List ℕ). Opens image db)) (sym c.open.ensures.same) (opens_if_told mid db (opened g c db begins));
+        still = still g run;
+        opens = subst (λ (chip : Chip). IfSome chip.image (λ (image : List ℕ). Opens image db)) (sym c.open.ensures.same) (opens_if_told mid db (opened g run db begins));
         until = until_same c.in-Some.form begins.form old mid now same c.open.ensures.same c.in-Ok.ensures.leaves;
-        runs = run.2;
+        runs = moments.2;
       },
     ))
