@@ -56,9 +56,9 @@ becomes-at P start now input left from to becomes =
 pub answers_all : (status : Status) (m : Machine) (before : Option (List ℕ)) (now : Chip) (given : Option (List ℕ)) (old new : AllFaults) (start left : Option (List ℕ)) (input rest : List ℕ)
     → ends_input status ≡ true → EndsBy status old new → IsQuiet old new → start ≡ Some input → left ≡ Some rest → length input ≤ longest_input
     → (status ≡ TooLong → Becomes (λ (i l : List ℕ). longest_input < length i) start left)
-    → Becomes (λ (i l : List ℕ). LeavesOff status m i l before now) start left → now.still.given ≡ given → AnswersAll status (run_text m (lines input true)) before given
+    → Becomes (λ (i l : List ℕ). LeavesOff status old.eeprom new.eeprom m i l before now) start left → now.still.given ≡ given → AnswersAll status (run_text m (lines input true)) before given
 answers_all Done m before now given old new start left input rest over ends quiet from to short long leaves same =
-    let answered = becomes-at (λ (i l : List ℕ). LeavesOff Done m i l before now) start left input rest from to leaves in
+    let answered = becomes-at (λ (i l : List ℕ). LeavesOff Done old.eeprom new.eeprom m i l before now) start left input rest from to leaves in
     inl (refl, subst (λ (g : Option (List ℕ)). Prints (run_text m (lines input true)) before g) same answered.text)
 answers_all TooLong m before now given old new start left input rest over ends quiet from to short long leaves same =
     let passes : longest_input < length input = becomes-at (λ (i l : List ℕ). longest_input < length i) start left input rest from to (long refl) in

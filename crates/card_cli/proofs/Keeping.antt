@@ -1,5 +1,5 @@
 -- From the moments of octets of input to what is kept of the lines.
-use Rattle.std.proofs.Common.{◌≡◌, inl, inr, ℕ, suc, ◌+◌, ◌-◌, ◌≤◌, true, false, List, [], ◌∷◌, ◌++◌, length, refl, sym, ap, subst, ◌∙◌, arith, append_assoc, append-nil, length-append}
+use Rattle.std.proofs.Common.{◌≡◌, inl, inr, ℕ, suc, ◌+◌, ◌-◌, ◌≤◌, Bool, true, false, List, [], ◌∷◌, ◌++◌, length, refl, sym, ap, subst, ◌∙◌, arith, append_assoc, append-nil, length-append}
 use Rattle.eeprom.specs.Chip.{Chip, Throughout}
 use Rattle.scql_model.specs.Machine.{Machine}
 use Rattle.scql_model.specs.Lines.{Reading, lines, reading_of, line_text, line_step, run_text, machine_after}
@@ -8,8 +8,10 @@ use Rattle.scql_model.specs.Heard.{IsKept}
 use Rattle.scql_model.proofs.Hearing.{kept-idle, kept-failing, kept-answered, kept-after, kept-same}
 use Rattle.card_cli.specs.Line.{kept_reading, is_nothing_kept}
 use Rattle.card_cli.specs.Running.{Running, from_machine, after, text_of}
-use Rattle.card_cli.specs.Moments.{IsInLine, IsInAnswered, IsWhile, IsUntil, IsAtEnd, Passes}
-use Rattle.card_cli.specs.Keeping.{AreKept}
+use Rattle.card_cli.specs.Moments.{IsInLine, IsInAnswered, IsInStopped, IsWhile, IsUntil, IsAtEnd, Passes}
+use Rattle.card_cli.specs.declared.stop.Stop.{Stop}
+use Rattle.card_cli.specs.declared.stop.Stop.TheVariants.{Eeprom, Outlet, Both}
+use Rattle.card_cli.specs.Keeping.{AreKept, AreAllKept, carried_out}
 use Rattle.card_cli.proofs.Streaming.{open_end, reading-kept, text_of-lines, after-lines, lines-open, lines-line_feed, lines-prefix}
 use Rattle.card_cli.proofs.Moving.{throughout-both}
 use Rattle.eeprom.proofs.Moments.{throughout-weaker}
@@ -56,12 +58,12 @@ kept-in_line m before line rest mark g left failing =
     )
 
 -- While octets are taken, of which at least the whole lines are counted.
-kept-while : (m : Machine) (taken behind : List ℕ) (clean mark g : ℕ) (left : List ℕ) → length (lines taken false) ≤ clean
-    → IsWhile taken (from_machine m) mark g left → KeptFrom m (lines (taken ++ behind) true) clean mark g left
-kept-while m taken behind clean mark g left counted (inl between) =
+kept-while : (whole : Bool) (m : Machine) (taken behind : List ℕ) (clean mark g : ℕ) (left : List ℕ) → length (lines taken false) ≤ clean
+    → IsWhile taken (from_machine m) mark g left → KeptFrom m (lines (taken ++ behind) whole) clean mark g left
+kept-while whole m taken behind clean mark g left counted (inl between) =
     let before : List (List ℕ) = lines between.taken false in
     let inside = lines-prefix between.taken between.rest false in
-    let all = lines-prefix between.taken (between.rest ++ behind) true in
+    let all = lines-prefix between.taken (between.rest ++ behind) whole in
     let split : taken ++ behind ≡ between.taken ++ (between.rest ++ behind) = ap (λ (x : List ℕ). x ++ behind) between.split ∙ append_assoc between.taken between.rest behind in
     let few : length before ≤ clean =
     omega (arith, counted, ap (λ (x : List ℕ). length (lines x false)) between.split, ap length inside.1, length-append before inside.0) in
@@ -69,17 +71,17 @@ kept-while m taken behind clean mark g left counted (inl between) =
     let opens : Opens left (machine_after m before).committed = subst (λ (r : Running). Opens left r.machine.committed) (after-lines m between.taken) between.opens in (
       length (run_text m before) + 0,
       omega (arith, between.mark_is, size),
-      subst (λ (all : List (List ℕ)). IsKept m all clean (length (run_text m before) + 0) left) (sym (ap (λ (x : List ℕ). lines x true) split ∙ all.1))
+      subst (λ (all : List (List ℕ)). IsKept m all clean (length (run_text m before) + 0) left) (sym (ap (λ (x : List ℕ). lines x whole) split ∙ all.1))
           (kept-same m (before ++ all.0) (length before + (clean - length before)) clean (length (run_text m before) + 0) (length (run_text m before) + 0) left (omega (arith, few)) refl
           (kept-after m before all.0 (clean - length before) 0 left (kept-idle (machine_after m before) all.0 (clean - length before) left opens))),
     )
-kept-while m taken behind clean mark g left counted (inr answering) =
+kept-while whole m taken behind clean mark g left counted (inr answering) =
     let before : List (List ℕ) = lines answering.taken false in
     let line : List ℕ = open_end answering.taken in
-    let rest : List (List ℕ) = lines (answering.rest ++ behind) true in
+    let rest : List (List ℕ) = lines (answering.rest ++ behind) whole in
     let split : taken ++ behind ≡ answering.taken ++ 10 ∷ (answering.rest ++ behind) =
     ap (λ (x : List ℕ). x ++ behind) answering.split ∙ append_assoc answering.taken (10 ∷ answering.rest) behind in
-    let all : lines (taken ++ behind) true ≡ before ++ line ∷ rest = ap (λ (x : List ℕ). lines x true) split ∙ lines-line_feed answering.taken (answering.rest ++ behind) true in
+    let all : lines (taken ++ behind) whole ≡ before ++ line ∷ rest = ap (λ (x : List ℕ). lines x whole) split ∙ lines-line_feed answering.taken (answering.rest ++ behind) whole in
     let inside : lines taken false ≡ before ++ line ∷ lines answering.rest false = ap (λ (x : List ℕ). lines x false) answering.split ∙ lines-line_feed answering.taken answering.rest false in
     let few : length before + 1 ≤ clean = omega (arith, counted, ap length inside, length-append before (line ∷ lines answering.rest false)) in
     let here = kept-in_answered m before line rest (clean - (length before + 1)) mark g left
@@ -90,26 +92,39 @@ kept-while m taken behind clean mark g left counted (inr answering) =
           (kept-same m (before ++ line ∷ rest) (length before + suc (clean - (length before + 1))) clean here.0 here.0 left (omega (arith, few)) refl here.2),
     )
 
--- of calls that take octets of the input
-pub kept-taken : (m : Machine) (input taken behind : List ℕ) (clean : ℕ) (old new : Chip) → input ≡ taken ++ behind → length (lines taken false) ≤ clean
-    → Throughout old new (IsWhile taken (from_machine m) old.still.mark) → AreKept m (lines input true) clean old new
-kept-taken m input taken behind clean old new split counted moments =
-    subst (λ (input : List ℕ). AreKept m (lines input true) clean old new) (sym split)
-    (throughout-weaker old new (IsWhile taken (from_machine m) old.still.mark) (KeptFrom m (lines (taken ++ behind) true) clean old.still.mark) moments
-    (λ g left during. kept-while m taken behind clean old.still.mark g left counted during))
+-- of calls that take octets, of which the whole lines are answered
+pub kept-taken : (m : Machine) (taken : List ℕ) (old new : Chip) → Throughout old new (IsWhile taken (from_machine m) old.still.mark) → AreAllKept m (lines taken false) old new
+kept-taken m taken old new moments =
+    let count : ℕ = length (lines taken false) in
+    throughout-weaker old new (IsWhile taken (from_machine m) old.still.mark) (KeptFrom m (lines taken false) count old.still.mark) moments
+    (λ g left during. subst (λ (x : List ℕ). KeptFrom m (lines x false) count old.still.mark g left) (append-nil taken)
+    (kept-while false m taken [] count old.still.mark g left (omega arith) during))
+
+-- in a line in which a device fails, which is counted where the outlet alone does
+kept-in_stopped : (stop : Stop) (m : Machine) (before : List (List ℕ)) (line : List ℕ) (rest : List (List ℕ)) (mark g : ℕ) (left : List ℕ)
+    → IsInStopped stop (machine_after m before) (reading_of line) (mark + length (run_text m before)) g left → KeptFrom m (before ++ line ∷ rest) (carried_out stop before) mark g left
+kept-in_stopped Outlet m before line rest mark g left stopped = kept-in_answered m before line rest 0 mark g left stopped
+kept-in_stopped Eeprom m before line rest mark g left stopped = kept-in_line m before line rest mark g left stopped
+kept-in_stopped Both m before line rest mark g left stopped = kept-in_line m before line rest mark g left stopped
+
+carried_out-most : (stop : Stop) (before : List (List ℕ)) → length before ≤ carried_out stop before
+carried_out-most Outlet before = omega arith
+carried_out-most Eeprom before = omega arith
+carried_out-most Both before = omega arith
 
 -- of calls that take octets of the input and fail in the line behind them
-pub kept-until : (m : Machine) (input taken behind : List ℕ) (rest : List (List ℕ)) (old now : Chip) → input ≡ taken ++ behind
+pub kept-until : (stop : Stop) (m : Machine) (input taken behind : List ℕ) (rest : List (List ℕ)) (old now : Chip) → input ≡ taken ++ behind
     → lines input true ≡ lines taken false ++ open_end taken ∷ rest
-    → Throughout old now (IsUntil taken (from_machine m) old.still.mark) → AreKept m (lines input true) (length (lines taken false)) old now
-kept-until m input taken behind rest old now split cut moments =
-    throughout-weaker old now (IsUntil taken (from_machine m) old.still.mark) (KeptFrom m (lines input true) (length (lines taken false)) old.still.mark) moments
+    → Throughout old now (IsUntil stop taken (from_machine m) old.still.mark) → AreKept m (lines input true) (carried_out stop (lines taken false)) old now
+kept-until stop m input taken behind rest old now split cut moments =
+    let count : ℕ = carried_out stop (lines taken false) in
+    throughout-weaker old now (IsUntil stop taken (from_machine m) old.still.mark) (KeptFrom m (lines input true) count old.still.mark) moments
     (λ g left during. elim during [
-      | inl before ↦ subst (λ (input : List ℕ). KeptFrom m (lines input true) (length (lines taken false)) old.still.mark g left) (sym split)
-          (kept-while m taken behind (length (lines taken false)) old.still.mark g left (omega arith) before)
-      | inr line ↦ subst (λ (all : List (List ℕ)). KeptFrom m all (length (lines taken false)) old.still.mark g left) (sym cut)
-          (kept-in_line m (lines taken false) (open_end taken) rest old.still.mark g left
-          (on_lines m taken (λ (m : Machine) (reading : Reading) (size : ℕ). IsInLine m reading (old.still.mark + size) g left) line))
+      | inl before ↦ subst (λ (input : List ℕ). KeptFrom m (lines input true) count old.still.mark g left) (sym split)
+          (kept-while true m taken behind count old.still.mark g left (carried_out-most stop (lines taken false)) before)
+      | inr line ↦ subst (λ (all : List (List ℕ)). KeptFrom m all count old.still.mark g left) (sym cut)
+          (kept-in_stopped stop m (lines taken false) (open_end taken) rest old.still.mark g left
+          (on_lines m taken (λ (m : Machine) (reading : Reading) (size : ℕ). IsInStopped stop m reading (old.still.mark + size) g left) line))
     ])
 
 -- at the end of the input
@@ -119,7 +134,7 @@ kept-at_end m input mark g left (inl ended) =
     let all = lines-prefix input [] true in
     let same : lines input true ≡ lines input false ++ all.0 = ap (λ (x : List ℕ). lines x true) (sym (append-nil input)) ∙ all.1 in
     subst (λ (x : List ℕ). KeptFrom m (lines x true) (length (lines input true)) mark g left) (append-nil input)
-    (kept-while m input [] (length (lines input true)) mark g left (omega (arith, ap length same, length-append (lines input false) all.0))
+    (kept-while true m input [] (length (lines input true)) mark g left (omega (arith, ap length same, length-append (lines input false) all.0))
     (inl (record { taken = input; rest = []; split = sym (append-nil input); mark_is = ended.0; opens = ended.1 })))
 kept-at_end m input mark g left (inr last) =
     let before : List (List ℕ) = lines input false in
@@ -143,13 +158,13 @@ kept-ended m input old mid new passes last =
     let all = lines-prefix input [] true in
     let same : lines input true ≡ lines input false ++ all.0 = ap (λ (x : List ℕ). lines x true) (sym (append-nil input)) ∙ all.1 in
     subst (λ (x : List ℕ). KeptFrom m (lines x true) (length (lines input true)) old.still.mark g left) (append-nil input)
-    (kept-while m input [] (length (lines input true)) old.still.mark g left (omega (arith, ap length same, length-append (lines input false) all.0)) during))
+    (kept-while true m input [] (length (lines input true)) old.still.mark g left (omega (arith, ap length same, length-append (lines input false) all.0)) during))
     (λ g left during. kept-at_end m input old.still.mark g left (subst (λ (mark : ℕ). IsAtEnd (after (from_machine m) input) mark g left) passes.mark during))
 
 -- of calls that take all of the input, and fail in the last line
-pub until-last : (input : List ℕ) (r : Running) (old mid now : Chip) → Passes input r old mid
-    → Throughout mid now (IsInLine (after r input).machine (kept_reading (after r input).begun) mid.still.mark) → Throughout old now (IsUntil input r old.still.mark)
-until-last input r old mid now passes last =
-    throughout-both old mid now (IsWhile input r old.still.mark) (IsInLine (after r input).machine (kept_reading (after r input).begun) mid.still.mark) (IsUntil input r old.still.mark)
+pub until-last : (stop : Stop) (input : List ℕ) (r : Running) (old mid now : Chip) → Passes input r old mid
+    → Throughout mid now (IsInStopped stop (after r input).machine (kept_reading (after r input).begun) mid.still.mark) → Throughout old now (IsUntil stop input r old.still.mark)
+until-last stop input r old mid now passes last =
+    throughout-both old mid now (IsWhile input r old.still.mark) (IsInStopped stop (after r input).machine (kept_reading (after r input).begun) mid.still.mark) (IsUntil stop input r old.still.mark)
     passes.moments last (λ g left during. inl during)
-    (λ g left during. inr (subst (λ (mark : ℕ). IsInLine (after r input).machine (kept_reading (after r input).begun) mark g left) passes.mark during))
+    (λ g left during. inr (subst (λ (mark : ℕ). IsInStopped stop (after r input).machine (kept_reading (after r input).begun) mark g left) passes.mark during))

@@ -1,4 +1,3 @@
-mod Causing
 mod Feeding
 mod Finishing
 mod Keeping

@@ -1,6 +1,6 @@
 -- How moments of a run go on: of a piece of output, of a line, of octets of input.
 use Rattle.std.proofs.Common.{◌≡◌, inl, inr, ℕ, ◌+◌, ◌≤◌, List, [], ◌∷◌, ◌++◌, length, drop, Option, Some, None, IfSome, Result, Ok, Err, false, refl, sym, ap, subst, ◌∙◌, arith, length-append, append_assoc, append-nil}
-use Rattle.std.specs.Prelude.{IsSome, is_some, OnOk}
+use Rattle.std.specs.Prelude.{IsSome, is_some, OnOk, IfErr}
 use Rattle.eeprom.specs.Chip.{Chip, Still, giving, LeftIn, Gives, Throughout}
 use Rattle.eeprom.proofs.Moments.{left-in-more, drop-more, left-told, left-cases, throughout-weaker}
 use Rattle.scql_model.specs.Machine.{Machine}
@@ -10,10 +10,11 @@ use Rattle.card.specs.Answering.{LeavesOneOf}
 use Rattle.card.specs.Card.{Kept, IsReady, IsAt, committed_slots}
 use Rattle.card.proofs.Leaving.{Opens-at, unwritten_leaves}
 use Rattle.card_cli.specs.declared.stop.Stop.{Stop}
+use Rattle.card_cli.specs.CutOff.{IsCutShort}
 use Rattle.card_cli.specs.RunState.{Prints}
 use Rattle.card_cli.specs.Line.{kept_reading, is_nothing_kept}
 use Rattle.card_cli.specs.Running.{Running, after, text_of}
-use Rattle.card_cli.specs.Moments.{IsInLine, IsInAnswered, IsAnswered, IsWhile, IsUntil, IsAtEnd, Passes, IfGiven}
+use Rattle.card_cli.specs.Moments.{IsInLine, IsInAnswered, IsInStopped, IsAnswered, IsWhile, IsUntil, IsAtEnd, Passes, IfGiven}
 use Rattle.card_cli.proofs.Streaming.{after-append, text_of-append}
 
 -- one run of calls, and then another
@@ -78,26 +79,38 @@ line-moments m reading old mid new leaves still gives =
       opens = (leaves.now left during.2).1;
     })
 
--- the whole text went out, once all of the line's commits were done
+-- at most the whole text goes out, once all of the line's commits were done
+pub answered-moments : (m : Machine) (reading : Reading) (old mid new : Chip) → LeavesOneOf (m.committed ∷ reading_commits m reading) old mid → mid.still ≡ old.still
+    → Throughout mid new (IsInPiece mid new.still.mark) → ((image : List ℕ) → mid.image ≡ Some image → Opens image (reading_step m reading).committed)
+    → new.still.mark ≤ mid.still.mark + length (reading_text m reading) → Throughout old new (IsInAnswered m reading old.still.mark)
+answered-moments m reading old mid new leaves still gives opens within =
+    let same : mid.still.mark ≡ old.still.mark = ap (λ (s : Still). s.mark) still in
+    throughout-both old mid new (λ g left. (g ≡ old.still.mark) × OpensToOneOf (m.committed ∷ reading_commits m reading) left) (IsInPiece mid new.still.mark) (IsInAnswered m reading old.still.mark) leaves gives
+    (λ g left during. record {
+      line = record { later = omega (arith, during.0); opens = during.1 };
+      within = omega (arith, during.0);
+      done = λ past. absurd (omega (arith, past, during.0));
+    })
+    (λ g left during. record {
+      line = record { later = omega (arith, same, during.0); opens = (leaves.now left during.2).1 };
+      within = omega (arith, same, within, during.1);
+      done = λ past. opens left during.2;
+    })
+
+-- all of it went out
 pub line-answered : (m : Machine) (reading : Reading) (old mid new : Chip) → LeavesOneOf (m.committed ∷ reading_commits m reading) old mid → mid.still ≡ old.still
     → Throughout mid new (IsInPiece mid new.still.mark) → ((image : List ℕ) → mid.image ≡ Some image → Opens image (reading_step m reading).committed)
     → new.still.mark ≡ mid.still.mark + length (reading_text m reading) → IsAnswered m reading old new
 line-answered m reading old mid new leaves still gives opens mark =
     let same : mid.still.mark ≡ old.still.mark = ap (λ (s : Still). s.mark) still in
-    record {
-      mark = omega (arith, mark, same);
-      moments = throughout-both old mid new (λ g left. (g ≡ old.still.mark) × OpensToOneOf (m.committed ∷ reading_commits m reading) left) (IsInPiece mid new.still.mark) (IsInAnswered m reading old.still.mark) leaves gives
-          (λ g left during. record {
-            line = record { later = omega (arith, during.0); opens = during.1 };
-            within = omega (arith, during.0);
-            done = λ past. absurd (omega (arith, past, during.0));
-          })
-          (λ g left during. record {
-            line = record { later = omega (arith, same, during.0); opens = (leaves.now left during.2).1 };
-            within = omega (arith, same, mark, during.1);
-            done = λ past. opens left during.2;
-          });
-    }
+    record { mark = omega (arith, mark, same); moments = answered-moments m reading old mid new leaves still gives opens (omega (arith, mark)) }
+
+-- The outlet failed: of an answer that was to be given some of the text went out.
+pub stopped-giving : (result : Result (Unit {0}) Stop) (m : Machine) (reading : Reading) (text : List ℕ) (before : Option (List ℕ)) (old now : Chip)
+    → IfErr result (λ (stop : Stop). IsCutShort stop text before now.still.given) → IfGiven now (Throughout old now (IsInAnswered m reading old.still.mark))
+    → IfErr result (λ (stop : Stop). IfGiven now (Throughout old now (IsInStopped stop m reading old.still.mark)))
+stopped-giving (Ok x) m reading text before old now cut moments = tt
+stopped-giving (Err stop) m reading text before old now cut moments = λ told. subst (λ (s : Stop). Throughout old now (IsInStopped s m reading old.still.mark)) (sym cut.outlet) (moments told)
 
 -- nothing is printed, and nothing happens
 pub line-silent : (m : Machine) (reading : Reading) (chip : Chip) → length (reading_text m reading) ≡ 0
@@ -129,10 +142,14 @@ at_stays (Ok x) card mid now m same at = record {
 at_stays (Err stop) card mid now m same at = tt
 
 -- A line that is no command leaves the EEPROM, and its text goes out.
-pub note-moments : (m : Machine) (reading : Reading) (card : Kept) (old now : Chip) → IsReady card old → IsAt card old m
-    → IfSome old.past (λ past. length past ≡ old.clock) → Gives old now → Throughout old now (IsInLine m reading old.still.mark)
-note-moments m reading card old now ready at clocked gives =
-    line-moments m reading old old now (unwritten_leaves card old old m (reading_commits m reading) ready at refl) refl (gives-throughout old now clocked gives)
+pub note-moments : (result : Result (Unit {0}) Stop) (m : Machine) (reading : Reading) (text : List ℕ) (card : Kept) (old now : Chip) → IsReady card old → IsAt card old m
+    → text ≡ reading_text m reading → m.committed ≡ (reading_step m reading).committed → IfSome old.past (λ past. length past ≡ old.clock) → Gives old now
+    → IfErr result (λ (stop : Stop). IsCutShort stop text old.still.given now.still.given) → IfGiven now (now.still.mark ≤ old.still.mark + length text)
+    → IfErr result (λ (stop : Stop). IfGiven now (Throughout old now (IsInStopped stop m reading old.still.mark)))
+note-moments result m reading text card old now ready at is same clocked gives cut within =
+    stopped-giving result m reading text old.still.given old now cut
+    (λ told. answered-moments m reading old old now (unwritten_leaves card old old m (reading_commits m reading) ready at refl) refl (gives-throughout old now clocked gives)
+    (λ image there. subst (Opens image) same (Opens-at card old m ready at image there)) (omega (arith, within told, ap length is)))
 
 pub note-answered : (result : Result (Unit {0}) Stop) (m : Machine) (reading : Reading) (text : List ℕ) (card : Kept) (old now : Chip) → IsReady card old → IsAt card old m
     → text ≡ reading_text m reading → m.committed ≡ (reading_step m reading).committed
@@ -179,11 +196,11 @@ while-behind xs ys r mark g left (inr answering) = inr (record {
 })
 
 -- So it is where a device fails behind the later octets.
-until-behind : (xs ys : List ℕ) (r : Running) (mark g : ℕ) (left : List ℕ) → IsUntil ys (after r xs) (mark + length (text_of r xs)) g left → IsUntil (xs ++ ys) r mark g left
-until-behind xs ys r mark g left (inl during) = inl (while-behind xs ys r mark g left during)
-until-behind xs ys r mark g left (inr line) =
-    inr (subst (λ (mark : ℕ). IsInLine (after r (xs ++ ys)).machine (kept_reading (after r (xs ++ ys)).begun) mark g left) (mark-append xs ys r mark)
-    (subst (λ (s : Running). IsInLine s.machine (kept_reading s.begun) (mark + length (text_of r xs) + length (text_of (after r xs) ys)) g left) (sym (after-append xs ys r)) line))
+until-behind : (stop : Stop) (xs ys : List ℕ) (r : Running) (mark g : ℕ) (left : List ℕ) → IsUntil stop ys (after r xs) (mark + length (text_of r xs)) g left → IsUntil stop (xs ++ ys) r mark g left
+until-behind stop xs ys r mark g left (inl during) = inl (while-behind xs ys r mark g left during)
+until-behind stop xs ys r mark g left (inr line) =
+    inr (subst (λ (mark : ℕ). IsInStopped stop (after r (xs ++ ys)).machine (kept_reading (after r (xs ++ ys)).begun) mark g left) (mark-append xs ys r mark)
+    (subst (λ (s : Running). IsInStopped stop s.machine (kept_reading s.begun) (mark + length (text_of r xs) + length (text_of (after r xs) ys)) g left) (sym (after-append xs ys r)) line))
 
 pub Passes-nothing : (r : Running) (chip : Chip) → ((image : List ℕ) → chip.image ≡ Some image → Opens image r.machine.committed) → Passes [] r chip chip
 Passes-nothing r chip opens = record {
@@ -209,11 +226,11 @@ Passes-then xs ys r a b c first second = record {
 }
 
 -- a device fails behind octets that were taken
-pub until-then : (xs ys : List ℕ) (r : Running) (a b now : Chip) → Passes xs r a b → Throughout b now (IsUntil ys (after r xs) b.still.mark) → Throughout a now (IsUntil (xs ++ ys) r a.still.mark)
-until-then xs ys r a b now first second =
-    throughout-both a b now (IsWhile xs r a.still.mark) (IsUntil ys (after r xs) b.still.mark) (IsUntil (xs ++ ys) r a.still.mark) first.moments second
+pub until-then : (stop : Stop) (xs ys : List ℕ) (r : Running) (a b now : Chip) → Passes xs r a b → Throughout b now (IsUntil stop ys (after r xs) b.still.mark) → Throughout a now (IsUntil stop (xs ++ ys) r a.still.mark)
+until-then stop xs ys r a b now first second =
+    throughout-both a b now (IsWhile xs r a.still.mark) (IsUntil stop ys (after r xs) b.still.mark) (IsUntil stop (xs ++ ys) r a.still.mark) first.moments second
     (λ g left during. inl (while-longer xs ys r a.still.mark g left during))
-    (λ g left during. until-behind xs ys r a.still.mark g left (subst (λ (mark : ℕ). IsUntil ys (after r xs) mark g left) first.mark during))
+    (λ g left during. until-behind stop xs ys r a.still.mark g left (subst (λ (mark : ℕ). IsUntil stop ys (after r xs) mark g left) first.mark during))
 
 -- a line feed ends the line that has begun, which is answered
 pub Passes-line_feed : (r : Running) (old new : Chip) → IsAnswered r.machine (kept_reading r.begun) old new → Passes (10 ∷ []) r old new
@@ -231,10 +248,10 @@ Passes-line_feed r old new answered =
     }
 
 -- or a device fails in it
-pub until-line_feed : (r : Running) (old now : Chip) → Throughout old now (IsInLine r.machine (kept_reading r.begun) old.still.mark) → Throughout old now (IsUntil [] r old.still.mark)
-until-line_feed r old now moments =
-    throughout-weaker old now (IsInLine r.machine (kept_reading r.begun) old.still.mark) (IsUntil [] r old.still.mark) moments
-    (λ g left during. inr (subst (λ (mark : ℕ). IsInLine r.machine (kept_reading r.begun) mark g left) (omega arith) during))
+pub until-line_feed : (stop : Stop) (r : Running) (old now : Chip) → Throughout old now (IsInStopped stop r.machine (kept_reading r.begun) old.still.mark) → Throughout old now (IsUntil stop [] r old.still.mark)
+until-line_feed stop r old now moments =
+    throughout-weaker old now (IsInStopped stop r.machine (kept_reading r.begun) old.still.mark) (IsUntil stop [] r old.still.mark) moments
+    (λ g left during. inr (subst (λ (mark : ℕ). IsInStopped stop r.machine (kept_reading r.begun) mark g left) (omega arith) during))
 
 -- The last line is answered.
 pub at_end-answered : (r : Running) (line : Option (List ℕ)) (old new : Chip) → line ≡ r.begun → is_nothing_kept line ≡ false → IsAnswered r.machine (kept_reading line) old new

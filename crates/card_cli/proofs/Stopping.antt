@@ -1,24 +1,23 @@
 -- How a device stops a run, in a line and among octets.
 use Rattle.std.proofs.Common.{◌≡◌, ◌⊎◌, ℕ, true, false, List, [], ◌∷◌, ◌++◌, take, drop, Option, Some, Result, Ok, Err, refl, sym, ap, subst, ◌∙◌, inl, inr, append-nil, append_assoc, take-append-drop}
 use Rattle.std.specs.Prelude.{OnOk, IfErr, codes}
-use Rattle.std.specs.Result.{result_and}
 use Rattle.hex.specs.Hex.{encode_upper, encode_with}
 use Rattle.eeprom.specs.Chip.{Chip, Throughout}
 use Rattle.eeprom.specs.Output.{Follows}
 use Rattle.scql_model.specs.declared.words.StatusWord.{StatusWord}
 use Rattle.scql_model.specs.Words.{memory_failure}
 use Rattle.scql_model.specs.Machine.{Machine}
-use Rattle.scql_model.specs.Lines.{Reading, lines, reading_of, reading_text, reply_octets, run_text, machine_after, reading_commits}
-use Rattle.scql_model.specs.Opens.{OpensToOneOf}
+use Rattle.scql_model.specs.Lines.{Reading, lines, reading_of, reading_text, reading_step, reply_octets, run_text, machine_after, reading_commits}
+use Rattle.scql_model.specs.Opens.{Opens, OpensToOneOf}
 use Rattle.card.specs.Card.{Kept, IsReady, IsAt}
 use Rattle.card.proofs.Leaving.{Opens-at}
 use Rattle.card_cli.specs.declared.stop.Stop.{Stop}
-use Rattle.card_cli.specs.declared.stop.Stop.TheVariants.{Eeprom, Outlet}
+use Rattle.card_cli.specs.declared.stop.Stop.TheVariants.{Eeprom, Outlet, Both}
 use Rattle.card_cli.specs.Line.{kept_reading, is_nothing_kept}
 use Rattle.card_cli.specs.Running.{Running, from_machine, after, text_of}
 use Rattle.card_cli.specs.RunState.{Prints, RunState, IsRunning, Feeds}
-use Rattle.card_cli.specs.CutOff.{FailsIn, StopsIn, IsCutShort, Says, mute_text}
-use Rattle.card_cli.specs.Moments.{IsInLine}
+use Rattle.card_cli.specs.CutOff.{FailsIn, StopsIn, IsCutShort, mute_text}
+use Rattle.card_cli.specs.Moments.{IsInStopped, IfGiven}
 use Rattle.card_cli.proofs.Moving.{until-line_feed, until-then, told-before}
 use Rattle.card_cli.specs.Halting.{FailsAt, HaltsAt, Halts}
 use Rattle.card_cli.proofs.Feeding.{Prints-then}
@@ -28,49 +27,51 @@ use Rattle.card_cli.proofs.Streaming.{open_end, reading-kept, text_of-lines, aft
 pub cut_short : (count : ℕ) (text : List ℕ) (before now : Option (List ℕ)) → Follows count text before now → IsCutShort Outlet text before now
 cut_short count text before now follows = record { outlet = refl; said = take count text; start = (drop count text, sym (take-append-drop count text)); given = follows }
 
+-- an answer was given, or the outlet failed
+pub fails_giving : (result : Result (Unit {0}) Stop) (m : Machine) (reading : Reading) (text : List ℕ) (before : Option (List ℕ)) (mid now : Chip)
+    → text ≡ reading_text m reading → IfErr result (λ (stop : Stop). IsCutShort stop text before now.still.given)
+    → now.image ≡ mid.image → ((image : List ℕ) → mid.image ≡ Some image → Opens image (reading_step m reading).committed)
+    → IfErr result (λ (stop : Stop). FailsIn stop [] m reading before now)
+fails_giving (Ok x) m reading text before mid now is cut same opens = tt
+fails_giving (Err stop) m reading text before mid now is cut same opens =
+    subst (λ (s : Stop). FailsIn s [] m reading before now) (sym cut.outlet) (record {
+      said = cut.said;
+      says = (cut.start.0, sym is ∙ cut.start.1);
+      given = cut.given;
+      image = λ image told. opens image (sym same ∙ told);
+    })
+
 -- what a line may leave of the EEPROM
 abbrev pub OpensWithin : Machine → Reading → Chip → Type 0
 OpensWithin m reading chip = (image : List ℕ) → chip.image ≡ Some image → OpensToOneOf (m.committed ∷ reading_commits m reading) image
 
--- the outlet failed at an answer
-FailsIn-cut_short : (stop : Stop) (m : Machine) (reading : Reading) (text : List ℕ) (before : Option (List ℕ)) (mid now : Chip)
-    → (text ≡ reading_text m reading) ⊎ (text ≡ mute_text) → IsCutShort stop text before now.still.given
-    → now.image ≡ mid.image → OpensWithin m reading mid → FailsIn stop [] m reading before now
-FailsIn-cut_short stop m reading text before mid now answer cut same opens = record {
-  said = cut.said;
-  says = subst (λ (s : Stop). Says s (reading_text m reading) cut.said) (sym cut.outlet) (elim answer [
-    | inl is ↦ inl (cut.start.0, sym is ∙ cut.start.1)
-    | inr is ↦ inr (cut.start.0, sym is ∙ cut.start.1)
-  ]);
-  given = cut.given;
-  image = λ image told. opens image (sym same ∙ told);
-}
-
--- an answer was given, or the outlet failed
-pub fails_giving : (result : Result (Unit {0}) Stop) (m : Machine) (reading : Reading) (text : List ℕ) (before : Option (List ℕ)) (mid now : Chip)
-    → text ≡ reading_text m reading → IfErr result (λ (stop : Stop). IsCutShort stop text before now.still.given)
-    → now.image ≡ mid.image → OpensWithin m reading mid → IfErr result (λ (stop : Stop). FailsIn stop [] m reading before now)
-fails_giving (Ok x) m reading text before mid now is cut same opens = tt
-fails_giving (Err stop) m reading text before mid now is cut same opens = FailsIn-cut_short stop m reading text before mid now (inl is) cut same opens
-
--- the card went mute, and said so, unless the outlet failed
-pub fails_mute : (result : Result (Unit {0}) Stop) (m : Machine) (reading : Reading) (text : List ℕ) (before : Option (List ℕ)) (mid now : Chip)
-    → text ≡ mute_text → OnOk result (Prints text before now.still.given) → IfErr result (λ (stop : Stop). IsCutShort stop text before now.still.given)
-    → now.image ≡ mid.image → OpensWithin m reading mid → IfErr (result_and {U = Unit {0}} result (Err Eeprom)) (λ (stop : Stop). FailsIn stop [] m reading before now)
-fails_mute (Ok x) m reading text before mid now is given cut same opens = record {
+-- the card went mute, and said so
+pub fails_mute : (m : Machine) (reading : Reading) (text : List ℕ) (before : Option (List ℕ)) (mid now : Chip)
+    → text ≡ mute_text → Prints text before now.still.given → now.image ≡ mid.image → OpensWithin m reading mid → FailsIn Eeprom [] m reading before now
+fails_mute m reading text before mid now is given same opens = record {
   said = text;
   says = is;
   given = given;
   image = λ image told. opens image (sym same ∙ told);
 }
-fails_mute (Err stop) m reading text before mid now is given cut same opens = FailsIn-cut_short stop m reading text before mid now (inr is) cut same opens
+
+-- or the outlet failed as it did
+pub fails_both : (stop : Stop) (m : Machine) (reading : Reading) (text : List ℕ) (before : Option (List ℕ)) (mid now : Chip)
+    → text ≡ mute_text → IsCutShort stop text before now.still.given → now.image ≡ mid.image → OpensWithin m reading mid → FailsIn Both [] m reading before now
+fails_both stop m reading text before mid now is cut same opens = record {
+  said = cut.said;
+  says = (cut.start.0, sym is ∙ cut.start.1);
+  given = cut.given;
+  image = λ image told. opens image (sym same ∙ told);
+}
 
 -- a line that is no command leaves the EEPROM
 pub fails_note : (result : Result (Unit {0}) Stop) (m : Machine) (reading : Reading) (text : List ℕ) (card : Kept) (old now : Chip) → IsReady card old → IsAt card old m
-    → text ≡ reading_text m reading → IfErr result (λ (stop : Stop). IsCutShort stop text old.still.given now.still.given) → now.image ≡ old.image
+    → text ≡ reading_text m reading → m.committed ≡ (reading_step m reading).committed
+    → IfErr result (λ (stop : Stop). IsCutShort stop text old.still.given now.still.given) → now.image ≡ old.image
     → IfErr result (λ (stop : Stop). FailsIn stop [] m reading old.still.given now)
-fails_note result m reading text card old now ready at is cut same =
-    fails_giving result m reading text old.still.given old now is cut same (λ image told. inl (Opens-at card old m ready at image told))
+fails_note result m reading text card old now ready at is stays cut same =
+    fails_giving result m reading text old.still.given old now is cut same (λ image told. subst (Opens image) stays (Opens-at card old m ready at image told))
 
 -- what a card says that goes mute
 pub mute_text-reply : (body : List ℕ) (word : StatusWord) → body ≡ [] → word ≡ memory_failure → encode_upper (reply_octets (record { body = body; word = word })) ++ codes "\n" ≡ mute_text
@@ -90,14 +91,14 @@ FailsIn-after stop first text m reading a b now printed fails = record {
 -- a device fails at a line feed
 pub Halts-line_feed : (stop : Stop) (octet : ℕ) (old : RunState) (now : Chip) → octet ≡ 10
     → ((r : Running) → IsRunning old r → FailsAt stop [] r old.chip.still.given now)
-    → ((m : Machine) → IsAt old.card old.chip m → Throughout old.chip now (IsInLine m (kept_reading old.line) old.chip.still.mark)) → Halts stop (octet ∷ []) old now
+    → ((m : Machine) → IsAt old.card old.chip m → IfGiven now (Throughout old.chip now (IsInStopped stop m (kept_reading old.line) old.chip.still.mark))) → Halts stop (octet ∷ []) old now
 Halts-line_feed stop octet old now is fails moments = λ r running. record {
   taken = [];
   rest = [];
   split = ap (λ (o : ℕ). o ∷ []) is;
   fails = fails r running;
-  moments = λ told. until-line_feed r old.chip now
-      (subst (λ (l : Option (List ℕ)). Throughout old.chip now (IsInLine r.machine (kept_reading l) old.chip.still.mark)) running.line (moments r.machine running.at));
+  moments = λ told. until-line_feed stop r old.chip now
+      (subst (λ (l : Option (List ℕ)). Throughout old.chip now (IsInStopped stop r.machine (kept_reading l) old.chip.still.mark)) running.line (moments r.machine running.at told));
 }
 
 -- the line that fails is the one that has begun
@@ -125,7 +126,7 @@ Halts-within stop xs ys zs a b now feeds halts = λ r running.
       split = ap (λ (x : List ℕ). xs ++ x) (ap (λ (x : List ℕ). x ++ zs) then.split ∙ append_assoc then.taken (10 ∷ then.rest) zs) ∙ sym (append_assoc xs then.taken (10 ∷ (then.rest ++ zs)));
       fails = subst (λ (t : List ℕ). FailsAt stop t (after r (xs ++ then.taken)) a.chip.still.given now) (sym (text_of-append xs then.taken r))
           (subst (λ (s : Running). FailsAt stop (text_of r xs ++ text_of (after r xs) then.taken) s a.chip.still.given now) (sym (after-append xs then.taken r)) fails);
-      moments = λ told. until-then xs then.taken r a.chip b.chip now
+      moments = λ told. until-then stop xs then.taken r a.chip b.chip now
           (first.passes (told-before (text_of (after r xs) then.taken ++ then.fails.said) b.chip.still.given now.still.given then.fails.given told)) (then.moments told);
     }
 

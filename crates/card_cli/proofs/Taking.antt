@@ -1,24 +1,25 @@
 -- What was taken of the input goes on, and ends.
-use Rattle.std.proofs.Common.{◌≡◌, ℕ, ◌+◌, ◌-◌, ◌≤◌, true, false, List, [], ◌∷◌, ◌++◌, length, take, drop, Option, refl, sym, ap, subst, ◌∙◌, arith, append-nil, append_assoc, length-append, take-append-drop}
+use Rattle.std.proofs.Common.{◌≡◌, ℕ, ◌+◌, ◌-◌, ◌≤◌, true, false, List, [], ◌∷◌, ◌++◌, length, take, drop, Option, Err, refl, sym, ap, subst, ◌∙◌, arith, inl, inr, append-nil, append_assoc, length-append, take-append-drop}
 use Rattle.std.proofs.lemmas.List.{length-take-le, take-append-le}
 use Rattle.std.proofs.Math.Seq.{take-append_seam}
 use Rattle.eeprom.specs.Input.{Takes}
 use Rattle.std.specs.Prelude.{IsSome}
 use Rattle.eeprom.specs.Chip.{Chip, Becomes, Throughout}
+use Rattle.eeprom.specs.Fault.{Rose}
 use Rattle.scql_model.specs.Machine.{Machine}
 use Rattle.scql_model.specs.Lines.{lines, machine_after}
 use Rattle.card.specs.Card.{IsReady, IsAt}
 use Rattle.card.proofs.Leaving.{Opens-at}
 use Rattle.card_cli.specs.declared.stop.Stop.{Stop}
-use Rattle.card_cli.specs.declared.stop.Stop.TheVariants.{Eeprom, Outlet}
+use Rattle.card_cli.specs.declared.stop.Stop.TheVariants.{Eeprom, Outlet, Both}
 use Rattle.card_cli.specs.declared.status.Status.TheVariants.{Done, ReadFault, TooLong}
 use Rattle.card_cli.specs.StatusNumber.{status_of}
 use Rattle.card_cli.specs.Running.{Running, from_machine, after, text_of, end_text, after_end}
-use Rattle.card_cli.specs.RunState.{Prints, RunState, IsRunning, Feeds}
+use Rattle.card_cli.specs.RunState.{Prints, RunState, IsRunning, Feeds, Faults, Causes}
 use Rattle.card_cli.specs.Ends.{LeavesOff, longest_input, HasTaken}
 use Rattle.card_cli.specs.Line.{kept_reading, is_nothing_kept}
-use Rattle.card_cli.specs.Moments.{IsInLine, IsAtEnd, IfGiven}
-use Rattle.card_cli.specs.Keeping.{AreKept, KeepsTo}
+use Rattle.card_cli.specs.Moments.{IsInStopped, IsAtEnd, IfGiven}
+use Rattle.card_cli.specs.Keeping.{AreKept, AreAllKept, KeepsTo, carried_out}
 use Rattle.card_cli.proofs.Keeping.{kept-taken, kept-until, kept-ended, until-last}
 use Rattle.card_cli.proofs.Moving.{told-before}
 use Rattle.card_cli.specs.CutOff.{HasAnswered, StopsIn}
@@ -60,10 +61,10 @@ HasAnswered-taken taken old mid m ready running feeds =
     }
 
 -- the source failed
-pub leaves-read_fault : (room : ℕ) (old mid : RunState) (start before now : Option (List ℕ)) (m : Machine)
+pub leaves-read_fault : (from to : ℕ) (room : ℕ) (old mid : RunState) (start before now : Option (List ℕ)) (m : Machine)
     → IsReady mid.card mid.chip → IsRunning old (from_machine m) → Becomes (HasTaken room old mid) start before → now ≡ before
-    → Becomes (λ (input left : List ℕ). LeavesOff ReadFault m input left old.chip.still.given mid.chip) start now
-leaves-read_fault room old mid start before now m ready running so_far same = λ left told.
+    → Becomes (λ (input left : List ℕ). LeavesOff ReadFault from to m input left old.chip.still.given mid.chip) start now
+leaves-read_fault from to room old mid start before now m ready running so_far same = λ left told.
     let first = so_far left (sym same ∙ told) in
     (first.0, first.1, (first.2.taken, first.2.split, HasAnswered-taken first.2.taken old mid m ready running first.2.feeds))
 
@@ -77,12 +78,12 @@ taken_all room piece old mid start before now so_far takes = λ left told.
     let is : first.0 ≡ taken = first.2.split ∙ (ap (λ (x : List ℕ). taken ++ x) (last.2.1 refl) ∙ append-nil taken) in
     (first.0, first.1, subst (λ (input : List ℕ). Feeds input old mid) (sym is) first.2.feeds)
 
-pub leaves-done : (room : ℕ) (piece : List ℕ) (old mid new : RunState) (start before now : Option (List ℕ)) (m : Machine)
+pub leaves-done : (from to : ℕ) (room : ℕ) (piece : List ℕ) (old mid new : RunState) (start before now : Option (List ℕ)) (m : Machine)
     → IsRunning old (from_machine m) → Becomes (HasTaken room old mid) start before → Takes 0 piece before now → IsReady new.card new.chip
     → ((r : Running) → IsRunning mid r → IsAt new.card new.chip (after_end r).machine)
     → ((r : Running) → IsRunning mid r → Prints (end_text r) mid.chip.still.given new.chip.still.given)
-    → Becomes (λ (input left : List ℕ). LeavesOff Done m input left old.chip.still.given new.chip) start now
-leaves-done room piece old mid new start before now m running so_far takes ready at text = λ left told.
+    → Becomes (λ (input left : List ℕ). LeavesOff Done from to m input left old.chip.still.given new.chip) start now
+leaves-done from to room piece old mid new start before now m running so_far takes ready at text = λ left told.
     let found = taken_all room piece old mid start before now so_far takes left told in
     let input : List ℕ = found.0 in
     let r : Running = after (from_machine m) input in
@@ -140,10 +141,10 @@ looked_at-whole room piece old mid input within seen =
     (split, ap (take longest_input) split ∙ (ap (λ (k : ℕ). take k (all ++ seen.rest)) (sym long) ∙ take-append_seam all seen.rest))
 
 -- more came than a run takes
-pub leaves-too_long : (room count : ℕ) (piece : List ℕ) (old mid new : RunState) (start before now : Option (List ℕ)) (m : Machine) → room ≤ count → count ≤ length piece
+pub leaves-too_long : (from to : ℕ) (room count : ℕ) (piece : List ℕ) (old mid new : RunState) (start before now : Option (List ℕ)) (m : Machine) → room ≤ count → count ≤ length piece
     → IsReady new.card new.chip → IsRunning old (from_machine m) → Becomes (HasTaken room old mid) start before → Takes count piece before now → Feeds (take room piece) mid new
-    → Becomes (λ (input left : List ℕ). LeavesOff TooLong m input left old.chip.still.given new.chip) start now
-leaves-too_long room count piece old mid new start before now m over within ready running so_far takes feeds = λ left told.
+    → Becomes (λ (input left : List ℕ). LeavesOff TooLong from to m input left old.chip.still.given new.chip) start now
+leaves-too_long from to room count piece old mid new start before now m over within ready running so_far takes feeds = λ left told.
     let found = looks_at room count room piece old mid start before now over so_far takes left told in
     let seen = found.2 in
     let all = looked_at-whole room piece old mid found.0 (omega (arith, over, within)) seen in (
@@ -153,39 +154,50 @@ leaves-too_long room count piece old mid new start before now m over within read
           (HasAnswered-taken (seen.taken ++ take room piece) old new m ready running (Feeds-then seen.taken (take room piece) old mid new seen.feeds feeds)),
     )
 
-LeavesOff-stopped : (stop : Stop) (m : Machine) (input left : List ℕ) (before : Option (List ℕ)) (now : Chip) → StopsIn stop m (lines input true) before now → LeavesOff (status_of stop) m input left before now
-LeavesOff-stopped Eeprom m input left before now stops = stops
-LeavesOff-stopped Outlet m input left before now stops = stops
+-- where both devices failed the EEPROM's count rose
+abbrev pub RoseAt : Stop → ℕ → ℕ → Type 0
+RoseAt Both from to = Rose from to
+RoseAt stop from to = Unit {0}
+
+pub rose-at : (stop : Stop) (start : ℕ) (old new : Faults) → old.eeprom ≡ start → Causes {T = Unit {0}} old new (Err stop) → RoseAt stop start new.eeprom
+rose-at Eeprom start old new same causes = tt
+rose-at Outlet start old new same causes = tt
+rose-at Both start old new same causes = subst (λ (n : ℕ). Rose n new.eeprom) same (causes.both refl).0
+
+LeavesOff-stopped : (stop : Stop) (from to : ℕ) (m : Machine) (input left : List ℕ) (before : Option (List ℕ)) (now : Chip) → RoseAt stop from to → StopsIn stop m (lines input true) before now → LeavesOff (status_of stop) from to m input left before now
+LeavesOff-stopped Eeprom from to m input left before now rose stops = stops
+LeavesOff-stopped Outlet from to m input left before now rose stops = inl stops
+LeavesOff-stopped Both from to m input left before now rose stops = inr (rose, stops)
 
 -- a device stopped the run among the octets of a piece, of which so many were looked at
-pub leaves-halted : (stop : Stop) (room count k : ℕ) (piece : List ℕ) (old mid : RunState) (now : Chip) (start before after : Option (List ℕ)) (m : Machine) → k ≤ count
+pub leaves-halted : (stop : Stop) (from to : ℕ) → RoseAt stop from to → (room count k : ℕ) (piece : List ℕ) (old mid : RunState) (now : Chip) (start before after : Option (List ℕ)) (m : Machine) → k ≤ count
     → IsRunning old (from_machine m) → Becomes (HasTaken room old mid) start before → Takes count piece before after → Halts stop (take k piece) mid now
-    → Becomes (λ (input left : List ℕ). LeavesOff (status_of stop) m input left old.chip.still.given now) start after
-leaves-halted stop room count k piece old mid now start before after m fits running so_far takes halts = λ left told.
+    → Becomes (λ (input left : List ℕ). LeavesOff (status_of stop) from to m input left old.chip.still.given now) start after
+leaves-halted stop from to rose room count k piece old mid now start before after m fits running so_far takes halts = λ left told.
     let found = looks_at room count k piece old mid start before after fits so_far takes left told in
     let seen = found.2 in
     let halted : HaltsAt stop (seen.taken ++ (take k piece ++ seen.rest)) (from_machine m) old.chip now =
     Halts-within stop seen.taken (take k piece) seen.rest old mid now seen.feeds halts (from_machine m) running in (
       found.0,
       found.1,
-      LeavesOff-stopped stop m found.0 left old.chip.still.given now
+      LeavesOff-stopped stop from to m found.0 left old.chip.still.given now rose
           (StopsIn-halted stop m found.0 old.chip now (subst (λ (x : List ℕ). HaltsAt stop x (from_machine m) old.chip now) (sym seen.split) halted)),
     )
 
 -- a device stopped the run in the last line
-pub leaves-last : (stop : Stop) (room : ℕ) (piece : List ℕ) (old mid : RunState) (now : Chip) (start before after : Option (List ℕ)) (m : Machine)
+pub leaves-last : (stop : Stop) (from to : ℕ) → RoseAt stop from to → (room : ℕ) (piece : List ℕ) (old mid : RunState) (now : Chip) (start before after : Option (List ℕ)) (m : Machine)
     → IsRunning old (from_machine m) → Becomes (HasTaken room old mid) start before → Takes 0 piece before after
     → ((r : Running) → IsRunning mid r → (is_nothing_kept r.begun ≡ false) × FailsAt stop [] r mid.chip.still.given now)
-    → Becomes (λ (input left : List ℕ). LeavesOff (status_of stop) m input left old.chip.still.given now) start after
-leaves-last stop room piece old mid now start before after m running so_far takes ends = λ left told.
+    → Becomes (λ (input left : List ℕ). LeavesOff (status_of stop) from to m input left old.chip.still.given now) start after
+leaves-last stop from to rose room piece old mid now start before after m running so_far takes ends = λ left told.
     let found = taken_all room piece old mid start before after so_far takes left told in
-    (found.0, found.1, LeavesOff-stopped stop m found.0 left old.chip.still.given now (StopsIn-last stop m found.0 old mid now running found.2 ends))
+    (found.0, found.1, LeavesOff-stopped stop from to m found.0 left old.chip.still.given now rose (StopsIn-last stop m found.0 old mid now running found.2 ends))
 
 -- What is kept at each moment, by the ends of the run in the same order.
-pub keeps-read_fault : (room : ℕ) (old mid : RunState) (start before now : Option (List ℕ)) (m : Machine) → IsRunning old (from_machine m)
+pub keeps-read_fault : (from to : ℕ) (room : ℕ) (old mid : RunState) (start before now : Option (List ℕ)) (m : Machine) → IsRunning old (from_machine m)
     → Becomes (HasTaken room old mid) start before → now ≡ before → IsSome mid.chip.still.given
-    → Becomes (λ (input left : List ℕ). KeepsTo ReadFault m input left old.chip mid.chip) start now
-keeps-read_fault room old mid start before now m running so_far same given = λ left told.
+    → Becomes (λ (input left : List ℕ). KeepsTo ReadFault from to m input left old.chip mid.chip) start now
+keeps-read_fault from to room old mid start before now m running so_far same given = λ left told.
     let first = so_far left (sym same ∙ told) in
     let taken = first.2.taken in (
       first.0,
@@ -193,16 +205,16 @@ keeps-read_fault room old mid start before now m running so_far same given = λ 
       (
         taken,
         first.2.split,
-        kept-taken m first.0 taken left (length (lines taken false)) old.chip mid.chip first.2.split (omega arith) ((first.2.feeds (from_machine m) running).passes given).moments,
+        kept-taken m taken old.chip mid.chip ((first.2.feeds (from_machine m) running).passes given).moments,
       ),
     )
 
-pub keeps-done : (room : ℕ) (piece : List ℕ) (old mid new : RunState) (start before now : Option (List ℕ)) (m : Machine)
+pub keeps-done : (from to : ℕ) (room : ℕ) (piece : List ℕ) (old mid new : RunState) (start before now : Option (List ℕ)) (m : Machine)
     → IsRunning old (from_machine m) → Becomes (HasTaken room old mid) start before → Takes 0 piece before now
     → ((r : Running) → IsRunning mid r → Prints (end_text r) mid.chip.still.given new.chip.still.given)
     → ((r : Running) → IsRunning mid r → IfGiven new.chip (Throughout mid.chip new.chip (IsAtEnd r mid.chip.still.mark)))
-    → IsSome new.chip.still.given → Becomes (λ (input left : List ℕ). KeepsTo Done m input left old.chip new.chip) start now
-keeps-done room piece old mid new start before now m running so_far takes text last given = λ left told.
+    → IsSome new.chip.still.given → Becomes (λ (input left : List ℕ). KeepsTo Done from to m input left old.chip new.chip) start now
+keeps-done from to room piece old mid new start before now m running so_far takes text last given = λ left told.
     let found = taken_all room piece old mid start before now so_far takes left told in
     let input : List ℕ = found.0 in
     let r : Running = after (from_machine m) input in
@@ -210,47 +222,48 @@ keeps-done room piece old mid new start before now m running so_far takes text l
     let given_before : IsSome mid.chip.still.given = told-before (end_text r) mid.chip.still.given new.chip.still.given (text r follows.running) given in
     (input, found.1, kept-ended m input old.chip mid.chip new.chip (follows.passes given_before) (last r follows.running given))
 
-pub keeps-too_long : (room count : ℕ) (piece : List ℕ) (old mid new : RunState) (start before now : Option (List ℕ)) (m : Machine) → room ≤ count → count ≤ length piece
+pub keeps-too_long : (from to : ℕ) (room count : ℕ) (piece : List ℕ) (old mid new : RunState) (start before now : Option (List ℕ)) (m : Machine) → room ≤ count → count ≤ length piece
     → IsRunning old (from_machine m) → Becomes (HasTaken room old mid) start before → Takes count piece before now → Feeds (take room piece) mid new → IsSome new.chip.still.given
-    → Becomes (λ (input left : List ℕ). KeepsTo TooLong m input left old.chip new.chip) start now
-keeps-too_long room count piece old mid new start before now m over within running so_far takes feeds given = λ left told.
+    → Becomes (λ (input left : List ℕ). KeepsTo TooLong from to m input left old.chip new.chip) start now
+keeps-too_long from to room count piece old mid new start before now m over within running so_far takes feeds given = λ left told.
     let found = looks_at room count room piece old mid start before now over so_far takes left told in
     let seen = found.2 in
     let all = looked_at-whole room piece old mid found.0 (omega (arith, over, within)) seen in
     let whole : List ℕ = seen.taken ++ take room piece in (
       found.0,
       found.1,
-      subst (λ (taken : List ℕ). AreKept m (lines found.0 true) (length (lines taken false)) old.chip new.chip) (sym all.1)
-          (kept-taken m found.0 whole seen.rest (length (lines whole false)) old.chip new.chip all.0 (omega arith)
+      subst (λ (taken : List ℕ). AreAllKept m (lines taken false) old.chip new.chip) (sym all.1)
+          (kept-taken m whole old.chip new.chip
           ((Feeds-then seen.taken (take room piece) old mid new seen.feeds feeds (from_machine m) running).passes given).moments),
     )
 
-KeepsTo-stopped : (stop : Stop) (m : Machine) (input left : List ℕ) (old now : Chip) (stops : StopsIn stop m (lines input true) old.still.given now)
-    → AreKept m (lines input true) (length stops.clean) old now → KeepsTo (status_of stop) m input left old now
-KeepsTo-stopped Eeprom m input left old now stops kept = (stops, kept)
-KeepsTo-stopped Outlet m input left old now stops kept = (stops, kept)
+KeepsTo-stopped : (stop : Stop) (from to : ℕ) (m : Machine) (input left : List ℕ) (old now : Chip) → RoseAt stop from to → (stops : StopsIn stop m (lines input true) old.still.given now)
+    → AreKept m (lines input true) (carried_out stop stops.clean) old now → KeepsTo (status_of stop) from to m input left old now
+KeepsTo-stopped Eeprom from to m input left old now rose stops kept = (stops, kept)
+KeepsTo-stopped Outlet from to m input left old now rose stops kept = inl (stops, kept)
+KeepsTo-stopped Both from to m input left old now rose stops kept = inr (rose, (stops, kept))
 
-pub keeps-halted : (stop : Stop) (room count k : ℕ) (piece : List ℕ) (old mid : RunState) (now : Chip) (start before taken : Option (List ℕ)) (m : Machine) → k ≤ count
+pub keeps-halted : (stop : Stop) (from to : ℕ) → RoseAt stop from to → (room count k : ℕ) (piece : List ℕ) (old mid : RunState) (now : Chip) (start before taken : Option (List ℕ)) (m : Machine) → k ≤ count
     → IsRunning old (from_machine m) → Becomes (HasTaken room old mid) start before → Takes count piece before taken → Halts stop (take k piece) mid now → IsSome now.still.given
-    → Becomes (λ (input left : List ℕ). KeepsTo (status_of stop) m input left old.chip now) start taken
-keeps-halted stop room count k piece old mid now start before taken m fits running so_far takes halts given = λ left told.
+    → Becomes (λ (input left : List ℕ). KeepsTo (status_of stop) from to m input left old.chip now) start taken
+keeps-halted stop from to rose room count k piece old mid now start before taken m fits running so_far takes halts given = λ left told.
     let found = looks_at room count k piece old mid start before taken fits so_far takes left told in
     let seen = found.2 in
     let halted : HaltsAt stop found.0 (from_machine m) old.chip now =
     subst (λ (x : List ℕ). HaltsAt stop x (from_machine m) old.chip now) (sym seen.split) (Halts-within stop seen.taken (take k piece) seen.rest old mid now seen.feeds halts (from_machine m) running) in (
       found.0,
       found.1,
-      KeepsTo-stopped stop m found.0 left old.chip now (StopsIn-halted stop m found.0 old.chip now halted)
-          (kept-until m found.0 halted.taken (10 ∷ halted.rest) (lines halted.rest true) old.chip now halted.split
+      KeepsTo-stopped stop from to m found.0 left old.chip now rose (StopsIn-halted stop m found.0 old.chip now halted)
+          (kept-until stop m found.0 halted.taken (10 ∷ halted.rest) (lines halted.rest true) old.chip now halted.split
           (ap (λ (x : List ℕ). lines x true) halted.split ∙ lines-line_feed halted.taken halted.rest true) (halted.moments given)),
     )
 
-pub keeps-last : (stop : Stop) (room : ℕ) (piece : List ℕ) (old mid : RunState) (now : Chip) (start before taken : Option (List ℕ)) (m : Machine)
+pub keeps-last : (stop : Stop) (from to : ℕ) → RoseAt stop from to → (room : ℕ) (piece : List ℕ) (old mid : RunState) (now : Chip) (start before taken : Option (List ℕ)) (m : Machine)
     → IsRunning old (from_machine m) → Becomes (HasTaken room old mid) start before → Takes 0 piece before taken
     → ((r : Running) → IsRunning mid r → (is_nothing_kept r.begun ≡ false) × FailsAt stop [] r mid.chip.still.given now)
-    → ((r : Running) → IsRunning mid r → Throughout mid.chip now (IsInLine r.machine (kept_reading r.begun) mid.chip.still.mark))
-    → IsSome now.still.given → Becomes (λ (input left : List ℕ). KeepsTo (status_of stop) m input left old.chip now) start taken
-keeps-last stop room piece old mid now start before taken m running so_far takes ends last given = λ left told.
+    → ((r : Running) → IsRunning mid r → IfGiven now (Throughout mid.chip now (IsInStopped stop r.machine (kept_reading r.begun) mid.chip.still.mark)))
+    → IsSome now.still.given → Becomes (λ (input left : List ℕ). KeepsTo (status_of stop) from to m input left old.chip now) start taken
+keeps-last stop from to rose room piece old mid now start before taken m running so_far takes ends last given = λ left told.
     let found = taken_all room piece old mid start before taken so_far takes left told in
     let input : List ℕ = found.0 in
     let r : Running = after (from_machine m) input in
@@ -260,7 +273,7 @@ keeps-last stop room piece old mid now start before taken m running so_far takes
     let cut : lines input true ≡ lines input false ++ open_end input ∷ [] = lines-open input (subst (λ (s : Running). is_nothing_kept s.begun ≡ false) (after-lines m input) failing.0) in (
       input,
       found.1,
-      KeepsTo-stopped stop m input left old.chip now (StopsIn-last stop m input old mid now running found.2 ends)
-          (kept-until m input input [] [] old.chip now (sym (append-nil input)) cut
-          (until-last input (from_machine m) old.chip mid.chip now (follows.passes given_before) (last r follows.running))),
+      KeepsTo-stopped stop from to m input left old.chip now rose (StopsIn-last stop m input old mid now running found.2 ends)
+          (kept-until stop m input input [] [] old.chip now (sym (append-nil input)) cut
+          (until-last stop input (from_machine m) old.chip mid.chip now (follows.passes given_before) (last r follows.running given))),
     )

@@ -2,10 +2,10 @@
 use Rattle.std.specs.Prelude.{◌≡◌, ◌⊎◌, ℕ, List, ◌∷◌, ◌++◌, Option, Some, codes}
 use Rattle.eeprom.specs.Chip.{Chip}
 use Rattle.scql_model.specs.Machine.{Machine}
-use Rattle.scql_model.specs.Lines.{Reading, reading_of, reading_text, reading_commits, run_text, machine_after}
+use Rattle.scql_model.specs.Lines.{Reading, reading_of, reading_text, reading_step, reading_commits, run_text, machine_after}
 use Rattle.scql_model.specs.Opens.{Opens, OpensToOneOf}
 use Rattle.card_cli.specs.declared.stop.Stop.{Stop}
-use Rattle.card_cli.specs.declared.stop.Stop.TheVariants.{Eeprom, Outlet}
+use Rattle.card_cli.specs.declared.stop.Stop.TheVariants.{Eeprom, Outlet, Both}
 use Rattle.card_cli.specs.RunState.{Prints}
 
 -- These lines were answered: their text follows what was given before, and the image opens to the database after them.
@@ -24,14 +24,20 @@ IsStartOf said text = (rest : List ℕ) × (text ≡ said ++ rest)
 -- What is said of a line with this text in which a device fails: a card tells that its EEPROM did, and an outlet gives the start of an answer.
 abbrev pub Says : Stop → List ℕ → List ℕ → Type 0
 Says Eeprom text said = said ≡ mute_text
-Says Outlet text said = IsStartOf said text ⊎ IsStartOf said mute_text
+Says Outlet text said = IsStartOf said text
+Says Both text said = IsStartOf said mute_text
 
--- A device failed in a line that reads so. What was said of it follows this text of the lines before, and the image opens to the database before the line or to one that the line commits.
-pub record FailsIn (stop : Stop) (clean : List ℕ) (m : Machine) (reading : Reading) (before : Option (List ℕ)) (now : Chip) : Type 0 where
+-- To what the image opens after a line in which a device failed: to the database after the line where the outlet alone did, and else to the one before it or to one that it commits.
+abbrev pub OpensBehind : Stop → Machine → Reading → List ℕ → Type 0
+OpensBehind Outlet m reading image = Opens image (reading_step m reading).committed
+OpensBehind stop m reading image = OpensToOneOf (m.committed ∷ reading_commits m reading) image
+
+-- A device failed in a line that reads so. What was said of it follows this text of the lines before.
+pub record FailsIn (stop : Stop) (text : List ℕ) (m : Machine) (reading : Reading) (before : Option (List ℕ)) (now : Chip) : Type 0 where
   pub said : List ℕ
   pub says : Says stop (reading_text m reading) said
-  pub given : Prints (clean ++ said) before now.still.given
-  pub image : (image : List ℕ) → now.image ≡ Some image → OpensToOneOf (m.committed ∷ reading_commits m reading) image
+  pub given : Prints (text ++ said) before now.still.given
+  pub image : (image : List ℕ) → now.image ≡ Some image → OpensBehind stop m reading image
 
 -- The clean lines were answered, and in the one after them a device failed.
 pub record StopsIn (stop : Stop) (m : Machine) (lines : List (List ℕ)) (before : Option (List ℕ)) (now : Chip) : Type 0 where

@@ -1,5 +1,5 @@
 -- How a run over its input ends.
-use Rattle.std.specs.Prelude.{◌≡◌, ℕ, ◌+◌, Bool, true, false, List, ◌++◌, length, take, Option}
+use Rattle.std.specs.Prelude.{◌≡◌, ◌⊎◌, ℕ, ◌+◌, Bool, true, false, List, ◌++◌, length, take, Option}
 use Rattle.eeprom.specs.Chip.{Chip}
 use Rattle.eeprom.specs.Fault.{Rose}
 use Rattle.scql_model.specs.Machine.{Machine}
@@ -44,14 +44,15 @@ has_read ReadFault = true
 has_read WriteFault = true
 has_read status = false
 
--- How a run of lines from a machine on ends, of whose input this is left.
-abbrev pub LeavesOff : Status → Machine → List ℕ → List ℕ → Option (List ℕ) → Chip → Type 0
-LeavesOff Done m input left before now = HasAnswered m (lines input true) before now
-LeavesOff ReadFault m input left before now = (taken : List ℕ) × (input ≡ taken ++ left) × HasAnswered m (lines taken false) before now
-LeavesOff TooLong m input left before now = HasAnswered m (lines (take longest_input input) false) before now
-LeavesOff Eeprom m input left before now = StopsIn stop.Eeprom m (lines input true) before now
-LeavesOff WriteFault m input left before now = StopsIn stop.Outlet m (lines input true) before now
-LeavesOff status m input left before now = ⊥
+-- How a run of lines from a machine on ends, of whose input this is left, where the EEPROM's count of faults goes from one number to another.
+abbrev pub LeavesOff : Status → ℕ → ℕ → Machine → List ℕ → List ℕ → Option (List ℕ) → Chip → Type 0
+LeavesOff Done from to m input left before now = HasAnswered m (lines input true) before now
+LeavesOff ReadFault from to m input left before now = (taken : List ℕ) × (input ≡ taken ++ left) × HasAnswered m (lines taken false) before now
+LeavesOff TooLong from to m input left before now = HasAnswered m (lines (take longest_input input) false) before now
+LeavesOff Eeprom from to m input left before now = StopsIn stop.Eeprom m (lines input true) before now
+LeavesOff WriteFault from to m input left before now =
+    StopsIn stop.Outlet m (lines input true) before now ⊎ (Rose from to × StopsIn stop.Both m (lines input true) before now)
+LeavesOff status from to m input left before now = ⊥
 
 -- what was taken of the input so far, so that so many octets may still come
 pub record HasTaken (room : ℕ) (old new : RunState) (input left : List ℕ) : Type 0 where

@@ -10,7 +10,7 @@ use Rattle.card_cli.specs.Moments.{IsUntil, IfGiven}
 
 -- a device fails in the line that has begun
 abbrev pub FailsAt : Stop → List ℕ → Running → Option (List ℕ) → Chip → Type 0
-FailsAt stop clean r before now = FailsIn stop clean r.machine (kept_reading r.begun) before now
+FailsAt stop text r before now = FailsIn stop text r.machine (kept_reading r.begun) before now
 
 -- A device fails at a line feed among the octets.
 pub record HaltsAt (stop : Stop) (octets : List ℕ) (r : Running) (old now : Chip) : Type 0 where
@@ -18,7 +18,7 @@ pub record HaltsAt (stop : Stop) (octets : List ℕ) (r : Running) (old now : Ch
   pub rest : List ℕ
   pub split : octets ≡ taken ++ 10 ∷ rest
   pub fails : FailsAt stop (text_of r taken) (after r taken) old.still.given now
-  pub moments : IfGiven now (Throughout old now (IsUntil taken r old.still.mark))
+  pub moments : IfGiven now (Throughout old now (IsUntil stop taken r old.still.mark))
 
 -- octets of input bring the run to that
 abbrev pub Halts : Stop → List ℕ → RunState → Chip → Type 0

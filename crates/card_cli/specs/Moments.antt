@@ -4,6 +4,8 @@ use Rattle.eeprom.specs.Chip.{Chip, Throughout}
 use Rattle.scql_model.specs.Machine.{Machine}
 use Rattle.scql_model.specs.Lines.{Reading, reading_text, reading_step, reading_commits}
 use Rattle.scql_model.specs.Opens.{Opens, OpensToOneOf}
+use Rattle.card_cli.specs.declared.stop.Stop.{Stop}
+use Rattle.card_cli.specs.declared.stop.Stop.TheVariants.{Outlet}
 use Rattle.card_cli.specs.Line.{kept_reading, is_nothing_kept}
 use Rattle.card_cli.specs.Running.{Running, after, text_of}
 
@@ -17,6 +19,11 @@ pub record IsInAnswered (m : Machine) (reading : Reading) (mark g : ℕ) (left :
   pub line : IsInLine m reading mark g left
   pub within : g ≤ mark + length (reading_text m reading)
   pub done : mark < g → Opens left (reading_step m reading).committed
+
+-- in a line in which a device fails, which was carried out where the outlet alone does
+abbrev pub IsInStopped : Stop → Machine → Reading → ℕ → ℕ → List ℕ → Type 0
+IsInStopped Outlet m reading mark g left = IsInAnswered m reading mark g left
+IsInStopped stop m reading mark g left = IsInLine m reading mark g left
 
 -- An answer raised the mark by its text.
 pub record IsAnswered (m : Machine) (reading : Reading) (old new : Chip) : Type 0 where
@@ -43,10 +50,10 @@ abbrev pub IsWhile : List ℕ → Running → ℕ → ℕ → List ℕ → Type 
 IsWhile octets r mark g left = IsBetween octets r mark g left ⊎ IsAnswering octets r mark g left
 
 -- while octets are taken, or in the line that has begun behind them, in which a device fails
-abbrev pub IsUntil : List ℕ → Running → ℕ → ℕ → List ℕ → Type 0
-IsUntil octets r mark g left =
+abbrev pub IsUntil : Stop → List ℕ → Running → ℕ → ℕ → List ℕ → Type 0
+IsUntil stop octets r mark g left =
     IsWhile octets r mark g left
-    ⊎ IsInLine (after r octets).machine (kept_reading (after r octets).begun) (mark + length (text_of r octets)) g left
+    ⊎ IsInStopped stop (after r octets).machine (kept_reading (after r octets).begun) (mark + length (text_of r octets)) g left
 
 -- at the end of the input, where a line that has begun is answered
 abbrev pub IsAtEnd : Running → ℕ → ℕ → List ℕ → Type 0

@@ -4,7 +4,7 @@ use Rattle.eeprom.specs.Chip.{Chip, Becomes}
 use Rattle.eeprom.specs.Fault.{Rose}
 use Rattle.card.specs.Card.{Kept, IsAt}
 use Rattle.card_cli.specs.declared.stop.Stop.{Stop}
-use Rattle.card_cli.specs.declared.stop.Stop.TheVariants.{Eeprom, Outlet}
+use Rattle.card_cli.specs.declared.stop.Stop.TheVariants.{Eeprom, Outlet, Both}
 use Rattle.card_cli.specs.Running.{Running, after, text_of}
 use Rattle.card_cli.specs.Moments.{Passes, IfGiven}
 
@@ -43,5 +43,6 @@ pub record Causes {T : Type 0} (old new : Faults) (result : Result T Stop) : Typ
   pub eeprom : IsErrOf result Eeprom → Rose old.eeprom new.eeprom
   pub outlet_stays : IsErrOf result Eeprom → new.outlet ≡ old.outlet
   pub outlet : IsErrOf result Outlet → Rose old.outlet new.outlet
+  pub both : IsErrOf result Both → Rose old.eeprom new.eeprom × Rose old.outlet new.outlet
   pub eeprom_later : old.eeprom ≤ new.eeprom
   pub outlet_later : old.outlet ≤ new.outlet

@@ -24,6 +24,7 @@ number_of TooSmall = 9
 abbrev pub status_of : Stop → Status
 status_of stops.Eeprom = Eeprom
 status_of stops.Outlet = WriteFault
+status_of stops.Both = WriteFault
 
 -- the exit status
 abbrev pub exit_status_of : Ending → ℕ

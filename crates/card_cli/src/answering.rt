@@ -10,7 +10,7 @@ ghost use Rattle.card_cli.specs.Line.{kept_line, kept_reading};
 ghost use Rattle.card_cli.specs.RunState.{Prints, Feeds, Faults, Causes};
 ghost use Rattle.card_cli.specs.CutOff.{FailsIn, IsCutShort};
 ghost use Rattle.card_cli.specs.Halting.{Halts};
-ghost use Rattle.card_cli.specs.Moments.{IsInLine, IsAnswered, IfGiven};
+ghost use Rattle.card_cli.specs.Moments.{IsInStopped, IsAnswered, IfGiven};
 ghost use Rattle.eeprom.specs.Chip.{Gives, Throughout};
 
 use crate::line::{Line, Reading};
@@ -81,9 +81,9 @@ pub(crate) fn answer_line<B: Bench>(card: &mut Card, bench: &mut B, line: &Line)
     // At each moment a power loss leaves what the line commits, all of it once an octet of its text has gone out,
     ensures answered { (m : Machine) → IsAt card.old (B.chip bench.old) m
         → OnOk result (IfGiven (B.chip bench.new) (IsAnswered m (kept_reading (kept_line line.now)) (B.chip bench.old) (B.chip bench.new))) }
-    // also where a device fails.
+    // also where the outlet alone fails; where the EEPROM does it leaves the database before the line or one that it commits.
     ensures moments { (m : Machine) → IsAt card.old (B.chip bench.old) m
-        → Throughout (B.chip bench.old) (B.chip bench.new) (IsInLine m (kept_reading (kept_line line.now)) (B.chip bench.old).still.mark) }
+        → IfErr result (λ stop. IfGiven (B.chip bench.new) (Throughout (B.chip bench.old) (B.chip bench.new) (IsInStopped stop m (kept_reading (kept_line line.now)) (B.chip bench.old).still.mark))) }
     ensures ready { OnOk result (IsReady card.new (B.chip bench.new)) }
     ensures causes { Causes (record { eeprom = B.faults bench.old; outlet = B.sink_faults bench.old }) (record { eeprom = B.faults bench.new; outlet = B.sink_faults bench.new }) result }
 {
@@ -109,7 +109,7 @@ fn answer_command<B: Bench>(card: &mut Card, bench: &mut B, octets: &[u8]) -> Re
     ensures answered { (m : Machine) → IsAt card.old (B.chip bench.old) m
         → OnOk result (IfGiven (B.chip bench.new) (IsAnswered m (model.command octets.now) (B.chip bench.old) (B.chip bench.new))) }
     ensures moments { (m : Machine) → IsAt card.old (B.chip bench.old) m
-        → Throughout (B.chip bench.old) (B.chip bench.new) (IsInLine m (model.command octets.now) (B.chip bench.old).still.mark) }
+        → IfErr result (λ stop. IfGiven (B.chip bench.new) (Throughout (B.chip bench.old) (B.chip bench.new) (IsInStopped stop m (model.command octets.now) (B.chip bench.old).still.mark))) }
     ensures ready { OnOk result (IsReady card.new (B.chip bench.new)) }
     ensures causes { Causes (record { eeprom = B.faults bench.old; outlet = B.sink_faults bench.old }) (record { eeprom = B.faults bench.new; outlet = B.sink_faults bench.new }) result }
 {
@@ -119,7 +119,10 @@ fn answer_command<B: Bench>(card: &mut Card, bench: &mut B, octets: &[u8]) -> Re
     };
     match card.answer(bench, octets, &mut reply) {
         Outcome::Replied => give(bench, &text_of(&reply)),
-        Outcome::Mute => give(bench, &text_of(&reply)).and(Err(Stop::Eeprom)),
+        Outcome::Mute => match give(bench, &text_of(&reply)) {
+            Ok(()) => Err(Stop::Eeprom),
+            Err(_) => Err(Stop::Both),
+        },
     }
 }
 
@@ -164,6 +167,7 @@ fn give<B: Bench>(bench: &mut B, text: &[u8]) -> Result<(), Stop>
     ensures size { (B.chip bench.new).still.size ≡ (B.chip bench.old).still.size }
     ensures gives { Gives (B.chip bench.old) (B.chip bench.new) }
     ensures mark { OnOk result (IfGiven (B.chip bench.new) ((B.chip bench.new).still.mark ≡ (B.chip bench.old).still.mark + length text.now)) }
+    ensures within { IfGiven (B.chip bench.new) ((B.chip bench.new).still.mark ≤ (B.chip bench.old).still.mark + length text.now) }
     ensures causes { Causes (record { eeprom = B.faults bench.old; outlet = B.sink_faults bench.old }) (record { eeprom = B.faults bench.new; outlet = B.sink_faults bench.new }) result }
 {
     match bench.give(text) {

@@ -8,7 +8,7 @@ ghost use Rattle.card_cli.specs.Running.{Running, end_text, after_end};
 ghost use Rattle.card_cli.specs.RunState.{Prints, IsRunning, Causes};
 ghost use Rattle.eeprom.specs.Chip.{Throughout};
 ghost use Rattle.card_cli.specs.Halting.{FailsAt};
-ghost use Rattle.card_cli.specs.Moments.{IsInLine, IsAtEnd, IfGiven};
+ghost use Rattle.card_cli.specs.Moments.{IsInStopped, IsAtEnd, IfGiven};
 ghost use Rattle.card_cli.specs.Keeping.{KeepsTo};
 ghost use Rattle.card_cli.specs.Ends.{EndsBy, LeavesOff, ends_input, longest_input};
 
@@ -33,10 +33,10 @@ pub(crate) fn answer_input<S: Source, B: Bench>(
 ) -> Status
     requires { IsReady card.old (B.chip bench.old) }
     ensures leaves { (m : Machine) → IsAt card.old (B.chip bench.old) m
-        → Becomes (λ input left. LeavesOff result m input left (B.chip bench.old).still.given (B.chip bench.new)) (S.left source.old) (S.left source.new) }
+        → Becomes (λ input left. LeavesOff result (B.faults bench.old) (B.faults bench.new) m input left (B.chip bench.old).still.given (B.chip bench.new)) (S.left source.old) (S.left source.new) }
     // At each moment a power loss leaves each commit of the lines that were heard by then, and else at most commits of the line after them.
     ensures moments { (m : Machine) → IsAt card.old (B.chip bench.old) m → IfGiven (B.chip bench.new)
-        (Becomes (λ input left. KeepsTo result m input left (B.chip bench.old) (B.chip bench.new)) (S.left source.old) (S.left source.new)) }
+        (Becomes (λ input left. KeepsTo result (B.faults bench.old) (B.faults bench.new) m input left (B.chip bench.old) (B.chip bench.new)) (S.left source.old) (S.left source.new)) }
     ensures status { ends_input result ≡ true }
     ensures whole { result ≡ Status.Done → Becomes (λ input left. (left ≡ []) × (length input ≤ longest_input)) (S.left source.old) (S.left source.new) }
     ensures too_long { result ≡ Status.TooLong → Becomes (λ input left. longest_input < length input) (S.left source.old) (S.left source.new) }
@@ -81,7 +81,7 @@ fn answer_last<B: Bench>(card: &mut Card, bench: &mut B, line: &Line) -> Result<
     ensures answered { (r : Running) → IsRunning (record { card = card.old; line = kept_line line.now; chip = B.chip bench.old }) r
         → OnOk result (IfGiven (B.chip bench.new) (Throughout (B.chip bench.old) (B.chip bench.new) (IsAtEnd r (B.chip bench.old).still.mark))) }
     ensures moments { (r : Running) → IsRunning (record { card = card.old; line = kept_line line.now; chip = B.chip bench.old }) r
-        → Throughout (B.chip bench.old) (B.chip bench.new) (IsInLine r.machine (kept_reading r.begun) (B.chip bench.old).still.mark) }
+        → IfErr result (λ stop. IfGiven (B.chip bench.new) (Throughout (B.chip bench.old) (B.chip bench.new) (IsInStopped stop r.machine (kept_reading r.begun) (B.chip bench.old).still.mark))) }
     ensures causes { Causes (record { eeprom = B.faults bench.old; outlet = B.sink_faults bench.old }) (record { eeprom = B.faults bench.new; outlet = B.sink_faults bench.new }) result }
 {
     if line.is_empty() {

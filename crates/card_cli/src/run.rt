@@ -72,14 +72,15 @@ pub fn run_card<S: Source, B: Bench>(
     ensures mute { result ≡ Status.Eeprom → (db : Database) → BeginsWith (map string_bytes words.now) (B.chip bench.old) db
         → EndsUnread (map string_bytes words.now) source.old source.new (B.chip bench.old) (B.chip bench.new)
         ⊎ Becomes (λ input left. StopsIn stop.Eeprom (start db) (lines input true) (B.given bench.old) (B.chip bench.new)) (S.left source.old) (S.left source.new) }
-    // or those before the line whose answer the outlet cut short.
+    // or those up to the line whose answer the outlet cut short, or in which the EEPROM failed and then the outlet.
     ensures write_fault { result ≡ Status.WriteFault → (db : Database) → BeginsWith (map string_bytes words.now) (B.chip bench.old) db
-        → Becomes (λ input left. StopsIn stop.Outlet (start db) (lines input true) (B.given bench.old) (B.chip bench.new)) (S.left source.old) (S.left source.new) }
+        → Becomes (λ input left. StopsIn stop.Outlet (start db) (lines input true) (B.given bench.old) (B.chip bench.new)
+        ⊎ (Rose (B.faults bench.old) (B.faults bench.new) × StopsIn stop.Both (start db) (lines input true) (B.given bench.old) (B.chip bench.new))) (S.left source.old) (S.left source.new) }
     // At each moment a power loss leaves what it leaves until the card is open, where no line was read;
     // or from the opening on each commit of the lines that were heard by then, and else at most commits of the line after them.
     ensures moments { EndsUnread (map string_bytes words.now) source.old source.new (B.chip bench.old) (B.chip bench.new)
         ⊎ ((db : Database) → (starts : BeginsWith (map string_bytes words.now) (B.chip bench.old) db) → IfGiven (B.chip bench.new)
-        (Becomes (λ input left. OpensAndRuns starts.form db result input left (B.chip bench.old) (B.chip bench.new)) (S.left source.old) (S.left source.new))) }
+        (Becomes (λ input left. OpensAndRuns starts.form db result (B.faults bench.old) (B.faults bench.new) input left (B.chip bench.old) (B.chip bench.new)) (S.left source.old) (S.left source.new))) }
 {
     let Some(form) = form_of(words) else {
         return Status::Usage;

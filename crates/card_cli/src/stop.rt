@@ -9,6 +9,8 @@ use crate::status::Status;
 pub(crate) enum Stop {
     Eeprom,
     Outlet,
+    /// The EEPROM, and then the outlet, as the card said so.
+    Both,
 }
 
 impl Stop {
@@ -17,7 +19,7 @@ impl Stop {
     {
         match self {
             Stop::Eeprom => Status::Eeprom,
-            Stop::Outlet => Status::WriteFault,
+            Stop::Outlet | Stop::Both => Status::WriteFault,
         }
     }
 }

@@ -7,8 +7,12 @@ use Rattle.card_cli.specs.Line.{kept_line}
 use Rattle.card_cli.specs.RunState.{RunState, Faults, Feeds}
 use Rattle.card_cli.specs.Keeping.{KeepsTo}
 use Rattle.card_cli.specs.Ends.{LeavesOff, longest_input, HasTaken}
-use Rattle.card_cli.proofs.Taking.{HasTaken-nothing, HasTaken-more, leaves-read_fault, leaves-done, leaves-last, leaves-halted, leaves-too_long, keeps-read_fault, keeps-done, keeps-last, keeps-halted, keeps-too_long}
+use Rattle.card_cli.proofs.Taking.{rose-at, HasTaken-nothing, HasTaken-more, leaves-read_fault, leaves-done, leaves-last, leaves-halted, leaves-too_long, keeps-read_fault, keeps-done, keeps-last, keeps-halted, keeps-too_long}
+use Rattle.card_cli.proofs.input.answer_input.Given as given
 use Rattle.card_cli.proofs.input.answer_input.Goals as goal
+
+abbrev faults : (g : given.Over) → g.row.B.Denot → Faults
+faults g bench = record { eeprom = g.B.Eeprom.faults bench; outlet = g.B.Outlet.sink_faults bench }
 
 pub loop-count-init : goal.loop-count-init
 loop-count-init g c =
@@ -26,7 +30,7 @@ pub returns-in_default-clause-leaves : goal.returns-in_default-clause-leaves
 returns-in_default-clause-leaves g c = λ m at.
     let old : RunState = record { card = c.args.card.now; line = Some []; chip = g.B.Eeprom.chip c.args.bench.now } in
     let mid : RunState = record { card = c.loop-count.card; line = kept_line c.loop-count.line; chip = g.B.Eeprom.chip c.loop-count.bench } in
-    leaves-read_fault c.loop-count.room old mid (g.S.Source.left c.args.source.now) (g.S.Source.left c.loop-count.source) (g.S.Source.left c.read.new.self) m
+    leaves-read_fault (g.B.Eeprom.faults c.args.bench.now) (g.B.Eeprom.faults c.loop-count.bench) c.loop-count.room old mid (g.S.Source.left c.args.source.now) (g.S.Source.left c.loop-count.source) (g.S.Source.left c.read.new.self) m
     c.loop-count.invariant.ready (record { at = at; line = refl }) c.loop-count.invariant.taken c.in_default.ensures.err
 
 pub returns-in-Ok-answer_last-clause-leaves : goal.returns-in-Ok-answer_last-clause-leaves
@@ -34,7 +38,7 @@ returns-in-Ok-answer_last-clause-leaves g c = λ m at.
     let old : RunState = record { card = c.args.card.now; line = Some []; chip = g.B.Eeprom.chip c.args.bench.now } in
     let mid : RunState = record { card = c.loop-count.card; line = kept_line c.loop-count.line; chip = g.B.Eeprom.chip c.loop-count.bench } in
     let new : RunState = record { card = c.answer_last.new.card; line = None; chip = g.B.Eeprom.chip c.answer_last.new.bench } in
-    leaves-done c.loop-count.room c.read.new.into old mid new (g.S.Source.left c.args.source.now) (g.S.Source.left c.loop-count.source) (g.S.Source.left c.read.new.self) m
+    leaves-done (g.B.Eeprom.faults c.args.bench.now) (g.B.Eeprom.faults c.answer_last.new.bench) c.loop-count.room c.read.new.into old mid new (g.S.Source.left c.args.source.now) (g.S.Source.left c.loop-count.source) (g.S.Source.left c.read.new.self) m
     (record { at = at; line = refl }) c.loop-count.invariant.taken
     (subst (λ (count : ℕ). Takes count c.read.new.into (g.S.Source.left c.loop-count.source) (g.S.Source.left c.read.new.self)) c.if-count-eq0.true c.in-Ok.ensures.taken)
     c.in-Ok-answer_last.ensures.ready c.in-Ok-answer_last.ensures.at c.in-Ok-answer_last.ensures.text
@@ -44,8 +48,8 @@ returns-in-Err-clause-leaves g c = λ m at.
     let old : RunState = record { card = c.args.card.now; line = Some []; chip = g.B.Eeprom.chip c.args.bench.now } in
     let mid : RunState = record { card = c.loop-count.card; line = kept_line c.loop-count.line; chip = g.B.Eeprom.chip c.loop-count.bench } in
     let now : Chip = g.B.Eeprom.chip c.answer_last.new.bench in
-    subst (λ (status : Status). Becomes (λ (input left : List ℕ). LeavesOff status m input left old.chip.still.given now) (g.S.Source.left c.args.source.now) (g.S.Source.left c.read.new.self)) (sym c.status.ensures)
-    (leaves-last c.in-Err.stop c.loop-count.room c.read.new.into old mid now (g.S.Source.left c.args.source.now) (g.S.Source.left c.loop-count.source) (g.S.Source.left c.read.new.self) m
+    subst (λ (status : Status). Becomes (λ (input left : List ℕ). LeavesOff status (g.B.Eeprom.faults c.args.bench.now) (g.B.Eeprom.faults c.answer_last.new.bench) m input left old.chip.still.given now) (g.S.Source.left c.args.source.now) (g.S.Source.left c.read.new.self)) (sym c.status.ensures)
+    (leaves-last c.in-Err.stop (g.B.Eeprom.faults c.args.bench.now) (g.B.Eeprom.faults c.answer_last.new.bench) (rose-at c.in-Err.stop (g.B.Eeprom.faults c.args.bench.now) (faults g c.loop-count.bench) (faults g c.answer_last.new.bench) c.loop-count.invariant.faults c.in-Err.ensures.causes) c.loop-count.room c.read.new.into old mid now (g.S.Source.left c.args.source.now) (g.S.Source.left c.loop-count.source) (g.S.Source.left c.read.new.self) m
     (record { at = at; line = refl }) c.loop-count.invariant.taken
     (subst (λ (count : ℕ). Takes count c.read.new.into (g.S.Source.left c.loop-count.source) (g.S.Source.left c.read.new.self)) c.if-count-eq0.true c.in-Ok.ensures.taken)
     c.in-Err.ensures.fails)
@@ -56,8 +60,8 @@ returns-in-Err-take_octets-clause-leaves g c = λ m at.
     let mid : RunState = record { card = c.loop-count.card; line = kept_line c.loop-count.line; chip = g.B.Eeprom.chip c.loop-count.bench } in
     let now : Chip = g.B.Eeprom.chip c.take_octets.new.bench in
     let fits : c.min-taken.result ≤ c.in-Ok.count = omega (arith, c.min-taken.ensures) in
-    subst (λ (status : Status). Becomes (λ (input left : List ℕ). LeavesOff status m input left old.chip.still.given now) (g.S.Source.left c.args.source.now) (g.S.Source.left c.read.new.self)) (sym c.status-in-Err-take_octets.ensures)
-    (leaves-halted c.in-Err-take_octets.stop c.loop-count.room c.in-Ok.count c.min-taken.result c.read.new.into old mid now (g.S.Source.left c.args.source.now) (g.S.Source.left c.loop-count.source) (g.S.Source.left c.read.new.self) m fits
+    subst (λ (status : Status). Becomes (λ (input left : List ℕ). LeavesOff status (g.B.Eeprom.faults c.args.bench.now) (g.B.Eeprom.faults c.take_octets.new.bench) m input left old.chip.still.given now) (g.S.Source.left c.args.source.now) (g.S.Source.left c.read.new.self)) (sym c.status-in-Err-take_octets.ensures)
+    (leaves-halted c.in-Err-take_octets.stop (g.B.Eeprom.faults c.args.bench.now) (g.B.Eeprom.faults c.take_octets.new.bench) (rose-at c.in-Err-take_octets.stop (g.B.Eeprom.faults c.args.bench.now) (faults g c.loop-count.bench) (faults g c.take_octets.new.bench) c.loop-count.invariant.faults c.in-Err-take_octets.ensures.causes) c.loop-count.room c.in-Ok.count c.min-taken.result c.read.new.into old mid now (g.S.Source.left c.args.source.now) (g.S.Source.left c.loop-count.source) (g.S.Source.left c.read.new.self) m fits
     (record { at = at; line = refl }) c.loop-count.invariant.taken c.in-Ok.ensures.taken c.in-Err-take_octets.ensures.halts)
 
 pub returns-then-room-count-clause-leaves : goal.returns-then-room-count-clause-leaves
@@ -67,7 +71,7 @@ returns-then-room-count-clause-leaves g c = λ m at.
     let new : RunState = record { card = c.take_octets.new.card; line = kept_line c.take_octets.new.line; chip = g.B.Eeprom.chip c.take_octets.new.bench } in
     let over : c.loop-count.room ≤ c.in-Ok.count = omega (arith, c.if-room-count.true) in
     let all : c.min-taken.result ≡ c.loop-count.room = omega (arith, c.min-taken.ensures, over) in
-    leaves-too_long c.loop-count.room c.in-Ok.count c.read.new.into old mid new (g.S.Source.left c.args.source.now) (g.S.Source.left c.loop-count.source) (g.S.Source.left c.read.new.self) m over c.in-Ok.ensures.taken.fits
+    leaves-too_long (g.B.Eeprom.faults c.args.bench.now) (g.B.Eeprom.faults c.take_octets.new.bench) c.loop-count.room c.in-Ok.count c.read.new.into old mid new (g.S.Source.left c.args.source.now) (g.S.Source.left c.loop-count.source) (g.S.Source.left c.read.new.self) m over c.in-Ok.ensures.taken.fits
     c.in_default-take_octets.ensures.ready (record { at = at; line = refl }) c.loop-count.invariant.taken c.in-Ok.ensures.taken
     (subst (λ (count : ℕ). Feeds (take count c.read.new.into) mid new) all c.in_default-take_octets.ensures.feeds)
 
@@ -92,7 +96,7 @@ pub returns-in_default-clause-moments : goal.returns-in_default-clause-moments
 returns-in_default-clause-moments g c = λ m at given.
     let old : RunState = record { card = c.args.card.now; line = Some []; chip = g.B.Eeprom.chip c.args.bench.now } in
     let mid : RunState = record { card = c.loop-count.card; line = kept_line c.loop-count.line; chip = g.B.Eeprom.chip c.loop-count.bench } in
-    keeps-read_fault c.loop-count.room old mid (g.S.Source.left c.args.source.now) (g.S.Source.left c.loop-count.source) (g.S.Source.left c.read.new.self) m
+    keeps-read_fault (g.B.Eeprom.faults c.args.bench.now) (g.B.Eeprom.faults c.loop-count.bench) c.loop-count.room old mid (g.S.Source.left c.args.source.now) (g.S.Source.left c.loop-count.source) (g.S.Source.left c.read.new.self) m
     (record { at = at; line = refl }) c.loop-count.invariant.taken c.in_default.ensures.err given
 
 pub returns-in-Ok-answer_last-clause-moments : goal.returns-in-Ok-answer_last-clause-moments
@@ -100,7 +104,7 @@ returns-in-Ok-answer_last-clause-moments g c = λ m at given.
     let old : RunState = record { card = c.args.card.now; line = Some []; chip = g.B.Eeprom.chip c.args.bench.now } in
     let mid : RunState = record { card = c.loop-count.card; line = kept_line c.loop-count.line; chip = g.B.Eeprom.chip c.loop-count.bench } in
     let new : RunState = record { card = c.answer_last.new.card; line = None; chip = g.B.Eeprom.chip c.answer_last.new.bench } in
-    keeps-done c.loop-count.room c.read.new.into old mid new (g.S.Source.left c.args.source.now) (g.S.Source.left c.loop-count.source) (g.S.Source.left c.read.new.self) m
+    keeps-done (g.B.Eeprom.faults c.args.bench.now) (g.B.Eeprom.faults c.answer_last.new.bench) c.loop-count.room c.read.new.into old mid new (g.S.Source.left c.args.source.now) (g.S.Source.left c.loop-count.source) (g.S.Source.left c.read.new.self) m
     (record { at = at; line = refl }) c.loop-count.invariant.taken
     (subst (λ (count : ℕ). Takes count c.read.new.into (g.S.Source.left c.loop-count.source) (g.S.Source.left c.read.new.self)) c.if-count-eq0.true c.in-Ok.ensures.taken)
     c.in-Ok-answer_last.ensures.text c.in-Ok-answer_last.ensures.answered given
@@ -110,11 +114,11 @@ returns-in-Err-clause-moments g c = λ m at given.
     let old : RunState = record { card = c.args.card.now; line = Some []; chip = g.B.Eeprom.chip c.args.bench.now } in
     let mid : RunState = record { card = c.loop-count.card; line = kept_line c.loop-count.line; chip = g.B.Eeprom.chip c.loop-count.bench } in
     let now : Chip = g.B.Eeprom.chip c.answer_last.new.bench in
-    subst (λ (status : Status). Becomes (λ (input left : List ℕ). KeepsTo status m input left old.chip now) (g.S.Source.left c.args.source.now) (g.S.Source.left c.read.new.self)) (sym c.status.ensures)
-    (keeps-last c.in-Err.stop c.loop-count.room c.read.new.into old mid now (g.S.Source.left c.args.source.now) (g.S.Source.left c.loop-count.source) (g.S.Source.left c.read.new.self) m
+    subst (λ (status : Status). Becomes (λ (input left : List ℕ). KeepsTo status (g.B.Eeprom.faults c.args.bench.now) (g.B.Eeprom.faults c.answer_last.new.bench) m input left old.chip now) (g.S.Source.left c.args.source.now) (g.S.Source.left c.read.new.self)) (sym c.status.ensures)
+    (keeps-last c.in-Err.stop (g.B.Eeprom.faults c.args.bench.now) (g.B.Eeprom.faults c.answer_last.new.bench) (rose-at c.in-Err.stop (g.B.Eeprom.faults c.args.bench.now) (faults g c.loop-count.bench) (faults g c.answer_last.new.bench) c.loop-count.invariant.faults c.in-Err.ensures.causes) c.loop-count.room c.read.new.into old mid now (g.S.Source.left c.args.source.now) (g.S.Source.left c.loop-count.source) (g.S.Source.left c.read.new.self) m
     (record { at = at; line = refl }) c.loop-count.invariant.taken
     (subst (λ (count : ℕ). Takes count c.read.new.into (g.S.Source.left c.loop-count.source) (g.S.Source.left c.read.new.self)) c.if-count-eq0.true c.in-Ok.ensures.taken)
-    c.in-Err.ensures.fails c.answer_last.ensures.moments given)
+    c.in-Err.ensures.fails c.in-Err.ensures.moments given)
 
 pub returns-in-Err-take_octets-clause-moments : goal.returns-in-Err-take_octets-clause-moments
 returns-in-Err-take_octets-clause-moments g c = λ m at given.
@@ -122,8 +126,8 @@ returns-in-Err-take_octets-clause-moments g c = λ m at given.
     let mid : RunState = record { card = c.loop-count.card; line = kept_line c.loop-count.line; chip = g.B.Eeprom.chip c.loop-count.bench } in
     let now : Chip = g.B.Eeprom.chip c.take_octets.new.bench in
     let fits : c.min-taken.result ≤ c.in-Ok.count = omega (arith, c.min-taken.ensures) in
-    subst (λ (status : Status). Becomes (λ (input left : List ℕ). KeepsTo status m input left old.chip now) (g.S.Source.left c.args.source.now) (g.S.Source.left c.read.new.self)) (sym c.status-in-Err-take_octets.ensures)
-    (keeps-halted c.in-Err-take_octets.stop c.loop-count.room c.in-Ok.count c.min-taken.result c.read.new.into old mid now (g.S.Source.left c.args.source.now) (g.S.Source.left c.loop-count.source) (g.S.Source.left c.read.new.self) m fits
+    subst (λ (status : Status). Becomes (λ (input left : List ℕ). KeepsTo status (g.B.Eeprom.faults c.args.bench.now) (g.B.Eeprom.faults c.take_octets.new.bench) m input left old.chip now) (g.S.Source.left c.args.source.now) (g.S.Source.left c.read.new.self)) (sym c.status-in-Err-take_octets.ensures)
+    (keeps-halted c.in-Err-take_octets.stop (g.B.Eeprom.faults c.args.bench.now) (g.B.Eeprom.faults c.take_octets.new.bench) (rose-at c.in-Err-take_octets.stop (g.B.Eeprom.faults c.args.bench.now) (faults g c.loop-count.bench) (faults g c.take_octets.new.bench) c.loop-count.invariant.faults c.in-Err-take_octets.ensures.causes) c.loop-count.room c.in-Ok.count c.min-taken.result c.read.new.into old mid now (g.S.Source.left c.args.source.now) (g.S.Source.left c.loop-count.source) (g.S.Source.left c.read.new.self) m fits
     (record { at = at; line = refl }) c.loop-count.invariant.taken c.in-Ok.ensures.taken c.in-Err-take_octets.ensures.halts given)
 
 pub returns-then-room-count-clause-moments : goal.returns-then-room-count-clause-moments
@@ -133,6 +137,6 @@ returns-then-room-count-clause-moments g c = λ m at given.
     let new : RunState = record { card = c.take_octets.new.card; line = kept_line c.take_octets.new.line; chip = g.B.Eeprom.chip c.take_octets.new.bench } in
     let over : c.loop-count.room ≤ c.in-Ok.count = omega (arith, c.if-room-count.true) in
     let all : c.min-taken.result ≡ c.loop-count.room = omega (arith, c.min-taken.ensures, over) in
-    keeps-too_long c.loop-count.room c.in-Ok.count c.read.new.into old mid new (g.S.Source.left c.args.source.now) (g.S.Source.left c.loop-count.source) (g.S.Source.left c.read.new.self) m over c.in-Ok.ensures.taken.fits
+    keeps-too_long (g.B.Eeprom.faults c.args.bench.now) (g.B.Eeprom.faults c.take_octets.new.bench) c.loop-count.room c.in-Ok.count c.read.new.into old mid new (g.S.Source.left c.args.source.now) (g.S.Source.left c.loop-count.source) (g.S.Source.left c.read.new.self) m over c.in-Ok.ensures.taken.fits
     (record { at = at; line = refl }) c.loop-count.invariant.taken c.in-Ok.ensures.taken
     (subst (λ (count : ℕ). Feeds (take count c.read.new.into) mid new) all c.in_default-take_octets.ensures.feeds) given

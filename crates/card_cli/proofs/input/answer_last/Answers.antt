@@ -1,11 +1,12 @@
 use Rattle.std.proofs.Common.{List, ℕ, Option, sym, subst, ◌∙◌, refl, inl, arith}
-use Rattle.std.specs.Prelude.{OnOk}
+use Rattle.std.specs.Prelude.{OnOk, IfErr}
+use Rattle.card_cli.specs.declared.stop.Stop.{Stop}
 use Rattle.scql_model.specs.Machine.{Machine}
 use Rattle.card.specs.Card.{IsAt}
 use Rattle.card_cli.specs.Line.{kept_line, kept_reading}
 use Rattle.eeprom.specs.Chip.{Throughout}
 use Rattle.card.proofs.Leaving.{Opens-at}
-use Rattle.card_cli.specs.Moments.{IsInLine, IsAtEnd}
+use Rattle.card_cli.specs.Moments.{IsInStopped, IsAtEnd, IfGiven}
 use Rattle.card_cli.proofs.Moving.{throughout-same, at_end-answered, on_given}
 use Rattle.card_cli.specs.RunState.{Prints}
 use Rattle.card_cli.proofs.Feeding.{end_text-begun, after_end-begun}
@@ -34,12 +35,6 @@ returns-then-is_empty-clause-answered g c = λ r running told.
     let chip = g.B.Eeprom.chip c.args.bench.now in
     throughout-same chip (IsAtEnd r chip.still.mark) (λ image is. inl (refl, Opens-at c.args.card.now chip r.machine c.requires running.at image is))
 
-pub returns-then-is_empty-clause-moments : goal.returns-then-is_empty-clause-moments
-returns-then-is_empty-clause-moments g c = λ r running.
-    let chip = g.B.Eeprom.chip c.args.bench.now in
-    throughout-same chip (IsInLine r.machine (kept_reading r.begun) chip.still.mark)
-    (λ image is. record { later = omega arith; opens = inl (Opens-at c.args.card.now chip r.machine c.requires running.at image is) })
-
 pub returns-clause-answered : goal.returns-clause-answered
 returns-clause-answered g c = λ r running.
     let old = g.B.Eeprom.chip c.args.bench.now in
@@ -51,4 +46,4 @@ pub returns-clause-moments : goal.returns-clause-moments
 returns-clause-moments g c = λ r running.
     let old = g.B.Eeprom.chip c.args.bench.now in
     let new = g.B.Eeprom.chip c.answer_line.new.bench in
-    subst (λ (l : Option (List ℕ)). Throughout old new (IsInLine r.machine (kept_reading l) old.still.mark)) running.line (c.answer_line.ensures.moments r.machine running.at)
+    subst (λ (l : Option (List ℕ)). IfErr c.answer_line.result (λ (stop : Stop). IfGiven new (Throughout old new (IsInStopped stop r.machine (kept_reading l) old.still.mark)))) running.line (c.answer_line.ensures.moments r.machine running.at)

@@ -12,6 +12,7 @@ use Rattle.card_cli.specs.declared.status.Status.TheVariants.{Done, Eeprom, Read
 use Rattle.card_cli.specs.declared.words.Form.{Form}
 use Rattle.card_cli.specs.Beginning.{IsOpenTo, BeginsWith, Begins, LacksCard}
 use Rattle.card_cli.specs.Ends.{AllFaults, EndsBy, LeavesOff}
+use Rattle.card_cli.specs.Keeping.{KeepsTo}
 use Rattle.card_cli.proofs.Finishing.{is_at, open_to, opens_if_told, not_to_none, lacks_none, answers_all, same_faults, until_same}
 use Rattle.card_cli.proofs.run.run_card.Given as given
 use Rattle.card_cli.proofs.run.run_card.Goals as goal
@@ -19,6 +20,10 @@ use Rattle.card_cli.proofs.run.run_card.Goals.{After-answer_input as Ended}
 
 still : (g : given.Over) (c : Ended g) → (g.B.Eeprom.chip c.open.new.bench).still ≡ (g.B.Eeprom.chip c.args.bench.now).still
 still g c = ap (λ (chip : Chip). chip.still) c.open.ensures.same ∙ c.prepare.ensures.still
+
+-- no fault was counted until then
+no_fault : (g : given.Over) (c : Ended g) → g.B.Eeprom.faults c.open.new.bench ≡ g.B.Eeprom.faults c.args.bench.now
+no_fault g c = c.in-Ok-open.ensures.quiet (λ no. cc) ∙ c.in-Ok.ensures.quiet
 
 -- the card's EEPROM is open to the database with which the run begins
 opened : (g : given.Over) (c : Ended g) (db : Database) → BeginsWith (map string_bytes c.args.words.now) (g.B.Eeprom.chip c.args.bench.now) db
@@ -34,13 +39,15 @@ starts g c db begins = is_at c.in-Ok-open.card (g.B.Eeprom.chip c.prepare.new.be
 
 ended : (g : given.Over) (c : Ended g) (status : Status) → c.answer_input.result ≡ status
     → (db : Database) → BeginsWith (map string_bytes c.args.words.now) (g.B.Eeprom.chip c.args.bench.now) db
-    → Becomes (λ (input left : List ℕ). LeavesOff status (start db) input left (g.B.Outlet.given c.args.bench.now) (g.B.Eeprom.chip c.answer_input.new.bench))
+    → Becomes (λ (input left : List ℕ). LeavesOff status (g.B.Eeprom.faults c.args.bench.now) (g.B.Eeprom.faults c.answer_input.new.bench) (start db) input left (g.B.Outlet.given c.args.bench.now) (g.B.Eeprom.chip c.answer_input.new.bench))
     (g.S.Source.left c.args.source.now) (g.S.Source.left c.answer_input.new.source)
 ended g c status is db begins =
     let before : (g.B.Eeprom.chip c.open.new.bench).still.given ≡ g.B.Outlet.given c.args.bench.now = ap (λ (s : Still). s.given) (still g c) ∙ (g.met.B.Bench.output c.args.bench.now).0 in
-    let leaves : Status → Option (List ℕ) → Type 0 = λ status before.
-    Becomes (λ (input left : List ℕ). LeavesOff status (start db) input left before (g.B.Eeprom.chip c.answer_input.new.bench)) (g.S.Source.left c.args.source.now) (g.S.Source.left c.answer_input.new.source) in
-    subst (λ (s : Status). leaves s (g.B.Outlet.given c.args.bench.now)) is (subst (leaves c.answer_input.result) before (c.answer_input.ensures.leaves (start db) (starts g c db begins)))
+    let leaves : Status → ℕ → Option (List ℕ) → Type 0 = λ status from before.
+    Becomes (λ (input left : List ℕ). LeavesOff status from (g.B.Eeprom.faults c.answer_input.new.bench) (start db) input left before (g.B.Eeprom.chip c.answer_input.new.bench)) (g.S.Source.left c.args.source.now) (g.S.Source.left c.answer_input.new.source) in
+    subst (λ (s : Status). leaves s (g.B.Eeprom.faults c.args.bench.now) (g.B.Outlet.given c.args.bench.now)) is
+    (subst (λ (from : ℕ). leaves c.answer_input.result from (g.B.Outlet.given c.args.bench.now)) (no_fault g c)
+    (subst (leaves c.answer_input.result (g.B.Eeprom.faults c.open.new.bench)) before (c.answer_input.ensures.leaves (start db) (starts g c db begins))))
 
 pub returns-in-Ok-open-clause-answered : goal.returns-in-Ok-open-clause-answered
 returns-in-Ok-open-clause-answered g c = ended g (goal.at.returns-in-Ok-open-clause-answered g c).After-answer_input Done
@@ -81,10 +88,9 @@ returns-in-Ok-open-clause-text g c = λ db begins quiet input left from to short
     let first = g.met.B.Bench.output c.args.bench.now in
     let second = g.met.B.Bench.output c.open.new.bench in
     let sink : g.B.Outlet.sink_faults c.open.new.bench ≡ g.B.Outlet.sink_faults c.args.bench.now = sym second.1 ∙ (ap (λ (s : Still). s.sink_faults) (still g run) ∙ first.1) in
-    let eeprom : g.B.Eeprom.faults c.open.new.bench ≡ g.B.Eeprom.faults c.args.bench.now = c.in-Ok-open.ensures.quiet (λ no. cc) ∙ c.in-Ok.ensures.quiet in
     let old : AllFaults = record { eeprom = g.B.Eeprom.faults c.args.bench.now; source = g.S.Source.source_faults c.args.source.now; outlet = g.B.Outlet.sink_faults c.args.bench.now } in
     let new : AllFaults = record { eeprom = g.B.Eeprom.faults c.answer_input.new.bench; source = g.S.Source.source_faults c.answer_input.new.source; outlet = g.B.Outlet.sink_faults c.answer_input.new.bench } in
-    let same = same_faults (g.B.Eeprom.faults c.open.new.bench) (g.B.Eeprom.faults c.args.bench.now) (g.S.Source.source_faults c.args.source.now) (g.B.Outlet.sink_faults c.open.new.bench) (g.B.Outlet.sink_faults c.args.bench.now) eeprom sink in
+    let same = same_faults (g.B.Eeprom.faults c.open.new.bench) (g.B.Eeprom.faults c.args.bench.now) (g.S.Source.source_faults c.args.source.now) (g.B.Outlet.sink_faults c.open.new.bench) (g.B.Outlet.sink_faults c.args.bench.now) (no_fault g run) sink in
     answers_all c.answer_input.result (start db) (g.B.Outlet.given c.args.bench.now) (g.B.Eeprom.chip c.answer_input.new.bench) (g.B.Outlet.given c.answer_input.new.bench) old new
     (g.S.Source.left c.args.source.now) (g.S.Source.left c.answer_input.new.source) input left
     c.answer_input.ensures.status (subst (λ (f : AllFaults). EndsBy c.answer_input.result f new) same c.answer_input.ensures.ends) quiet from to short c.answer_input.ensures.too_long
@@ -105,6 +111,6 @@ returns-in-Ok-open-clause-moments g c = inr (λ db begins given left last.
         still = still g run;
         opens = subst (λ (chip : Chip). IfSome chip.image (λ (image : List ℕ). Opens image db)) (sym c.open.ensures.same) (opens_if_told mid db (opened g run db begins));
         until = until_same c.in-Some.form begins.form old mid now same c.open.ensures.same c.in-Ok.ensures.leaves;
-        runs = moments.2;
+        runs = subst (λ (from : ℕ). KeepsTo c.answer_input.result from (g.B.Eeprom.faults c.answer_input.new.bench) (start db) moments.0 left now (g.B.Eeprom.chip c.answer_input.new.bench)) (no_fault g run) moments.2;
       },
     ))
