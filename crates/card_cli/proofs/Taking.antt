@@ -16,7 +16,7 @@ use Rattle.card_cli.specs.declared.status.Status.TheVariants.{Done, ReadFault, T
 use Rattle.card_cli.specs.StatusNumber.{status_of}
 use Rattle.card_cli.specs.Running.{Running, from_machine, after, text_of, end_text, after_end}
 use Rattle.card_cli.specs.RunState.{Prints, RunState, IsRunning, Feeds, Faults, Causes}
-use Rattle.card_cli.specs.Ends.{LeavesOff, longest_input, HasTaken}
+use Rattle.card_cli.specs.Ends.{LeavesOff, longest_input}
 use Rattle.card_cli.specs.Line.{kept_reading, is_nothing_kept}
 use Rattle.card_cli.specs.Moments.{IsInStopped, IsAtEnd, IfGiven}
 use Rattle.card_cli.specs.Keeping.{AreKept, AreAllKept, KeepsTo, carried_out}
@@ -27,6 +27,13 @@ use Rattle.card_cli.specs.Halting.{FailsAt, HaltsAt, Halts}
 use Rattle.card_cli.proofs.Stopping.{Halts-within, StopsIn-halted, StopsIn-last}
 use Rattle.card_cli.proofs.Feeding.{Feeds-nothing, Feeds-then, Prints-then}
 use Rattle.card_cli.proofs.Streaming.{open_end, text_of-lines, after-lines, text_of-ended, after_end-lines, lines-open, lines-line_feed}
+
+-- what was taken of the input so far, so that so many octets may still come
+pub record HasTaken (room : ℕ) (old new : RunState) (input left : List ℕ) : Type 0 where
+  pub taken : List ℕ
+  pub split : input ≡ taken ++ left
+  pub count : length taken + room ≡ longest_input
+  pub feeds : Feeds taken old new
 
 -- before the first read
 pub HasTaken-nothing : (state : RunState) (left : Option (List ℕ)) → IsReady state.card state.chip → Becomes (HasTaken longest_input state state) left left

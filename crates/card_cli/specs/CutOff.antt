@@ -1,5 +1,5 @@
 -- Where a run ends: what was given until then, and to which databases the image may open.
-use Rattle.std.specs.Prelude.{◌≡◌, ◌⊎◌, ℕ, List, ◌∷◌, ◌++◌, Option, Some, codes}
+use Rattle.std.specs.Prelude.{◌≡◌, ℕ, List, ◌∷◌, ◌++◌, Option, Some, codes}
 use Rattle.eeprom.specs.Chip.{Chip}
 use Rattle.scql_model.specs.Machine.{Machine}
 use Rattle.scql_model.specs.Lines.{Reading, reading_of, reading_text, reading_step, reading_commits, run_text, machine_after}

@@ -1,5 +1,5 @@
 -- How a run over its input ends.
-use Rattle.std.specs.Prelude.{◌≡◌, ◌⊎◌, ℕ, ◌+◌, Bool, true, false, List, ◌++◌, length, take, Option}
+use Rattle.std.specs.Prelude.{◌≡◌, ◌⊎◌, ℕ, Bool, true, false, List, ◌++◌, take, Option}
 use Rattle.eeprom.specs.Chip.{Chip}
 use Rattle.eeprom.specs.Fault.{Rose}
 use Rattle.scql_model.specs.Machine.{Machine}
@@ -7,7 +7,6 @@ use Rattle.scql_model.specs.Lines.{lines}
 use Rattle.card_cli.specs.declared.status.Status.{Status}
 use Rattle.card_cli.specs.declared.status.Status.TheVariants.{Done, Eeprom, ReadFault, WriteFault, TooLong}
 use Rattle.card_cli.specs.declared.stop.Stop.TheVariants as stop
-use Rattle.card_cli.specs.RunState.{RunState, Feeds}
 use Rattle.card_cli.specs.CutOff.{HasAnswered, StopsIn}
 
 -- how many octets of input a run takes
@@ -53,10 +52,3 @@ LeavesOff Eeprom from to m input left before now = StopsIn stop.Eeprom m (lines 
 LeavesOff WriteFault from to m input left before now =
     StopsIn stop.Outlet m (lines input true) before now ⊎ (Rose from to × StopsIn stop.Both m (lines input true) before now)
 LeavesOff status from to m input left before now = ⊥
-
--- what was taken of the input so far, so that so many octets may still come
-pub record HasTaken (room : ℕ) (old new : RunState) (input left : List ℕ) : Type 0 where
-  pub taken : List ℕ
-  pub split : input ≡ taken ++ left
-  pub count : length taken + room ≡ longest_input
-  pub feeds : Feeds taken old new

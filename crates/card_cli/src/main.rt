@@ -40,8 +40,8 @@ fn answer(rt: &HostRuntime) -> Result<Status, Ending> {
         return Ok(Status::Usage);
     };
     match (first.as_str(), rest.is_empty()) {
-        ("--help", true) => print(rt, HELP),
-        ("--version", true) => print(rt, VERSION),
+        ("--help", true) => Ok(print(rt, HELP)),
+        ("--version", true) => Ok(print(rt, VERSION)),
         (path, _) => run_over(rt, path, rest),
     }
 }
@@ -53,10 +53,10 @@ fn command_line(rt: &HostRuntime) -> Result<Vec<String>, Ending> {
     Ok(words.collect(rt.alloc())?)
 }
 
-fn print(rt: &HostRuntime, text: &str) -> Result<Status, Ending> {
+fn print(rt: &HostRuntime, text: &str) -> Status {
     match rt.println(text) {
-        Ok(()) => Ok(Status::Done),
-        Err(_) => Ok(Status::WriteFault),
+        Ok(()) => Status::Done,
+        Err(_) => Status::WriteFault,
     }
 }
 

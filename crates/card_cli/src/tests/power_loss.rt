@@ -57,25 +57,30 @@ fn users_by(output: &[u8]) -> Option<usize> {
 }
 
 // Whether that may be left where so many octets had gone out, of five an answer: the first answer is OWNER's,
-// and each further one a user's.
-fn may_be_left(left: Left, given: usize, was_new: bool) -> bool {
+// and each further one a user's. Where a card is made, what was there before is told: the users of another card.
+fn may_be_left(left: Left, given: usize, before: Option<usize>) -> bool {
     let made = (given / 5).saturating_sub(1);
     match left {
-        Left::NoCard => was_new && given == 0,
+        Left::NoCard => before.is_some() && given == 0,
+        Left::Users(users) if given == 0 => users == 0 || before == Some(users),
         Left::Users(users) => users == made || users == made.saturating_add(1),
         Left::Else => false,
     }
 }
 
 // How many of the images that a power loss leaves in the writes of a run aren't allowed.
-fn count_wrong(alloc: Global, bench: &MemBench, was_new: bool) -> Result<usize, AllocError> {
+fn count_wrong(
+    alloc: Global,
+    bench: &MemBench,
+    before: Option<usize>,
+) -> Result<usize, AllocError> {
     let mut wrong = 0usize;
     for write in 0..bench.writes() {
         for fill in [0x00, 0xFF, 0x5A] {
             let found = bench.image_within(alloc, write, fill)?;
             let is_right = match (found, bench.given_at(write)) {
                 (Some(image), Some(given)) => {
-                    may_be_left(look_at(alloc, &image)?, given, was_new)
+                    may_be_left(look_at(alloc, &image)?, given, before)
                 }
                 _ => false,
             };
@@ -93,21 +98,21 @@ fn cut_in_each_write(rt: HostRuntime) -> Result<(), Fail> {
     let fresh = fresh_card(alloc)?;
     let mut with_ann = fresh_card(alloc)?;
     lay(with_ann.as_mut_slice(), &WITH_ANN);
-    let rows: [(&[&str], &[u8], bool); 3] = [
-        (&["apdu"], &fresh, false),
-        (&["new", "16"], &[0xA5; 1154], true),
-        (&["new", "16"], &with_ann, true),
+    let rows: [(&[&str], &[u8], Option<usize>); 3] = [
+        (&["apdu"], &fresh, None),
+        (&["new", "16"], &[0xA5; 1154], Some(0)),
+        (&["new", "16"], &with_ann, Some(1)),
     ];
-    for (words, image, was_new) in rows {
+    for (words, image, before) in rows {
         let (status, bench) = run_over(alloc, words, MAKES_THREE, image, no_faults(alloc))?;
-        assert!(rt; status == Status::Done, "{was_new}");
+        assert!(rt; status == Status::Done, "{before:?}");
         // Each user's record, directory and selector.
-        assert!(rt; 9 <= bench.writes(), "{was_new}");
+        assert!(rt; 9 <= bench.writes(), "{before:?}");
         assert!(rt;
             matches!(look_at(alloc, bench.image())?, Left::Users(3)),
-            "{was_new}"
+            "{before:?}"
         );
-        assert_eq!(rt; count_wrong(alloc, &bench, was_new)?, 0, "{was_new}");
+        assert_eq!(rt; count_wrong(alloc, &bench, before)?, 0, "{before:?}");
     }
     Ok(())
 }

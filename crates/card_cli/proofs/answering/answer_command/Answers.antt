@@ -1,5 +1,5 @@
 -- A card that replied was carried out to the end; a mute one leaves what it had committed by then.
-use Rattle.std.proofs.Common.{◌≡◌, ℕ, List, [], ◌+◌, ◌++◌, length, Option, Result, Err, refl, sym, ap, subst, ◌∙◌, arith}
+use Rattle.std.proofs.Common.{◌≡◌, ℕ, List, [], ◌+◌, ◌++◌, length, Option, refl, ap, subst, ◌∙◌, arith}
 use Rattle.std.specs.Prelude.{IfErr, codes}
 use Rattle.hex.specs.Hex.{encode_upper}
 use Rattle.eeprom.specs.Chip.{Chip, Still, Throughout}

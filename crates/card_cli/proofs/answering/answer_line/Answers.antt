@@ -1,4 +1,4 @@
-use Rattle.std.proofs.Common.{List, [], ℕ, length, sym, ap, subst, inl, arith}
+use Rattle.std.proofs.Common.{List, [], ℕ, length, sym, ap, subst}
 use Rattle.eeprom.specs.Chip.{Throughout}
 use Rattle.card.proofs.Leaving.{Opens-at}
 use Rattle.card_cli.specs.Moments.{IsInStopped, IsAnswered, IfGiven}

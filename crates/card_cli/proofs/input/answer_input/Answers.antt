@@ -6,8 +6,8 @@ use Rattle.card_cli.specs.declared.status.Status.{Status}
 use Rattle.card_cli.specs.Line.{kept_line}
 use Rattle.card_cli.specs.RunState.{RunState, Faults, Feeds}
 use Rattle.card_cli.specs.Keeping.{KeepsTo}
-use Rattle.card_cli.specs.Ends.{LeavesOff, longest_input, HasTaken}
-use Rattle.card_cli.proofs.Taking.{rose-at, HasTaken-nothing, HasTaken-more, leaves-read_fault, leaves-done, leaves-last, leaves-halted, leaves-too_long, keeps-read_fault, keeps-done, keeps-last, keeps-halted, keeps-too_long}
+use Rattle.card_cli.specs.Ends.{LeavesOff, longest_input}
+use Rattle.card_cli.proofs.Taking.{rose-at, HasTaken, HasTaken-nothing, HasTaken-more, leaves-read_fault, leaves-done, leaves-last, leaves-halted, leaves-too_long, keeps-read_fault, keeps-done, keeps-last, keeps-halted, keeps-too_long}
 use Rattle.card_cli.proofs.input.answer_input.Given as given
 use Rattle.card_cli.proofs.input.answer_input.Goals as goal
 

@@ -2,7 +2,7 @@ use Rattle.std.proofs.Common.{◌≡◌, [], Some}
 use Rattle.eeprom.specs.Chip.{Becomes}
 use Rattle.card.specs.Card.{IsReady}
 use Rattle.card_cli.specs.Line.{kept_line}
-use Rattle.card_cli.specs.Ends.{HasTaken}
+use Rattle.card_cli.proofs.Taking.{HasTaken}
 use Rattle.card_cli.proofs.input.answer_input.Given as goal
 
 abbrev pub invariant-loop-count : goal.invariant-loop-count

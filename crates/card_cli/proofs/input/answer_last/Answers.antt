@@ -1,4 +1,4 @@
-use Rattle.std.proofs.Common.{List, ℕ, Option, sym, subst, ◌∙◌, refl, inl, arith}
+use Rattle.std.proofs.Common.{List, ℕ, Option, sym, subst, ◌∙◌, refl, inl}
 use Rattle.std.specs.Prelude.{OnOk, IfErr}
 use Rattle.card_cli.specs.declared.stop.Stop.{Stop}
 use Rattle.scql_model.specs.Machine.{Machine}
