@@ -1,5 +1,5 @@
 -- The chains of both sides of a store in memory, as slots are emptied and filled, and as a transaction ends.
-use Rattle.std.proofs.Common.{◌≡◌, ◌≢◌, ◌⊎◌, inl, inr, ℕ, zero, suc, ◌+◌, ◌*◌, ◌<◌, ◌≤◌, ◌==◌, ◌||◌, if◌then◌else◌, Bool, true, false, List, [], ◌∷◌, ◌++◌, length, set, get_or, slice_index, slice_set, sym, refl, ap, ◌∙◌, arith, subst, true≢false, length-append, eqb-true, eq-eqb}
+use Rattle.std.proofs.Common.{◌≡◌, ◌≢◌, ◌⊎◌, inl, inr, ℕ, zero, suc, ◌+◌, ◌-◌, ◌*◌, ◌<◌, ◌≤◌, ◌==◌, ◌||◌, if◌then◌else◌, Bool, true, false, List, [], ◌∷◌, ◌++◌, length, set, get_or, slice_index, slice_set, sym, refl, ap, ◌∙◌, arith, subst, true≢false, length-append, eqb-true, eq-eqb}
 use Rattle.std.specs.List.{AllByRecursion}
 use Rattle.std.proofs.lemmas.Bool.{false_from_ne_true, or_cases, or_left, or_right}
 use Rattle.std.proofs.lemmas.List.{length-set, get_or-set_same, get_or-set_other}
@@ -15,7 +15,7 @@ use Rattle.record_store.specs.Held.{Held, cells_of_store, firsts}
 use Rattle.record_store.specs.Put.{emptied}
 use Rattle.record_store.specs.Slots.{AreUsedChains, AreReplaced}
 use Rattle.record_store.specs.Sound.{AreChains, AreBeside, HasChains, KeepsSides, IsSound, cells_in}
-use Rattle.record_store.specs.Transaction.{begun_from, rolled_back, after_commit}
+use Rattle.record_store.specs.Transaction.{begun_from}
 use Rattle.record_store.specs.declared.side.Side.TheVariants.{Working}
 
 -- a record was put, whose chain begins at this cell
@@ -402,6 +402,14 @@ pub record Frees (held : Held) (replaced kept : List ℕ) (used : List Bool) : T
 twice : (b : Bool) → b ≡ (b || b)
 twice true = refl
 twice false = refl
+
+-- a transaction has ended, and what was committed stays; these cells are used then
+abbrev pub rolled_back : Held → List Bool → Held
+rolled_back held used = record { cells = held.cells; used = used; links = held.links; selector = held.selector; committed = held.committed; working = held.working; begun = false }
+
+-- it was committed: the working records are now those that are committed, and the other directory is selected
+abbrev pub after_commit : Held → List Bool → Held
+after_commit held used = record { cells = held.cells; used = used; links = held.links; selector = 1 - held.selector; committed = held.working; working = held.working; begun = false }
 
 pub sound-committed : (held : Held) (used : List Bool) (sound : IsSound held) → held.begun ≡ true → Frees held held.committed held.working used → IsSound (after_commit held used)
 sound-committed held used sound begun f = record {

@@ -10,7 +10,7 @@ ghost use Rattle.eeprom.specs.StoreOf.{weight_of};
 ghost use Rattle.record_store.specs.Put.{IsPut, IsFull, IsWithin, emptied};
 ghost use Rattle.cell_store.specs.Marks.{StaysMarked};
 ghost use Rattle.cell_store.specs.Reading.{ReadsRecord};
-ghost use Rattle.record_store.specs.Transaction.{begun_from, rolled_back, after_commit, IsCommitted, Commits};
+ghost use Rattle.record_store.specs.Transaction.{begun_from, IsCommitted, Commits};
 ghost use Rattle.record_store.specs.declared.side.Side.TheVariants.{Committed, Working};
 
 use crate::claims::claim_chains;
@@ -199,7 +199,8 @@ impl Store {
         requires begun { IsTrue self.old.begun }
         requires room { 70 * self.old.cells + 34 ≤ (B.chip bench.old).still.size }
         requires stands { IfSome (B.chip bench.old).image (StandsFor self.old) }
-        ensures ended { OnOk result (self.new ≡ after_commit self.old self.new.used) }
+        ensures ended { OnOk result (self.new.begun ≡ false) }
+        ensures cells { OnOk result (self.new.cells ≡ self.old.cells) }
         ensures told { OnOk result (is_some (B.chip bench.new).image ≡ is_some (B.chip bench.old).image) }
         ensures done { OnOk result (Becomes (IsCommitted self.old self.new) (B.chip bench.old).image (B.chip bench.new).image) }
         ensures moments { Commits self.old (B.chip bench.old) (B.chip bench.new) }
@@ -226,7 +227,8 @@ impl Store {
     /// Ends the transaction, and what was committed stays.
     pub fn rollback(&mut self)
         requires begun { IsTrue self.old.begun }
-        ensures ended { self.new ≡ rolled_back self.old self.new.used }
+        ensures ended { self.new.begun ≡ false }
+        ensures cells { self.new.cells ≡ self.old.cells }
         ensures stands { (image : List ℕ) → StandsFor self.old image → StandsFor self.new image }
         ensures committed { (image : List ℕ) → contents self.new Committed image ≡ contents self.old Committed image }
     {
