@@ -15,7 +15,6 @@ use Rattle.record_store.specs.Held.{Held, cells_of_store, firsts}
 use Rattle.record_store.specs.Put.{emptied}
 use Rattle.record_store.specs.Slots.{AreUsedChains, AreReplaced}
 use Rattle.record_store.specs.Sound.{AreChains, AreBeside, HasChains, KeepsSides, IsSound, cells_in}
-use Rattle.record_store.specs.Transaction.{begun_from}
 use Rattle.record_store.specs.declared.side.Side.TheVariants.{Working}
 
 -- a record was put, whose chain begins at this cell
@@ -500,25 +499,3 @@ sound-rolled_back held used sound begun f = record {
           | inr apart ↦ true≢false (sym committed ∙ apart cell gone.3)
           | inl alike ↦ gone.2 (ap (λ (firsts : List ℕ). slice_index firsts gone.0) (sym working_is) ∙ alike)
         ]))
-
-pub sound-begun : (held : Held) → held.begun ≡ false → IsSound held → IsSound (begun_from held)
-sound-begun held idle sound = record {
-  range = sound.range;
-  selector = sound.selector;
-  committed_count = sound.committed_count;
-  working_count = sound.committed_count;
-  sides = record {
-    committed = k.committed;
-    working = k.working;
-    committed_has = k.committed_has;
-    working_has = subst (λ (firsts : List ℕ). HasChains held.cells held.links firsts k.working) working_is k.working_has;
-    beside = subst (λ (firsts : List ℕ). AreBeside held.committed firsts k.working (cells_in k.committed)) working_is k.beside;
-    used = k.used;
-  };
-}
-  where
-    k : KeepsSides held
-    k = sound.sides
-
-    working_is : firsts held Working ≡ held.committed
-    working_is = rw idle refl

@@ -232,11 +232,8 @@ impl Store {
         ensures stands { (image : List ℕ) → StandsFor self.old image → StandsFor self.new image }
         ensures committed { (image : List ℕ) → contents self.new Committed image ≡ contents self.old Committed image }
     {
-        free_replaced(
-            &mut self.chains,
-            self.working.as_slice(),
-            self.committed.as_slice(),
-        );
+        let replaced = self.working.as_slice();
+        free_replaced(&mut self.chains, replaced, self.committed.as_slice());
         self.begun = false;
     }
 
