@@ -62,6 +62,7 @@ pub Keeping-torn : (marks : List Bool) (n at count : ℕ) (was left : List ℕ) 
 Keeping-torn marks n at count was left inside room run torn = rw (torn.is) (record {
   size = length-overwrite was (cell_place n at) torn.octets (omega (arith, torn.count_is));
   front = take-overwrite (34 + 6 * n) (cell_place n at) was torn.octets (omega arith) (omega arith);
+  behind = drop-overwrite (34 + 70 * n) (cell_place n at) was torn.octets (omega (arith, torn.count_is)) (omega (arith, torn.count_is));
   cells = λ cell is. cell-apart was torn.octets n at count cell (outside-run marks at count cell run is) torn.count_is inside room;
 })
 
@@ -73,11 +74,12 @@ pub Keeping-then : (marks later : List Bool) (n : ℕ) (left mid was : List ℕ)
 Keeping-then marks later n left mid was stays a b = record {
   size = a.size ∙ b.size;
   front = a.front ∙ b.front;
+  behind = a.behind ∙ b.behind;
   cells = λ cell is. SameCell-then left mid was n cell (a.cells cell (stays cell is)) (b.cells cell is);
 }
 
 pub Keeping-same : (marks : List Bool) (n : ℕ) (was : List ℕ) → Keeping marks n was was
-Keeping-same marks n was = record { size = refl; front = refl; cells = λ cell is. record { link = refl; payload = refl } }
+Keeping-same marks n was = record { size = refl; front = refl; behind = refl; cells = λ cell is. record { link = refl; payload = refl } }
 
 -- the two numbers of a cell that was written
 link-written : (image : List ℕ) (at high low : ℕ) (piece : List ℕ) → at ≤ length image → number_at (overwrite image at (high ∷ low ∷ piece)) at ≡ 256 * high + low

@@ -24,9 +24,6 @@ at-most-one : (mark : Bool) → (cond mark 1 0 ≤ 1) × (cond (not mark) 1 0 �
 at-most-one true = (omega arith, omega arith)
 at-most-one false = (omega arith, omega arith)
 
-pub marked-one-more : (marks : List Bool) (cell : ℕ) → cell < length marks → marked (set marks cell true) ≤ marked marks + 1
-marked-one-more marks cell inside = omega (arith, sum_by-set (λ (mark : Bool). cond mark 1 0) marks cell true false inside)
-
 pub unmarked-one-less : (marks : List Bool) (cell : ℕ) → cell < length marks → unmarked marks ≤ unmarked (set marks cell true) + 1
 unmarked-one-less marks cell inside =
     let e = sum_by-set (λ (mark : Bool). cond (not mark) 1 0) marks cell true false inside in

@@ -50,6 +50,16 @@ pub is_some-map : {A B : Type 0} (f : A → B) (o : Option A) → is_some (optio
 is_some-map f None = refl
 is_some-map f (Some x) = refl
 
+-- how many octets were written, of none and of some more
+pub written-none : (old : Option ℕ) (none : ℕ) → none ≡ 0 → Becomes (λ before after. after ≡ before + none) old old
+written-none old none is = λ after told. (after, told, omega (arith, is))
+
+pub written-more : (old mid new : Option ℕ) (some more all : ℕ) → all ≡ some + more → Becomes (λ before after. after ≡ before + some) old mid → Becomes (λ before after. after ≡ before + more) mid new → Becomes (λ before after. after ≡ before + all) old new
+written-more old mid new some more all is first second = λ after told.
+    let later = second after told in
+    let sooner = first later.0 later.1 in
+    (sooner.0, sooner.1, omega (arith, is, later.2, sooner.2))
+
 -- where a chain has been written so far, a torn write into a free run keeps what is marked
 pub keeps-run : (start marks : List Bool) (n cell count : ℕ) (octets : List ℕ) (old mid new : Chip) (payload links : List ℕ) (piece total first : ℕ) → cell + count ≤ 2 * n → IsFreeRun marks cell count → StaysMarked start marks → length octets ≡ 32 * count
     → 70 * n + 34 ≤ old.still.size → IfSome old.image (λ image. length image ≡ old.still.size) → IfSome mid.past (λ past. length past ≡ mid.clock)

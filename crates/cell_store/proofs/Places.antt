@@ -61,6 +61,3 @@ numbers_at-within image place size k (suc count) inside =
 
 pub numbers_at-push : (octets items : List ℕ) (count first : ℕ) → items ≡ numbers_at octets 0 count → first ≡ number_at octets (2 * count) → items ++ first ∷ [] ≡ numbers_at octets 0 (count + 1)
 numbers_at-push octets items count first e is = rw (e, is) (sym (rw zero-add at (numbers_at-more octets 0 count)))
-
-pub get_or-front_numbers : (octets : List ℕ) (count k first : ℕ) → k < count → first ≡ number_at octets (2 * k) → get_or (numbers_at octets 0 count) k 0 ≡ first
-get_or-front_numbers octets count k first inside is = get_or-numbers_at octets 0 count k 0 inside ∙ rw zero-add (sym is)

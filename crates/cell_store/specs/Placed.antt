@@ -1,5 +1,5 @@
 -- A chain that is written into cells which no other chain has, from its last cell on.
-use Rattle.std.specs.Prelude.{◌≡◌, ℕ, ◌+◌, ◌*◌, ◌<◌, ◌≤◌, Bool, true, false, List, length, take, Some, slice_index, slice_range}
+use Rattle.std.specs.Prelude.{◌≡◌, ℕ, ◌+◌, ◌*◌, ◌<◌, ◌≤◌, Bool, true, false, List, length, take, drop, Some, slice_index, slice_range}
 use Rattle.std.specs.List.{flat_map, AllByRecursion}
 use Rattle.eeprom.specs.Chip.{Chip, Throughout}
 use Rattle.eeprom.specs.StoreOf.{chain_of, cell_place, payload_of, number_at, is_distinct}
@@ -12,10 +12,11 @@ pub record SameCell (left was : List ℕ) (n cell : ℕ) : Type 0 where
   pub link : number_at left (cell_place n cell) ≡ number_at was (cell_place n cell)
   pub payload : payload_of left n cell ≡ payload_of was n cell
 
--- all before the cells is the same, and each marked cell
+-- all before the cells and behind them is the same, and each marked cell
 pub record Keeping (marks : List Bool) (n : ℕ) (left was : List ℕ) : Type 0 where
   pub size : length left ≡ length was
   pub front : take (34 + 6 * n) left ≡ take (34 + 6 * n) was
+  pub behind : drop (34 + 70 * n) left ≡ drop (34 + 70 * n) was
   pub cells : (cell : ℕ) → is_marked marks cell ≡ true → SameCell left was n cell
 
 -- a cell that was taken for the chain
@@ -48,7 +49,7 @@ pub record IsLaid (n : ℕ) (start marks : List Bool) (piece count first : ℕ) 
   pub marks_are : marks ≡ with_marked start chain
   pub stay : StayLinked start before links
 
--- at each moment all before the cells is as it was, and each marked cell; nothing is given
+-- at each moment all before the cells and behind them is as it was, and each marked cell; nothing is given
 pub record KeepsMarked (marks : List Bool) (n : ℕ) (old new : Chip) : Type 0 where
   pub still : new.still ≡ old.still
   pub moments : Throughout old new (λ g left. (g ≡ old.still.mark) × (was : List ℕ) × (old.image ≡ Some was) × Keeping marks n left was)

@@ -5,7 +5,7 @@ use Rattle.cell_store.specs.Chains.{AreLinked, IsRecordChain}
 use Rattle.cell_store.specs.Cells.{Cells, link_in, StandsFor, StayLinked}
 use Rattle.cell_store.specs.Placed.{Keeping}
 
--- The chain along the links from this cell on reads as these octets. All before the cells and each cell that was used is as it was.
+-- The chain along the links from this cell on reads as these octets. All before the cells and behind them is as it was, and each cell that was used.
 pub record IsWritten (old new : Cells) (first : ℕ) (octets was now : List ℕ) : Type 0 where
   pub keeping : Keeping old.used old.cells now was
   pub stands : StandsFor old was → StandsFor new now

@@ -113,6 +113,7 @@ pub fn write_cells<B: Eeprom>(
     ensures there { IfOk result (λ first. first < 2 * cells) }
     ensures told { OnOk result (is_some (B.chip bench.new).image ≡ is_some (B.chip bench.old).image) }
     ensures links { length links.new ≡ length links.old }
+    ensures octets_written { OnOk result (Becomes (λ before after. after ≡ before + 32 * count) (B.chip bench.old).written (B.chip bench.new).written) }
     ensures moments { KeepsMarked marks.old cells (B.chip bench.old) (B.chip bench.new) }
     ensures cause { Counts (B.faults bench.old) (B.faults bench.new) result }
 {

@@ -99,6 +99,7 @@ impl CellStore {
         ensures fault { IsErrOf result CellRefusal.Fault → KeepsChains self.old self.new }
         ensures there { IfOk result (λ first. first < 2 * self.old.cells) }
         ensures told { OnOk result (is_some (B.chip bench.new).image ≡ is_some (B.chip bench.old).image) }
+        ensures octets_written { OnOk result (Becomes (λ before after. after ≡ before + 32 * image.cells_for (length octets.now)) (B.chip bench.old).written (B.chip bench.new).written) }
         ensures moments { KeepsMarked self.old.used self.old.cells (B.chip bench.old) (B.chip bench.new) }
         ensures cause { CountsWriteFaults (B.faults bench.old) (B.faults bench.new) result }
     {

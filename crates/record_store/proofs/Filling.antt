@@ -14,10 +14,9 @@ use Rattle.record_store.specs.Held.{Held, cells_of_store, StandsFor, firsts}
 use Rattle.record_store.specs.Put.{IsPut, emptied}
 use Rattle.record_store.specs.Slots.{steps_without, AreUsedChains, AreReplaced}
 use Rattle.record_store.specs.Sound.{AreChains, IsSound}
-use Rattle.record_store.specs.Transaction.{after_commit}
 use Rattle.record_store.specs.declared.side.Side.TheVariants.{Working}
 use Rattle.record_store.proofs.Putting.{HasRoom, emptied-room, keeps-store, put-emptied, stands-emptied}
-use Rattle.record_store.proofs.Sides.{put_into, Frees, all-among, chain-at, chains-stay, committed-marked, working-marked, working-used, in-chains, put_in-takes, sound-emptied, sound-put, sound-committed, sound-rolled_back}
+use Rattle.record_store.proofs.Sides.{after_commit, put_into, Frees, all-among, chain-at, chains-stay, committed-marked, working-marked, working-used, in-chains, put_in-takes, sound-emptied, sound-put, sound-committed, sound-rolled_back}
 
 -- the store of cells is another one, and all else is as it was
 abbrev pub with_cells : Held → Cells → Held

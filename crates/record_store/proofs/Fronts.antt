@@ -8,14 +8,6 @@ use Rattle.eeprom.specs.StoreOf.{starts_with_magic, store_of, fresh_slots}
 use Rattle.record_store.specs.FreshImage.{magic, HasOldStore, LeavesCleared, LeavesFormatted}
 use Rattle.eeprom.proofs.Moments.{write-throughout, throughout-then, throughout-weaker}
 
-pub Keeps-same : {A : Type 0} (look : List ℕ → A) (chip : Chip) → Keeps look chip chip
-Keeps-same look chip = record {
-  still = refl;
-  image = λ now told. (now, told, refl);
-  later = omega arith;
-  only = λ t g left since there. inl there;
-}
-
 pub Keeps-then : {A : Type 0} (look : List ℕ → A) (old mid new : Chip) → Keeps look old mid → Keeps look mid new → Keeps look old new
 Keeps-then look old mid new first second = record {
   still = second.still ∙ first.still;

@@ -1,5 +1,5 @@
 -- The chains of both sides of a store in memory, as slots are emptied and filled, and as a transaction ends.
-use Rattle.std.proofs.Common.{◌≡◌, ◌≢◌, ◌⊎◌, inl, inr, ℕ, zero, suc, ◌+◌, ◌*◌, ◌<◌, ◌≤◌, ◌==◌, ◌||◌, if◌then◌else◌, Bool, true, false, List, [], ◌∷◌, ◌++◌, length, set, get_or, slice_index, slice_set, sym, refl, ap, ◌∙◌, arith, subst, true≢false, length-append, eqb-true, eq-eqb}
+use Rattle.std.proofs.Common.{◌≡◌, ◌≢◌, ◌⊎◌, inl, inr, ℕ, zero, suc, ◌+◌, ◌-◌, ◌*◌, ◌<◌, ◌≤◌, ◌==◌, ◌||◌, if◌then◌else◌, Bool, true, false, List, [], ◌∷◌, ◌++◌, length, set, get_or, slice_index, slice_set, sym, refl, ap, ◌∙◌, arith, subst, true≢false, length-append, eqb-true, eq-eqb}
 use Rattle.std.specs.List.{AllByRecursion}
 use Rattle.std.proofs.lemmas.Bool.{false_from_ne_true, or_cases, or_left, or_right}
 use Rattle.std.proofs.lemmas.List.{length-set, get_or-set_same, get_or-set_other}
@@ -15,7 +15,6 @@ use Rattle.record_store.specs.Held.{Held, cells_of_store, firsts}
 use Rattle.record_store.specs.Put.{emptied}
 use Rattle.record_store.specs.Slots.{AreUsedChains, AreReplaced}
 use Rattle.record_store.specs.Sound.{AreChains, AreBeside, HasChains, KeepsSides, IsSound, cells_in}
-use Rattle.record_store.specs.Transaction.{begun_from, rolled_back, after_commit}
 use Rattle.record_store.specs.declared.side.Side.TheVariants.{Working}
 
 -- a record was put, whose chain begins at this cell
@@ -403,6 +402,14 @@ twice : (b : Bool) → b ≡ (b || b)
 twice true = refl
 twice false = refl
 
+-- a transaction has ended, and what was committed stays; these cells are used then
+abbrev pub rolled_back : Held → List Bool → Held
+rolled_back held used = record { cells = held.cells; used = used; links = held.links; selector = held.selector; committed = held.committed; working = held.working; begun = false }
+
+-- it was committed: the working records are now those that are committed, and the other directory is selected
+abbrev pub after_commit : Held → List Bool → Held
+after_commit held used = record { cells = held.cells; used = used; links = held.links; selector = 1 - held.selector; committed = held.working; working = held.working; begun = false }
+
 pub sound-committed : (held : Held) (used : List Bool) (sound : IsSound held) → held.begun ≡ true → Frees held held.committed held.working used → IsSound (after_commit held used)
 sound-committed held used sound begun f = record {
   range = record { few = sound.range.few; many = sound.range.many; used_count = f.count_is ∙ sound.range.used_count; links_count = sound.range.links_count };
@@ -492,25 +499,3 @@ sound-rolled_back held used sound begun f = record {
           | inr apart ↦ true≢false (sym committed ∙ apart cell gone.3)
           | inl alike ↦ gone.2 (ap (λ (firsts : List ℕ). slice_index firsts gone.0) (sym working_is) ∙ alike)
         ]))
-
-pub sound-begun : (held : Held) → held.begun ≡ false → IsSound held → IsSound (begun_from held)
-sound-begun held idle sound = record {
-  range = sound.range;
-  selector = sound.selector;
-  committed_count = sound.committed_count;
-  working_count = sound.committed_count;
-  sides = record {
-    committed = k.committed;
-    working = k.working;
-    committed_has = k.committed_has;
-    working_has = subst (λ (firsts : List ℕ). HasChains held.cells held.links firsts k.working) working_is k.working_has;
-    beside = subst (λ (firsts : List ℕ). AreBeside held.committed firsts k.working (cells_in k.committed)) working_is k.beside;
-    used = k.used;
-  };
-}
-  where
-    k : KeepsSides held
-    k = sound.sides
-
-    working_is : firsts held Working ≡ held.committed
-    working_is = rw idle refl

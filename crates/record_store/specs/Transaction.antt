@@ -1,5 +1,5 @@
 -- What a transaction's beginning and end make of a store.
-use Rattle.std.specs.Prelude.{◌≡◌, ◌⊎◌, ℕ, ◌-◌, true, false, Bool, List, Some}
+use Rattle.std.specs.Prelude.{◌≡◌, ◌⊎◌, ℕ, true, List, Some}
 use Rattle.eeprom.specs.Chip.{Chip, Throughout}
 use Rattle.eeprom.specs.StoreOf.{store_of}
 use Rattle.record_store.specs.Held.{Held, contents, StandsFor}
@@ -8,14 +8,6 @@ use Rattle.record_store.specs.declared.side.Side.TheVariants.{Committed, Working
 -- a transaction is begun: the working records are those that were committed
 abbrev pub begun_from : Held → Held
 begun_from held = record { cells = held.cells; used = held.used; links = held.links; selector = held.selector; committed = held.committed; working = held.committed; begun = true }
-
--- it has ended, and what was committed stays; these cells are used then
-abbrev pub rolled_back : Held → List Bool → Held
-rolled_back held used = record { cells = held.cells; used = used; links = held.links; selector = held.selector; committed = held.committed; working = held.working; begun = false }
-
--- it was committed: the working records are now those that are committed, and the other directory is selected
-abbrev pub after_commit : Held → List Bool → Held
-after_commit held used = record { cells = held.cells; used = used; links = held.links; selector = 1 - held.selector; committed = held.working; working = held.working; begun = false }
 
 -- the image has the working records as its store
 pub record IsCommitted (old new : Held) (was now : List ℕ) : Type 0 where

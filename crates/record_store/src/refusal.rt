@@ -27,7 +27,7 @@ impl From<EepromFault> for FormatRefusal {
 
 #[derive(Clone, Copy, PartialEq, Eq, Debug)]
 pub enum OpenRefusal {
-    /// The memory for the directories isn't there.
+    /// There is no memory for what is kept.
     NoMemory,
     /// The image isn't one of a card: it has no store, or opens to no database.
     NotACard,
@@ -74,7 +74,7 @@ impl<T: Drop> From<AllocFailed<T>> for OpenRefusal {
 pub enum StoreRefusal {
     /// The records would have more cells than the store has.
     Full,
-    /// The EEPROM didn't read or write.
+    /// The EEPROM didn't write.
     Fault,
 }
 

@@ -3,13 +3,14 @@ ghost use Rattle.std.specs.Prelude.{◌≡◌, ◌+◌, ◌*◌, ◌≤◌, ◌<
 ghost use Rattle.eeprom.specs.Chip.{Becomes, Keeps};
 ghost use Rattle.eeprom.specs.Fault.{Counts};
 ghost use Rattle.eeprom.specs.StoreOf.{Slots, store_of};
+ghost use Rattle.eeprom.specs.StoreOf as image;
 ghost use Rattle.record_store.specs.Held.{firsts, contents, record_at, StandsFor};
 ghost use Rattle.record_store.specs.CountsFaults.{CountsFaults, CountsPutFaults};
 ghost use Rattle.eeprom.specs.StoreOf.{weight_of};
 ghost use Rattle.record_store.specs.Put.{IsPut, IsFull, IsWithin, emptied};
 ghost use Rattle.cell_store.specs.Marks.{StaysMarked};
 ghost use Rattle.cell_store.specs.Reading.{ReadsRecord};
-ghost use Rattle.record_store.specs.Transaction.{begun_from, rolled_back, after_commit, IsCommitted, Commits};
+ghost use Rattle.record_store.specs.Transaction.{begun_from, IsCommitted, Commits};
 ghost use Rattle.record_store.specs.declared.side.Side.TheVariants.{Committed, Working};
 
 use crate::claims::claim_chains;
@@ -155,6 +156,7 @@ impl Store {
         ensures told { OnOk result (is_some (B.chip bench.new).image ≡ is_some (B.chip bench.old).image) }
         ensures begun { OnOk result (self.new.begun ≡ self.old.begun) }
         ensures cells { OnOk result (self.new.cells ≡ self.old.cells) }
+        ensures octets_written { OnOk result (Becomes (λ before after. after ≡ before + 32 * image.cells_for (length octets.now)) (B.chip bench.old).written (B.chip bench.new).written) }
         ensures moments { Keeps store_of (B.chip bench.old) (B.chip bench.new) }
         ensures cause { CountsPutFaults (B.faults bench.old) (B.faults bench.new) result }
     {
@@ -197,7 +199,8 @@ impl Store {
         requires begun { IsTrue self.old.begun }
         requires room { 70 * self.old.cells + 34 ≤ (B.chip bench.old).still.size }
         requires stands { IfSome (B.chip bench.old).image (StandsFor self.old) }
-        ensures ended { OnOk result (self.new ≡ after_commit self.old self.new.used) }
+        ensures ended { OnOk result (self.new.begun ≡ false) }
+        ensures cells { OnOk result (self.new.cells ≡ self.old.cells) }
         ensures told { OnOk result (is_some (B.chip bench.new).image ≡ is_some (B.chip bench.old).image) }
         ensures done { OnOk result (Becomes (IsCommitted self.old self.new) (B.chip bench.old).image (B.chip bench.new).image) }
         ensures moments { Commits self.old (B.chip bench.old) (B.chip bench.new) }
@@ -224,15 +227,13 @@ impl Store {
     /// Ends the transaction, and what was committed stays.
     pub fn rollback(&mut self)
         requires begun { IsTrue self.old.begun }
-        ensures ended { self.new ≡ rolled_back self.old self.new.used }
+        ensures ended { self.new.begun ≡ false }
+        ensures cells { self.new.cells ≡ self.old.cells }
         ensures stands { (image : List ℕ) → StandsFor self.old image → StandsFor self.new image }
         ensures committed { (image : List ℕ) → contents self.new Committed image ≡ contents self.old Committed image }
     {
-        free_replaced(
-            &mut self.chains,
-            self.working.as_slice(),
-            self.committed.as_slice(),
-        );
+        let replaced = self.working.as_slice();
+        free_replaced(&mut self.chains, replaced, self.committed.as_slice());
         self.begun = false;
     }
 

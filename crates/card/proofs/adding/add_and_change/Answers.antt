@@ -1,8 +1,10 @@
 -- A transaction that was just begun has the committed records of the store before it.
-use Rattle.std.proofs.Common.{subst, rules}
-use Rattle.std.specs.Prelude.{OnOk}
+use Rattle.std.proofs.Common.{◌≡◌, ℕ, List, Option, ap, ◌∙◌, subst, rules}
+use Rattle.std.specs.Prelude.{OnOk, IfSome}
 use Rattle.eeprom.specs.Chip.{Becomes}
-use Rattle.record_store.specs.Held.{Held, StandsFor}
+use Rattle.eeprom.specs.StoreOf.{Slots}
+use Rattle.record_store.specs.Held.{Held, contents, StandsFor}
+use Rattle.record_store.specs.declared.side.Side.TheVariants.{Committed}
 use Rattle.card.specs.Adding.{LeavesAdded, IsWritten}
 use Rattle.card.proofs.Told.{if_some-then}
 use Rattle.card.proofs.adding.add_and_change.Goals.{After-write_both-written}
@@ -23,6 +25,21 @@ returns-in-Err-Full-clause-adds g c = record {
   still = search rules;
   moments = moments g (goal.at.returns-in-Err-Full-clause-adds g c).After-write_both-written;
 }
+
+-- what was committed stays from the beginning to the end
+pub returns-in-Err-Full-clause-unchanged : goal.returns-in-Err-Full-clause-unchanged
+returns-in-Err-Full-clause-unchanged g c = λ is.
+    let old : Held = c.args.store.now in
+    let begun : Held = c.begin.new.self in
+    let left : Held = c.write_both-written.new.store in
+    let stays : Type 0 = g.B.Eeprom.chip c.write_both-written.new.bench ≡ g.B.Eeprom.chip c.args.bench.now in
+    let ends : (left ≡ begun) → (image : List ℕ) → contents c.rollback.new.self Committed image ≡ contents old Committed image =
+    λ same image. c.rollback.ensures.committed image ∙ (ap (λ (s : Held). contents s Committed image) same ∙ c.begin.ensures.committed image) in
+    if_some-then (λ image. IfSome (contents begun Committed image) (λ slots. stays × (left ≡ begun)))
+    (λ image. IfSome (contents old Committed image) (λ slots. stays × ((image : List ℕ) → contents c.rollback.new.self Committed image ≡ contents old Committed image))) (g.B.Eeprom.chip c.args.bench.now).image
+    (λ image from. if_some-then (λ slots. stays × (left ≡ begun)) (λ slots. stays × ((image : List ℕ) → contents c.rollback.new.self Committed image ≡ contents old Committed image)) (contents old Committed image)
+    (λ slots w. (w.0, ends w.1)) (subst (λ (slots : Option Slots). IfSome slots (λ slots. stays × (left ≡ begun))) (c.begin.ensures.committed image) from))
+    (c.write_both-written.ensures.unchanged is)
 
 pub returns-clause-adds : goal.returns-clause-adds
 returns-clause-adds g c = record {

@@ -1,8 +1,8 @@
-use Rattle.std.proofs.Common.{◌≡◌, ◌+◌, ◌*◌, ◌-◌, ◌≤◌, ℕ, List, Option, is_some, refl, ap, ◌∙◌, inl, inr, arith, rules, subst}
+use Rattle.std.proofs.Common.{◌≡◌, ◌+◌, ◌*◌, ◌-◌, ◌≤◌, ℕ, List, length, Option, is_some, refl, ap, ◌∙◌, inl, inr, arith, rules, subst}
 use Rattle.eeprom.specs.Chip.{Becomes}
 use Rattle.cell_store.specs.Placed.{IsPlaced, IsLaid, KeepsMarked}
 use Rattle.cell_store.specs.Runs.{run_marked, run_linked}
-use Rattle.cell_store.proofs.Placements.{is_some-map, placed-start, laid-start, keeps-start, keeps-run, becomes-run}
+use Rattle.cell_store.proofs.Placements.{is_some-map, written-none, written-more, placed-start, laid-start, keeps-start, keeps-run, becomes-run}
 use Rattle.cell_store.proofs.Runs.{laid-run, first-some, length-marked, length-linked, run-stays, unmarked-run}
 use Rattle.cell_store.proofs.placing.write_cells.Goals.{After-write}
 use Rattle.cell_store.proofs.placing.write_cells.Goals as goal
@@ -17,6 +17,7 @@ loop-left-init g c = record {
   stays = λ cell e. e;
   placed = placed-start c.args.cells c.args.marks.now c.args.payload.now c.args.count 65535 c.args.links.now (g.B.Eeprom.chip c.args.bench.now).image refl;
   laid = laid-start c.args.cells c.args.marks.now c.args.count c.args.links.now;
+  written = written-none (g.B.Eeprom.chip c.args.bench.now).written (32 * (c.args.count - c.args.count)) (omega arith);
   moments = keeps-start c.args.marks.now c.args.cells (g.B.Eeprom.chip c.args.bench.now);
   told = refl;
   faults = refl;
@@ -43,6 +44,7 @@ loop-left-preserved g c =
     let left : ℕ = c.loop-left.left - run.count in
     let inside = inside g written in
     let pieces : c.loop-left.left ≡ left + run.count = omega arith in
+    let size : length c.as_slice.result.now ≡ 32 * run.count = rw c.as_slice.ensures.value c.run_octets-octets.ensures.size in
     let old = g.B.Eeprom.chip c.args.bench.now in
     let mid = g.B.Eeprom.chip c.loop-left.bench in
     let new = g.B.Eeprom.chip c.write.new.self in
@@ -66,6 +68,7 @@ loop-left-preserved g c =
           (subst (λ (k : ℕ). IsLaid c.args.cells c.args.marks.now c.loop-left.marks k c.args.count c.loop-left.first c.args.links.now c.loop-left.links) pieces c.loop-left.invariant.laid) in
           subst (λ (first : ℕ). IsLaid c.args.cells c.args.marks.now (run_marked c.loop-left.marks run.cell run.count) left c.args.count first c.args.links.now (run_linked c.loop-left.links run.cell run.count c.loop-left.first))
           (first-some run.cell run.count c.loop-left.first c.find_run-run.ensures.some) next;
+      written = written-more old.written mid.written new.written (32 * (c.args.count - c.loop-left.left)) _ (32 * (c.args.count - left)) (omega (arith, size, pieces, c.loop-left.invariant.within)) c.loop-left.invariant.written c.write.ensures.writes.written;
       moments = moments g written;
       told = ap (λ (image : Option (List ℕ)). is_some image) c.in_ok-write.ensures.written ∙ (is_some-map _ mid.image ∙ c.loop-left.invariant.told);
       faults = search rules;

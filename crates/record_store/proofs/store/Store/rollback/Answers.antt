@@ -5,5 +5,5 @@ use Rattle.record_store.proofs.store.Store.rollback.Goals as goal
 
 pub invariant_of-self : goal.invariant_of-self
 invariant_of-self c =
-    rollback-sound _ c.free_replaced.new.cells c.as_slice.result.now c.as_slice-2.result.now c.self.invariant (ap (λ (held : Held). held.begun) c.self.view_is ∙ c.requires.begun) c.as_slice.ensures.value c.as_slice-2.ensures.value
+    rollback-sound _ c.free_replaced.new.cells c.as_slice-replaced.result.now c.as_slice.result.now c.self.invariant (ap (λ (held : Held). held.begun) c.self.view_is ∙ c.requires.begun) c.as_slice-replaced.ensures.value c.as_slice.ensures.value
     c.free_replaced.ensures.cells c.free_replaced.ensures.links c.free_replaced.ensures.freed c.free_replaced.ensures.others c.free_replaced.ensures.fewer c.free_replaced.ensures.count
