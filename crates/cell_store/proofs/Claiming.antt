@@ -1,17 +1,18 @@
 -- A claim of a chain, cell by cell: which cells are free before it, and after.
-use Rattle.std.proofs.Common.{◌≡◌, ℕ, ◌+◌, ◌*◌, ◌<◌, ◌≤◌, ◌≢◌, ◌==◌, ◌&&◌, not, Bool, true, false, List, [], ◌∷◌, ◌++◌, length, set, slice_index, nat_le, Option, Some, None, IfSome, sym, refl, ap, ◌∙◌, arith, subst, true≢false, length-append, append-nil, inl, inr, ◌||◌, eqb-true}
+use Rattle.std.proofs.Common.{◌≡◌, ℕ, ◌+◌, ◌*◌, ◌<◌, ◌≤◌, ◌≢◌, ◌==◌, ◌&&◌, not, Bool, true, false, List, [], ◌∷◌, ◌++◌, length, set, slice_index, nat_le, Option, Some, None, IfSome, sym, refl, ap, ◌∙◌, arith, subst, true≢false, length-append, if◌then◌else◌, inl, inr, ◌||◌, eqb-true}
 use Rattle.std.specs.List.{AllByRecursion}
 use Rattle.std.proofs.lemmas.Bool.{and_parts, or_cases}
 use Rattle.std.proofs.lemmas.Bool.Decides.{nat_tests}
-use Rattle.std.proofs.lemmas.List.{length-set, get_or-set_same, get_or-set_other}
+use Rattle.std.proofs.lemmas.List.{length-set, get_or-set_same, get_or-set_other, nil_from_length}
+use Rattle.std.proofs.lemmas.Option.{same_Some, none-some}
 use Rattle.eeprom.specs.StoreOf.{is_distinct, is_record, number_at, cell_place, cells_for, payload_of}
 use Rattle.cell_store.specs.Cells.{Cells, link_in, StandsFor, StayLinked}
 use Rattle.cell_store.specs.Chains.{AreLinked, AreFree, link_of, with_marked, is_among, IsRecordChain}
-use Rattle.cell_store.specs.Claiming.{ClaimsCell, IsFrontOf, IsTakenCell}
+use Rattle.cell_store.specs.Claiming.{ClaimsCell, IsTakenCell}
 use Rattle.cell_store.specs.Claims.{TakesChain, HasRecord, HasNoRecord}
 use Rattle.cell_store.specs.Marks.{is_marked}
+use Rattle.cell_store.specs.Reading.{cells_in}
 use Rattle.cell_store.proofs.Among.{neither, not-true}
-use Rattle.cell_store.proofs.Chains.{cells-chain}
 use Rattle.cell_store.proofs.Linking.{chain-linked, linked-chain, linked-same, linked-one, IsPath, path-more, path-same, path-end, path-rest, path-inside}
 use Rattle.cell_store.proofs.Marking.{marked-here, with_marked-append, with_marked-stays, with_marked-all, marked-with}
 
@@ -107,9 +108,9 @@ Claiming-start start image first = record {
     none None = tt
     none (Some image) = tt
 
-pub Claiming-more : (start now new : Cells) (image : Option (List ℕ)) (first count cell next size : ℕ) → length start.used ≡ 2 * start.cells → length now.links ≡ 2 * start.cells → new.cells ≡ now.cells
-    → ClaimsCell now new cell next → IfSome image (λ image. IsFrontOf image start.cells cell next size) → Claiming start now image first count cell → Claiming start new image first (count + 1) next
-Claiming-more start now new image first count cell next size used_size links_size same claim front c =
+pub Claiming-more : (start now new : Cells) (image : Option (List ℕ)) (first count cell next : ℕ) → length start.used ≡ 2 * start.cells → length now.links ≡ 2 * start.cells → new.cells ≡ now.cells
+    → ClaimsCell now new cell next → IfSome image (λ image. next ≡ number_at image (cell_place start.cells cell)) → Claiming start now image first count cell → Claiming start new image first (count + 1) next
+Claiming-more start now new image first count cell next used_size links_size same claim link c =
     let inside : cell < 2 * start.cells = subst (λ (n : ℕ). cell < 2 * n) c.cells claim.inside in
     let within = path-inside (link_in now.links) (2 * start.cells) first c.path cell c.is in
     let marked = subst (λ (used : List Bool). AllByRecursion (λ x. is_marked used x ≡ true) c.path) (sym c.used) (with_marked-all (2 * start.cells) start.used c.path used_size within) in
@@ -131,19 +132,19 @@ Claiming-more start now new image first count cell next size used_size links_siz
           let still : is_marked now.used x ≡ true = rw (c.used) (with_marked-stays start.used c.path x is) in
           let other : x ≢ cell = λ e. true≢false (sym still ∙ rw e (claim.free)) in
           ap (λ (links : List ℕ). slice_index links x) claim.links ∙ (other-link now.links cell next x other ∙ c.stay x is);
-      told = tells image front c.told;
+      told = tells image link c.told;
     }
   where
-    tells : (image : Option (List ℕ)) → IfSome image (λ image. IsFrontOf image start.cells cell next size)
+    tells : (image : Option (List ℕ)) → IfSome image (λ image. next ≡ number_at image (cell_place start.cells cell))
         → IfSome image (λ image. AllByRecursion (λ x. number_at image (cell_place start.cells x) ≡ slice_index now.links x) c.path)
         → IfSome image (λ image. AllByRecursion (λ x. number_at image (cell_place start.cells x) ≡ slice_index new.links x) (c.path ++ cell ∷ []))
-    tells None front told = tt
-    tells (Some image) front told =
+    tells None link told = tt
+    tells (Some image) link told =
         let within = path-inside (link_in now.links) (2 * start.cells) first c.path cell c.is in
         let marked = subst (λ (used : List Bool). AllByRecursion (λ x. is_marked used x ≡ true) c.path) (sym c.used) (with_marked-all (2 * start.cells) start.used c.path used_size within) in
         let inside : cell < 2 * start.cells = subst (λ (n : ℕ). cell < 2 * n) c.cells claim.inside in
         subst (λ (links : List ℕ). AllByRecursion (λ x. number_at image (cell_place start.cells x) ≡ slice_index links x) (c.path ++ cell ∷ [])) (sym claim.links)
-        (tells-more image now.links start.cells cell next c.path (omega arith) front.link (apart-from now.used cell c.path claim.free marked) told)
+        (tells-more image now.links start.cells cell next c.path (omega arith) link (apart-from now.used cell c.path claim.free marked) told)
 
 -- in the image each chain goes on from there
 chain-rest : (start now : Cells) (image : List ℕ) (first count cell : ℕ) (chain : List ℕ) → start.cells ≤ 2048 → (c : Claiming start now (Some image) first count cell) → IsRecordChain image start.cells first chain
@@ -152,66 +153,86 @@ chain-rest start now image first count cell chain few c r =
     path-rest (link_of image start.cells) (2 * start.cells) first c.path cell chain (omega arith) (path-same (link_in now.links) (link_of image start.cells) (2 * start.cells) first c.path cell c.told c.is)
     (chain-linked image start.cells (2 * start.cells) first chain r.of)
 
+-- the first cell of a record's chain says how many cells it has
+record-count : (image : List ℕ) (n first : ℕ) (chain : List ℕ) → IsRecordChain image n first chain → cells_in (payload_of image n first) ≡ Some (length chain)
+record-count image n first [] r = absurd (omega (arith, r.some))
+record-count image n first (cell ∷ cells) r =
+    let here : cell ≡ first = (chain-linked image n (2 * n) first (cell ∷ cells) r.of).0 in
+    let size : ℕ = number_at (payload_of image n cell) 0 in
+    let tests = and_parts (nat_le 1 size && nat_le size 512) (length (cell ∷ cells) == cells_for size) r.is in
+    let count : length (cell ∷ cells) ≡ cells_for size = eqb-true (length (cell ∷ cells)) (cells_for size) tests.1 in
+    subst (λ (first : ℕ). cells_in (payload_of image n first) ≡ Some (length (cell ∷ cells))) here (rw (tests.0) (ap (λ (k : ℕ). Some k) (sym count)))
+
+-- each record from a cell on has more than so many cells
+abbrev pub IsLonger : Option (List ℕ) → ℕ → ℕ → ℕ → Type 0
+IsLonger image n first count = IfSome image (λ image. (chain : List ℕ) → IsRecordChain image n first chain → count < length chain)
+
+pub longer-none : (image : Option (List ℕ)) (n first : ℕ) → IsLonger image n first 0
+longer-none None n first = tt
+longer-none (Some image) n first = λ chain r. r.some
+
+pub longer-counted : (image : Option (List ℕ)) (n first count most : ℕ) → IfSome image (λ image. cells_in (payload_of image n first) ≡ Some most) → count < most → IsLonger image n first count
+longer-counted None n first count most is more = tt
+longer-counted (Some image) n first count most is more = λ chain r.
+    let whole : most ≡ length chain = same_Some most (length chain) (sym is ∙ record-count image n first chain r) in
+    rw (sym whole) more
+
 -- a cell that can't be claimed is in no chain of free cells
-no-rest : (start now : Cells) (image : List ℕ) (first count cell : ℕ) (path rest : List ℕ) → length start.used ≡ 2 * start.cells → AllByRecursion (λ cell. cell < 2 * start.cells) path → length path ≡ count → now.cells ≡ start.cells → now.used ≡ with_marked start.used path
-    → (cell ≡ 65535 → count ≡ 0) → IsTakenCell now cell → 0 < length (path ++ rest) → AreLinked (link_of image start.cells) (2 * start.cells) cell rest → AreFree start.used (path ++ rest) → ⊥
-no-rest start now image first count cell path [] used_size within count_is cells used begins taken some linked free =
-    let none : count ≡ 0 = begins linked in
-    omega (arith, some, none, count_is, length-append path [])
-no-rest start now image first count cell path (next ∷ rest) used_size within count_is cells used begins taken some linked free =
+no-rest : (start now : Cells) (image : List ℕ) (cell : ℕ) (path rest : List ℕ) → length start.used ≡ 2 * start.cells → AllByRecursion (λ cell. cell < 2 * start.cells) path → now.cells ≡ start.cells → now.used ≡ with_marked start.used path
+    → length path < length (path ++ rest) → IsTakenCell now cell → AreLinked (link_of image start.cells) (2 * start.cells) cell rest → AreFree start.used (path ++ rest) → ⊥
+no-rest start now image cell path [] used_size within cells used longer taken linked free = omega (arith, longer, length-append path [])
+no-rest start now image cell path (next ∷ rest) used_size within cells used longer taken linked free =
     let parts = free-parts start.used (2 * start.cells) path (next ∷ rest) used_size within free in
     let here : is_marked (with_marked start.used path) cell ≡ false = rw (linked.0) at parts.1.free.0 in
     let inside : cell < 2 * now.cells = subst (λ (n : ℕ). cell < 2 * n) (sym cells) linked.1 in
     true≢false (sym (taken inside) ∙ (ap (λ (used : List Bool). is_marked used cell) used ∙ here))
 
-pub Claiming-taken : (start now : Cells) (image : Option (List ℕ)) (first count cell : ℕ) → start.cells ≤ 2048 → length start.used ≡ 2 * start.cells → (cell ≡ 65535 → count ≡ 0) → IsTakenCell now cell → Claiming start now image first count cell → IfSome image (HasNoRecord start first)
-Claiming-taken start now None first count cell few used_size begins taken c = tt
-Claiming-taken start now (Some image) first count cell few used_size begins taken c = λ chain r free.
+pub Claiming-taken : (start now : Cells) (image : Option (List ℕ)) (first count cell : ℕ) → start.cells ≤ 2048 → length start.used ≡ 2 * start.cells → IsLonger image start.cells first count → IsTakenCell now cell → Claiming start now image first count cell → IfSome image (HasNoRecord start first)
+Claiming-taken start now None first count cell few used_size longer taken c = tt
+Claiming-taken start now (Some image) first count cell few used_size longer taken c = λ chain r free.
     let from = chain-rest start now image first count cell chain few c r in
-    no-rest start now image first count cell c.path from.0 used_size (path-inside (link_in now.links) (2 * start.cells) first c.path cell c.is) c.count_is c.cells c.used begins taken
-    (subst (λ (chain : List ℕ). 0 < length chain) from.1 r.some) from.2 (subst (AreFree start.used) from.1 free)
+    let more : length c.path < length (c.path ++ from.0) = omega (arith, longer chain r, c.count_is, ap (length {A = ℕ}) from.1) in
+    no-rest start now image cell c.path from.0 used_size (path-inside (link_in now.links) (2 * start.cells) first c.path cell c.is) c.cells c.used more taken
+    from.2 (subst (AreFree start.used) from.1 free)
 
--- nor is there one of more cells than a record has
-pub Claiming-long : (start now : Cells) (image : Option (List ℕ)) (first count cell : ℕ) (size : ℕ) → start.cells ≤ 2048 → 70 * start.cells + 34 ≤ size → IfSome image (λ image. length image ≡ size) → 18 < count → Claiming start now image first count cell → IfSome image (HasNoRecord start first)
-Claiming-long start now None first count cell size few room sized long c = tt
-Claiming-long start now (Some image) first count cell size few room sized long c = λ chain r free.
+-- nor is there a record where its first cell says no length
+pub no-length : (start : Cells) (image : Option (List ℕ)) (first : ℕ) → IfSome image (λ image. cells_in (payload_of image start.cells first) ≡ None) → IfSome image (HasNoRecord start first)
+no-length start None first none = tt
+no-length start (Some image) first none = λ chain r free. none-some (length chain) (sym none ∙ record-count image start.cells first chain r)
+
+-- nor one whose chain goes on behind its cells
+pub Claiming-on : (start now : Cells) (image : Option (List ℕ)) (first count cell : ℕ) → start.cells ≤ 2048 → cell ≢ 65535 → IfSome image (λ image. cells_in (payload_of image start.cells first) ≡ Some count) → Claiming start now image first count cell → IfSome image (HasNoRecord start first)
+Claiming-on start now None first count cell few on is c = tt
+Claiming-on start now (Some image) first count cell few on is c = λ chain r free.
     let from = chain-rest start now image first count cell chain few c r in
-    let cells = cells-chain image start.cells first chain (omega arith) r.of r.is in
-    omega (arith, cells.0, ap (length {A = ℕ}) from.1, length-append c.path from.0, c.count_is)
+    let whole : count ≡ length chain = same_Some count (length chain) (sym is ∙ record-count image start.cells first chain r) in
+    let none : from.0 ≡ [] = nil_from_length from.0 (omega (arith, whole, c.count_is, ap (length {A = ℕ}) from.1, length-append c.path from.0)) in
+    on (subst (AreLinked (link_of image start.cells) (2 * start.cells) cell) none from.2)
 
--- at the end of the links there is one chain
-ended : (start now : Cells) (image : List ℕ) (first count cell : ℕ) (chain : List ℕ) → start.cells ≤ 2048 → cell ≡ 65535 → (c : Claiming start now (Some image) first count cell) → IsRecordChain image start.cells first chain → chain ≡ c.path
-ended start now image first count cell chain few none c r =
-    let from = chain-rest start now image first count cell chain few c r in
-    let whole : c.path ++ [] ≡ c.path = simp append-nil in
-    from.1 ∙ (ap (λ (rest : List ℕ). c.path ++ rest) (linked-one (link_of image start.cells) (2 * start.cells) cell from.0 [] (omega arith) from.2 none) ∙ whole)
+counted-parts : (test : Bool) (cells count : ℕ) → (if test then Some cells else None) ≡ Some count → (test ≡ true) × (cells ≡ count)
+counted-parts true cells count is = (refl, same_Some cells count is)
+counted-parts false cells count is = absurd (none-some count is)
 
--- whose record tells how many cells it has
-abbrev test : ℕ → ℕ → Bool
-test size count = nat_le 1 size && nat_le size 512 && (count == cells_for size)
+-- cells of which the first one says how many they are have a record
+counted-record : (image : List ℕ) (n first : ℕ) (link : ℕ → ℕ) (path : List ℕ) (cell : ℕ) → IsPath link (2 * n) first path cell → 1 ≤ length path → cells_in (payload_of image n first) ≡ Some (length path) → is_record image n path ≡ true
+counted-record image n first link [] cell path some is = refl
+counted-record image n first link (x ∷ rest) cell path some is =
+    let size : ℕ = number_at (payload_of image n first) 0 in
+    let parts = counted-parts (nat_le 1 size && nat_le size 512) (cells_for size) (length (x ∷ rest)) is in
+    let same : (length (x ∷ rest) == cells_for size) ≡ true = grind (arith, nat_tests, parts.1) in
+    rw (path.0, parts.0, same) refl
 
-is-record : (image : List ℕ) (n first size count : ℕ) (link : ℕ → ℕ) (path : List ℕ) (cell : ℕ) → IsPath link (2 * n) first path cell → 1 ≤ count → length path ≡ count → size ≡ number_at (payload_of image n first) 0 → is_record image n path ≡ test size count
-is-record image n first size count link [] cell is some count_is number = absurd (omega arith)
-is-record image n first size count link (x ∷ path) cell is some count_is number = rw (is.0, sym number, count_is) refl
-
-pub Claiming-other : (start now : Cells) (image : Option (List ℕ)) (first count cell next size : ℕ) → start.cells ≤ 2048 → cell ≡ 65535 → 1 ≤ count → IfSome image (λ image. IsFrontOf image start.cells first next size) → test size count ≡ false
-    → Claiming start now image first count cell → IfSome image (HasNoRecord start first)
-Claiming-other start now None first count cell next size few none some front fails c = tt
-Claiming-other start now (Some image) first count cell next size few none some front fails c = λ chain r free.
-    let same = ended start now image first count cell chain few none c r in
-    true≢false (sym r.is ∙ (ap (is_record image start.cells) same ∙ (is-record image start.cells first size count (link_in now.links) c.path cell c.is some c.count_is front.number ∙ fails)))
-
-pub Claiming-record : (start now : Cells) (image : Option (List ℕ)) (first count cell next size : ℕ) → 16 ≤ start.cells → start.cells ≤ 2048 → length now.links ≡ 2 * start.cells → cell ≡ 65535 → 1 ≤ count → count ≤ 18 → IfSome image (λ image. IsFrontOf image start.cells first next size)
-    → test size count ≡ true → Claiming start now image first count cell → IfSome image (HasRecord now first)
-Claiming-record start now None first count cell next size few many links_size none some short front passes c = tt
-Claiming-record start now (Some image) first count cell next size few many links_size none some short front passes c = λ chain linked.
+pub Claiming-record : (start now : Cells) (image : Option (List ℕ)) (first count cell : ℕ) → start.cells ≤ 2048 → length now.links ≡ 2 * start.cells → cell ≡ 65535 → 1 ≤ count → count ≤ 18 → 16 ≤ start.cells
+    → IfSome image (λ image. cells_in (payload_of image start.cells first) ≡ Some count) → Claiming start now image first count cell → IfSome image (HasRecord now first)
+Claiming-record start now None first count cell many links_size none some short few is c = tt
+Claiming-record start now (Some image) first count cell many links_size none some short few is c = λ chain linked.
     let n = start.cells in
     let whole = path-end (link_in now.links) (2 * n) first c.path cell none c.is in
     let same : chain ≡ c.path = linked-one (link_in now.links) (2 * n) first chain c.path (omega arith) (subst (λ (k : ℕ). AreLinked (link_in now.links) k first chain) links_size linked) whole in
     let of = linked-chain image n (2 * n) first c.path many (linked-same (link_in now.links) (link_of image n) (2 * n) first c.path c.told whole) (omega (arith, c.count_is)) in
     let there : IsRecordChain image n first c.path = record {
       of = of;
-      is = is-record image n first size count (link_in now.links) c.path cell c.is some c.count_is front.number ∙ passes;
+      is = counted-record image n first (link_in now.links) c.path cell c.is (omega (arith, c.count_is)) (is ∙ ap (λ (k : ℕ). Some k) (sym c.count_is));
       some = omega (arith, c.count_is);
     } in
     subst (λ (k : ℕ). IsRecordChain image k first chain) (sym c.cells) (subst (IsRecordChain image n first) (sym same) there)

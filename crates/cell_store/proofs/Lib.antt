@@ -2,6 +2,7 @@ pub mod Among
 pub mod Cells
 pub mod Chains
 pub mod Claiming
+pub mod Counting
 pub mod FreeRuns
 pub mod Freeing
 pub mod Linking

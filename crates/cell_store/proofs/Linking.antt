@@ -3,7 +3,7 @@ use Rattle.std.proofs.Common.{◌≡◌, ℕ, zero, suc, ◌+◌, ◌*◌, ◌-�
 use Rattle.std.specs.List.{AllByRecursion}
 use Rattle.std.proofs.lemmas.Bool.Decides.{nat_tests}
 use Rattle.eeprom.specs.StoreOf.{chain_of, cell_place, number_at}
-use Rattle.cell_store.specs.Cells.{link_in}
+use Rattle.cell_store.specs.Cells.{Cells, IsInRange, IsUsedChain, link_in}
 use Rattle.cell_store.specs.Chains.{AreLinked, link_of, steps}
 use Rattle.cell_store.proofs.Chains.{if-some, chain-cases}
 
@@ -65,6 +65,9 @@ steps-linked links cell (suc limit) (first ∷ rest) few linked short =
     rw below (ap suc (steps-linked links (slice_index links cell) limit rest few linked.2 (omega arith)))
 
 -- a walk ends where no cell comes
+pub steps-used : (store : Cells) (first : ℕ) (chain : List ℕ) → IsInRange store → IsUsedChain store first chain → steps store.links 18 first ≡ length chain
+steps-used store first chain range is = steps-linked store.links first 18 chain (omega (arith, range.links_count, range.many)) is.linked is.short
+
 pub steps-end : (links : List ℕ) (most cell : ℕ) → length links ≤ cell → steps links most cell ≡ 0
 steps-end links zero cell outside = refl
 steps-end links (suc most) cell outside =

@@ -63,19 +63,28 @@ payload-read image read n cell is =
     let behind : (cell_place n cell + 32) - (cell_place n cell + 2) ≡ 30 = omega arith in
     rw (is, size, behind, drop-take 2 30 (drop (cell_place n cell) image), drop-drop 2 (cell_place n cell) image, take-take 30 30 (drop (cell_place n cell + 2) image) (omega arith)) refl
 
-walked-more : (n : ℕ) (chain : List ℕ) (cell : ℕ) (octets : List ℕ) (step : ℕ) (image read : List ℕ) → n ≤ 2048 → cell < 2 * n → read ≡ slice_range image (cell_place n cell) (cell_place n cell + 32)
-    → Walked n chain cell octets step image → Walked n chain (256 * slice_index read 0 + slice_index read 1) (octets ++ slice_range read 2 32) (step + 1) image
-walked-more n chain cell octets step image read few inside is w =
+-- the octets of a cell tell its link and its payload
+pub cell-link : (n cell next : ℕ) (image : Option (List ℕ)) (read : List ℕ) → IfSome image (λ image. read ≡ slice_range image (cell_place n cell) (cell_place n cell + 32)) → next ≡ 256 * slice_index read 0 + slice_index read 1
+    → IfSome image (λ image. next ≡ number_at image (cell_place n cell))
+cell-link n cell next None read is link = tt
+cell-link n cell next (Some image) read is link = link ∙ number-read image read (cell_place n cell) is
+
+pub cell-payload : (n cell : ℕ) (octets octets' : List ℕ) (image : Option (List ℕ)) (read : List ℕ) → IfSome image (λ image. read ≡ slice_range image (cell_place n cell) (cell_place n cell + 32)) → octets' ≡ octets ++ slice_range read 2 32
+    → IfSome image (λ image. octets' ≡ octets ++ payload_of image n cell)
+cell-payload n cell octets octets' None read is more = tt
+cell-payload n cell octets octets' (Some image) read is more = more ∙ ap (λ (xs : List ℕ). octets ++ xs) (payload-read image read n cell is)
+
+walked-more : (n : ℕ) (chain : List ℕ) (cell : ℕ) (octets octets' : List ℕ) (step next : ℕ) (image : List ℕ) → n ≤ 2048 → cell < 2 * n → next ≡ number_at image (cell_place n cell) → octets' ≡ octets ++ payload_of image n cell
+    → Walked n chain cell octets step image → Walked n chain next octets' (step + 1) image
+walked-more n chain cell octets octets' step next image few inside link more w =
     let s = step-cell image n cell w.rest few inside w.left in
-    let number = number-read image read (cell_place n cell) is in
-    let payload = payload-read image read n cell is in
     record {
       rest = s.tail;
-      left = record { most = s.left.most; is = rw number s.left.is };
+      left = record { most = s.left.most; is = rw link s.left.is };
       payload = w.payload
           ∙ (ap (λ (xs : List ℕ). octets ++ flat_map (payload_of image n) xs) s.is
-          ∙ (ap (λ (xs : List ℕ). octets ++ (xs ++ flat_map (payload_of image n) s.tail)) (sym payload)
-          ∙ sym (append_assoc octets (slice_range read 2 32) (flat_map (payload_of image n) s.tail))));
+          ∙ (sym (append_assoc octets (payload_of image n cell) (flat_map (payload_of image n) s.tail))
+          ∙ ap (λ (xs : List ℕ). xs ++ flat_map (payload_of image n) s.tail) (sym more)));
       steps = omega (arith, w.steps, ap (length {A = ℕ}) s.is);
     }
 
@@ -90,13 +99,12 @@ walked-full n chain cell octets step image long w =
     sym (w.payload ∙ rw (none, append-nil) refl)
 
 -- these, where the image is told
-pub Walked-more : (n first cell : ℕ) (octets octets' : List ℕ) (step next : ℕ) (image : Option (List ℕ)) (read : List ℕ) → n ≤ 2048 → cell < 2 * n
-    → IfSome image (λ image. read ≡ slice_range image (cell_place n cell) (cell_place n cell + 32))
-    → next ≡ 256 * slice_index read 0 + slice_index read 1 → octets' ≡ octets ++ slice_range read 2 32
+pub Walked-more : (n first cell : ℕ) (octets octets' : List ℕ) (step next : ℕ) (image : Option (List ℕ)) → n ≤ 2048 → cell < 2 * n
+    → IfSome image (λ image. next ≡ number_at image (cell_place n cell)) → IfSome image (λ image. octets' ≡ octets ++ payload_of image n cell)
     → IfSome image (λ image. (chain : List ℕ) → chain_of image n (2 * n) first ≡ Some chain → Walked n chain cell octets step image)
     → IfSome image (λ image. (chain : List ℕ) → chain_of image n (2 * n) first ≡ Some chain → Walked n chain next octets' (step + 1) image)
-Walked-more n first cell octets octets' step next None read few inside is link more w = tt
-Walked-more n first cell octets octets' step next (Some image) read few inside is link more w = λ chain h. rw (link, more) (walked-more n chain cell octets step image read few inside is (w chain h))
+Walked-more n first cell octets octets' step next None few inside link more w = tt
+Walked-more n first cell octets octets' step next (Some image) few inside link more w = λ chain h. walked-more n chain cell octets octets' step next image few inside link more (w chain h)
 
 pub Walked-end : (n first cell : ℕ) (octets : List ℕ) (step most : ℕ) (image : Option (List ℕ)) → 2 * n ≤ cell
     → IfSome image (λ image. (chain : List ℕ) → chain_of image n (2 * n) first ≡ Some chain → Walked n chain cell octets step image)

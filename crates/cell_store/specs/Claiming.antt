@@ -1,6 +1,5 @@
 -- A claim of one cell of a chain.
-use Rattle.std.specs.Prelude.{◌≡◌, ℕ, ◌*◌, ◌<◌, true, false, List, set}
-use Rattle.eeprom.specs.StoreOf.{number_at, cell_place, payload_of}
+use Rattle.std.specs.Prelude.{◌≡◌, ℕ, ◌*◌, ◌<◌, true, false, set}
 use Rattle.cell_store.specs.Marks.{is_marked}
 use Rattle.cell_store.specs.Cells.{Cells}
 
@@ -10,11 +9,6 @@ pub record ClaimsCell (old new : Cells) (cell next : ℕ) : Type 0 where
   pub free : is_marked old.used cell ≡ false
   pub used : new.used ≡ set old.used cell true
   pub links : new.links ≡ set old.links cell next
-
--- what the image says at the front of a cell: the next cell, and the length of a record that begins in this one
-pub record IsFrontOf (image : List ℕ) (n cell next size : ℕ) : Type 0 where
-  pub link : next ≡ number_at image (cell_place n cell)
-  pub number : size ≡ number_at (payload_of image n cell) 0
 
 -- a cell that can't be claimed: it is used, where there is such a cell
 abbrev pub IsTakenCell : Cells → ℕ → Type 0

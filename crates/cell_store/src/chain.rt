@@ -1,12 +1,12 @@
 // The record of a chain of cells. A cell has the number of the next one and 30 octets of payload.
-ghost use Rattle.std.specs.Prelude.{◌≡◌, ◌+◌, ◌*◌, ◌≤◌, ◌++◌, ℕ, List, [], Some, length, IfSome, OnOk};
+ghost use Rattle.std.specs.Prelude.{◌≡◌, ◌+◌, ◌*◌, ◌<◌, ◌≤◌, ◌++◌, ℕ, List, Some, length, IfSome, IfOk, OnOk};
 ghost use Rattle.std.specs.List.{flat_map};
 ghost use Rattle.arrayvec.specs.ArrayVec.{array_vec_len};
 ghost use Rattle.eeprom.specs.Chip.{Becomes};
 ghost use Rattle.eeprom.specs.Fault.{Counts};
-ghost use Rattle.eeprom.specs.StoreOf.{chain_of, payload_of, slot_of, record_in, number_at};
+ghost use Rattle.eeprom.specs.StoreOf.{chain_of, payload_of, slot_of, record_in, number_at, cell_place};
 ghost use Rattle.cell_store.specs.Chains.{IsRecordChain};
-ghost use Rattle.cell_store.specs.Reading.{ReadsCells, ReadsRecord};
+ghost use Rattle.cell_store.specs.Reading.{Appends, ReadsCells, ReadsRecord};
 
 use crate::layout::{CELL, LINK, LONGEST, cell_place, number_of};
 use arrayvec::ArrayVec;
@@ -35,7 +35,6 @@ pub fn read_record<B: Eeprom>(
 {
     let mut payload = Payload::new();
     read_payload(bench, cells, first, &mut payload)?;
-    out.clear();
     copy_record(payload.as_slice(), out);
     Ok(())
 }
@@ -62,12 +61,33 @@ fn read_payload<B: Eeprom>(
         if cell as u32 >= 2 * cells as u32 {
             break;
         }
-        let mut octets = [0; CELL];
-        bench.read(cell_place(cells, cell), &mut octets)?;
-        append(payload, &octets[LINK..]);
-        cell = number_of(octets[0], octets[1]);
+        cell = read_cell(bench, cells, cell, payload)?;
     }
     Ok(())
+}
+
+/// Reads a cell: appends its payload, and answers the number of the next cell.
+pub fn read_cell<B: Eeprom>(
+    bench: &mut B,
+    cells: u16,
+    cell: u16,
+    payload: &mut Payload,
+) -> Result<u16, EepromFault>
+    requires many { cells ≤ 2048 }
+    requires inside { cell < 2 * cells }
+    requires room { 70 * cells + 34 ≤ (B.chip bench.old).still.size }
+    requires fits { array_vec_len payload.old + 30 ≤ 540 }
+    ensures link { IfOk result (λ next. IfSome (B.chip bench.old).image (λ image. next ≡ number_at image (cell_place cells cell))) }
+    ensures payload { OnOk result (IfSome (B.chip bench.old).image (λ image. payload.new.items ≡ payload.old.items ++ payload_of image cells cell)) }
+    ensures appends { OnOk result (Appends 30 payload.old.items payload.new.items) }
+    ensures octets_read { Becomes (ReadsCells 1) (B.octets_read bench.old) (B.octets_read bench.new) }
+    ensures same { B.chip bench.new ≡ B.chip bench.old }
+    ensures cause { Counts (B.faults bench.old) (B.faults bench.new) result }
+{
+    let mut octets = [0; CELL];
+    bench.read(cell_place(cells, cell), &mut octets)?;
+    append(payload, &octets[LINK..]);
+    Ok(number_of(octets[0], octets[1]))
 }
 
 pub fn append(payload: &mut Payload, octets: &[u8])
@@ -80,10 +100,10 @@ pub fn append(payload: &mut Payload, octets: &[u8])
 }
 
 /// Copies the record out of a chain's payload, where one is there.
-fn copy_record(payload: &[u8], out: &mut RecordOctets)
-    requires empty { out.old.items ≡ [] }
+pub fn copy_record(payload: &[u8], out: &mut RecordOctets)
     ensures record { number_at payload.now 0 ≤ 512 → 2 + number_at payload.now 0 ≤ length payload.now → out.new.items ≡ record_in payload.now }
 {
+    out.clear();
     let [high, low, rest @ ..] = payload else {
         return;
     };

@@ -1,32 +1,30 @@
 // The claim of a record's chain in an image: each of its cells is free before, and used then.
-ghost use Rattle.std.specs.Prelude.{◌≡◌, ◌+◌, ◌*◌, ◌≤◌, ◌<◌, ◌==◌, ◌&&◌, true, false, nat_le, length, set, IfSome, IfOk, IsErrOf, OnOk};
-ghost use Rattle.eeprom.specs.StoreOf.{number_at, cell_place, payload_of};
-ghost use Rattle.eeprom.specs.StoreOf as image;
+ghost use Rattle.std.specs.Prelude.{◌≡◌, ◌+◌, ◌*◌, ◌≤◌, ◌<◌, ◌++◌, ℕ, List, Some, length, IfSome, IfOk, IsErrOf, OnOk};
+ghost use Rattle.std.specs.List.{flat_map};
+ghost use Rattle.arrayvec.specs.ArrayVec.{array_vec_len};
+ghost use Rattle.eeprom.specs.Chip.{Becomes};
+ghost use Rattle.eeprom.specs.StoreOf.{chain_of, number_at, cell_place, payload_of};
 ghost use Rattle.cell_store.specs.Cells.{kept, StandsFor};
 ghost use Rattle.cell_store.specs.Claims.{TakesChain, HasRecord, HasNoRecord};
-ghost use Rattle.cell_store.specs.Claiming.{ClaimsCell, IsFrontOf, IsTakenCell};
+ghost use Rattle.cell_store.specs.Claiming.{ClaimsCell, IsTakenCell};
+ghost use Rattle.cell_store.specs.Reading.{Appends, ReadsCells, cells_in};
 ghost use Rattle.cell_store.specs.CountsFaults.{CountsClaimFaults};
 
 use crate::ClaimRefusal;
-use crate::layout::{CELL, LINK, LONGEST, NO_CELL, cell_place, number_of};
+use crate::chain::{Payload, read_cell};
+use crate::layout::{LONGEST, NO_CELL, number_of};
 use crate::store::cells_for;
 use eeprom::Eeprom;
 
-/// What the first four octets of a cell say: the next cell, and the length of a record that begins in this one.
-#[derive(Clone, Copy)]
-struct Front {
-    next: u16,
-    size: u16,
-}
-
-/// Claims the chain that begins at `first`, and answers how many cells it has: exactly those of its record.
-/// Each cell is read once.
+/// Claims the chain that begins at `first`, and answers how many cells it has: exactly those of its record. Each cell is read
+/// once, and its payload is kept.
 pub fn claim_cells<B: Eeprom>(
     bench: &mut B,
     cells: u16,
     used: &mut [bool],
     links: &mut [u16],
     first: u16,
+    payload: &mut Payload,
 ) -> Result<u16, ClaimRefusal>
     requires few { 16 ≤ cells }
     requires many { cells ≤ 2048 }
@@ -36,41 +34,51 @@ pub fn claim_cells<B: Eeprom>(
     ensures takes { IfOk result (λ count. TakesChain (kept cells used.old links.old) (kept cells used.new links.new) first count) }
     ensures stands { OnOk result (IfSome (B.chip bench.old).image (λ image. StandsFor (kept cells used.old links.old) image → StandsFor (kept cells used.new links.new) image)) }
     ensures record { OnOk result (IfSome (B.chip bench.old).image (HasRecord (kept cells used.new links.new) first)) }
+    ensures payload { OnOk result (IfSome (B.chip bench.old).image (λ image. (chain : List ℕ) → chain_of image cells (2 * cells) first ≡ Some chain
+        → length chain ≤ LONGEST → payload.new.items ≡ flat_map (payload_of image cells) chain)) }
+    ensures count { IfOk result (λ count. cells_in payload.new.items ≡ Some count) }
+    ensures size { IfOk result (λ count. length payload.new.items ≡ 30 * count) }
+    ensures octets_read { IfOk result (λ count. Becomes (ReadsCells count) (B.octets_read bench.old) (B.octets_read bench.new)) }
     ensures bad_chain { IsErrOf result ClaimRefusal.BadChain → IfSome (B.chip bench.old).image (HasNoRecord (kept cells used.old links.old) first) }
     ensures used { length used.new ≡ length used.old }
     ensures links { length links.new ≡ length links.old }
     ensures same { B.chip bench.new ≡ B.chip bench.old }
     ensures cause { CountsClaimFaults (B.faults bench.old) (B.faults bench.new) result }
 {
-    let front = claim_cell(bench, cells, used, links, first)?;
-    let mut next = front.next;
-    for count in 1..=LONGEST {
-        if next == NO_CELL {
-            return if has_cells_for(front.size, count) {
-                Ok(count)
-            } else {
-                Err(ClaimRefusal::BadChain)
-            };
-        }
-        next = claim_cell(bench, cells, used, links, next)?.next;
+    payload.clear();
+    let mut next = claim_cell(bench, cells, used, links, first, payload)?;
+    let Some(count) = cells_in(payload.as_slice()) else {
+        return Err(ClaimRefusal::BadChain);
+    };
+    for _cell in 1..count {
+        next = claim_cell(bench, cells, used, links, next, payload)?;
     }
-    Err(ClaimRefusal::BadChain)
+    if next == NO_CELL {
+        Ok(count)
+    } else {
+        Err(ClaimRefusal::BadChain)
+    }
 }
 
-/// Claims a cell, and keeps its link.
+/// Claims a cell: reads it, keeps its link, and answers it.
 fn claim_cell<B: Eeprom>(
     bench: &mut B,
     cells: u16,
     used: &mut [bool],
     links: &mut [u16],
     cell: u16,
-) -> Result<Front, ClaimRefusal>
+    payload: &mut Payload,
+) -> Result<u16, ClaimRefusal>
     requires many { cells ≤ 2048 }
     requires room { 70 * cells + 34 ≤ (B.chip bench.old).still.size }
     requires used { length used.old ≡ 2 * cells }
     requires links { length links.old ≡ 2 * cells }
-    ensures claims { IfOk result (λ front. ClaimsCell (kept cells used.old links.old) (kept cells used.new links.new) cell front.next) }
-    ensures front { IfOk result (λ front. IfSome (B.chip bench.old).image (λ image. IsFrontOf image cells cell front.next front.size)) }
+    requires fits { array_vec_len payload.old + 30 ≤ 540 }
+    ensures claims { IfOk result (λ next. ClaimsCell (kept cells used.old links.old) (kept cells used.new links.new) cell next) }
+    ensures link { IfOk result (λ next. IfSome (B.chip bench.old).image (λ image. next ≡ number_at image (cell_place cells cell))) }
+    ensures payload { OnOk result (IfSome (B.chip bench.old).image (λ image. payload.new.items ≡ payload.old.items ++ payload_of image cells cell)) }
+    ensures appends { OnOk result (Appends 30 payload.old.items payload.new.items) }
+    ensures octets_read { OnOk result (Becomes (ReadsCells 1) (B.octets_read bench.old) (B.octets_read bench.new)) }
     ensures taken { IsErrOf result ClaimRefusal.BadChain → IsTakenCell (kept cells used.old links.old) cell }
     ensures used { length used.new ≡ length used.old }
     ensures links { length links.new ≡ length links.old }
@@ -81,18 +89,21 @@ fn claim_cell<B: Eeprom>(
     if place >= used.len() || used[place] {
         return Err(ClaimRefusal::BadChain);
     }
-    let mut octets = [0; CELL];
-    bench.read(cell_place(cells, cell), &mut octets)?;
-    let next = number_of(octets[0], octets[1]);
-    let size = number_of(octets[LINK], octets[LINK + 1]);
+    let next = read_cell(bench, cells, cell, payload)?;
     used[place] = true;
     links[place] = next;
-    Ok(Front { next, size })
+    Ok(next)
 }
 
-/// Whether a record of so many octets has exactly so many cells.
-fn has_cells_for(size: u16, count: u16) -> bool
-    ensures { result ≡ (nat_le 1 size && nat_le size 512 && (count == image.cells_for size)) }
+/// How many cells the record has that begins with these octets of payload, where they say a length that a record may have.
+fn cells_in(payload: &[u8]) -> Option<u16>
+    requires some { 2 ≤ length payload.now }
+    ensures { result ≡ cells_in payload.now }
 {
-    1 <= size && size <= 512 && cells_for(size as usize) == count
+    let size = number_of(payload[0], payload[1]);
+    if 1 <= size && size <= 512 {
+        Some(cells_for(size as usize))
+    } else {
+        None
+    }
 }

@@ -10,10 +10,10 @@ ghost use Rattle.cell_store.specs.Cells.{all_free, freed, StandsFor, IsUsedChain
 ghost use Rattle.cell_store.specs.Claims.{TakesChain, HasRecord, HasNoRecord};
 ghost use Rattle.cell_store.specs.Writing.{IsWritten, KeepsChains};
 ghost use Rattle.cell_store.specs.Placed.{KeepsMarked};
-ghost use Rattle.cell_store.specs.Reading.{ReadsRecord};
+ghost use Rattle.cell_store.specs.Reading.{ReadsCells, ReadsRecord};
 ghost use Rattle.cell_store.specs.CountsFaults.{CountsClaimFaults, CountsWriteFaults};
 
-use crate::chain::{RecordOctets, read_record};
+use crate::chain::{Payload, RecordOctets, copy_record, read_record};
 use crate::claims::claim_cells;
 use crate::layout::{CELLS, LONGEST, NO_CELL};
 use crate::marks::count_free;
@@ -73,13 +73,38 @@ impl CellStore {
         ensures takes { IfOk result (λ count. TakesChain self.old self.new first count) }
         ensures stands { OnOk result (IfSome (B.chip bench.old).image (λ image. StandsFor self.old image → StandsFor self.new image)) }
         ensures record { OnOk result (IfSome (B.chip bench.old).image (HasRecord self.new first)) }
+        ensures octets_read { IfOk result (λ count. Becomes (ReadsCells count) (B.octets_read bench.old) (B.octets_read bench.new)) }
+        ensures bad_chain { IsErrOf result ClaimRefusal.BadChain → IfSome (B.chip bench.old).image (HasNoRecord self.old first) }
+        ensures same { B.chip bench.new ≡ B.chip bench.old }
+        ensures cause { CountsClaimFaults (B.faults bench.old) (B.faults bench.new) result }
+    {
+        self.claim_record(bench, first, &mut RecordOctets::new())
+    }
+
+    /// The same, and the record is handed out: each of its cells is read once.
+    pub fn claim_record<B: Eeprom>(
+        &mut self,
+        bench: &mut B,
+        first: u16,
+        out: &mut RecordOctets,
+    ) -> Result<u16, ClaimRefusal>
+        requires room { 70 * self.old.cells + 34 ≤ (B.chip bench.old).still.size }
+        ensures takes { IfOk result (λ count. TakesChain self.old self.new first count) }
+        ensures stands { OnOk result (IfSome (B.chip bench.old).image (λ image. StandsFor self.old image → StandsFor self.new image)) }
+        ensures record { OnOk result (IfSome (B.chip bench.old).image (HasRecord self.new first)) }
+        ensures reads { OnOk result (IfSome (B.chip bench.old).image (λ image. (chain : List ℕ) → IsRecordChain image self.old.cells first chain
+            → slot_of image self.old.cells chain ≡ Some out.new.items)) }
+        ensures count { IfOk result (λ count. count ≡ image.cells_for (length out.new.items)) }
+        ensures octets_read { IfOk result (λ count. Becomes (ReadsCells count) (B.octets_read bench.old) (B.octets_read bench.new)) }
         ensures bad_chain { IsErrOf result ClaimRefusal.BadChain → IfSome (B.chip bench.old).image (HasNoRecord self.old first) }
         ensures same { B.chip bench.new ≡ B.chip bench.old }
         ensures cause { CountsClaimFaults (B.faults bench.old) (B.faults bench.new) result }
     {
         let used = self.used.as_mut_slice();
         let links = self.links.as_mut_slice();
-        let count = claim_cells(bench, self.cells, used, links, first)?;
+        let mut payload = Payload::new();
+        let count = claim_cells(bench, self.cells, used, links, first, &mut payload)?;
+        copy_record(payload.as_slice(), out);
         Ok(count)
     }
 
@@ -168,6 +193,7 @@ impl CellStore {
 
     /// How many cells the used chain has that begins at a cell.
     pub fn length_of_chain(&self, first: u16) -> u16
+        ensures chain { (chain : List ℕ) → IsUsedChain self.now first chain → result ≡ length chain }
         ensures length { result ≡ steps self.now.links LONGEST first }
         ensures most { result ≤ LONGEST }
     {

@@ -1,4 +1,4 @@
-use Rattle.std.proofs.Common.{refl, rules, arith, length-append, length-take, length-drop}
+use Rattle.std.proofs.Common.{refl, rules, arith, length-append}
 use Rattle.cell_store.proofs.Reading.{reads-none, reads-more, reads-end, reads-full}
 use Rattle.cell_store.proofs.Walking.{Walked-start, Walked-more, Walked-end, Walked-full}
 use Rattle.cell_store.proofs.chain.read_payload.Goals as goal
@@ -13,17 +13,17 @@ loop-step-init g c = record {
 }
 
 pub loop-step-preserved : goal.loop-step-preserved
-loop-step-preserved g c = record {
-  size = rw c.append.ensures.appends (simp (length-append, length-take, length-drop) (omega arith));
-  walked =
-      let read = rw (c.loop-step.invariant.same, c.cell_place.ensures) at c.in_ok-read.ensures.octets in
-      Walked-more c.args.cells c.args.first c.loop-step.cell c.loop-step.payload.items c.append.new.payload.items c.loop-step._step c.number_of-cell.result
-      (g.B.Eeprom.chip c.args.bench.now).image c.read.new.into c.requires.many c.if-cell-cells.false read c.number_of-cell.ensures.number c.append.ensures.appends
-      c.loop-step.invariant.walked;
-  read = reads-more c.loop-step._step (g.B.Eeprom.octets_read c.args.bench.now) (g.B.Eeprom.octets_read c.loop-step.bench) (g.B.Eeprom.octets_read c.read.new.self) c.loop-step.invariant.read c.read.ensures.read;
-  same = search rules;
-  faults = search rules;
-}
+loop-step-preserved g c =
+    let inv = c.loop-step.invariant in
+    let more = c.in_ok-cell.ensures.appends in
+    record {
+      size = rw (more.2) (omega (arith, length-append c.loop-step.payload.items more.0, more.1, inv.size));
+      walked = Walked-more c.args.cells c.args.first c.loop-step.cell c.loop-step.payload.items c.read_cell.new.payload.items c.loop-step._step c.in_ok-cell.cell (g.B.Eeprom.chip c.args.bench.now).image
+          c.requires.many c.if-cell-cells.false (rw inv.same at c.in_ok-cell.ensures.link) (rw inv.same at c.in_ok-cell.ensures.payload) inv.walked;
+      read = reads-more c.loop-step._step (g.B.Eeprom.octets_read c.args.bench.now) (g.B.Eeprom.octets_read c.loop-step.bench) (g.B.Eeprom.octets_read c.read_cell.new.bench) inv.read c.read_cell.ensures.octets_read;
+      same = search rules;
+      faults = search rules;
+    }
 
 pub returns-after-loop-step-clause-payload : goal.returns-after-loop-step-clause-payload
 returns-after-loop-step-clause-payload g c =

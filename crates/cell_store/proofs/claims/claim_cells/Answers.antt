@@ -1,88 +1,131 @@
-use Rattle.std.proofs.Common.{◌≡◌, ℕ, List, Option, refl, sym, ap, ◌∙◌, arith, rules, subst}
-use Rattle.eeprom.specs.Chip.{Chip}
+use Rattle.std.proofs.Common.{◌≡◌, ◌*◌, ℕ, Some, length, IfSome, refl, sym, ap, ◌∙◌, rules, arith, subst, length-append}
+use Rattle.eeprom.specs.StoreOf.{payload_of}
 use Rattle.cell_store.specs.Cells.{Cells, kept}
-use Rattle.cell_store.proofs.Claiming.{Claiming, Claiming-start, Claiming-more, Claiming-taken, Claiming-long, Claiming-other, Claiming-record, Claiming-takes, Claiming-stands}
-use Rattle.cell_store.proofs.claims.claim_cells.Goals.{In_ok-front}
+use Rattle.cell_store.specs.Claims.{TakesChain}
+use Rattle.cell_store.specs.Reading.{cells_in}
+use Rattle.cell_store.proofs.Claiming.{Claiming, Claiming-start, Claiming-more, Claiming-taken, Claiming-on, Claiming-record, Claiming-takes, Claiming-stands, longer-none, longer-counted, no-length}
+use Rattle.cell_store.proofs.Counting.{told-count, count-short, cells_in-append}
+use Rattle.cell_store.proofs.Reading.{reads-more}
+use Rattle.cell_store.proofs.Walking.{Walked-start, Walked-more, Walked-end}
+use Rattle.cell_store.proofs.claims.claim_cells.Goals.{In-Some, After-loop-cell}
 use Rattle.cell_store.proofs.claims.claim_cells.Goals as goal
 
--- what is known of the image is known of it as it was when the call began
-image : (g : _) (c : In_ok-front g) → (g.B.Eeprom.chip c.claim_cell.new.bench).image ≡ (g.B.Eeprom.chip c.args.bench.now).image
-image g c = ap (λ (chip : Chip). chip.image) c.claim_cell.ensures.same
+-- the first payload says how many cells the record has
+front : (g : _) (c : In-Some g) → cells_in c.claim_cell.new.payload.items ≡ Some c.in-Some.count
+front g c = ap cells_in (sym c.as_slice.ensures.value) ∙ sym c.in-Some.ensures
 
-told : (g : _) (c : In_ok-front g) (now : Cells) (count cell : ℕ) → Claiming (kept c.args.cells c.args.used.now c.args.links.now) now (g.B.Eeprom.chip c.claim_cell.new.bench).image c.args.first count cell
-    → Claiming (kept c.args.cells c.args.used.now c.args.links.now) now (g.B.Eeprom.chip c.args.bench.now).image c.args.first count cell
-told g c now count cell claiming = subst (λ (image : Option (List ℕ)). Claiming (kept c.args.cells c.args.used.now c.args.links.now) now image c.args.first count cell) (image g c) claiming
+-- it is that of the first cell
+told : (g : _) (c : In-Some g) → IfSome (g.B.Eeprom.chip c.args.bench.now).image (λ image. cells_in (payload_of image c.args.cells c.args.first) ≡ Some c.in-Some.count)
+told g c =
+    told-count (g.B.Eeprom.chip c.args.bench.now).image c.args.cells c.args.first c.claim_cell.new.payload.items (Some c.in-Some.count) (rw c.clear.ensures at c.in_ok-next.ensures.payload) (front g c)
 
-pub returns-in_err-front-clause-bad_chain : goal.returns-in_err-front-clause-bad_chain
-returns-in_err-front-clause-bad_chain g c = λ refused.
+-- all cells were claimed behind the loop
+at-end : (g : _) (c : After-loop-cell g) → c.loop-cell._cell ≡ c.in-Some.count
+at-end g c = omega (arith, c.loop-cell-test.false, c.loop-cell.auto._cell-end, (count-short c.loop-cell.payload.items c.in-Some.count c.loop-cell.invariant.front).0)
+
+pub returns-in_err-next-clause-bad_chain : goal.returns-in_err-next-clause-bad_chain
+returns-in_err-next-clause-bad_chain g c = λ refused.
     let start : Cells = kept c.args.cells c.args.used.now c.args.links.now in
     let image = (g.B.Eeprom.chip c.args.bench.now).image in
-    Claiming-taken start start image c.args.first 0 c.args.first c.requires.many c.requires.used (λ _. refl) (c.in_err-front.ensures.taken (search rules)) (Claiming-start start image c.args.first)
+    Claiming-taken start start image c.args.first 0 c.args.first c.requires.many c.requires.used (longer-none image c.args.cells c.args.first) (c.in_err-next.ensures.taken (search rules)) (Claiming-start start image c.args.first)
 
-pub loop-count-init : goal.loop-count-init
-loop-count-init g c =
+pub returns-in_default-clause-bad_chain : goal.returns-in_default-clause-bad_chain
+returns-in_default-clause-bad_chain g c = λ _.
+    let start : Cells = kept c.args.cells c.args.used.now c.args.links.now in
+    let image = (g.B.Eeprom.chip c.args.bench.now).image in
+    no-length start image c.args.first (told-count image c.args.cells c.args.first c.claim_cell.new.payload.items _ (rw c.clear.ensures at c.in_ok-next.ensures.payload) (ap cells_in (sym c.as_slice.ensures.value) ∙ (sym c.cells_in.ensures ∙ c.in_default.is)))
+
+pub loop-cell-init : goal.loop-cell-init
+loop-cell-init g c =
     let start : Cells = kept c.args.cells c.args.used.now c.args.links.now in
     let now : Cells = kept c.args.cells c.claim_cell.new.used c.claim_cell.new.links in
-    let at = (goal.at.loop-count-init g c).In_ok-front in
-    let claiming = Claiming-more start start now (g.B.Eeprom.chip c.args.bench.now).image c.args.first 0 c.args.first c.in_ok-front.front.next c.in_ok-front.front.size c.requires.used c.requires.links refl
-    c.in_ok-front.ensures.claims c.in_ok-front.ensures.front (Claiming-start start (g.B.Eeprom.chip c.args.bench.now).image c.args.first) in
+    let image = (g.B.Eeprom.chip c.args.bench.now).image in
+    let more = c.in_ok-next.ensures.appends in
+    let empty : length c.clear.new.self.items ≡ 0 = ap (length {A = ℕ}) c.clear.ensures in
     record {
-      claiming = subst (λ (image : Option (List ℕ)). Claiming start now image c.args.first 1 c.in_ok-front.front.next) (sym (image g at)) claiming;
+      claiming = Claiming-more start start now image c.args.first 0 c.args.first c.in_ok-next.next c.requires.used c.requires.links refl c.in_ok-next.ensures.claims c.in_ok-next.ensures.link (Claiming-start start image c.args.first);
+      walked = Walked-more c.args.cells c.args.first c.args.first c.clear.new.self.items c.claim_cell.new.payload.items 0 c.in_ok-next.next image c.requires.many c.in_ok-next.ensures.claims.inside
+          c.in_ok-next.ensures.link c.in_ok-next.ensures.payload (Walked-start c.args.cells c.args.first c.clear.new.self.items image c.clear.ensures);
+      size = rw (more.2) (omega (arith, length-append c.clear.new.self.items more.0, more.1, empty));
+      front = front g c;
+      read = c.in_ok-next.ensures.octets_read;
       used = c.claim_cell.ensures.used ∙ c.requires.used;
       links = c.claim_cell.ensures.links ∙ c.requires.links;
-      same = refl;
-      faults = refl;
-    }
-
-pub loop-count-preserved : goal.loop-count-preserved
-loop-count-preserved g c =
-    let start : Cells = kept c.args.cells c.args.used.now c.args.links.now in
-    let now : Cells = kept c.args.cells c.loop-count.used c.loop-count.links in
-    let new : Cells = kept c.args.cells c.claim_cell-in-loop-count.new.used c.claim_cell-in-loop-count.new.links in
-    record {
-      claiming = Claiming-more start now new (g.B.Eeprom.chip c.claim_cell.new.bench).image c.args.first c.loop-count.count c.loop-count.next c.in_ok-next.field-0.next c.in_ok-next.field-0.size c.requires.used
-          c.loop-count.invariant.links refl c.in_ok-next.ensures.claims (rw c.loop-count.invariant.same at c.in_ok-next.ensures.front) c.loop-count.invariant.claiming;
-      used = c.claim_cell-in-loop-count.ensures.used ∙ c.loop-count.invariant.used;
-      links = c.claim_cell-in-loop-count.ensures.links ∙ c.loop-count.invariant.links;
       same = search rules;
       faults = search rules;
     }
 
-pub returns-then-has_cells_for-clause-takes : goal.returns-then-has_cells_for-clause-takes
-returns-then-has_cells_for-clause-takes g c =
-    Claiming-takes (kept c.args.cells c.args.used.now c.args.links.now) (kept c.args.cells c.loop-count.used c.loop-count.links) (g.B.Eeprom.chip c.claim_cell.new.bench).image c.args.first c.loop-count.count c.loop-count.next
-    c.requires.links c.loop-count.invariant.links c.if-next.true (omega arith) (omega arith) c.loop-count.invariant.claiming
+pub loop-cell-preserved : goal.loop-cell-preserved
+loop-cell-preserved g c =
+    let start : Cells = kept c.args.cells c.args.used.now c.args.links.now in
+    let now : Cells = kept c.args.cells c.loop-cell.used c.loop-cell.links in
+    let new : Cells = kept c.args.cells c.claim_cell-in-loop-cell.new.used c.claim_cell-in-loop-cell.new.links in
+    let image = (g.B.Eeprom.chip c.args.bench.now).image in
+    let inv = c.loop-cell.invariant in
+    let more = c.in_ok-next-2.ensures.appends in
+    record {
+      claiming = Claiming-more start now new image c.args.first c.loop-cell._cell c.loop-cell.next c.in_ok-next-2.next c.requires.used inv.links refl c.in_ok-next-2.ensures.claims (rw inv.same at c.in_ok-next-2.ensures.link) inv.claiming;
+      walked = Walked-more c.args.cells c.args.first c.loop-cell.next c.loop-cell.payload.items c.claim_cell-in-loop-cell.new.payload.items c.loop-cell._cell c.in_ok-next-2.next image c.requires.many c.in_ok-next-2.ensures.claims.inside
+          (rw inv.same at c.in_ok-next-2.ensures.link) (rw inv.same at c.in_ok-next-2.ensures.payload) inv.walked;
+      size = rw (more.2) (omega (arith, length-append c.loop-cell.payload.items more.0, more.1, inv.size));
+      front = rw (more.2) (cells_in-append c.loop-cell.payload.items more.0 (omega (arith, inv.size)) ∙ inv.front);
+      read = reads-more c.loop-cell._cell (g.B.Eeprom.octets_read c.args.bench.now) (g.B.Eeprom.octets_read c.loop-cell.bench) (g.B.Eeprom.octets_read c.claim_cell-in-loop-cell.new.bench) inv.read c.in_ok-next-2.ensures.octets_read;
+      used = c.claim_cell-in-loop-cell.ensures.used ∙ inv.used;
+      links = c.claim_cell-in-loop-cell.ensures.links ∙ inv.links;
+      same = search rules;
+      faults = search rules;
+    }
 
-pub returns-then-has_cells_for-clause-stands : goal.returns-then-has_cells_for-clause-stands
-returns-then-has_cells_for-clause-stands g c =
-    let at = (goal.at.returns-then-has_cells_for-clause-stands g c).In_ok-front in
-    Claiming-stands (kept c.args.cells c.args.used.now c.args.links.now) (kept c.args.cells c.loop-count.used c.loop-count.links) (g.B.Eeprom.chip c.args.bench.now).image c.args.first c.loop-count.count c.loop-count.next
-    c.requires.used (told g at (kept c.args.cells c.loop-count.used c.loop-count.links) c.loop-count.count c.loop-count.next c.loop-count.invariant.claiming)
+pub returns-in_err-next-2-clause-bad_chain : goal.returns-in_err-next-2-clause-bad_chain
+returns-in_err-next-2-clause-bad_chain g c = λ refused.
+    let start : Cells = kept c.args.cells c.args.used.now c.args.links.now in
+    let now : Cells = kept c.args.cells c.loop-cell.used c.loop-cell.links in
+    let image = (g.B.Eeprom.chip c.args.bench.now).image in
+    let at = (goal.at.returns-in_err-next-2-clause-bad_chain g c).In-Some in
+    Claiming-taken start now image c.args.first c.loop-cell._cell c.loop-cell.next c.requires.many c.requires.used (longer-counted image c.args.cells c.args.first c.loop-cell._cell c.in-Some.count (told g at) c.loop-cell-test.true)
+    (c.in_err-next-2.ensures.taken (search rules)) c.loop-cell.invariant.claiming
 
-pub returns-then-has_cells_for-clause-record : goal.returns-then-has_cells_for-clause-record
-returns-then-has_cells_for-clause-record g c =
-    let at = (goal.at.returns-then-has_cells_for-clause-record g c).In_ok-front in
-    Claiming-record (kept c.args.cells c.args.used.now c.args.links.now) (kept c.args.cells c.loop-count.used c.loop-count.links) (g.B.Eeprom.chip c.args.bench.now).image c.args.first c.loop-count.count c.loop-count.next
-    c.in_ok-front.front.next c.in_ok-front.front.size c.requires.few c.requires.many c.loop-count.invariant.links c.if-next.true (omega arith) (omega arith) c.in_ok-front.ensures.front
-    (sym c.has_cells_for.ensures ∙ c.if-has_cells_for.true) (told g at (kept c.args.cells c.loop-count.used c.loop-count.links) c.loop-count.count c.loop-count.next c.loop-count.invariant.claiming)
+pub returns-then-next-clause-takes : goal.returns-then-next-clause-takes
+returns-then-next-clause-takes g c =
+    let start : Cells = kept c.args.cells c.args.used.now c.args.links.now in
+    let now : Cells = kept c.args.cells c.loop-cell.used c.loop-cell.links in
+    let end = at-end g (goal.at.returns-then-next-clause-takes g c).After-loop-cell in
+    let short = count-short c.loop-cell.payload.items c.in-Some.count c.loop-cell.invariant.front in
+    subst (TakesChain start now c.args.first) end (Claiming-takes start now (g.B.Eeprom.chip c.args.bench.now).image c.args.first c.loop-cell._cell c.loop-cell.next c.requires.links c.loop-cell.invariant.links c.if-next.true
+    (omega (arith, end, short.0)) (omega (arith, end, short.1)) c.loop-cell.invariant.claiming)
 
-pub returns-else-has_cells_for-clause-bad_chain : goal.returns-else-has_cells_for-clause-bad_chain
-returns-else-has_cells_for-clause-bad_chain g c = λ _.
-    let at = (goal.at.returns-else-has_cells_for-clause-bad_chain g c).In_ok-front in
-    Claiming-other (kept c.args.cells c.args.used.now c.args.links.now) (kept c.args.cells c.loop-count.used c.loop-count.links) (g.B.Eeprom.chip c.args.bench.now).image c.args.first c.loop-count.count c.loop-count.next
-    c.in_ok-front.front.next c.in_ok-front.front.size c.requires.many c.if-next.true (omega arith) c.in_ok-front.ensures.front
-    (sym c.has_cells_for.ensures ∙ c.if-has_cells_for.false) (told g at (kept c.args.cells c.loop-count.used c.loop-count.links) c.loop-count.count c.loop-count.next c.loop-count.invariant.claiming)
+pub returns-then-next-clause-stands : goal.returns-then-next-clause-stands
+returns-then-next-clause-stands g c =
+    Claiming-stands (kept c.args.cells c.args.used.now c.args.links.now) (kept c.args.cells c.loop-cell.used c.loop-cell.links) (g.B.Eeprom.chip c.args.bench.now).image c.args.first c.loop-cell._cell c.loop-cell.next c.requires.used
+    c.loop-cell.invariant.claiming
 
-pub returns-in_err-next-clause-bad_chain : goal.returns-in_err-next-clause-bad_chain
-returns-in_err-next-clause-bad_chain g c = λ refused.
-    let at = (goal.at.returns-in_err-next-clause-bad_chain g c).In_ok-front in
-    let now : Cells = kept c.args.cells c.loop-count.used c.loop-count.links in
-    Claiming-taken (kept c.args.cells c.args.used.now c.args.links.now) now (g.B.Eeprom.chip c.args.bench.now).image c.args.first c.loop-count.count c.loop-count.next c.requires.many c.requires.used
-    (λ none. absurd (c.if-next.false none)) (c.in_err-next.ensures.taken (search rules)) (told g at now c.loop-count.count c.loop-count.next c.loop-count.invariant.claiming)
+pub returns-then-next-clause-record : goal.returns-then-next-clause-record
+returns-then-next-clause-record g c =
+    let start : Cells = kept c.args.cells c.args.used.now c.args.links.now in
+    let now : Cells = kept c.args.cells c.loop-cell.used c.loop-cell.links in
+    let image = (g.B.Eeprom.chip c.args.bench.now).image in
+    let at = (goal.at.returns-then-next-clause-record g c).In-Some in
+    let end = at-end g (goal.at.returns-then-next-clause-record g c).After-loop-cell in
+    let short = count-short c.loop-cell.payload.items c.in-Some.count c.loop-cell.invariant.front in
+    Claiming-record start now image c.args.first c.in-Some.count c.loop-cell.next c.requires.many c.loop-cell.invariant.links c.if-next.true short.0 short.1 c.requires.few (told g at)
+    (subst (λ (count : ℕ). Claiming start now image c.args.first count c.loop-cell.next) end c.loop-cell.invariant.claiming)
 
-pub returns-clause-bad_chain : goal.returns-clause-bad_chain
-returns-clause-bad_chain g c = λ _.
-    let at = (goal.at.returns-clause-bad_chain g c).In_ok-front in
-    let now : Cells = kept c.args.cells c.loop-count.used c.loop-count.links in
-    Claiming-long (kept c.args.cells c.args.used.now c.args.links.now) now (g.B.Eeprom.chip c.args.bench.now).image c.args.first c.loop-count.count c.loop-count.next (g.B.Eeprom.chip c.args.bench.now).still.size c.requires.many c.requires.room
-    (g.met.B.Eeprom.sized c.args.bench.now) (omega arith) (told g at now c.loop-count.count c.loop-count.next c.loop-count.invariant.claiming)
+pub returns-then-next-clause-payload : goal.returns-then-next-clause-payload
+returns-then-next-clause-payload g c =
+    Walked-end c.args.cells c.args.first c.loop-cell.next c.loop-cell.payload.items c.loop-cell._cell 18 (g.B.Eeprom.chip c.args.bench.now).image (omega (arith, c.if-next.true)) c.loop-cell.invariant.walked
+
+pub returns-then-next-clause-octets_read : goal.returns-then-next-clause-octets_read
+returns-then-next-clause-octets_read g c = rw (at-end g (goal.at.returns-then-next-clause-octets_read g c).After-loop-cell) at c.loop-cell.invariant.read
+
+pub returns-then-next-clause-size : goal.returns-then-next-clause-size
+returns-then-next-clause-size g c = c.loop-cell.invariant.size ∙ ap (λ (k : ℕ). 30 * k) (at-end g (goal.at.returns-then-next-clause-size g c).After-loop-cell)
+
+pub returns-else-next-clause-bad_chain : goal.returns-else-next-clause-bad_chain
+returns-else-next-clause-bad_chain g c = λ _.
+    let start : Cells = kept c.args.cells c.args.used.now c.args.links.now in
+    let now : Cells = kept c.args.cells c.loop-cell.used c.loop-cell.links in
+    let image = (g.B.Eeprom.chip c.args.bench.now).image in
+    let at = (goal.at.returns-else-next-clause-bad_chain g c).In-Some in
+    let end = at-end g (goal.at.returns-else-next-clause-bad_chain g c).After-loop-cell in
+    Claiming-on start now image c.args.first c.in-Some.count c.loop-cell.next c.requires.many c.if-next.false (told g at)
+    (subst (λ (count : ℕ). Claiming start now image c.args.first count c.loop-cell.next) end c.loop-cell.invariant.claiming)

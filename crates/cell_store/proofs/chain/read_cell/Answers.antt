@@ -1,0 +1,10 @@
+use Rattle.cell_store.proofs.Walking.{cell-link, cell-payload}
+use Rattle.cell_store.proofs.chain.read_cell.Goals as goal
+
+pub returns-clause-link : goal.returns-clause-link
+returns-clause-link g c =
+    cell-link c.args.cells c.args.cell c.number_of.result (g.B.Eeprom.chip c.args.bench.now).image c.read.new.into (rw c.cell_place.ensures at c.in_ok-read.ensures.octets) c.number_of.ensures.number
+
+pub returns-clause-payload : goal.returns-clause-payload
+returns-clause-payload g c =
+    cell-payload c.args.cells c.args.cell c.args.payload.now.items c.append.new.payload.items (g.B.Eeprom.chip c.args.bench.now).image c.read.new.into (rw c.cell_place.ensures at c.in_ok-read.ensures.octets) c.append.ensures.appends
