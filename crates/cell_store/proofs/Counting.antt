@@ -37,12 +37,21 @@ count-short payload count is =
 pub cells_in-append : (payload more : List ℕ) → 2 ≤ length payload → cells_in (payload ++ more) ≡ cells_in payload
 cells_in-append payload more some = rw (get_or_append_left payload more 0 0 (omega arith), get_or_append_left payload more 0 1 (omega arith)) refl
 
--- The record that is copied of a payload of so many cells has these cells.
+-- The record that is copied of a payload of so many cells has the length that the payload says.
+copied-size : (payload out : List ℕ) (count : ℕ) → Counted payload count → length payload ≡ 30 * count → (number_at payload 0 ≤ 512 → 2 + number_at payload 0 ≤ length payload → out ≡ record_in payload) → length out ≡ number_at payload 0
+copied-size payload out count c whole copied =
+    let copy = copied c.most (omega (arith, c.cells, whole)) in
+    let fits : number_at payload 0 ≤ length payload - 2 = omega (arith, c.cells, whole) in
+    ap (length {A = ℕ}) copy ∙ simp (length-take, length-drop) (omega (arith, fits))
+
 pub count-copied : (payload out : List ℕ) (count : ℕ) → cells_in payload ≡ Some count → length payload ≡ 30 * count → (number_at payload 0 ≤ 512 → 2 + number_at payload 0 ≤ length payload → out ≡ record_in payload)
     → count ≡ cells_for (length out)
 count-copied payload out count is whole copied =
     let c = counted payload count is in
-    let copy = copied c.most (omega (arith, c.cells, whole)) in
-    let fits : number_at payload 0 ≤ length payload - 2 = omega (arith, c.cells, whole) in
-    let size : length out ≡ number_at payload 0 = ap (length {A = ℕ}) copy ∙ simp (length-take, length-drop) (omega (arith, fits)) in
-    sym c.cells ∙ ap cells_for (sym size)
+    sym c.cells ∙ ap cells_for (sym (copied-size payload out count c whole copied))
+
+pub some-copied : (payload out : List ℕ) (count : ℕ) → cells_in payload ≡ Some count → length payload ≡ 30 * count → (number_at payload 0 ≤ 512 → 2 + number_at payload 0 ≤ length payload → out ≡ record_in payload)
+    → 1 ≤ length out
+some-copied payload out count is whole copied =
+    let c = counted payload count is in
+    omega (arith, c.some, copied-size payload out count c whole copied)

@@ -94,6 +94,7 @@ impl CellStore {
         ensures record { OnOk result (IfSome (B.chip bench.old).image (HasRecord self.new first)) }
         ensures reads { OnOk result (IfSome (B.chip bench.old).image (λ image. (chain : List ℕ) → IsRecordChain image self.old.cells first chain
             → slot_of image self.old.cells chain ≡ Some out.new.items)) }
+        ensures some { OnOk result (1 ≤ length out.new.items) }
         ensures count { IfOk result (λ count. count ≡ image.cells_for (length out.new.items)) }
         ensures octets_read { IfOk result (λ count. Becomes (ReadsCells count) (B.octets_read bench.old) (B.octets_read bench.new)) }
         ensures bad_chain { IsErrOf result ClaimRefusal.BadChain → IfSome (B.chip bench.old).image (HasNoRecord self.old first) }

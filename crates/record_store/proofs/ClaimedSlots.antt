@@ -1,20 +1,19 @@
 -- The chains of all slots, claimed one after another: there is a store where each one is.
-use Rattle.std.proofs.Common.{◌≡◌, ℕ, zero, suc, ◌+◌, ◌*◌, ◌<◌, ◌≤◌, ◌≢◌, ◌||◌, Bool, true, false, List, [], ◌∷◌, ◌++◌, length, take, drop, get_or, replicate, flat_map, nat_le, Option, Some, None, IsSome, IfSome, sym, refl, ap, ◌∙◌, arith, subst, true≢false, leb-true, length-append, append-nil, append_assoc}
+use Rattle.std.proofs.Common.{◌≡◌, ℕ, zero, suc, ◌+◌, ◌*◌, ◌<◌, ◌≤◌, ◌||◌, Bool, true, false, List, [], ◌∷◌, ◌++◌, length, take, drop, get_or, replicate, flat_map, nat_le, Option, Some, None, IsSome, IfSome, sym, refl, ap, ◌∙◌, arith, subst, true≢false, leb-true, length-append, append-nil, append_assoc, add-zero}
 use Rattle.std.specs.List.{AllByRecursion, list_all}
 use Rattle.std.proofs.lemmas.Bool.{and_parts, or_right}
 use Rattle.std.proofs.lemmas.Bool.Decides.{nat_tests}
-use Rattle.std.proofs.lemmas.List.{drop_more, drop_all, take_more, take_all, length-replicate}
+use Rattle.std.proofs.lemmas.List.{drop_more, take_more, take_all, length-replicate, take-append-drop}
 use Rattle.std.proofs.lemmas.Option.{same_Some}
 use Rattle.eeprom.specs.StoreOf.{chain_of, chains_of, is_record, slots_at, is_distinct}
 use Rattle.cell_store.specs.Cells.{Cells, IsInRange, all_free, link_in, StandsFor}
 use Rattle.cell_store.specs.Chains.{AreLinked, AreFree, link_of, is_among, with_marked}
-use Rattle.cell_store.specs.Claims.{TakesChain, HasRecord, HasNoRecord}
 use Rattle.cell_store.specs.Marks.{is_marked}
-use Rattle.cell_store.proofs.Chains.{chain-empty, chains-parts}
+use Rattle.cell_store.proofs.Chains.{chains-parts}
 use Rattle.cell_store.proofs.Claiming.{free-parts, free-join}
 use Rattle.cell_store.proofs.Linking.{chain-linked, linked-inside}
 use Rattle.cell_store.proofs.Marking.{marked-with, with_marked-append, length-with_marked}
-use Rattle.cell_store.proofs.Placements.{nowhere}
+use Rattle.record_store.specs.Opening.{ClaimedSoFar, TakesSlot}
 use Rattle.record_store.specs.Sound.{AreChains, Claimed, cells_in}
 use Rattle.record_store.proofs.Sides.{all-among, chains-stay}
 use Rattle.record_store.proofs.Weights.{slots-chains, some-slots}
@@ -102,9 +101,8 @@ pub record Claims (n : ℕ) (firsts : List ℕ) (marks : List Bool) (total : ℕ
   pub can : IsSome (slots_at image n firsts) → CanClaim image n marks total left
   pub slots : CanClaim image n marks total left → IsSome (slots_at image n firsts)
 
-pub claims-start : (n m : ℕ) (firsts : List ℕ) (image : Option (List ℕ)) → IfSome image (Claims n firsts (replicate m false) 0 (drop 0 firsts))
-claims-start n m firsts None = tt
-claims-start n m firsts (Some image) = record { can = slots-claim image n m firsts; slots = claim-slots image n (replicate m false) 0 firsts }
+claims-start : (n m : ℕ) (firsts image : List ℕ) → Claims n firsts (replicate m false) 0 firsts image
+claims-start n m firsts image = record { can = slots-claim image n m firsts; slots = claim-slots image n (replicate m false) 0 firsts }
 
 claims-next : (n : ℕ) (firsts : List ℕ) (old new : List Bool) (total count first : ℕ) (rest image : List ℕ) → length old ≡ 2 * n → ClaimsRecord n first old new count image → Claims n firsts old total (first ∷ rest) image → Claims n firsts new (total + count) rest image
 claims-next n firsts old new total count first rest image size c before =
@@ -120,71 +118,61 @@ claims-next n firsts old new total count first rest image size c before =
           before.slots (claim-more image n old total first rest c.chain size c.there all);
     }
 
-pub claims-more : (n : ℕ) (firsts : List ℕ) (old new : List Bool) (total count k : ℕ) (image : Option (List ℕ)) → length old ≡ 2 * n → k < length firsts → IfSome image (ClaimsRecord n (get_or firsts k 0) old new count)
-    → IfSome image (Claims n firsts old total (drop k firsts)) → IfSome image (Claims n firsts new (total + count) (drop (k + 1) firsts))
-claims-more n firsts old new total count k None size inside c before = tt
-claims-more n firsts old new total count k (Some image) size inside c before =
-    claims-next n firsts old new total count (get_or firsts k 0) (drop (k + 1) firsts) image size c (subst (λ (left : List ℕ). Claims n firsts old total left image) (drop_more firsts k 0 inside) before)
+-- the chains of the first slots are claimed
+claims-many : (n : ℕ) (firsts : List ℕ) (old : List Bool) (total : ℕ) (xs ys : List ℕ) (chains : List (List ℕ)) (image : List ℕ) → length old ≡ 2 * n → chains_of image n xs ≡ Some chains → list_all (is_record image n) chains ≡ true → AreFree old (cells_in chains)
+    → Claims n firsts old total (xs ++ ys) image → Claims n firsts (with_marked old (cells_in chains)) (total + length (cells_in chains)) ys image
+claims-many n firsts old total [] ys chains image size of records free before =
+    let none : chains ≡ [] = sym (same_Some _ _ of) in
+    subst (λ (chains : List (List ℕ)). Claims n firsts (with_marked old (cells_in chains)) (total + length (cells_in chains)) ys image) (sym none) (subst (λ (total : ℕ). Claims n firsts old total ys image) (sym (add-zero total)) before)
+claims-many n firsts old total (first ∷ xs) ys chains image size of records free before =
+    let parts = chains-parts (chain_of image n (2 * n) first) (chains_of image n xs) chains of in
+    let chain : List ℕ = parts.0 in
+    let others : List ℕ = cells_in parts.1 in
+    let tests = and_parts (is_record image n chain) (list_all (is_record image n) parts.1) (rw (parts.4) at records) in
+    let whole : AreFree old (chain ++ others) = subst (λ (chains : List (List ℕ)). AreFree old (cells_in chains)) parts.4 free in
+    let frees = free-parts old (2 * n) chain others size (chain-inside image n first chain parts.2) whole in
+    let claims : ClaimsRecord n first old (with_marked old chain) (length chain) image = record { chain = chain; there = record { of = parts.2; is = tests.0; free = frees.0 }; cells = refl; marks = refl } in
+    let next = claims-next n firsts old (with_marked old chain) total (length chain) first (xs ++ ys) image size claims before in
+    let rest = claims-many n firsts (with_marked old chain) (total + length chain) xs ys parts.1 image (length-with_marked old chain ∙ size) parts.3 tests.1 frees.1 next in
+    let marks : with_marked (with_marked old chain) others ≡ with_marked old (cells_in chains) = sym (with_marked-append old chain others) ∙ ap (λ (chains : List (List ℕ)). with_marked old (cells_in chains)) (sym parts.4) in
+    let count : (total + length chain) + length others ≡ total + length (cells_in chains) = omega (arith, length-append chain others, ap (λ (chains : List (List ℕ)). length (cells_in chains)) parts.4) in
+    subst (λ (total : ℕ). Claims n firsts (with_marked old (cells_in chains)) total ys image) count (subst (λ (marks : List Bool). Claims n firsts marks ((total + length chain) + length others) ys image) marks rest)
+
+-- so are those of the slots that were claimed so far
+pub claims-so_far : (n : ℕ) (firsts : List ℕ) (used : List Bool) (weight k : ℕ) (chains : List (List ℕ)) (image : List ℕ) → chains_of image n (take k firsts) ≡ Some chains → list_all (is_record image n) chains ≡ true → AreFree (replicate (2 * n) false) (cells_in chains)
+    → length (cells_in chains) ≡ weight → used ≡ with_marked (replicate (2 * n) false) (cells_in chains) → Claims n firsts used weight (drop k firsts) image
+claims-so_far n firsts used weight k chains image of records free count is =
+    let start : Claims n firsts (replicate (2 * n) false) 0 (take k firsts ++ drop k firsts) image = subst (λ (all : List ℕ). Claims n firsts (replicate (2 * n) false) 0 all image) (sym (take-append-drop k firsts)) (claims-start n (2 * n) firsts image) in
+    let all = claims-many n firsts (replicate (2 * n) false) 0 (take k firsts) (drop k firsts) chains image (length-replicate (2 * n) false) of records free start in
+    subst (λ (used : List Bool). Claims n firsts used weight (drop k firsts) image) (sym is) (subst (λ (total : ℕ). Claims n firsts (with_marked (replicate (2 * n) false) (cells_in chains)) total (drop k firsts) image) (omega (arith, count)) all)
 
 none-unless : {X : Type 0} (o : Option X) → ¬ (IsSome o) → o ≡ None
 none-unless None wrong = refl
 none-unless (Some x) wrong = absurd (wrong refl)
 
 -- one that can't be claimed, or one cell too many, and there are none
-pub claims-refused : (n : ℕ) (firsts : List ℕ) (marks : List Bool) (total k : ℕ) (image : Option (List ℕ)) → length marks ≡ 2 * n → k < length firsts → IfSome image (λ image. (chain : List ℕ) → ¬ (IsFreeRecord image n (get_or firsts k 0) marks chain))
-    → IfSome image (Claims n firsts marks total (drop k firsts)) → IfSome image (λ image. slots_at image n firsts ≡ None)
-claims-refused n firsts marks total k None size inside none before = tt
-claims-refused n firsts marks total k (Some image) size inside none before = none-unless (slots_at image n firsts) (λ there.
+pub claims-refused : (n : ℕ) (firsts : List ℕ) (marks : List Bool) (total k : ℕ) (image : List ℕ) → length marks ≡ 2 * n → k < length firsts → ((chain : List ℕ) → chain_of image n (2 * n) (get_or firsts k 0) ≡ Some chain → is_record image n chain ≡ true → ¬ (AreFree marks chain))
+    → Claims n firsts marks total (drop k firsts) image → slots_at image n firsts ≡ None
+claims-refused n firsts marks total k image size inside none before = none-unless (slots_at image n firsts) (λ there.
     let can = subst (λ (left : List ℕ). CanClaim image n marks total left) (drop_more firsts k 0 inside) (before.can there) in
     let first = claim-first image n marks total (get_or firsts k 0) (drop (k + 1) firsts) size can in
-    none first.chain first.there)
+    none first.chain first.there.of first.there.is first.there.free)
 
-pub claims-over : (n : ℕ) (firsts : List ℕ) (marks : List Bool) (total : ℕ) (left : List ℕ) (image : Option (List ℕ)) → n < total → IfSome image (Claims n firsts marks total left) → IfSome image (λ image. slots_at image n firsts ≡ None)
-claims-over n firsts marks total left None over c = tt
-claims-over n firsts marks total left (Some image) over c = none-unless (slots_at image n firsts) (λ there. absurd (omega (arith, (c.can there).few)))
+pub claims-over : (n : ℕ) (firsts : List ℕ) (old new : List Bool) (total count k : ℕ) (image : List ℕ) → length old ≡ 2 * n → k < length firsts → n < total + count → ClaimsRecord n (get_or firsts k 0) old new count image → Claims n firsts old total (drop k firsts) image → slots_at image n firsts ≡ None
+claims-over n firsts old new total count k image size inside over c before = none-unless (slots_at image n firsts) (λ there.
+    let left = subst (λ (left : List ℕ). Claims n firsts old total left image) (drop_more firsts k 0 inside) before in
+    let next = claims-next n firsts old new total count (get_or firsts k 0) (drop (k + 1) firsts) image size c left in
+    absurd (omega (arith, (next.can there).few)))
 
 -- what a claim says of a slot's chain in the image
-pub claims-record : (old new : Cells) (first count : ℕ) (image : Option (List ℕ)) → TakesChain old new first count → IfSome image (HasRecord new first) → IfSome image (ClaimsRecord old.cells first old.used new.used count)
-claims-record old new first count None takes there = tt
-claims-record old new first count (Some image) takes there =
-    let is = there takes.chain takes.linked in
-    let n : new.cells ≡ old.cells = takes.cells in
-    record {
-      chain = takes.chain;
-      there = record { of = ap (λ (n : ℕ). chain_of image n (2 * n) first) (sym n) ∙ is.of; is = ap (λ (n : ℕ). is_record image n takes.chain) (sym n) ∙ is.is; free = takes.free };
-      cells = takes.count_is;
-      marks = takes.used;
-    }
-
-pub claims-none : (n first : ℕ) (marks : List Bool) (image : Option (List ℕ)) → first ≡ 65535 → IfSome image (ClaimsRecord n first marks marks 0)
-claims-none n first marks None none = tt
-claims-none n first marks (Some image) none = record {
-  chain = [];
-  there = record { of = rw none (nowhere image n (2 * n)); is = refl; free = record { free = tt; distinct = refl } };
-  cells = refl;
-  marks = refl;
-}
-
-pub none-refused : (store : Cells) (first : ℕ) (image : Option (List ℕ)) → first ≢ 65535 → IfSome image (HasNoRecord store first) → IfSome image (λ image. (chain : List ℕ) → ¬ (IsFreeRecord image store.cells first store.used chain))
-none-refused store first None other none = tt
-none-refused store first (Some image) other none = λ chain there. none chain (record { of = there.of; is = there.is; some = nonempty chain there.of }) there.free
-  where
-    nonempty : (chain : List ℕ) → chain_of image store.cells (2 * store.cells) first ≡ Some chain → 0 < length chain
-    nonempty [] of = absurd (other (chain-empty image store.cells (2 * store.cells) first of))
-    nonempty (cell ∷ cells) of = omega arith
-
--- the chains of so many slots, as they are kept in memory
-pub record ClaimedSoFar (store : Cells) (firsts : List ℕ) (total : ℕ) : Type 0 where
-  pub chains : List (List ℕ)
-  pub are : AreChains store.links firsts chains
-  pub free : AreFree (replicate (2 * store.cells) false) (cells_in chains)
-  pub count_is : length (cells_in chains) ≡ total
-  pub used : store.used ≡ with_marked (replicate (2 * store.cells) false) (cells_in chains)
+pub claims-record : (old new : Cells) (first count : ℕ) (octets image : List ℕ) → TakesSlot (Some image) old new first octets count → ClaimsRecord old.cells first old.used new.used count image
+claims-record old new first count octets image takes =
+    record { chain = takes.chain; there = record { of = takes.told.of; is = takes.told.is; free = takes.free }; cells = takes.count_is; marks = takes.used }
 
 pub claimed-start : (n : ℕ) (firsts : List ℕ) → ClaimedSoFar (all_free n) (take 0 firsts) 0
 claimed-start n firsts = record { chains = []; are = tt; free = record { free = tt; distinct = refl }; count_is = refl; used = refl }
 
-cells-more : (chains : List (List ℕ)) (chain : List ℕ) → cells_in (chains ++ chain ∷ []) ≡ cells_in chains ++ chain
+pub cells-more : (chains : List (List ℕ)) (chain : List ℕ) → cells_in (chains ++ chain ∷ []) ≡ cells_in chains ++ chain
 cells-more [] chain = simp append-nil
 cells-more (first ∷ chains) chain = ap (λ (cells : List ℕ). first ++ cells) (cells-more chains chain) ∙ sym (append_assoc first (cells_in chains) chain)
 
@@ -208,35 +196,32 @@ all-used : (store : Cells) (cells : List ℕ) → length store.used ≡ 2 * stor
 all-used store cells size inside used none cell here =
     ap (λ (used : List Bool). is_marked used cell) used ∙ (marked-with (2 * store.cells) (replicate (2 * store.cells) false) cells cell none inside ∙ or_right (is_marked (replicate (2 * store.cells) false) cell) (is_among cell cells) here)
 
-pub claimed-more : (old new : Cells) (firsts : List ℕ) (total count k : ℕ) → IsInRange old → k < length firsts → TakesChain old new (get_or firsts k 0) count → ClaimedSoFar old (take k firsts) total → ClaimedSoFar new (take (k + 1) firsts) (total + count)
-claimed-more old new firsts total count k range inside takes c =
-    let first : ℕ = get_or firsts k 0 in
-    let size : length (replicate (2 * old.cells) false) ≡ 2 * old.cells = length-replicate (2 * old.cells) false in
-    let within = subst (λ (size : ℕ). AllByRecursion (λ cell. cell < size) (cells_in c.chains)) range.links_count (inside-chains old.links (take k firsts) c.chains c.are) in
-    let marked = all-among (λ cell. is_marked old.used cell ≡ true) (cells_in c.chains) (all-used old (cells_in c.chains) range.used_count within c.used size) in
-    let before = chains-stay old.used old.links new.links (take k firsts) c.chains takes.links_count takes.stay marked c.are in
+pub within-so_far : (store : Cells) (firsts : List ℕ) (weight : ℕ) → IsInRange store → (c : ClaimedSoFar store firsts weight) → AllByRecursion (λ cell. cell < 2 * store.cells) (cells_in c.chains)
+within-so_far store firsts weight range c = subst (λ (size : ℕ). AllByRecursion (λ cell. cell < size) (cells_in c.chains)) range.links_count (inside-chains store.links firsts c.chains c.are)
+
+pub marked-so_far : (store : Cells) (firsts : List ℕ) (weight : ℕ) → IsInRange store → (c : ClaimedSoFar store firsts weight) → AllByRecursion (λ cell. is_marked store.used cell ≡ true) (cells_in c.chains)
+marked-so_far store firsts weight range c =
+    all-among (λ cell. is_marked store.used cell ≡ true) (cells_in c.chains) (all-used store (cells_in c.chains) range.used_count (within-so_far store firsts weight range c) c.used (length-replicate (2 * store.cells) false))
+
+-- a chain of free cells and the chains before it are free together
+pub free-so_far : (store : Cells) (firsts chain : List ℕ) (weight : ℕ) → IsInRange store → (c : ClaimedSoFar store firsts weight) → AreFree store.used chain → AreFree (replicate (2 * store.cells) false) (cells_in (c.chains ++ chain ∷ []))
+free-so_far store firsts chain weight range c free =
+    subst (AreFree (replicate (2 * store.cells) false)) (sym (cells-more c.chains chain))
+    (free-join (replicate (2 * store.cells) false) (2 * store.cells) (cells_in c.chains) chain (length-replicate (2 * store.cells) false) (within-so_far store firsts weight range c) c.free (subst (λ (used : List Bool). AreFree used chain) c.used free))
+
+pub claimed-more : (image : Option (List ℕ)) (old new : Cells) (firsts octets : List ℕ) (total count k : ℕ) → IsInRange old → k < length firsts → TakesSlot image old new (get_or firsts k 0) octets count → ClaimedSoFar old (take k firsts) total → ClaimedSoFar new (take (k + 1) firsts) (total + count)
+claimed-more image old new firsts octets total count k range inside takes c =
+    let before = chains-stay old.used old.links new.links (take k firsts) c.chains takes.links_count takes.stay (marked-so_far old (take k firsts) total range c) c.are in
     let cells = cells-more c.chains takes.chain in
-    let free = free-join (replicate (2 * old.cells) false) (2 * old.cells) (cells_in c.chains) takes.chain size within c.free (subst (λ (used : List Bool). AreFree used takes.chain) c.used takes.free) in
     let none = ap (λ (n : ℕ). replicate (2 * n) false) takes.cells in
     record {
       chains = c.chains ++ takes.chain ∷ [];
-      are = subst (λ (firsts : List ℕ). AreChains new.links firsts (c.chains ++ takes.chain ∷ [])) (sym (take_more firsts k 0 inside)) (chains-more new.links (take k firsts) c.chains first takes.chain before takes.linked (omega (arith, takes.count_is, takes.short)));
-      free = subst (λ (marks : List Bool). AreFree marks (cells_in (c.chains ++ takes.chain ∷ []))) (sym none) (subst (AreFree (replicate (2 * old.cells) false)) (sym cells) free);
+      are = subst (λ (firsts : List ℕ). AreChains new.links firsts (c.chains ++ takes.chain ∷ [])) (sym (take_more firsts k 0 inside))
+          (chains-more new.links (take k firsts) c.chains (get_or firsts k 0) takes.chain before takes.linked (omega (arith, takes.count_is, takes.short)));
+      free = subst (λ (marks : List Bool). AreFree marks (cells_in (c.chains ++ takes.chain ∷ []))) (sym none) (free-so_far old (take k firsts) takes.chain total range c takes.free);
       count_is = ap (length {A = ℕ}) cells ∙ (length-append (cells_in c.chains) takes.chain ∙ omega (arith, c.count_is, takes.count_is));
       used = takes.used ∙ (ap (λ (used : List Bool). with_marked used takes.chain) c.used ∙ (sym (with_marked-append (replicate (2 * old.cells) false) (cells_in c.chains) takes.chain)
           ∙ (ap (λ (cells : List ℕ). with_marked (replicate (2 * old.cells) false) cells) (sym cells) ∙ ap (λ (marks : List Bool). with_marked marks (cells_in (c.chains ++ takes.chain ∷ []))) (sym none))));
-    }
-
--- an empty slot more
-pub claimed-empty : (store : Cells) (firsts : List ℕ) (total k : ℕ) → k < length firsts → get_or firsts k 0 ≡ 65535 → ClaimedSoFar store (take k firsts) total → ClaimedSoFar store (take (k + 1) firsts) total
-claimed-empty store firsts total k inside none c =
-    let cells : cells_in (c.chains ++ [] ∷ []) ≡ cells_in c.chains = cells-more c.chains [] ∙ simp append-nil in
-    record {
-      chains = c.chains ++ [] ∷ [];
-      are = subst (λ (firsts : List ℕ). AreChains store.links firsts (c.chains ++ [] ∷ [])) (sym (take_more firsts k 0 inside)) (chains-more store.links (take k firsts) c.chains (get_or firsts k 0) [] c.are none (omega arith));
-      free = subst (AreFree (replicate (2 * store.cells) false)) (sym cells) c.free;
-      count_is = ap (length {A = ℕ}) cells ∙ c.count_is;
-      used = c.used ∙ ap (λ (cells : List ℕ). with_marked (replicate (2 * store.cells) false) cells) (sym cells);
     }
 
 pub claimed-all : (store : Cells) (firsts : List ℕ) (total k : ℕ) → IsInRange store → length firsts ≤ k → total ≤ store.cells → ClaimedSoFar store (take k firsts) total → Claimed store firsts
@@ -257,29 +242,13 @@ pub stands-start : (n : ℕ) (image : Option (List ℕ)) → IfSome image (Stand
 stands-start n None = tt
 stands-start n (Some image) = record { links = λ cell is. absurd (true≢false (sym is ∙ none-marked (2 * n) cell)) }
 
-pub stands-more : (old new : Cells) (image : Option (List ℕ)) → IfSome image (λ image. StandsFor old image → StandsFor new image) → IfSome image (StandsFor old) → IfSome image (StandsFor new)
-stands-more old new None more stands = tt
-stands-more old new (Some image) more stands = more stands
-
 pub all_free-range : (n : ℕ) → 16 ≤ n → n ≤ 2048 → IsInRange (all_free n)
 all_free-range n few many = record { few = few; many = many; used_count = length-replicate (2 * n) false; links_count = length-replicate (2 * n) 65535 }
 
-pub takes-range : (old new : Cells) (first count : ℕ) → TakesChain old new first count → IsInRange old → IsInRange new
-takes-range old new first count takes range = record {
+pub takes-range : (image : Option (List ℕ)) (old new : Cells) (first : ℕ) (octets : List ℕ) (count : ℕ) → TakesSlot image old new first octets count → IsInRange old → IsInRange new
+takes-range image old new first octets count takes range = record {
   few = rw (takes.cells) (range.few);
   many = rw (takes.cells) (range.many);
   used_count = rw (takes.cells) (ap (length {A = Bool}) takes.used ∙ (length-with_marked old.used takes.chain ∙ range.used_count));
   links_count = rw (takes.cells) (takes.links_count ∙ range.links_count);
 }
-
--- all slots were claimed
-pub claims-all : (n : ℕ) (firsts : List ℕ) (marks : List Bool) (total k : ℕ) (image : Option (List ℕ)) → length firsts ≤ k → total ≤ n → IfSome image (Claims n firsts marks total (drop k firsts)) → IfSome image (λ image. IsSome (slots_at image n firsts))
-claims-all n firsts marks total k None all few c = tt
-claims-all n firsts marks total k (Some image) all few c = (rw (drop_all k firsts all) at c).slots (record { chains = []; of = refl; records = refl; free = record { free = tt; distinct = refl }; few = omega arith })
-
--- the same of so many cells
-pub claims-told : (old new : Cells) (n first count : ℕ) (image : Option (List ℕ)) → old.cells ≡ n → TakesChain old new first count → IfSome image (HasRecord new first) → IfSome image (ClaimsRecord n first old.used new.used count)
-claims-told old new n first count image cells takes there = subst (λ (n : ℕ). IfSome image (ClaimsRecord n first old.used new.used count)) cells (claims-record old new first count image takes there)
-
-pub none-told : (store : Cells) (n first : ℕ) (image : Option (List ℕ)) → store.cells ≡ n → first ≢ 65535 → IfSome image (HasNoRecord store first) → IfSome image (λ image. (chain : List ℕ) → ¬ (IsFreeRecord image n first store.used chain))
-none-told store n first image cells other none = subst (λ (n : ℕ). IfSome image (λ image. (chain : List ℕ) → ¬ (IsFreeRecord image n first store.used chain))) cells (none-refused store first image other none)

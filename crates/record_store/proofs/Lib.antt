@@ -6,6 +6,7 @@ pub mod Emptying
 pub mod Filling
 pub mod FreshStore
 pub mod Fronts
+pub mod OpeningSlots
 pub mod Putting
 pub mod Records
 pub mod Replaced

@@ -1,7 +1,7 @@
 -- What the first octets of an image say.
 use Rattle.std.specs.Prelude.{◌≡◌, ℕ, ◌+◌, ◌*◌, ◌%◌, ◌==◌, ◌≤◌, ◌<◌, nat_le, ◌&&◌, Bool, true, List, slice_index}
 use Rattle.eeprom.specs.StoreOf.{number_at, starts_with_magic, has_header}
-use Rattle.record_store.specs.declared.opening.Header.{Header}
+use Rattle.record_store.specs.declared.header.Header.{Header}
 
 -- they are those of a store in an image of this size
 abbrev pub begins_store : List ℕ → ℕ → Bool

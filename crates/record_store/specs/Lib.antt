@@ -3,6 +3,7 @@ pub mod CountsFaults
 pub mod FreshImage
 pub mod Header
 pub mod Held
+pub mod Opening
 pub mod Put
 pub mod Slots
 pub mod Sound

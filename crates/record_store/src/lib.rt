@@ -1,9 +1,9 @@
 //! Records in numbered slots of a card's EEPROM, kept in chains of cells.
 #![tactic(auto)]
 
-mod claims;
 mod directory;
 mod fresh;
+mod header;
 mod layout;
 mod opening;
 mod refusal;
@@ -13,6 +13,7 @@ mod store;
 mod writer;
 
 pub use cell_store::RecordOctets;
+pub use opening::Opening;
 pub use refusal::{FormatRefusal, OpenRefusal, StoreRefusal};
 pub use side::Side;
 pub use store::Store;

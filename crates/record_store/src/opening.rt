@@ -1,96 +1,143 @@
-// What is read of an image to open its store.
-ghost use Rattle.std.specs.Prelude.{◌≡◌, ◌+◌, ◌*◌, ◌%◌, ◌<◌, None, length, is_some, slice_index, IfSome, IfOk, IsErrOf};
-ghost use Rattle.eeprom.specs.StoreOf.{store_of, number_at, numbers_at};
-ghost use Rattle.record_store.specs.Header.{begins_store, IsHeader, IsHeaderOf};
+// A store that is being opened: the chains of its slots are claimed one after another, so that it is opened only where each has
+// a record and no cell is in two.
+ghost use Rattle.std.specs.Prelude.{◌≡◌, ◌+◌, ◌*◌, ◌≤◌, ◌<◌, ◌++◌, [], ◌∷◌, ℕ, List, None, length, option_map, IfSome, IfOk, IsErrOf, OnOk};
+ghost use Rattle.eeprom.specs.Chip.{Becomes};
+ghost use Rattle.eeprom.specs.StoreOf.{store_of, cells_of};
+ghost use Rattle.cell_store.specs.Reading.{ReadsCells};
+ghost use Rattle.cell_store.specs.Cells.{StandsFor};
+ghost use Rattle.cell_store.specs.CountsFaults.{CountsClaimFaults};
+ghost use Rattle.record_store.specs.Opening.{StandsSoFar, TakesSlot, HasNoSlot, ReadsFront, slots_so_far, slot_with};
 ghost use Rattle.record_store.specs.CountsFaults.{CountsFaults};
 
 use crate::OpenRefusal;
-use crate::layout::{FORMAT, directory_place, image_size};
-use cell_store::number_of;
+use crate::header::{read_directory, read_header};
+use cell_store::{CellStore, ClaimRefusal, NO_CELL, RecordOctets};
 use eeprom::Eeprom;
-use std::alloc::{AllocError, Global};
+use std::alloc::Global;
+use std::marker::Model;
 
-/// How many octets of an image say whether it has a store, and of which size.
-const FRONT: usize = 9;
-
-/// The octets of the largest directory.
-const DIRECTORY: usize = 4096;
-
-#[derive(Clone, Copy)]
-pub struct Header {
-    pub cells: u16,
-    /// 0 or 1, for the directory that is selected.
-    pub selector: u8,
+/// A store that is being opened. Its slots are claimed one after another, each with its record. A refusal ends it.
+#[derive(Drop)]
+pub struct Opening {
+    pub(crate) chains: CellStore,
+    pub(crate) selector: u8,
+    pub(crate) committed: Vec<u16>,
+    pub(crate) working: Vec<u16>,
+    /// How many slots were claimed, and how many cells their chains have.
+    pub(crate) claimed: u16,
+    pub(crate) weight: u16,
 }
 
-pub fn read_header<B: Eeprom>(bench: &mut B) -> Result<Header, OpenRefusal>
-    ensures range { IfOk result (λ header. IsHeader (B.chip bench.old).still.size header) }
-    ensures header { IfOk result (λ header. IfSome (B.chip bench.old).image (λ image. IsHeaderOf image header)) }
-    ensures not_a_card { IsErrOf result OpenRefusal.NotACard → IfSome (B.chip bench.old).image (λ image. store_of image ≡ None) }
-    ensures same { B.chip bench.new ≡ B.chip bench.old }
-    ensures cause { CountsFaults (B.faults bench.old) (B.faults bench.new) result }
-{
-    let size = bench.size();
-    if size < FRONT {
-        return Err(OpenRefusal::NotACard);
+impl Model for Opening {
+    ghost use Rattle.std.specs.Prelude.{◌≡◌, length};
+    ghost use Rattle.record_store.specs.Opening.{HeldSoFar, IsSoundSoFar};
+
+    ghost Value = { HeldSoFar };
+
+    ghost view = { λ opening. record { cells = opening.chains.cells; used = opening.chains.used; links = opening.chains.links; selector = opening.selector; firsts = opening.committed.items; claimed = opening.claimed; weight = opening.weight } };
+
+    ghost invariant = { λ opening. (length opening.working.items ≡ opening.chains.cells) × IsSoundSoFar (record { cells = opening.chains.cells; used = opening.chains.used; links = opening.chains.links; selector = opening.selector; firsts = opening.committed.items; claimed = opening.claimed; weight = opening.weight }) };
+}
+
+impl Opening {
+    /// Begins to open the store of an image. The memory of both directories and of the cells is taken here.
+    pub fn new<B: Eeprom>(alloc: Global, bench: &mut B) -> Result<Opening, OpenRefusal>
+        ensures begins { IfOk result (λ opening. opening.claimed ≡ 0) }
+        ensures weight { IfOk result (λ opening. opening.weight ≡ 0) }
+        ensures stands { IfOk result (λ opening. IfSome (B.chip bench.old).image (StandsSoFar opening)) }
+        ensures room { IfOk result (λ opening. 70 * opening.cells + 34 ≤ (B.chip bench.old).still.size) }
+        ensures octets_read { IfOk result (λ opening. Becomes (ReadsFront opening.cells) (B.octets_read bench.old) (B.octets_read bench.new)) }
+        ensures not_a_card { IsErrOf result OpenRefusal.NotACard → IfSome (B.chip bench.old).image (λ image. store_of image ≡ None) }
+        ensures same { B.chip bench.new ≡ B.chip bench.old }
+        ensures cause { CountsFaults (B.faults bench.old) (B.faults bench.new) result }
+    {
+        let header = read_header(bench)?;
+        let committed = read_directory(alloc, bench, header)?;
+        let working = Vec::from_slice(alloc, committed.as_slice())?;
+        let chains = CellStore::with_room(alloc, header.cells)?;
+        Ok(Opening {
+            chains,
+            selector: header.selector,
+            committed,
+            working,
+            claimed: 0,
+            weight: 0,
+        })
     }
-    let mut octets = [0; FRONT];
-    bench.read(0, &mut octets)?;
-    match header_of(&octets, size) {
-        Some(header) => Ok(header),
-        None => Err(OpenRefusal::NotACard),
+
+    /// The number of slots, and of cells that the records can have.
+    pub fn cells(&self) -> u16
+        ensures number { result ≡ self.now.cells }
+        ensures few { 16 ≤ result }
+        ensures many { result ≤ 2048 }
+    {
+        self.chains.cells()
+    }
+
+    /// Claims the next slot, and reads its record, or no octets where the slot is empty. Each cell of the record is read once.
+    pub fn claim_next<B: Eeprom>(
+        self,
+        bench: &mut B,
+        out: &mut RecordOctets,
+    ) -> Result<Opening, OpenRefusal>
+        requires left { self.claimed < self.cells }
+        requires room { 70 * self.cells + 34 ≤ (B.chip bench.old).still.size }
+        requires stands { IfSome (B.chip bench.old).image (StandsSoFar self) }
+        ensures slots { IfOk result (λ next. IfSome (B.chip bench.old).image (λ image.
+            slots_so_far next image ≡ option_map (λ slots. slots ++ slot_with out.new.items ∷ []) (slots_so_far self image))) }
+        ensures stands { IfOk result (λ next. IfSome (B.chip bench.old).image (StandsSoFar next)) }
+        ensures claimed { IfOk result (λ next. next.claimed ≡ self.claimed + 1) }
+        ensures weight { IfOk result (λ next. next.weight ≡ self.weight + cells_of (slot_with out.new.items)) }
+        ensures cells { IfOk result (λ next. next.cells ≡ self.cells) }
+        ensures octets_read { OnOk result (Becomes (ReadsCells (cells_of (slot_with out.new.items))) (B.octets_read bench.old) (B.octets_read bench.new)) }
+        ensures not_a_card { IsErrOf result OpenRefusal.NotACard → IfSome (B.chip bench.old).image (λ image. store_of image ≡ None) }
+        ensures same { B.chip bench.new ≡ B.chip bench.old }
+        ensures cause { CountsFaults (B.faults bench.old) (B.faults bench.new) result }
+    {
+        let Opening {
+            mut chains,
+            selector,
+            committed,
+            working,
+            claimed,
+            weight,
+        } = self;
+        let count = claim_slot(&mut chains, bench, committed[claimed as usize], out)?;
+        let weight = weight + count;
+        if weight > chains.cells() {
+            return Err(OpenRefusal::NotACard);
+        }
+        Ok(Opening {
+            chains,
+            selector,
+            committed,
+            working,
+            claimed: claimed + 1,
+            weight,
+        })
     }
 }
 
-fn header_of(octets: &[u8; FRONT], size: usize) -> Option<Header>
-    ensures there { is_some result ≡ begins_store octets.now size }
-    ensures range { IfSome result (λ header. IsHeader size header) }
-    ensures cells { IfSome result (λ header. header.cells ≡ number_at octets.now 6) }
-    ensures selector { IfSome result (λ header. header.selector ≡ slice_index octets.now 8 % 2) }
-{
-    let [b'S', b'C', b'Q', b'L', FORMAT, version, high, low, selector] = octets else {
-        return None;
-    };
-    let cells = number_of(*high, *low);
-    if *version % 2 != 0 || cells < 16 || cells > 2048 || size < image_size(cells) {
-        return None;
-    }
-    Some(Header {
-        cells,
-        selector: *selector % 2,
-    })
-}
-
-/// Reads the directory that a header selects.
-pub fn read_directory<B: Eeprom>(
-    alloc: Global,
+/// Claims the chain of a slot that begins at this cell, and answers how many cells it has: none where the slot is empty.
+/// After a refusal the store of cells isn't to be used again.
+fn claim_slot<B: Eeprom>(
+    chains: &mut CellStore,
     bench: &mut B,
-    header: Header,
-) -> Result<Vec<u16>, OpenRefusal>
-    requires header { IsHeader (B.chip bench.old).still.size header }
-    ensures directory { IfOk result (λ firsts. IfSome (B.chip bench.old).image
-        (λ image. firsts.items ≡ numbers_at image (32 + 2 * header.cells * header.selector) header.cells)) }
-    ensures count { IfOk result (λ firsts. length firsts.items ≡ header.cells) }
-    ensures a_card { ¬ (IsErrOf result OpenRefusal.NotACard) }
+    first: u16,
+    out: &mut RecordOctets,
+) -> Result<u16, ClaimRefusal>
+    requires room { 70 * chains.old.cells + 34 ≤ (B.chip bench.old).still.size }
+    ensures takes { IfOk result (λ count. TakesSlot (B.chip bench.old).image chains.old chains.new first out.new.items count) }
+    ensures stands { OnOk result (IfSome (B.chip bench.old).image (λ image. StandsFor chains.old image → StandsFor chains.new image)) }
+    ensures count { IfOk result (λ count. count ≡ cells_of (slot_with out.new.items)) }
+    ensures octets_read { IfOk result (λ count. Becomes (ReadsCells count) (B.octets_read bench.old) (B.octets_read bench.new)) }
+    ensures no_slot { IsErrOf result ClaimRefusal.BadChain → IfSome (B.chip bench.old).image (HasNoSlot chains.old first) }
     ensures same { B.chip bench.new ≡ B.chip bench.old }
-    ensures cause { CountsFaults (B.faults bench.old) (B.faults bench.new) result }
+    ensures cause { CountsClaimFaults (B.faults bench.old) (B.faults bench.new) result }
 {
-    let mut octets = [0; DIRECTORY];
-    let directory = &mut octets[..2 * header.cells as usize];
-    bench.read(directory_place(header.cells, header.selector), directory)?;
-    Ok(numbers_of(alloc, directory, header.cells)?)
-}
-
-/// The numbers of a directory's octets.
-fn numbers_of(alloc: Global, octets: &[u8], count: u16) -> Result<Vec<u16>, AllocError>
-    requires size { length octets.now ≡ 2 * count }
-    ensures numbers { IfOk result (λ firsts. firsts.items ≡ numbers_at octets.now 0 count) }
-    ensures count { IfOk result (λ firsts. length firsts.items ≡ count) }
-{
-    let count = count as usize;
-    let mut firsts = Vec::with_capacity(alloc, count)?;
-    for slot in 0..count {
-        firsts.push(number_of(octets[2 * slot], octets[2 * slot + 1]))?;
+    if first == NO_CELL {
+        out.clear();
+        return Ok(0);
     }
-    Ok(firsts)
+    chains.claim_record(bench, first, out)
 }

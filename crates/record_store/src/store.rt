@@ -5,6 +5,7 @@ ghost use Rattle.eeprom.specs.Fault.{Counts};
 ghost use Rattle.eeprom.specs.StoreOf.{Slots, store_of};
 ghost use Rattle.eeprom.specs.StoreOf as image;
 ghost use Rattle.record_store.specs.Held.{firsts, contents, record_at, StandsFor};
+ghost use Rattle.record_store.specs.Opening.{StandsSoFar, ReadsStore, slots_so_far};
 ghost use Rattle.record_store.specs.CountsFaults.{CountsFaults, CountsPutFaults};
 ghost use Rattle.eeprom.specs.StoreOf.{weight_of};
 ghost use Rattle.record_store.specs.Put.{IsPut, IsFull, IsWithin, emptied};
@@ -13,10 +14,9 @@ ghost use Rattle.cell_store.specs.Reading.{ReadsRecord};
 ghost use Rattle.record_store.specs.Transaction.{begun_from, IsCommitted, Commits};
 ghost use Rattle.record_store.specs.declared.side.Side.TheVariants.{Committed, Working};
 
-use crate::claims::claim_chains;
 use crate::directory::directory_octets;
 use crate::layout::{SELECTOR, directory_place};
-use crate::opening::{read_directory, read_header};
+use crate::opening::Opening;
 use crate::slots::{free_replaced, length_of_chains, length_without, named_or_empty};
 use crate::{OpenRefusal, Side, StoreRefusal};
 use cell_store::{CellRefusal, CellStore, NO_CELL, RecordOctets, cells_for};
@@ -44,29 +44,47 @@ impl Model for Store {
     ghost invariant = { λ store. IsSound (record { cells = store.chains.cells; used = store.chains.used; links = store.chains.links; selector = store.selector; committed = store.committed.items; working = store.working.items; begun = store.begun }) };
 }
 
+impl Opening {
+    /// The store, once all slots were claimed.
+    pub fn finish(self) -> Store
+        requires all { self.claimed ≡ self.cells }
+        ensures stands { (image : List ℕ) → StandsSoFar self image → StandsFor result image }
+        ensures opened { (image : List ℕ) → StandsSoFar self image → store_of image ≡ slots_so_far self image }
+        ensures committed { (image : List ℕ) → StandsSoFar self image → contents result Committed image ≡ slots_so_far self image }
+        ensures weight { (image : List ℕ) (slots : Slots) → StandsSoFar self image → slots_so_far self image ≡ Some slots → self.weight ≡ weight_of slots }
+        ensures idle { result.begun ≡ false }
+        ensures cells { result.cells ≡ self.cells }
+    {
+        Store {
+            chains: self.chains,
+            selector: self.selector,
+            committed: self.committed,
+            working: self.working,
+            begun: false,
+        }
+    }
+}
+
 impl Store {
-    /// Opens the store of an image, where it has one. The memory of both directories and of the cells is taken here.
+    /// Opens the store of an image, where it has one. Each cell of its records is read once.
     pub fn open<B: Eeprom>(alloc: Global, bench: &mut B) -> Result<Store, OpenRefusal>
         ensures stored { OnOk result (IfSome (B.chip bench.old).image (λ image. IsSome (store_of image))) }
         ensures stands { IfOk result (λ store. IfSome (B.chip bench.old).image (StandsFor store)) }
         ensures opened { IfOk result (λ store. IfSome (B.chip bench.old).image (λ image. store_of image ≡ contents store Committed image)) }
         ensures idle { IfOk result (λ store. store.begun ≡ false) }
         ensures room { IfOk result (λ store. 70 * store.cells + 34 ≤ (B.chip bench.old).still.size) }
+        ensures octets_read { IfOk result (λ store. IfSome (B.chip bench.old).image (λ image. (slots : Slots) → store_of image ≡ Some slots
+            → Becomes (ReadsStore store.cells slots) (B.octets_read bench.old) (B.octets_read bench.new))) }
         ensures not_a_card { IsErrOf result OpenRefusal.NotACard → IfSome (B.chip bench.old).image (λ image. store_of image ≡ None) }
         ensures same { B.chip bench.new ≡ B.chip bench.old }
         ensures cause { CountsFaults (B.faults bench.old) (B.faults bench.new) result }
     {
-        let header = read_header(bench)?;
-        let committed = read_directory(alloc, bench, header)?;
-        let working = Vec::from_slice(alloc, committed.as_slice())?;
-        let chains = claim_chains(alloc, bench, header.cells, committed.as_slice())?;
-        Ok(Store {
-            chains,
-            selector: header.selector,
-            committed,
-            working,
-            begun: false,
-        })
+        let mut opening = Opening::new(alloc, bench)?;
+        let mut octets = RecordOctets::new();
+        for _slot in 0..opening.cells() {
+            opening = opening.claim_next(bench, &mut octets)?;
+        }
+        Ok(opening.finish())
     }
 
     /// The number of slots, and of cells that the records can have.

@@ -1,7 +1,7 @@
 use Rattle.std.proofs.Common.{ap}
 use Rattle.cell_store.specs.Cells.{Cells}
 use Rattle.cell_store.proofs.Chains.{record-some}
-use Rattle.cell_store.proofs.Counting.{count-copied}
+use Rattle.cell_store.proofs.Counting.{count-copied, some-copied}
 use Rattle.cell_store.proofs.store.CellStore.claim_record.Goals as goal
 
 pub returns-clause-reads : goal.returns-clause-reads
@@ -12,3 +12,7 @@ returns-clause-reads g c =
 pub returns-clause-count : goal.returns-clause-count
 returns-clause-count g c =
     count-copied c.claim_cells.new.payload.items c.copy_record.new.out.items c.in_ok-count.count c.in_ok-count.ensures.count c.in_ok-count.ensures.size (rw c.as_slice.ensures.value at c.copy_record.ensures.«record»)
+
+pub returns-clause-some : goal.returns-clause-some
+returns-clause-some g c =
+    some-copied c.claim_cells.new.payload.items c.copy_record.new.out.items c.in_ok-count.count c.in_ok-count.ensures.count c.in_ok-count.ensures.size (rw c.as_slice.ensures.value at c.copy_record.ensures.«record»)

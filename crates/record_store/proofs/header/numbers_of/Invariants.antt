@@ -1,6 +1,6 @@
 use Rattle.std.proofs.Common.{◌≡◌, length}
 use Rattle.eeprom.specs.StoreOf.{numbers_at}
-use Rattle.record_store.proofs.opening.numbers_of.Given as goal
+use Rattle.record_store.proofs.header.numbers_of.Given as goal
 
 abbrev pub invariant-loop-slot : goal.invariant-loop-slot
 invariant-loop-slot l = record {

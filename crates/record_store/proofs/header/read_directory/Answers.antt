@@ -1,6 +1,6 @@
 use Rattle.std.proofs.Common.{◌+◌, ◌*◌, rules}
 use Rattle.record_store.proofs.DirectoryRead.{directory-read}
-use Rattle.record_store.proofs.opening.read_directory.Goals as goal
+use Rattle.record_store.proofs.header.read_directory.Goals as goal
 
 pub returns-clause-directory : goal.returns-clause-directory
 returns-clause-directory g c =

@@ -1,6 +1,6 @@
 use Rattle.std.proofs.Common.{[], ◌∷◌, ◌∙◌, arith, length-append}
 use Rattle.cell_store.proofs.Places.{numbers_at-push}
-use Rattle.record_store.proofs.opening.numbers_of.Goals as goal
+use Rattle.record_store.proofs.header.numbers_of.Goals as goal
 
 pub loop-slot-preserved : goal.loop-slot-preserved
 loop-slot-preserved c = record {

@@ -1,0 +1,70 @@
+-- The slot that is claimed is the next one, and what holds of the slots before it holds with it.
+use Rattle.std.proofs.Common.{◌≡◌, ◌<◌, ℕ, List, get_or, IfSome, refl, sym, ◌∙◌, rules, arith, subst}
+use Rattle.std.specs.Prelude.{option_map, ◌++◌, [], ◌∷◌}
+use Rattle.cell_store.specs.Cells.{Cells}
+use Rattle.cell_store.proofs.Freeing.{link-read}
+use Rattle.record_store.specs.Opening.{HeldSoFar, StandsSoFar, TakesSlot, HasNoSlot, slots_so_far, slot_with}
+use Rattle.record_store.proofs.OpeningSlots.{cells_so_far, with_slot, slots-next, stands-next, sound-next, store-refused, store-over}
+use Rattle.record_store.proofs.opening.Opening.claim_next.Goals.{After-claim_slot}
+use Rattle.record_store.proofs.opening.Opening.claim_next.Goals as goal
+
+-- what was held before
+abbrev mine : (g : _) → After-claim_slot g → HeldSoFar
+mine g c = record {
+  cells = c.self.inside.chains.cells;
+  used = c.self.inside.chains.used;
+  links = c.self.inside.chains.links;
+  selector = c.self.inside.selector;
+  firsts = c.self.inside.committed.items;
+  claimed = c.self.inside.claimed;
+  weight = c.self.inside.weight;
+}
+
+left : (g : _) (c : After-claim_slot g) → (mine g c).claimed < (mine g c).cells
+left g c = subst (λ (held : HeldSoFar). held.claimed < held.cells) (sym c.self.view_is) c.requires.left
+
+stands : (g : _) (c : After-claim_slot g) → IfSome (g.B.Eeprom.chip c.args.bench.now).image (StandsSoFar (mine g c))
+stands g c = subst (λ (held : HeldSoFar). IfSome (g.B.Eeprom.chip c.args.bench.now).image (StandsSoFar held)) (sym c.self.view_is) c.requires.stands
+
+first : (g : _) (c : After-claim_slot g) → c.index.result.now ≡ get_or (mine g c).firsts (mine g c).claimed 0
+first g c = link-read c.self.inside.committed.items c.self.inside.committed.items c.self.inside.claimed c.index.result.now refl (omega (arith, left g c, c.self.invariant.1.count)) c.index.ensures
+
+takes-first : (g : _) (at : After-claim_slot g) (new : Cells) (octets : List ℕ) (count : ℕ) → TakesSlot (g.B.Eeprom.chip at.args.bench.now).image at.self.inside.chains new at.index.result.now octets count
+    → TakesSlot (g.B.Eeprom.chip at.args.bench.now).image (cells_so_far (mine g at)) new (get_or (mine g at).firsts (mine g at).claimed 0) octets count
+takes-first g at new octets count takes = subst (λ (first : ℕ). TakesSlot (g.B.Eeprom.chip at.args.bench.now).image (cells_so_far (mine g at)) new first octets count) (first g at) takes
+
+pub returns-in_err-count-clause-not_a_card : goal.returns-in_err-count-clause-not_a_card
+returns-in_err-count-clause-not_a_card g c = λ refused.
+    let at = (goal.at.returns-in_err-count-clause-not_a_card g c).After-claim_slot in
+    store-refused (mine g at) (g.B.Eeprom.chip c.args.bench.now).image c.self.invariant.1 (left g at)
+    (subst (λ (first : ℕ). IfSome (g.B.Eeprom.chip c.args.bench.now).image (HasNoSlot (cells_so_far (mine g at)) first)) (first g at) (c.in_err-count.ensures.no_slot (search rules))) (stands g at)
+
+pub returns-then-weight-cells-clause-not_a_card : goal.returns-then-weight-cells-clause-not_a_card
+returns-then-weight-cells-clause-not_a_card g c = λ _.
+    let at = (goal.at.returns-then-weight-cells-clause-not_a_card g c).After-claim_slot in
+    let takes = takes-first g at c.claim_slot.new.chains c.claim_slot.new.out.items c.in_ok-count.count c.in_ok-count.ensures.takes in
+    store-over (mine g at) c.claim_slot.new.chains c.in_ok-count.count c.claim_slot.new.out.items (g.B.Eeprom.chip c.args.bench.now).image c.self.invariant.1 (left g at) takes
+    (omega (arith, c.if-weight-cells.true, c.cells.ensures.number, takes.cells)) (stands g at)
+
+pub invariant_of-result : goal.invariant_of-result
+invariant_of-result g c =
+    let at = (goal.at.invariant_of-result g c).After-claim_slot in
+    let takes = takes-first g at c.claim_slot.new.chains c.claim_slot.new.out.items c.in_ok-count.count c.in_ok-count.ensures.takes in
+    (c.self.invariant.0 ∙ sym takes.cells, sound-next (mine g at) c.claim_slot.new.chains c.in_ok-count.count c.claim_slot.new.out.items (g.B.Eeprom.chip c.args.bench.now).image c.self.invariant.1 (left g at) takes (omega (arith, c.if-weight-cells.false, c.cells.ensures.number, takes.cells)))
+
+pub returns-clause-slots : goal.returns-clause-slots
+returns-clause-slots g c =
+    let at = (goal.at.returns-clause-slots g c).After-claim_slot in
+    let takes = takes-first g at c.claim_slot.new.chains c.claim_slot.new.out.items c.in_ok-count.count c.in_ok-count.ensures.takes in
+    let image = (g.B.Eeprom.chip c.args.bench.now).image in
+    let octets = c.claim_slot.new.out.items in
+    subst (λ (held : HeldSoFar). IfSome image (λ image. slots_so_far (with_slot (mine g at) c.claim_slot.new.chains c.in_ok-count.count) image ≡ option_map (λ slots. slots ++ slot_with octets ∷ []) (slots_so_far held image))) c.self.view_is
+    (slots-next (mine g at) c.claim_slot.new.chains c.in_ok-count.count octets image c.self.invariant.1 (left g at) takes
+    (omega (arith, c.if-weight-cells.false, c.cells.ensures.number, takes.cells)) (stands g at))
+
+pub returns-clause-stands : goal.returns-clause-stands
+returns-clause-stands g c =
+    let at = (goal.at.returns-clause-stands g c).After-claim_slot in
+    let takes = takes-first g at c.claim_slot.new.chains c.claim_slot.new.out.items c.in_ok-count.count c.in_ok-count.ensures.takes in
+    stands-next (mine g at) c.claim_slot.new.chains c.in_ok-count.count c.claim_slot.new.out.items (g.B.Eeprom.chip c.args.bench.now).image c.self.invariant.1 (left g at) takes
+    c.in_ok-count.ensures.stands (omega (arith, c.if-weight-cells.false, c.cells.ensures.number, takes.cells)) (stands g at)

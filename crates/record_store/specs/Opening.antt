@@ -1,0 +1,84 @@
+-- A store that is being opened: the chains of its slots are claimed one after another.
+use Rattle.std.specs.Prelude.{◌≡◌, ℕ, ◌+◌, ◌*◌, ◌<◌, ◌≤◌, ◌%◌, Bool, true, false, List, [], ◌∷◌, length, replicate, take, Option, Some, None, IsSome, IfSome, slice_index}
+use Rattle.eeprom.specs.StoreOf.{Slots, slots_at, chain_of, is_record, slot_of, starts_with_magic, has_header, number_at, directory, weight_of}
+use Rattle.cell_store.specs.Cells.{Cells, IsInRange, StayLinked, kept, link_in, AreLinksOf}
+use Rattle.cell_store.specs.Chains.{AreFree, AreLinked, with_marked}
+use Rattle.record_store.specs.Sound.{AreChains, cells_in}
+
+-- the number of cells; which cells are used, and of each used cell the number of the next one; the octet that selects the
+-- directory; for each slot the first cell of its chain; how many slots were claimed, and how many cells their chains have
+pub record HeldSoFar : Type 0 where
+  pub cells : ℕ
+  pub used : List Bool
+  pub links : List ℕ
+  pub selector : ℕ
+  pub firsts : List ℕ
+  pub claimed : ℕ
+  pub weight : ℕ
+
+-- the slot with these octets as its record; without octets it is empty
+abbrev pub slot_with : List ℕ → Option (List ℕ)
+slot_with [] = None
+slot_with (octet ∷ octets) = Some (octet ∷ octets)
+
+-- the records of the slots that were claimed
+abbrev pub slots_so_far : HeldSoFar → List ℕ → Option Slots
+slots_so_far held image = slots_at image held.cells (take held.claimed held.firsts)
+
+-- the image begins as that of a store with these first cells, and the slots that were claimed have their records
+pub record StandsSoFar (held : HeldSoFar) (image : List ℕ) : Type 0 where
+  pub front : starts_with_magic image ≡ true
+  pub header : has_header image ≡ true
+  pub cells : number_at image 6 ≡ held.cells
+  pub selector : slice_index image 8 % 2 ≡ held.selector
+  pub selected : directory image held.cells ≡ held.firsts
+  pub links : AreLinksOf image held.cells held.used held.links
+  pub claimed : IsSome (slots_so_far held image)
+
+-- the chains in memory that begin at these cells: no cell is in two of them, they have so many, and no others are used
+pub record ClaimedSoFar (store : Cells) (firsts : List ℕ) (weight : ℕ) : Type 0 where
+  pub chains : List (List ℕ)
+  pub are : AreChains store.links firsts chains
+  pub free : AreFree (replicate (2 * store.cells) false) (cells_in chains)
+  pub count_is : length (cells_in chains) ≡ weight
+  pub used : store.used ≡ with_marked (replicate (2 * store.cells) false) (cells_in chains)
+
+-- in the image this chain of a slot that begins at this cell has these octets as its record, or none
+pub record IsSlot (image : List ℕ) (n first : ℕ) (octets chain : List ℕ) : Type 0 where
+  pub of : chain_of image n (2 * n) first ≡ Some chain
+  pub is : is_record image n chain ≡ true
+  pub slot : slot_of image n chain ≡ slot_with octets
+
+-- The chain of a slot that begins at this cell is used now, and has these octets where the image is told. Its cells were free, and an empty slot has none. The links of all other used cells stay.
+pub record TakesSlot (image : Option (List ℕ)) (old new : Cells) (first : ℕ) (octets : List ℕ) (count : ℕ) : Type 0 where
+  pub chain : List ℕ
+  pub linked : AreLinked (link_in new.links) (length new.links) first chain
+  pub told : IfSome image (λ image. IsSlot image old.cells first octets chain)
+  pub free : AreFree old.used chain
+  pub count_is : length chain ≡ count
+  pub short : count ≤ 18
+  pub used : new.used ≡ with_marked old.used chain
+  pub stay : StayLinked old.used old.links new.links
+  pub cells : new.cells ≡ old.cells
+  pub links_count : length new.links ≡ length old.links
+
+-- no chain from this cell on has a record in the image, or none, in cells that are free
+abbrev pub HasNoSlot : Cells → ℕ → List ℕ → Type 0
+HasNoSlot store first image = (chain : List ℕ) → chain_of image store.cells (2 * store.cells) first ≡ Some chain → is_record image store.cells chain ≡ true → ¬ (AreFree store.used chain)
+
+-- what holds of it in memory, whatever an EEPROM tells
+pub record IsSoundSoFar (held : HeldSoFar) : Type 0 where
+  pub range : IsInRange (kept held.cells held.used held.links)
+  pub selector : held.selector < 2
+  pub count : length held.firsts ≡ held.cells
+  pub claimed : held.claimed ≤ held.cells
+  pub few : held.weight ≤ held.cells
+  pub chains : ClaimedSoFar (kept held.cells held.used held.links) (take held.claimed held.firsts) held.weight
+
+-- so many octets are read before a slot is claimed: the 9 that begin an image, and a directory
+abbrev pub ReadsFront : ℕ → ℕ → ℕ → Type 0
+ReadsFront n before after = after ≡ before + (9 + 2 * n)
+
+-- so many are read where a store is opened: each cell of its records once
+abbrev pub ReadsStore : ℕ → Slots → ℕ → ℕ → Type 0
+ReadsStore n slots before after = after ≡ before + (9 + 2 * n + 32 * weight_of slots)
