@@ -1,71 +1,88 @@
--- The slots of a store are gathered from the first on.
-use Rattle.std.proofs.Common.{◌≡◌, ℕ, zero, suc, ◌+◌, ◌<◌, List, [], ◌∷◌, ◌++◌, length, take, drop, Option, Some, None, option_and_then, Result, Ok, Err, sym, ap, subst, arith, add-one}
-use Rattle.std.specs.Prelude.{IfSome, OnOk, slice_index_or}
-use Rattle.std.proofs.Math.Seq.{take-length}
-use Rattle.eeprom.specs.StoreOf.{Slots}
-use Rattle.record_store.specs.declared.side.Side.TheVariants.{Committed}
-use Rattle.record_store.specs.Held.{Held, contents, record_at}
+-- The slots of a store are gathered as they are claimed.
+use Rattle.std.proofs.Common.{◌≡◌, ℕ, Bool, true, false, if◌then◌else◌, nat_le, List, [], ◌∷◌, ◌++◌, take, drop, Option, Some, None, option_map, sym, refl, ap, ◌∙◌, subst, append_assoc, length, ◌==◌, true≢false, arith, Result, Ok, Err}
+use Rattle.std.specs.Prelude.{IfSome, OnOk}
+use Rattle.std.proofs.lemmas.Bool.Decides.{nat_tests}
+use Rattle.std.proofs.lemmas.List.{take-append-drop}
+use Rattle.std.proofs.lemmas.Option.{same_Some, none-some}
+use Rattle.eeprom.specs.StoreOf.{Slots, slots_at, store_of}
+use Rattle.record_store.specs.Opening.{HeldSoFar, StandsSoFar, slots_so_far, slot_with}
+use Rattle.record_store.proofs.OpeningSlots.{so_far-first}
 use Rattle.scql_model.specs.Records.{User}
-use Rattle.card.specs.Card.{committed_slots}
 use Rattle.card.specs.Opening.{Gathers, HoldNone}
 use Rattle.card.proofs.Gathering.{gathers-nothing, gathers-empty, none-no_counter}
 
--- what was read of a slot is what the slots have there
-pub at_slot : (store : Held) (image : Option (List ℕ)) (slot : ℕ) (v : Option (List ℕ)) → IfSome image (λ image. record_at store Committed slot image ≡ v)
-    → IfSome (committed_slots store image) (λ slots. slice_index_or slots slot None ≡ v)
-unfolding committed_slots
-at_slot store None slot v is = tt
-at_slot store (Some image) slot v is = of (contents store Committed image) is
-  where
-    of : (o : Option Slots) → option_and_then (λ slots. slice_index_or slots slot None) o ≡ v → IfSome o (λ slots. slice_index_or slots slot None ≡ v)
-    of None is = tt
-    of (Some slots) is = is
+-- these were found in the slots so far
+abbrev pub GathersSoFar : HeldSoFar → Option (List ℕ) → List ℕ → List User → Type 0
+GathersSoFar held image counters users = IfSome image (λ image. IfSome (slots_so_far held image) (λ slots. Gathers slots counters users))
 
--- the slots up to one, it, and those behind it
-split_here : (slots : Slots) (slot : ℕ) (v : Option (List ℕ)) → slot < length slots → slice_index_or slots slot None ≡ v
-    → (take (suc slot) slots ≡ take slot slots ++ v ∷ []) × (slots ≡ take slot slots ++ v ∷ drop (suc slot) slots)
-split_here [] slot v within is = absurd (omega arith)
-split_here (w ∷ slots) zero v within is = (ap (λ v. v ∷ []) is, ap (λ v. v ∷ slots) is)
-split_here (w ∷ slots) (suc slot) v within is =
-    let rest = split_here slots slot v (omega arith) is in
-    (ap (λ (left : Slots). w ∷ left) rest.0, ap (λ (left : Slots). w ∷ left) rest.1)
+-- one slot more
+abbrev pub IsNext : HeldSoFar → HeldSoFar → List ℕ → List ℕ → Type 0
+IsNext held next octets image = slots_so_far next image ≡ option_map (λ slots. slots ++ slot_with octets ∷ []) (slots_so_far held image)
 
-pub slot-added : {T E : Type 0} (r : Result T E) (o : Option Slots) (count slot : ℕ) (octets : List ℕ) (counters counters' : List ℕ) (users users' : List User)
-    → IfSome o (λ slots. length slots ≡ count) → slot < count → IfSome o (λ slots. slice_index_or slots slot None ≡ Some octets)
-    → OnOk r ((slots : Slots) → Gathers slots counters users → Gathers (slots ++ Some octets ∷ []) counters' users')
-    → OnOk r (IfSome o (λ slots. Gathers (take slot slots) counters users → Gathers (take (slot + 1) slots) counters' users'))
-slot-added (Err e) o count slot octets counters counters' users users' counted within is added = tt
-slot-added (Ok x) None count slot octets counters counters' users users' counted within is added = tt
-slot-added (Ok x) (Some slots) count slot octets counters counters' users users' counted within is added = λ g.
-    let parts = split_here slots slot (Some octets) (omega arith) is in
-    rw (add-one, parts.0) (added (take slot slots) g)
-
-pub slot-empty : (o : Option Slots) (count slot : ℕ) (counters : List ℕ) (users : List User) → IfSome o (λ slots. length slots ≡ count) → slot < count → IfSome o (λ slots. slice_index_or slots slot None ≡ None)
-    → IfSome o (λ slots. Gathers (take slot slots) counters users → Gathers (take (slot + 1) slots) counters users)
-slot-empty None count slot counters users counted within is = tt
-slot-empty (Some slots) count slot counters users counted within is = λ g.
-    let parts = split_here slots slot None (omega arith) is in
-    rw (add-one, parts.0) (gathers-empty (take slot slots) counters users g)
-
-pub slot-refused : (o : Option Slots) (count slot : ℕ) (octets : List ℕ) (counters : List ℕ) (users : List User) → IfSome o (λ slots. length slots ≡ count) → slot < count
-    → IfSome o (λ slots. slice_index_or slots slot None ≡ Some octets) → ((slots more : Slots) → Gathers slots counters users → HoldNone (slots ++ Some octets ∷ more))
-    → IfSome o (λ slots. Gathers (take slot slots) counters users → HoldNone slots)
-slot-refused None count slot octets counters users counted within is none = tt
-slot-refused (Some slots) count slot octets counters users counted within is none = λ g.
-    let parts = split_here slots slot (Some octets) (omega arith) is in
-    subst HoldNone (sym parts.1) (none (take slot slots) (drop (suc slot) slots) g)
+-- an empty slot adds nothing
+pub slot-added : (octets : List ℕ) (empty : Bool) (counters : List ℕ) (users : List User) → empty ≡ (length octets == 0) → empty ≡ true → (slots : Slots) → Gathers slots counters users → Gathers (slots ++ slot_with octets ∷ []) counters users
+slot-added [] empty counters users is none slots g = gathers-empty slots counters users g
+slot-added (octet ∷ octets) empty counters users is none slots g =
+    let some : (length (octet ∷ octets) == 0) ≡ false = grind (arith, nat_tests) in
+    absurd (true≢false (sym none ∙ (is ∙ some)))
 
 -- before the first slot
-pub none-gathered : (o : Option Slots) (users : List User) → users ≡ [] → IfSome o (λ slots. Gathers (take 0 slots) [] users)
-none-gathered None users empty = tt
-none-gathered (Some slots) users empty = rw empty gathers-nothing
+pub gathered-none : (held : HeldSoFar) (image : Option (List ℕ)) (users : List User) → held.claimed ≡ 0 → users ≡ [] → GathersSoFar held image [] users
+gathered-none held None users none empty = tt
+gathered-none held (Some image) users none empty = subst (λ (k : ℕ). IfSome (slots_at image held.cells (take k held.firsts)) (λ slots. Gathers slots [] users)) (sym none) (go (nat_le 0 held.cells))
+  where
+    go : (b : Bool) → IfSome (if b then Some [] else None) (λ slots. Gathers slots [] users)
+    go true = subst (λ (users : List User). Gathers [] [] users) (sym empty) gathers-nothing
+    go false = tt
+
+pub gathered-next : (held next : HeldSoFar) (image : Option (List ℕ)) (octets counters counters' : List ℕ) (users users' : List User) → IfSome image (IsNext held next octets)
+    → ((slots : Slots) → Gathers slots counters users → Gathers (slots ++ slot_with octets ∷ []) counters' users') → GathersSoFar held image counters users → GathersSoFar next image counters' users'
+gathered-next held next None octets counters counters' users users' is added g = tt
+gathered-next held next (Some image) octets counters counters' users users' is added g =
+    subst (λ (o : Option Slots). IfSome o (λ slots. Gathers slots counters' users')) (sym is) (go (slots_so_far held image) g)
+  where
+    go : (o : Option Slots) → IfSome o (λ slots. Gathers slots counters users) → IfSome (option_map (λ slots. slots ++ slot_with octets ∷ []) o) (λ slots. Gathers slots counters' users')
+    go None g = tt
+    go (Some slots) g = added slots g
 
 -- behind the last slot
-pub all-gathered : (o : Option Slots) (count : ℕ) (counters : List ℕ) (users : List User) → IfSome o (λ slots. length slots ≡ count) → IfSome o (λ slots. Gathers (take count slots) counters users)
-    → IfSome o (λ slots. Gathers slots counters users)
-all-gathered None count counters users counted g = tt
-all-gathered (Some slots) count counters users counted g = subst (λ (all : Slots). Gathers all counters users) (subst (λ (n : ℕ). take n slots ≡ slots) counted (take-length slots)) g
+pub gathered-all : (held : HeldSoFar) (image : Option (List ℕ)) (counters : List ℕ) (users : List User) → ((image : List ℕ) → StandsSoFar held image → store_of image ≡ slots_so_far held image) → IfSome image (StandsSoFar held)
+    → GathersSoFar held image counters users → IfSome image (λ image. (slots : Slots) → store_of image ≡ Some slots → Gathers slots counters users)
+gathered-all held None counters users opened stands g = tt
+gathered-all held (Some image) counters users opened stands g = λ slots is. subst (λ (o : Option Slots). IfSome o (λ slots. Gathers slots counters users)) (sym (opened image stands) ∙ is) g
 
-pub all-without_counter : (o : Option Slots) (users : List User) → IfSome o (λ slots. Gathers slots [] users) → IfSome o HoldNone
-all-without_counter None users g = tt
-all-without_counter (Some slots) users g = none-no_counter slots users g
+pub none-without_counter : (image : Option (List ℕ)) (users : List User) → IfSome image (λ image. (slots : Slots) → store_of image ≡ Some slots → Gathers slots [] users) → IfSome image (λ image. (slots : Slots) → store_of image ≡ Some slots → HoldNone slots)
+none-without_counter None users g = tt
+none-without_counter (Some image) users g = λ slots is. none-no_counter slots users (g slots is)
+
+-- a record that is none of a database, or no store
+pub none-next : (held next : HeldSoFar) (image : Option (List ℕ)) (octets counters : List ℕ) (users : List User) → IfSome image (IsNext held next octets) → IfSome image (StandsSoFar next)
+    → ((slots more : Slots) → Gathers slots counters users → HoldNone (slots ++ slot_with octets ∷ more)) → GathersSoFar held image counters users → IfSome image (λ image. (slots : Slots) → store_of image ≡ Some slots → HoldNone slots)
+none-next held next None octets counters users is stands none g = tt
+none-next held next (Some image) octets counters users is stands none g = λ slots stored. go slots (slots_so_far held image) g (sym is ∙ so_far-first next image slots stands stored)
+  where
+    go : (slots : Slots) (o : Option Slots) → IfSome o (λ slots. Gathers slots counters users) → option_map (λ slots. slots ++ slot_with octets ∷ []) o ≡ Some (take next.claimed slots) → HoldNone slots
+    go slots None g first = absurd (none-some (take next.claimed slots) first)
+    go slots (Some before) g first =
+        let more : Slots = drop next.claimed slots in
+        let whole : before ++ slot_with octets ∷ more ≡ slots = sym (append_assoc before (slot_with octets ∷ []) more) ∙ (ap (λ (front : Slots). front ++ more) (same_Some _ _ first) ∙ take-append-drop next.claimed slots) in
+        subst HoldNone whole (none before more g)
+
+pub none-stored : (image : Option (List ℕ)) → IfSome image (λ image. store_of image ≡ None) → IfSome image (λ image. (slots : Slots) → store_of image ≡ Some slots → HoldNone slots)
+none-stored None none = tt
+none-stored (Some image) none = λ slots is. absurd (none-some slots (sym none ∙ is))
+
+-- a slot with a record
+record-slot : (octets : List ℕ) (empty : Bool) → empty ≡ (length octets == 0) → empty ≡ false → slot_with octets ≡ Some octets
+record-slot [] empty is some = absurd (true≢false (sym is ∙ some))
+record-slot (octet ∷ octets) empty is some = refl
+
+pub record-added : {T E : Type 0} (r : Result T E) (octets : List ℕ) (empty : Bool) (counters counters' : List ℕ) (users users' : List User) → empty ≡ (length octets == 0) → empty ≡ false
+    → OnOk r ((slots : Slots) → Gathers slots counters users → Gathers (slots ++ Some octets ∷ []) counters' users') → OnOk r ((slots : Slots) → Gathers slots counters users → Gathers (slots ++ slot_with octets ∷ []) counters' users')
+record-added (Err e) octets empty counters counters' users users' is some added = tt
+record-added (Ok x) octets empty counters counters' users users' is some added = λ slots g.
+    subst (λ (slot : Option (List ℕ)). Gathers (slots ++ slot ∷ []) counters' users') (sym (record-slot octets empty is some)) (added slots g)
+
+pub record-refused : (octets : List ℕ) (empty : Bool) (counters : List ℕ) (users : List User) → empty ≡ (length octets == 0) → empty ≡ false → ((slots more : Slots) → Gathers slots counters users → HoldNone (slots ++ Some octets ∷ more))
+    → (slots more : Slots) → Gathers slots counters users → HoldNone (slots ++ slot_with octets ∷ more)
+record-refused octets empty counters users is some none slots more g = subst (λ (slot : Option (List ℕ)). HoldNone (slots ++ slot ∷ more)) (sym (record-slot octets empty is some)) (none slots more g)

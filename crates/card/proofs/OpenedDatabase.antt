@@ -3,22 +3,22 @@ use Rattle.std.proofs.Common.{◌≡◌, ℕ, ◌≤◌, Bool, true, false, List
 use Rattle.std.specs.Prelude.{IfSome}
 use Rattle.std.specs.List.{filter_map, sum_by}
 use Rattle.std.proofs.lemmas.Bool.{and_parts, false≢true}
-use Rattle.std.proofs.lemmas.Option.{IfSome_then}
+use Rattle.eeprom.specs.Chip.{Becomes}
 use Rattle.eeprom.specs.StoreOf.{Slots, store_of, cells_of}
 use Rattle.eeprom.specs.Slots.{Rises, in_order, in_slot}
 use Rattle.eeprom.proofs.InOrder.{Rises-in_order}
 use Rattle.record_store.specs.declared.side.Side.TheVariants.{Committed}
 use Rattle.record_store.specs.Held.{Held, StandsFor, contents}
+use Rattle.record_store.specs.Opening.{ReadsStore}
 use Rattle.record_store.specs.Sound.{IsSound}
 use Rattle.record_store.proofs.Weights.{steps-firsts}
 use Rattle.scql_model.specs.Records.{User, counter_record, user_in}
-use Rattle.scql_model.specs.Database.{Database}
+use Rattle.scql_model.specs.Database.{Database, weight}
 use Rattle.scql_model.specs.Opens.{Holds, Opens, counter_stamp}
 use Rattle.scql_model.specs.Validity.{of_users, are_valid_users}
 use Rattle.scql_model.proofs.Room.{cells-filled}
 use Rattle.scql_model.proofs.Validity.{IsValid-of_users, are_valid_users-from_IsValid}
-use Rattle.card.specs.Card.{committed_slots}
-use Rattle.card.specs.Opening.{Gathers, HoldNone}
+use Rattle.card.specs.Opening.{Gathers, HoldNone, ReadsCard}
 use Rattle.card.proofs.ByStamp.{stamp_of}
 use Rattle.card.proofs.SlotCount.{length-committed}
 
@@ -66,21 +66,30 @@ none-gathered slots next users g invalid = λ db holds valid.
 
 -- The same where the image may not be told.
 pub opens_told : (store : Held) (image : Option (List ℕ)) (next : ℕ) (users : List User) (valid : Bool) → IsSound store → IfSome image (StandsFor store) → IfSome image (λ image. store_of image ≡ contents store Committed image)
-    → IfSome (committed_slots store image) (λ slots. Gathers slots (next ∷ []) users) → valid ≡ are_valid_users next users → valid ≡ true → IfSome image (λ image. (db : Database) × Opens image db)
-unfolding committed_slots
+    → IfSome image (λ image. (slots : Slots) → store_of image ≡ Some slots → Gathers slots (next ∷ []) users) → valid ≡ are_valid_users next users → valid ≡ true → IfSome image (λ image. (db : Database) × Opens image db)
 opens_told store None next users valid range stands stored g tested passed = tt
-opens_told store (Some image) next users valid range stands stored g tested passed = go (contents store Committed image) refl g
+opens_told store (Some image) next users valid range stands stored g tested passed = go (contents store Committed image) refl
   where
-    go : (o : Option Slots) → contents store Committed image ≡ o → IfSome o (λ slots. Gathers slots (next ∷ []) users) → (db : Database) × Opens image db
-    go None told g = absurd (false≢true (subst IsSome told stands.committed))
-    go (Some slots) told g = (of_users store.cells next users, opens-gathered store image slots next users range stands (stored ∙ told) told g (sym tested ∙ passed))
+    go : (o : Option Slots) → contents store Committed image ≡ o → (db : Database) × Opens image db
+    go None told = absurd (false≢true (subst IsSome told stands.committed))
+    go (Some slots) told = (of_users store.cells next users, opens-gathered store image slots next users range stands (stored ∙ told) told (g slots (stored ∙ told)) (sym tested ∙ passed))
 
-pub refused_told : (store : Held) (image : Option (List ℕ)) → IfSome image (λ image. store_of image ≡ contents store Committed image) → IfSome (committed_slots store image) HoldNone
-    → IfSome image (λ image. (db : Database) → Opens image db → ⊥)
-unfolding committed_slots
-refused_told store None stored none = tt
-refused_told store (Some image) stored none = λ db opens. (subst (λ (o : Option Slots). IfSome o HoldNone) (sym stored ∙ opens.stored) none) db opens.holds opens.valid
+pub refused_told : (image : Option (List ℕ)) → IfSome image (λ image. (slots : Slots) → store_of image ≡ Some slots → HoldNone slots) → IfSome image (λ image. (db : Database) → Opens image db → ⊥)
+refused_told None none = tt
+refused_told (Some image) none = λ db opens. none opens.slots opens.stored db opens.holds opens.valid
 
-pub invalid_told : (store : Held) (image : Option (List ℕ)) (next : ℕ) (users : List User) (valid : Bool) → IfSome image (λ image. store_of image ≡ contents store Committed image)
-    → IfSome (committed_slots store image) (λ slots. Gathers slots (next ∷ []) users) → valid ≡ are_valid_users next users → valid ≡ false → IfSome image (λ image. (db : Database) → Opens image db → ⊥)
-invalid_told store image next users valid stored g tested failed = refused_told store image stored (IfSome_then (committed_slots store image) g (λ slots g. none-gathered slots next users g (sym tested ∙ failed)))
+pub invalid_told : (image : Option (List ℕ)) (next : ℕ) (users : List User) (valid : Bool) → IfSome image (λ image. (slots : Slots) → store_of image ≡ Some slots → Gathers slots (next ∷ []) users)
+    → valid ≡ are_valid_users next users → valid ≡ false → IfSome image (λ image. (db : Database) → Opens image db → ⊥)
+invalid_told None next users valid g tested failed = tt
+invalid_told (Some image) next users valid g tested failed = λ db opens. none-gathered opens.slots next users (g opens.slots opens.stored) (sym tested ∙ failed) db opens.holds opens.valid
+
+-- the octets of its records are those of the database
+pub read_told : (store : Held) (image : Option (List ℕ)) (old new : Option ℕ) → IfSome image (StandsFor store) → IfSome image (λ image. store_of image ≡ contents store Committed image)
+    → IfSome image (λ image. (slots : Slots) → store_of image ≡ Some slots → Becomes (ReadsStore store.cells slots) old new) → IfSome image (λ image. (db : Database) → Opens image db → Becomes (ReadsCard db) old new)
+read_told store None old new stands stored read = tt
+read_told store (Some image) old new stands stored read = λ db opens.
+    let told : contents store Committed image ≡ Some opens.slots = sym stored ∙ opens.stored in
+    let counted : length opens.slots ≡ store.cells = rw told at (length-committed store image stands) in
+    let cells : store.cells ≡ db.cells = sym counted ∙ opens.holds.cells in
+    let weighs : sum_by cells_of opens.slots ≡ weight db = cells-filled opens.slots db opens.holds in
+    rw (cells, weighs) at (read opens.slots opens.stored)

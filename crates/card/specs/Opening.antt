@@ -1,12 +1,12 @@
 -- What the slots of a card hold, as far as they were read.
-use Rattle.std.specs.Prelude.{◌≡◌, ℕ, true, List, [], ◌∷◌, map, Option, Some, None}
+use Rattle.std.specs.Prelude.{◌≡◌, ℕ, ◌+◌, ◌*◌, true, List, [], ◌∷◌, map, Option, Some, None}
 use Rattle.std.specs.List.{list_all, filter_map, AllByRecursion}
 use Rattle.std.specs.BTreeMap.{BTreeMap, values}
 use Rattle.eeprom.specs.StoreOf.{Slots}
 use Rattle.eeprom.specs.Slots.{AreApart, in_order, in_slot}
 use Rattle.scql_model.specs.Records as records
 use Rattle.scql_model.specs.Records.{counter_record, user_record, counter_in, user_in}
-use Rattle.scql_model.specs.Database.{Database, IsValid}
+use Rattle.scql_model.specs.Database.{Database, IsValid, weight}
 use Rattle.scql_model.specs.Opens.{Holds, is_spelled}
 use Rattle.card.specs.declared.coding.Counter.{Counter}
 use Rattle.card.specs.declared.coding.User.{User}
@@ -37,3 +37,7 @@ pub record Gathers (slots : Slots) (found_counters : List ℕ) (found_users : Li
 -- the slots hold no valid database
 abbrev pub HoldNone : Slots → Type 0
 HoldNone slots = (db : Database) → Holds slots db → IsValid db → ⊥
+
+-- So many octets are read where a card is opened at this database: the 9 that begin an image, a directory, and each cell of its records once.
+abbrev pub ReadsCard : Database → ℕ → ℕ → Type 0
+ReadsCard db before after = after ≡ before + (9 + 2 * db.cells + 32 * weight db)

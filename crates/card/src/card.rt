@@ -1,6 +1,6 @@
 // The card: its store, its sessions, and the answer to a command.
 ghost use Rattle.std.specs.Prelude.{◌≡◌, ◌≢◌, ◌↔◌, ℕ, List, slice_get, ◌<◌, ◌≤◌, ◌+◌, ◌*◌, [], ◌∷◌, Some, None, true, false, map, is_some, length, option_map, IfSome, IfOk, OnOk, IsTrue, IsErrOf};
-ghost use Rattle.eeprom.specs.Chip.{Chip};
+ghost use Rattle.eeprom.specs.Chip.{Chip, Becomes};
 ghost use Rattle.eeprom.specs.Fault.{Counts, Rose};
 ghost use Rattle.record_store.specs.Held.{StandsFor};
 ghost use Rattle.scql_model.specs.Machine as machine;
@@ -14,6 +14,7 @@ ghost use Rattle.card.specs.Commands.{operation_of};
 ghost use Rattle.card.specs.Answering.{Answers, LeavesOneOf, Performs, answer_to, reply_of, with_user};
 ghost use Rattle.card.specs.Creating.{IsAddition, IsCounter};
 ghost use Rattle.card.specs.Making.{LeavesMade};
+ghost use Rattle.card.specs.Opening.{ReadsCard};
 ghost use Rattle.card.specs.Sessions.{proved_user, sessions_of};
 ghost use Rattle.scql_model.specs.Commands as model;
 ghost use Rattle.scql_model.specs.Creating.{created};
@@ -26,7 +27,7 @@ use crate::adding::add_and_change;
 use crate::coding::{Counter, User};
 use crate::command::{Command, Operation};
 use crate::creating::{Addition, PUBLIC, Prepared, prepare_user};
-use crate::opening::read_records;
+use crate::opening::{Opened, open_records};
 use crate::reply::{Outcome, Reply};
 use crate::session::{Presented, Session};
 use crate::users::{Wanted, find_user};
@@ -80,20 +81,21 @@ impl Card {
     }
 
     /// Opens the card of an EEPROM, where its image opens to a database. Channel 0 is open, without a user.
-    /// Each record is read once, and the records are let go at the end.
+    /// Each cell of a record is read once. The records are let go at the end.
     pub fn open<B: Eeprom>(alloc: Global, bench: &mut B) -> Result<Card, OpenRefusal>
         ensures opens { IfOk result (λ card. IfSome (B.chip bench.old).image (λ image. (db : Database) × Opens image db)) }
         ensures starts { IfOk result (λ card. IfSome (B.chip bench.old).image (λ image.
             (db : Database) → Opens image db → IsAt card (B.chip bench.new) (machine.start db))) }
         ensures ready { IfOk result (λ card. IsReady card (B.chip bench.new)) }
+        ensures octets_read { OnOk result (IfSome (B.chip bench.old).image (λ image. (db : Database) → Opens image db
+            → Becomes (ReadsCard db) (B.octets_read bench.old) (B.octets_read bench.new))) }
         ensures not_a_card { IsErrOf result OpenRefusal.NotACard → IfSome (B.chip bench.old).image (λ image. (db : Database) → Opens image db → ⊥) }
         ensures same { B.chip bench.new ≡ B.chip bench.old }
         ensures fault { IsErrOf result OpenRefusal.Fault → Rose (B.faults bench.old) (B.faults bench.new) }
         ensures quiet { ¬ IsErrOf result OpenRefusal.Fault → B.faults bench.new ≡ B.faults bench.old }
         ensures never_falls { B.faults bench.old ≤ B.faults bench.new }
     {
-        let store = Store::open(alloc, bench)?;
-        let records = read_records(alloc, &store, bench)?;
+        let Opened { store, records } = open_records(alloc, bench)?;
         if !are_valid(alloc, &records)? {
             return Err(OpenRefusal::NotACard);
         }

@@ -1,18 +1,19 @@
-// The records of a store, read once as a card is opened: one counter, and users of different stamps.
-ghost use Rattle.std.specs.Prelude.{◌≡◌, ◌≢◌, OnErr, ◌+◌, ◌*◌, ◌≤◌, ◌<◌, [], ◌∷◌, ◌++◌, Some, None, true, IfSome, IfOk, OnOk, IsErrOf, count_by, take};
-ghost use Rattle.std.specs.List.{list_all};
-ghost use Rattle.eeprom.specs.StoreOf.{Slots};
+// The records of a store, gathered as it is opened: one counter, and users of different stamps.
+ghost use Rattle.std.specs.Prelude.{◌≡◌, ◌≢◌, OnErr, ◌+◌, ◌*◌, ◌≤◌, [], ◌∷◌, ◌++◌, Some, None, false, IfSome, IfOk, OnOk, IsErrOf, count_by};
+ghost use Rattle.eeprom.specs.Chip.{Becomes};
+ghost use Rattle.eeprom.specs.StoreOf.{Slots, store_of};
 ghost use Rattle.eeprom.specs.Slots.{has, place};
 ghost use Rattle.record_store.specs.CountsFaults.{CountsFaults};
-ghost use Rattle.record_store.specs.Held.{StandsFor};
+ghost use Rattle.record_store.specs.Held.{StandsFor, contents};
+ghost use Rattle.record_store.specs.Opening.{ReadsStore, slot_with};
+ghost use Rattle.record_store.specs.declared.side.Side.TheVariants.{Committed};
 ghost use Rattle.scql_model.specs.Records as records;
-ghost use Rattle.card.specs.Card.{committed_slots};
 ghost use Rattle.card.specs.Opening.{AreByStamp, Gathers, HoldNone, counters_of, users_of};
 ghost use Rattle.card.specs.Users.{user_of};
 
 use crate::coding::{Counter, User};
 use eeprom::Eeprom;
-use record_store::{OpenRefusal, RecordOctets, Side, Store};
+use record_store::{OpenRefusal, Opening, RecordOctets, Store};
 use std::alloc::Global;
 use std::collections::BTreeMap;
 
@@ -23,6 +24,13 @@ pub(crate) struct Records {
     pub users: BTreeMap<u32, User>,
 }
 
+/// A store that was opened, and what its records are.
+#[derive(Drop)]
+pub(crate) struct Opened {
+    pub store: Store,
+    pub records: Records,
+}
+
 // What was found in the slots so far.
 #[derive(Drop)]
 struct Found {
@@ -30,66 +38,59 @@ struct Found {
     users: BTreeMap<u32, User>,
 }
 
-/// Reads each committed record once. There is one counter, and no two users have one stamp.
-pub(crate) fn read_records<B: Eeprom>(
-    alloc: Global,
-    store: &Store,
-    bench: &mut B,
-) -> Result<Records, OpenRefusal>
-    requires stands { IfSome (B.chip bench.old).image (StandsFor store.now) }
-    requires room { 70 * store.now.cells + 34 ≤ (B.chip bench.old).still.size }
-    ensures gathers { IfOk result (λ records. IfSome (committed_slots store.now (B.chip bench.old).image)
-        (λ slots. Gathers slots (records.next ∷ []) (users_of records.users))) }
-    ensures by_stamp { IfOk result (λ records. AreByStamp records.users.entries) }
-    ensures not_a_card { IsErrOf result OpenRefusal.NotACard → IfSome (committed_slots store.now (B.chip bench.old).image) HoldNone }
+/// Opens a store, and gathers the record of each slot as it is claimed. There is one counter, and no two users have one stamp.
+pub(crate) fn open_records<B: Eeprom>(alloc: Global, bench: &mut B) -> Result<Opened, OpenRefusal>
+    ensures stands { IfOk result (λ opened. IfSome (B.chip bench.old).image (StandsFor opened.store)) }
+    ensures stored { IfOk result (λ opened. IfSome (B.chip bench.old).image (λ image. store_of image ≡ contents opened.store Committed image)) }
+    ensures idle { IfOk result (λ opened. opened.store.begun ≡ false) }
+    ensures room { IfOk result (λ opened. 70 * opened.store.cells + 34 ≤ (B.chip bench.old).still.size) }
+    ensures gathers { IfOk result (λ opened. IfSome (B.chip bench.old).image (λ image. (slots : Slots) → store_of image ≡ Some slots
+        → Gathers slots (opened.records.next ∷ []) (users_of opened.records.users))) }
+    ensures by_stamp { IfOk result (λ opened. AreByStamp opened.records.users.entries) }
+    ensures octets_read { IfOk result (λ opened. IfSome (B.chip bench.old).image (λ image. (slots : Slots) → store_of image ≡ Some slots
+        → Becomes (ReadsStore opened.store.cells slots) (B.octets_read bench.old) (B.octets_read bench.new))) }
+    ensures not_a_card { IsErrOf result OpenRefusal.NotACard → IfSome (B.chip bench.old).image (λ image. (slots : Slots) → store_of image ≡ Some slots → HoldNone slots) }
     ensures same { B.chip bench.new ≡ B.chip bench.old }
     ensures cause { CountsFaults (B.faults bench.old) (B.faults bench.new) result }
 {
+    let mut opening = Opening::new(alloc, bench)?;
     let mut octets = RecordOctets::new();
     let mut found = Found {
         counter: None,
         users: BTreeMap::new(alloc),
     };
-    for slot in 0..store.cells() {
-        found.add_slot(store, bench, slot, &mut octets)?;
+    for _slot in 0..opening.cells() {
+        opening = opening.claim_next(bench, &mut octets)?;
+        found.add_slot(&octets)?;
     }
+    let store = opening.finish();
     let Some(counter) = found.counter else {
         return Err(OpenRefusal::NotACard);
     };
-    Ok(Records {
-        next: counter.next,
-        users: found.users,
+    Ok(Opened {
+        store,
+        records: Records {
+            next: counter.next,
+            users: found.users,
+        },
     })
 }
 
 impl Found {
     // Adds the record of a slot, where it has one.
-    #[tactic(auto, unfolding(crate::specs::Card::committed_slots))]
-    fn add_slot<B: Eeprom>(
-        &mut self,
-        store: &Store,
-        bench: &mut B,
-        slot: u16,
-        octets: &mut RecordOctets,
-    ) -> Result<(), OpenRefusal>
-        requires stands { IfSome (B.chip bench.old).image (StandsFor store.now) }
-        requires room { 70 * store.now.cells + 34 ≤ (B.chip bench.old).still.size }
-        requires slot { slot < store.now.cells }
+    fn add_slot(&mut self, octets: &[u8]) -> Result<(), OpenRefusal>
         requires by_stamp { AreByStamp self.old.users.entries }
         ensures by_stamp { OnOk result (AreByStamp self.new.users.entries) }
-        ensures gathers { OnOk result (IfSome (committed_slots store.now (B.chip bench.old).image)
-            (λ slots. Gathers (take slot slots) (counters_of self.old.counter) (users_of self.old.users)
-            → Gathers (take (slot + 1) slots) (counters_of self.new.counter) (users_of self.new.users))) }
-        ensures not_a_card { IsErrOf result OpenRefusal.NotACard → IfSome (committed_slots store.now (B.chip bench.old).image)
-            (λ slots. Gathers (take slot slots) (counters_of self.old.counter) (users_of self.old.users) → HoldNone slots) }
-        ensures same { B.chip bench.new ≡ B.chip bench.old }
-        ensures cause { CountsFaults (B.faults bench.old) (B.faults bench.new) result }
+        ensures gathers { OnOk result ((slots : Slots) → Gathers slots (counters_of self.old.counter) (users_of self.old.users)
+            → Gathers (slots ++ slot_with octets.now ∷ []) (counters_of self.new.counter) (users_of self.new.users)) }
+        ensures not_a_card { IsErrOf result OpenRefusal.NotACard → (slots : Slots) → (more : Slots) → Gathers slots (counters_of self.old.counter) (users_of self.old.users)
+            → HoldNone (slots ++ slot_with octets.now ∷ more) }
+        ensures no_fault { IsErrOf result OpenRefusal.Fault → ⊥ }
     {
-        if store.get(bench, Side::Committed, slot, octets)? {
-            self.add(octets)
-        } else {
-            Ok(())
+        if octets.is_empty() {
+            return Ok(());
         }
+        self.add(octets)
     }
 
     // Adds the record that these octets are.
