@@ -5,7 +5,7 @@ use Rattle.record_store.specs.declared.side.Side.TheVariants.{Committed}
 use Rattle.std.specs.Prelude.{option_map, option_and_then, IfSome, slice_index}
 use Rattle.std.specs.List.{list_all}
 use Rattle.eeprom.specs.StoreOf.{chain_of, chains_of, slots_at, slot_of, is_record, are_apart}
-use Rattle.cell_store.proofs.Places.{length-numbers_at}
+use Rattle.eeprom.proofs.Places.{length-numbers_at}
 use Rattle.record_store.specs.Held.{Held, StandsFor, contents}
 use Rattle.card.specs.Card.{committed_slots}
 

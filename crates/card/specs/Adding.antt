@@ -1,6 +1,6 @@
 -- A record that is added and one that is changed, committed together.
 use Rattle.std.specs.Prelude.{◌≡◌, ◌⊎◌, ℕ, ◌+◌, ◌*◌, ◌<◌, ◌≤◌, List, length, Option, Some, None, is_some, Result, OnOk, IsErrOf, IfSome, option_map, slice_set, slice_index_or}
-use Rattle.eeprom.specs.Chip.{Chip, Throughout, Becomes}
+use Rattle.eeprom.specs.Chip.{Chip, Becomes, LeavesOf}
 use Rattle.record_store.specs.declared.refusal.StoreRefusal.{StoreRefusal}
 use Rattle.record_store.specs.declared.refusal.StoreRefusal.TheVariants.{Full, Fault}
 use Rattle.eeprom.specs.StoreOf.{Slots, store_of, cells_for}
@@ -24,8 +24,7 @@ AddedTo cells added slot changed old new =
 -- at each moment the store of the image is the committed one, or that with both records, and nothing is given
 abbrev pub LeavesAdded : Held → List ℕ → ℕ → List ℕ → Chip → Chip → Type 0
 LeavesAdded store added slot changed old new =
-    Throughout old new (λ g left. (g ≡ old.still.mark) × (was : List ℕ) × (old.image ≡ Some was)
-    × ((store_of left ≡ contents store Committed was) ⊎ AddedTo store.cells added slot changed (contents store Committed was) (store_of left)))
+    LeavesOf (λ was left. (store_of left ≡ contents store Committed was) ⊎ AddedTo store.cells added slot changed (contents store Committed was) (store_of left)) old new
 
 -- the store stands for the image, which has now both records
 abbrev pub IsWritten : Held → Held → List ℕ → ℕ → List ℕ → List ℕ → List ℕ → Type 0

@@ -1,6 +1,6 @@
 -- What an answer leaves.
 use Rattle.std.specs.Prelude.{◌≡◌, ℕ, List, [], ◌∷◌, Option, Some, None, Result, Ok, Err, IfOk, OnOk, option_map, slice_set}
-use Rattle.eeprom.specs.Chip.{Chip, Throughout}
+use Rattle.eeprom.specs.Chip.{Chip, Leaves}
 use Rattle.scql_model.specs.Database.{Database}
 use Rattle.scql_model.specs.Opens.{OpensToOneOf}
 use Rattle.eeprom.specs.declared.EepromFault.{EepromFault}
@@ -23,7 +23,7 @@ pub record Answers (answer : Answer) (sent : model.Reply) (card : Kept) (chip : 
 
 -- at each moment a power loss leaves an image that opens to one of these databases, and nothing was given meanwhile
 abbrev pub LeavesOneOf : List Database → Chip → Chip → Type 0
-LeavesOneOf dbs old new = Throughout old new (λ g left. (g ≡ old.still.mark) × OpensToOneOf dbs left)
+LeavesOneOf dbs old new = Leaves (OpensToOneOf dbs) old new
 
 -- What a command does to a card and its EEPROM that are at a machine: the machine's answer, or a device failed. What commits nothing writes nothing.
 pub record Performs (m : Machine) (answer : Answer) (result : Result StatusWord EepromFault) (card : Kept) (old new : Chip) : Type 0 where

@@ -1,6 +1,7 @@
 // Worked rows over a bench in memory.
 mod opening;
 mod power_loss;
+mod reads;
 
 use crate::run::run_card;
 use crate::status::Status;

@@ -12,8 +12,8 @@ use Rattle.cell_store.specs.Placed.{Keeping, SameCell, IsTaken, IsPlaced, IsLaid
 use Rattle.cell_store.proofs.FreeRuns.{one-free, outside-run}
 use Rattle.cell_store.proofs.Marking.{marked-here, marks-stay, with_marked-all, with_marked-set, with_marked-stays}
 use Rattle.cell_store.proofs.Linking.{linked-same, linked-inside}
-use Rattle.cell_store.proofs.Places.{payload_of-behind}
-use Rattle.cell_store.proofs.Regions.{length-overwrite, take-overwrite, drop-overwrite, get-before, get-inside, get-behind}
+use Rattle.eeprom.proofs.Places.{payload_of-behind}
+use Rattle.eeprom.proofs.Regions.{length-overwrite, take-overwrite, drop-overwrite, get-before, get-inside, get-behind}
 use Rattle.cell_store.proofs.SameChains.{chain-same, payload-same}
 
 slice-before : (a b at : ℕ) (image octets : List ℕ) → a ≤ b → b ≤ at → at ≤ length image → slice_range (overwrite image at octets) a b ≡ slice_range image a b

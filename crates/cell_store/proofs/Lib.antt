@@ -7,11 +7,8 @@ pub mod FreeRuns
 pub mod Freeing
 pub mod Linking
 pub mod Marking
-pub mod Overwrite
 pub mod Placements
-pub mod Places
 pub mod Reading
-pub mod Regions
 pub mod Runs
 pub mod SameChains
 pub mod Walking

@@ -8,7 +8,7 @@ use Rattle.cell_store.specs.Placed.{Keeping, IsPlaced, IsLaid, KeepsMarked}
 use Rattle.cell_store.specs.Runs.{run_first, run_octets, run_marked, run_linked}
 use Rattle.cell_store.proofs.Cells.{Keeping-torn, Keeping-then, Keeping-same}
 use Rattle.eeprom.proofs.Moments.{write-throughout, throughout-then}
-use Rattle.cell_store.proofs.Overwrite.{map-some}
+use Rattle.eeprom.proofs.Overwrite.{map-some}
 use Rattle.cell_store.proofs.Runs.{placed-run}
 
 pub nowhere : (image : List ℕ) (n most : ℕ) → chain_of image n most 65535 ≡ Some []

@@ -8,7 +8,7 @@ use Rattle.cell_store.specs.Placed.{IsPlaced, IsLaid}
 use Rattle.cell_store.specs.Runs.{run_first, run_octets, run_marked, run_linked}
 use Rattle.cell_store.proofs.Cells.{placed-more, laid-more}
 use Rattle.cell_store.proofs.Marking.{marks-stay, unmarked-one-less}
-use Rattle.cell_store.proofs.Overwrite.{overwrite-nil, overwrite-before}
+use Rattle.eeprom.proofs.Overwrite.{overwrite-nil, overwrite-before}
 
 pub first-some : (cell count after : ℕ) → 1 ≤ count → run_first cell count after ≡ cell
 first-some cell zero after some = absurd (omega arith)

@@ -1,7 +1,7 @@
 -- A chain that is written into cells which no other chain has, from its last cell on.
 use Rattle.std.specs.Prelude.{◌≡◌, ℕ, ◌+◌, ◌*◌, ◌<◌, ◌≤◌, Bool, true, false, List, length, take, drop, Some, slice_index, slice_range}
 use Rattle.std.specs.List.{flat_map, AllByRecursion}
-use Rattle.eeprom.specs.Chip.{Chip, Throughout}
+use Rattle.eeprom.specs.Chip.{Chip, LeavesOf}
 use Rattle.eeprom.specs.StoreOf.{chain_of, cell_place, payload_of, number_at, is_distinct}
 use Rattle.cell_store.specs.Marks.{is_marked}
 use Rattle.cell_store.specs.Chains.{AreLinked, AreFree, with_marked}
@@ -52,4 +52,4 @@ pub record IsLaid (n : ℕ) (start marks : List Bool) (piece count first : ℕ) 
 -- at each moment all before the cells and behind them is as it was, and each marked cell; nothing is given
 pub record KeepsMarked (marks : List Bool) (n : ℕ) (old new : Chip) : Type 0 where
   pub still : new.still ≡ old.still
-  pub moments : Throughout old new (λ g left. (g ≡ old.still.mark) × (was : List ℕ) × (old.image ≡ Some was) × Keeping marks n left was)
+  pub moments : LeavesOf (λ was left. Keeping marks n left was) old new

@@ -90,13 +90,13 @@ pub fn read_cell<B: Eeprom>(
     Ok(number_of(octets[0], octets[1]))
 }
 
-pub fn append(payload: &mut Payload, octets: &[u8])
-    requires room { array_vec_len payload.old + length octets.now ≤ 540 }
-    ensures appends { payload.new.items ≡ payload.old.items ++ octets.now }
+/// Appends octets, for which there is room.
+pub fn append<const CAP: usize>(out: &mut ArrayVec<u8, CAP>, octets: &[u8])
+    requires room { length out.old.items + length octets.now ≤ CAP }
+    ensures appends { out.new.items ≡ out.old.items ++ octets.now }
 {
-    for octet in octets {
-        payload.push(*octet);
-    }
+    let fits = out.try_extend_from_slice(octets).is_ok();
+    prove!(fits);
 }
 
 /// Copies the record out of a chain's payload, where one is there.

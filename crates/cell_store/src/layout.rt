@@ -1,6 +1,7 @@
 // Where an image has its cells. Places and lengths are in octets.
 ghost use Rattle.std.specs.Prelude.{◌≡◌, ◌+◌, ◌*◌};
 ghost use Rattle.eeprom.specs.StoreOf as image;
+ghost use Rattle.eeprom.specs.StoreOf.{two_octets};
 
 /// What a cell or a directory says where no cell comes.
 pub const NO_CELL: u16 = 0xFFFF;
@@ -27,4 +28,11 @@ pub fn number_of(high: u8, low: u8) -> u16
     ensures number { result ≡ 256 * high + low }
 {
     u16::from_be_bytes([high, low])
+}
+
+/// The two octets of a number.
+pub fn octets_of(number: u16) -> [u8; 2]
+    ensures octets { result ≡ two_octets number }
+{
+    number.to_be_bytes()
 }

@@ -10,7 +10,7 @@ ghost use Rattle.cell_store.specs.Cells.{StayLinked};
 ghost use Rattle.cell_store.specs.Runs as runs;
 
 use crate::chain::{Payload, append};
-use crate::layout::{LONGEST, NO_CELL, cell_place};
+use crate::layout::{LONGEST, NO_CELL, cell_place, octets_of};
 use crate::marks::{Run, find_run};
 use arrayvec::ArrayVec;
 use eeprom::{Eeprom, EepromFault};
@@ -32,8 +32,7 @@ pub fn payload_of_record(octets: &[u8]) -> Payload
     ensures size { length result.items ≡ 540 }
 {
     let mut payload = Payload::new();
-    payload.push((octets.len() / 256) as u8);
-    payload.push((octets.len() % 256) as u8);
+    append(&mut payload, &octets_of(octets.len() as u16));
     append(&mut payload, octets);
     append(&mut payload, &[0; LARGEST][..LARGEST - 2 - octets.len()]);
     payload
@@ -66,11 +65,8 @@ fn push_cell(octets: &mut RunOctets, next: u16, piece: &[u8])
     requires room { array_vec_len octets.old + 32 ≤ 576 }
     ensures octets { octets.new.items ≡ octets.old.items ++ (two_octets next ++ piece.now) }
 {
-    octets.push((next / 256) as u8);
-    octets.push((next % 256) as u8);
-    for octet in piece {
-        octets.push(*octet);
-    }
+    append(octets, &octets_of(next));
+    append(octets, piece);
 }
 
 /// Marks a run's cells, and links each to the next one, and the last to `after`.

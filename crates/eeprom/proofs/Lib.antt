@@ -2,7 +2,10 @@ mod ExampleImage
 pub mod InOrder
 pub mod Kept
 pub mod Moments
+pub mod Overwrite
+pub mod Places
+pub mod PutBack
+pub mod Regions
 pub mod Replayed
 pub mod Taken
 pub mod Telling
-pub mod PutBack

@@ -78,6 +78,14 @@ pub record Throughout (old new : Chip) (P : ℕ → List ℕ → Type 0) : Type 
   pub only : (t g : ℕ) (left : List ℕ) → t ≤ old.clock → LeftSince new t g left → LeftSince old t g left ⊎ P g left
   pub now : (image : List ℕ) → new.image ≡ Some image → P new.still.mark image
 
+-- from old on to new nothing is given, and each image that a power loss may leave has P
+abbrev pub Leaves : (List ℕ → Type 0) → Chip → Chip → Type 0
+Leaves P old new = Throughout old new (λ g left. (g ≡ old.still.mark) × P left)
+
+-- the same of the image that was there, where it was told, and the one that is left
+abbrev pub LeavesOf : (List ℕ → List ℕ → Type 0) → Chip → Chip → Type 0
+LeavesOf P old new = Throughout old new (λ g left. (g ≡ old.still.mark) × (was : List ℕ) × (old.image ≡ Some was) × P was left)
+
 -- from old on to new, each image that a power loss may leave looks as the old one did; nothing is given
 pub record Keeps {A : Type 0} (look : List ℕ → A) (old new : Chip) : Type 0 where
   pub still : new.still ≡ old.still

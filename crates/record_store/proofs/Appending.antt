@@ -5,7 +5,7 @@ use Rattle.eeprom.specs.Chip.{Chip}
 use Rattle.eeprom.specs.Image.{overwrite}
 use Rattle.record_store.specs.declared.writer.Writer.{Writer}
 use Rattle.record_store.specs.Appends.{Appends, end_of, promised}
-use Rattle.cell_store.proofs.Overwrite.{option-nil, option-behind}
+use Rattle.eeprom.proofs.Overwrite.{option-nil, option-behind}
 
 pub Appends-then : {xs ys : List ℕ} {first second third : Writer} {before between after : Chip} → Appends xs first second before between → Appends ys second third between after → Appends (xs ++ ys) first third before after
 Appends-then {xs} {ys} {first} {second} {third} {before} {between} {after} a b = record {

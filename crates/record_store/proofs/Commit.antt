@@ -10,10 +10,10 @@ use Rattle.record_store.specs.Held.{Held, StandsFor, firsts, contents}
 use Rattle.record_store.specs.Sound.{IsSound}
 use Rattle.record_store.specs.Transaction.{IsCommitted, Commits}
 use Rattle.record_store.specs.declared.side.Side.TheVariants.{Committed, Working}
-use Rattle.cell_store.proofs.Overwrite.{map-some}
+use Rattle.eeprom.proofs.Overwrite.{map-some}
 use Rattle.eeprom.proofs.Moments.{write-throughout, throughout-then}
-use Rattle.cell_store.proofs.Places.{numbers_at-more}
-use Rattle.cell_store.proofs.Regions.{length-overwrite, take-overwrite, drop-overwrite, get-before, get-inside, get-behind, numbers-agree, numbers-written, SameFront, same-magic, same-cells, same-header}
+use Rattle.eeprom.proofs.Places.{numbers_at-more}
+use Rattle.eeprom.proofs.Regions.{length-overwrite, take-overwrite, drop-overwrite, get-before, get-inside, get-behind, numbers-agree, numbers-written, SameFront, same-magic, same-cells, same-header}
 use Rattle.record_store.proofs.Sides.{after_commit}
 use Rattle.record_store.proofs.SameSlots.{slots-beside, links-beside}
 use Rattle.record_store.proofs.Weights.{header-room}

@@ -1,7 +1,7 @@
 -- The octets of a directory tell its numbers.
 use Rattle.std.proofs.Common.{◌≡◌, ℕ, ◌+◌, ◌*◌, List, slice_range, Option, Some, None, IfSome, ap, ◌∙◌, arith, add-zero}
 use Rattle.eeprom.specs.StoreOf.{numbers_at}
-use Rattle.cell_store.proofs.Places.{numbers_at-within}
+use Rattle.eeprom.proofs.Places.{numbers_at-within}
 
 numbers-read : (image octets : List ℕ) (n place size : ℕ) → size ≡ 2 * n → octets ≡ slice_range image place (place + size) → numbers_at octets 0 n ≡ numbers_at image place n
 numbers-read image octets n place size fits e =

@@ -7,7 +7,7 @@ use Rattle.std.proofs.lemmas.List.{length-replicate}
 use borrow.Author.Tests.{le-leb}
 use Rattle.eeprom.specs.StoreOf.{number_at, numbers_at, cell_place, payload_of, chain_of, chains_of, cells_for, record_in, slot_of, is_record, are_apart, slots_at, store_of, fresh_slots, Slots}
 use Rattle.record_store.specs.FreshImage.{fresh_image, fresh_header, fresh_directories, fresh_cell, magic}
-use Rattle.cell_store.proofs.Places.{number_at-behind, numbers_at-behind, payload_of-behind, numbers_at-full}
+use Rattle.eeprom.proofs.Places.{number_at-behind, numbers_at-behind, payload_of-behind, numbers_at-full}
 
 chain-none : (image : List ℕ) (n most : ℕ) → chain_of image n most 65535 ≡ Some []
 chain-none image n zero = refl

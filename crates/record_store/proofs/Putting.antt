@@ -19,7 +19,7 @@ use Rattle.cell_store.proofs.Chains.{cells-chain, chains-parts}
 use Rattle.cell_store.proofs.Linking.{steps-end}
 use Rattle.cell_store.proofs.Marking.{marked-all, unmarked-set}
 use Rattle.cell_store.proofs.Placements.{nowhere}
-use Rattle.cell_store.proofs.Regions.{SameFront, same-magic, same-cells, same-header, numbers-agree}
+use Rattle.eeprom.proofs.Regions.{SameFront, same-magic, same-cells, same-header, numbers-agree}
 use Rattle.record_store.specs.Held.{Held, cells_of_store, StandsFor, firsts, contents}
 use Rattle.record_store.specs.Put.{IsPut, emptied, weight_with, IsFull, IsWithin}
 use Rattle.record_store.specs.Slots.{steps_without}

@@ -1,6 +1,6 @@
 -- The octets of a new store, in the order of the image.
 use Rattle.std.specs.Prelude.{None, Some, ◌⊎◌, ◌≡◌, ℕ, ◌+◌, ◌-◌, ◌*◌, List, [], ◌∷◌, ◌++◌, length, replicate}
-use Rattle.eeprom.specs.Chip.{Chip, Throughout}
+use Rattle.eeprom.specs.Chip.{Chip, Leaves}
 use Rattle.eeprom.specs.StoreOf.{two_octets, store_of, fresh_slots}
 
 -- 53 43 51 4C, which is `SCQL`
@@ -33,9 +33,9 @@ HasOldStore old left = (was : List ℕ) × (old.image ≡ Some was) × (store_of
 
 -- while the front is cleared, the store of the image is at each moment what it was, or none; nothing is given
 abbrev pub LeavesCleared : Chip → Chip → Type 0
-LeavesCleared old new = Throughout old new (λ g left. (g ≡ old.still.mark) × (HasOldStore old left ⊎ (store_of left ≡ None)))
+LeavesCleared old new = Leaves (λ left. HasOldStore old left ⊎ (store_of left ≡ None)) old new
 
 -- while a store is made, the store of the image is at each moment what it was, or none, or the new one; nothing is given
 abbrev pub LeavesFormatted : ℕ → List ℕ → List ℕ → Chip → Chip → Type 0
 LeavesFormatted n first second old new =
-    Throughout old new (λ g left. (g ≡ old.still.mark) × (HasOldStore old left ⊎ ((store_of left ≡ None) ⊎ (store_of left ≡ Some (fresh_slots n first second)))))
+    Leaves (λ left. HasOldStore old left ⊎ ((store_of left ≡ None) ⊎ (store_of left ≡ Some (fresh_slots n first second)))) old new

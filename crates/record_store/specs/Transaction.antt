@@ -1,6 +1,6 @@
 -- What a transaction's beginning and end make of a store.
 use Rattle.std.specs.Prelude.{◌≡◌, ◌⊎◌, ℕ, true, List, Some}
-use Rattle.eeprom.specs.Chip.{Chip, Throughout}
+use Rattle.eeprom.specs.Chip.{Chip, LeavesOf}
 use Rattle.eeprom.specs.StoreOf.{store_of}
 use Rattle.record_store.specs.Held.{Held, contents, StandsFor}
 use Rattle.record_store.specs.declared.side.Side.TheVariants.{Committed, Working}
@@ -17,5 +17,4 @@ pub record IsCommitted (old new : Held) (was now : List ℕ) : Type 0 where
 -- at each moment the store of the image is the committed one or the working one, and nothing is given
 pub record Commits (held : Held) (old new : Chip) : Type 0 where
   pub still : new.still ≡ old.still
-  pub moments : Throughout old new (λ g left. (g ≡ old.still.mark) × (was : List ℕ) × (old.image ≡ Some was)
-      × ((store_of left ≡ contents held Committed was) ⊎ (store_of left ≡ contents held Working was)))
+  pub moments : LeavesOf (λ was left. (store_of left ≡ contents held Committed was) ⊎ (store_of left ≡ contents held Working was)) old new

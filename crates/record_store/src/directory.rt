@@ -3,6 +3,7 @@ ghost use Rattle.std.specs.Prelude.{◌≡◌, ◌*◌, ◌≤◌, length};
 ghost use Rattle.eeprom.specs.StoreOf.{numbers_at};
 
 use arrayvec::ArrayVec;
+use cell_store::octets_of;
 
 /// The octets of the largest directory.
 const LARGEST: usize = 4096;
@@ -17,9 +18,9 @@ pub fn directory_octets(firsts: &[u16]) -> DirectoryOctets
 {
     let mut octets = DirectoryOctets::new();
     for first in firsts {
-        let first = *first;
-        octets.push((first / 256) as u8);
-        octets.push((first % 256) as u8);
+        let [high, low] = octets_of(*first);
+        octets.push(high);
+        octets.push(low);
     }
     octets
 }

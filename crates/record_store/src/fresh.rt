@@ -10,6 +10,7 @@ ghost use Rattle.record_store.specs.FreshImage.{LeavesFormatted, LeavesCleared, 
 use crate::layout::{FORMAT, MAGIC, image_size};
 use crate::writer::Writer;
 use crate::{FormatRefusal, Store};
+use cell_store::octets_of;
 use eeprom::{Eeprom, EepromFault};
 
 impl Store {
@@ -101,10 +102,8 @@ fn write_header<B: Eeprom>(
     ensures front { Keeps (take 4) (B.chip bench.old) (B.chip bench.new) }
     ensures cause { Counts (B.faults bench.old) (B.faults bench.new) result }
 {
-    writer.append(
-        bench,
-        &[FORMAT, 0, (cells / 256) as u8, (cells % 256) as u8],
-    )?;
+    let [high, low] = octets_of(cells);
+    writer.append(bench, &[FORMAT, 0, high, low])?;
     writer.fill(bench, 0, 24)
 }
 

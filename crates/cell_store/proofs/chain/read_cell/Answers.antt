@@ -7,4 +7,4 @@ returns-clause-link g c =
 
 pub returns-clause-payload : goal.returns-clause-payload
 returns-clause-payload g c =
-    cell-payload c.args.cells c.args.cell c.args.payload.now.items c.append.new.payload.items (g.B.Eeprom.chip c.args.bench.now).image c.read.new.into (rw c.cell_place.ensures at c.in_ok-read.ensures.octets) c.append.ensures.appends
+    cell-payload c.args.cells c.args.cell c.args.payload.now.items c.append.new.out.items (g.B.Eeprom.chip c.args.bench.now).image c.read.new.into (rw c.cell_place.ensures at c.in_ok-read.ensures.octets) c.append.ensures.appends

@@ -3,4 +3,4 @@ use Rattle.record_store.proofs.Appending.{Appends-last}
 use Rattle.record_store.proofs.fresh.write_header.Goals as goal
 
 pub returns-clause-appends : goal.returns-clause-appends
-returns-clause-appends g c = Appends-last c.fill.result (replicate 24 0) c.fill.new.self (g.B.Eeprom.chip c.fill.new.bench) c.in_ok-append.ensures.appends c.fill.ensures.appends
+returns-clause-appends g c = Appends-last c.fill.result (replicate 24 0) c.fill.new.self (g.B.Eeprom.chip c.fill.new.bench) (rw c.octets_of.ensures.octets at c.in_ok-append.ensures.appends) c.fill.ensures.appends

@@ -1,5 +1,5 @@
 use Rattle.std.proofs.Common.{[], ◌∷◌, ◌∙◌, arith, length-append}
-use Rattle.cell_store.proofs.Places.{numbers_at-push}
+use Rattle.eeprom.proofs.Places.{numbers_at-push}
 use Rattle.record_store.proofs.header.numbers_of.Goals as goal
 
 pub loop-slot-preserved : goal.loop-slot-preserved

@@ -4,7 +4,7 @@ use Rattle.eeprom.specs.StoreOf.{store_of, fresh_slots}
 use Rattle.eeprom.specs.Image.{overwrite}
 use Rattle.record_store.specs.FreshImage.{magic, fresh_body, fresh_image, LeavesFormatted}
 use Rattle.record_store.proofs.FreshStore.{store-formatted}
-use Rattle.cell_store.proofs.Overwrite.{option-front}
+use Rattle.eeprom.proofs.Overwrite.{option-front}
 use Rattle.record_store.proofs.Fronts.{body_moments, front_moments}
 use Rattle.record_store.proofs.store.Store.format.Goals.{After-write}
 use Rattle.record_store.proofs.store.Store.format.Goals as goal

@@ -3,7 +3,7 @@ use Rattle.std.proofs.Common.{◌≡◌, ℕ, zero, suc, ◌+◌, ◌≤◌, Lis
 use Rattle.std.proofs.lemmas.List.{drop_at, take_all, drop_all}
 use Rattle.std.proofs.lemmas.Option.{same_Some, none-some}
 use Rattle.eeprom.specs.Image.{overwrite}
-use Rattle.cell_store.proofs.Regions.{take-overwrite}
+use Rattle.eeprom.proofs.Regions.{take-overwrite}
 
 pub overwrite-nil : (image : List ℕ) (at : ℕ) → overwrite image at [] ≡ image
 overwrite-nil image zero = refl

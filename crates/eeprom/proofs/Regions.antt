@@ -3,7 +3,7 @@ use Rattle.std.proofs.Common.{◌≡◌, ℕ, zero, suc, ◌+◌, ◌*◌, ◌-�
 use Rattle.std.proofs.lemmas.List.{get_or_append_left}
 use Rattle.eeprom.specs.Image.{overwrite}
 use Rattle.eeprom.specs.StoreOf.{number_at, numbers_at, starts_with_magic, has_header}
-use Rattle.cell_store.proofs.Places.{drop-behind, numbers_at-behind}
+use Rattle.eeprom.proofs.Places.{drop-behind, numbers_at-behind}
 
 pub length-overwrite : (image : List ℕ) (at : ℕ) (octets : List ℕ) → at + length octets ≤ length image → length (overwrite image at octets) ≡ length image
 length-overwrite image at octets fits = simp (length-append, length-take, length-drop) (omega arith)
