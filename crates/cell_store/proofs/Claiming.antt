@@ -8,10 +8,9 @@ use Rattle.std.proofs.lemmas.Option.{same_Some, none-some}
 use Rattle.eeprom.specs.StoreOf.{is_distinct, is_record, number_at, cell_place, cells_for, payload_of}
 use Rattle.cell_store.specs.Cells.{Cells, link_in, StandsFor, StayLinked}
 use Rattle.cell_store.specs.Chains.{AreLinked, AreFree, link_of, with_marked, is_among, IsRecordChain}
-use Rattle.cell_store.specs.Claiming.{ClaimsCell, IsTakenCell}
+use Rattle.cell_store.specs.Claiming.{ClaimsCell, IsTakenCell, record_cells}
 use Rattle.cell_store.specs.Claims.{TakesChain, HasRecord, HasNoRecord}
 use Rattle.cell_store.specs.Marks.{is_marked}
-use Rattle.cell_store.specs.Reading.{cells_in}
 use Rattle.cell_store.proofs.Among.{neither, not-true}
 use Rattle.cell_store.proofs.Linking.{chain-linked, linked-chain, linked-same, linked-one, IsPath, path-more, path-same, path-end, path-rest, path-inside}
 use Rattle.cell_store.proofs.Marking.{marked-here, with_marked-append, with_marked-stays, with_marked-all, marked-with}
@@ -154,14 +153,14 @@ chain-rest start now image first count cell chain few c r =
     (chain-linked image start.cells (2 * start.cells) first chain r.of)
 
 -- the first cell of a record's chain says how many cells it has
-record-count : (image : List ℕ) (n first : ℕ) (chain : List ℕ) → IsRecordChain image n first chain → cells_in (payload_of image n first) ≡ Some (length chain)
+record-count : (image : List ℕ) (n first : ℕ) (chain : List ℕ) → IsRecordChain image n first chain → record_cells (payload_of image n first) ≡ Some (length chain)
 record-count image n first [] r = absurd (omega (arith, r.some))
 record-count image n first (cell ∷ cells) r =
     let here : cell ≡ first = (chain-linked image n (2 * n) first (cell ∷ cells) r.of).0 in
     let size : ℕ = number_at (payload_of image n cell) 0 in
     let tests = and_parts (nat_le 1 size && nat_le size 512) (length (cell ∷ cells) == cells_for size) r.is in
     let count : length (cell ∷ cells) ≡ cells_for size = eqb-true (length (cell ∷ cells)) (cells_for size) tests.1 in
-    subst (λ (first : ℕ). cells_in (payload_of image n first) ≡ Some (length (cell ∷ cells))) here (rw (tests.0) (ap (λ (k : ℕ). Some k) (sym count)))
+    subst (λ (first : ℕ). record_cells (payload_of image n first) ≡ Some (length (cell ∷ cells))) here (rw (tests.0) (ap (λ (k : ℕ). Some k) (sym count)))
 
 -- each record from a cell on has more than so many cells
 abbrev pub IsLonger : Option (List ℕ) → ℕ → ℕ → ℕ → Type 0
@@ -171,7 +170,7 @@ pub longer-none : (image : Option (List ℕ)) (n first : ℕ) → IsLonger image
 longer-none None n first = tt
 longer-none (Some image) n first = λ chain r. r.some
 
-pub longer-counted : (image : Option (List ℕ)) (n first count most : ℕ) → IfSome image (λ image. cells_in (payload_of image n first) ≡ Some most) → count < most → IsLonger image n first count
+pub longer-counted : (image : Option (List ℕ)) (n first count most : ℕ) → IfSome image (λ image. record_cells (payload_of image n first) ≡ Some most) → count < most → IsLonger image n first count
 longer-counted None n first count most is more = tt
 longer-counted (Some image) n first count most is more = λ chain r.
     let whole : most ≡ length chain = same_Some most (length chain) (sym is ∙ record-count image n first chain r) in
@@ -196,12 +195,12 @@ Claiming-taken start now (Some image) first count cell few used_size longer take
     from.2 (subst (AreFree start.used) from.1 free)
 
 -- nor is there a record where its first cell says no length
-pub no-length : (start : Cells) (image : Option (List ℕ)) (first : ℕ) → IfSome image (λ image. cells_in (payload_of image start.cells first) ≡ None) → IfSome image (HasNoRecord start first)
+pub no-length : (start : Cells) (image : Option (List ℕ)) (first : ℕ) → IfSome image (λ image. record_cells (payload_of image start.cells first) ≡ None) → IfSome image (HasNoRecord start first)
 no-length start None first none = tt
 no-length start (Some image) first none = λ chain r free. none-some (length chain) (sym none ∙ record-count image start.cells first chain r)
 
 -- nor one whose chain goes on behind its cells
-pub Claiming-on : (start now : Cells) (image : Option (List ℕ)) (first count cell : ℕ) → start.cells ≤ 2048 → cell ≢ 65535 → IfSome image (λ image. cells_in (payload_of image start.cells first) ≡ Some count) → Claiming start now image first count cell → IfSome image (HasNoRecord start first)
+pub Claiming-on : (start now : Cells) (image : Option (List ℕ)) (first count cell : ℕ) → start.cells ≤ 2048 → cell ≢ 65535 → IfSome image (λ image. record_cells (payload_of image start.cells first) ≡ Some count) → Claiming start now image first count cell → IfSome image (HasNoRecord start first)
 Claiming-on start now None first count cell few on is c = tt
 Claiming-on start now (Some image) first count cell few on is c = λ chain r free.
     let from = chain-rest start now image first count cell chain few c r in
@@ -214,7 +213,7 @@ counted-parts true cells count is = (refl, same_Some cells count is)
 counted-parts false cells count is = absurd (none-some count is)
 
 -- cells of which the first one says how many they are have a record
-counted-record : (image : List ℕ) (n first : ℕ) (link : ℕ → ℕ) (path : List ℕ) (cell : ℕ) → IsPath link (2 * n) first path cell → 1 ≤ length path → cells_in (payload_of image n first) ≡ Some (length path) → is_record image n path ≡ true
+counted-record : (image : List ℕ) (n first : ℕ) (link : ℕ → ℕ) (path : List ℕ) (cell : ℕ) → IsPath link (2 * n) first path cell → 1 ≤ length path → record_cells (payload_of image n first) ≡ Some (length path) → is_record image n path ≡ true
 counted-record image n first link [] cell path some is = refl
 counted-record image n first link (x ∷ rest) cell path some is =
     let size : ℕ = number_at (payload_of image n first) 0 in
@@ -223,7 +222,7 @@ counted-record image n first link (x ∷ rest) cell path some is =
     rw (path.0, parts.0, same) refl
 
 pub Claiming-record : (start now : Cells) (image : Option (List ℕ)) (first count cell : ℕ) → start.cells ≤ 2048 → length now.links ≡ 2 * start.cells → cell ≡ 65535 → 1 ≤ count → count ≤ 18 → 16 ≤ start.cells
-    → IfSome image (λ image. cells_in (payload_of image start.cells first) ≡ Some count) → Claiming start now image first count cell → IfSome image (HasRecord now first)
+    → IfSome image (λ image. record_cells (payload_of image start.cells first) ≡ Some count) → Claiming start now image first count cell → IfSome image (HasRecord now first)
 Claiming-record start now None first count cell many links_size none some short few is c = tt
 Claiming-record start now (Some image) first count cell many links_size none some short few is c = λ chain linked.
     let n = start.cells in
@@ -237,13 +236,12 @@ Claiming-record start now (Some image) first count cell many links_size none som
     } in
     subst (λ (k : ℕ). IsRecordChain image k first chain) (sym c.cells) (subst (IsRecordChain image n first) (sym same) there)
 
-pub Claiming-takes : (start now : Cells) (image : Option (List ℕ)) (first count cell : ℕ) → length start.links ≡ 2 * start.cells → length now.links ≡ 2 * start.cells → cell ≡ 65535 → 1 ≤ count → count ≤ 18 → Claiming start now image first count cell → TakesChain start now first count
-Claiming-takes start now image first count cell start_size links_size none some short c = record {
+pub Claiming-takes : (start now : Cells) (image : Option (List ℕ)) (first count cell : ℕ) → length start.links ≡ 2 * start.cells → length now.links ≡ 2 * start.cells → cell ≡ 65535 → count ≤ 18 → Claiming start now image first count cell → TakesChain start now first count
+Claiming-takes start now image first count cell start_size links_size none short c = record {
   chain = c.path;
   linked = subst (λ (k : ℕ). AreLinked (link_in now.links) k first c.path) (sym links_size) (path-end (link_in now.links) (2 * start.cells) first c.path cell none c.is);
   free = c.free;
   count_is = c.count_is;
-  some = some;
   short = short;
   used = c.used;
   stay = c.stay;

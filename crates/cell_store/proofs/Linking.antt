@@ -64,10 +64,11 @@ steps-linked links cell (suc limit) (first ∷ rest) few linked short =
     let below : nat_lt cell (length links) ≡ true = grind (arith, nat_tests) in
     rw below (ap suc (steps-linked links (slice_index links cell) limit rest few linked.2 (omega arith)))
 
--- a walk ends where no cell comes
+-- and so of a used chain
 pub steps-used : (store : Cells) (first : ℕ) (chain : List ℕ) → IsInRange store → IsUsedChain store first chain → steps store.links 18 first ≡ length chain
 steps-used store first chain range is = steps-linked store.links first 18 chain (omega (arith, range.links_count, range.many)) is.linked is.short
 
+-- a walk ends where no cell comes
 pub steps-end : (links : List ℕ) (most cell : ℕ) → length links ≤ cell → steps links most cell ≡ 0
 steps-end links zero cell outside = refl
 steps-end links (suc most) cell outside =

@@ -1,5 +1,6 @@
--- A claim of one cell of a chain.
-use Rattle.std.specs.Prelude.{◌≡◌, ℕ, ◌*◌, ◌<◌, true, false, set}
+-- A claim of one cell of a chain, and how many cells the chain of a record has.
+use Rattle.std.specs.Prelude.{◌≡◌, ℕ, ◌*◌, ◌<◌, ◌&&◌, nat_le, true, false, List, set, Option, Some, None, if◌then◌else◌}
+use Rattle.eeprom.specs.StoreOf.{cells_for, number_at}
 use Rattle.cell_store.specs.Marks.{is_marked}
 use Rattle.cell_store.specs.Cells.{Cells}
 
@@ -13,3 +14,7 @@ pub record ClaimsCell (old new : Cells) (cell next : ℕ) : Type 0 where
 -- a cell that can't be claimed: it is used, where there is such a cell
 abbrev pub IsTakenCell : Cells → ℕ → Type 0
 IsTakenCell store cell = cell < 2 * store.cells → is_marked store.used cell ≡ true
+
+-- how many cells the record has that begins a payload, where its length is one that a record may have
+abbrev pub record_cells : List ℕ → Option ℕ
+record_cells payload = let size = number_at payload 0 in if nat_le 1 size && nat_le size 512 then Some (cells_for size) else None

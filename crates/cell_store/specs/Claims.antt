@@ -9,7 +9,6 @@ pub record TakesChain (old new : Cells) (first count : ℕ) : Type 0 where
   pub linked : AreLinked (link_in new.links) (length new.links) first chain
   pub free : AreFree old.used chain
   pub count_is : length chain ≡ count
-  pub some : 1 ≤ count
   pub short : count ≤ 18
   pub used : new.used ≡ with_marked old.used chain
   pub stay : StayLinked old.used old.links new.links

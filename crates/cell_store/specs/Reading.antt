@@ -1,6 +1,6 @@
 -- How many octets of an EEPROM are read for a record, by its count before and after; and what is read of it.
-use Rattle.std.specs.Prelude.{◌≡◌, ℕ, ◌+◌, ◌*◌, ◌≤◌, ◌&&◌, nat_le, List, ◌++◌, length, Option, Some, None, if◌then◌else◌}
-use Rattle.eeprom.specs.StoreOf.{cells_for, number_at}
+use Rattle.std.specs.Prelude.{◌≡◌, ℕ, ◌+◌, ◌*◌, ◌≤◌, List, ◌++◌, length, Option, Some, None}
+use Rattle.eeprom.specs.StoreOf.{cells_for}
 
 -- so many whole cells are read
 abbrev pub ReadsCells : ℕ → ℕ → ℕ → Type 0
@@ -11,10 +11,10 @@ abbrev pub ReadsRecord : Option (List ℕ) → ℕ → ℕ → Type 0
 ReadsRecord None before after = after ≡ before
 ReadsRecord (Some octets) before after = (before + length octets ≤ after) × (after ≤ before + 32 * cells_for (length octets))
 
+-- so many octets are read at the most
+abbrev pub ReadsAtMost : ℕ → ℕ → ℕ → Type 0
+ReadsAtMost most before after = after ≤ before + most
+
 -- so many octets are appended
 abbrev pub Appends : ℕ → List ℕ → List ℕ → Type 0
 Appends count old new = (octets : List ℕ) × (length octets ≡ count) × (new ≡ old ++ octets)
-
--- how many cells the record has that begins with these octets: its length is their first number
-abbrev pub cells_in : List ℕ → Option ℕ
-cells_in payload = let size = number_at payload 0 in if nat_le 1 size && nat_le size 512 then Some (cells_for size) else None

@@ -6,18 +6,18 @@ ghost use Rattle.eeprom.specs.Chip.{Becomes};
 ghost use Rattle.eeprom.specs.StoreOf.{chain_of, number_at, cell_place, payload_of};
 ghost use Rattle.cell_store.specs.Cells.{kept, StandsFor};
 ghost use Rattle.cell_store.specs.Claims.{TakesChain, HasRecord, HasNoRecord};
-ghost use Rattle.cell_store.specs.Claiming.{ClaimsCell, IsTakenCell};
-ghost use Rattle.cell_store.specs.Reading.{Appends, ReadsCells, cells_in};
+ghost use Rattle.cell_store.specs.Claiming.{ClaimsCell, IsTakenCell, record_cells};
+ghost use Rattle.cell_store.specs.Reading.{Appends, ReadsAtMost, ReadsCells};
 ghost use Rattle.cell_store.specs.CountsFaults.{CountsClaimFaults};
 
 use crate::ClaimRefusal;
 use crate::chain::{Payload, read_cell};
-use crate::layout::{LONGEST, NO_CELL, number_of};
+use crate::layout::{CELL, LONGEST, NO_CELL, number_of};
 use crate::store::cells_for;
 use eeprom::Eeprom;
 
-/// Claims the chain that begins at `first`, and answers how many cells it has: exactly those of its record. Each cell is read
-/// once, and its payload is kept.
+/// Claims the chain that begins at `first`, and answers how many cells it has: exactly those of its record. The payload of
+/// these cells is kept.
 pub fn claim_cells<B: Eeprom>(
     bench: &mut B,
     cells: u16,
@@ -36,9 +36,10 @@ pub fn claim_cells<B: Eeprom>(
     ensures record { OnOk result (IfSome (B.chip bench.old).image (HasRecord (kept cells used.new links.new) first)) }
     ensures payload { OnOk result (IfSome (B.chip bench.old).image (λ image. (chain : List ℕ) → chain_of image cells (2 * cells) first ≡ Some chain
         → length chain ≤ LONGEST → payload.new.items ≡ flat_map (payload_of image cells) chain)) }
-    ensures count { IfOk result (λ count. cells_in payload.new.items ≡ Some count) }
+    ensures count { IfOk result (λ count. record_cells payload.new.items ≡ Some count) }
     ensures size { IfOk result (λ count. length payload.new.items ≡ 30 * count) }
     ensures octets_read { IfOk result (λ count. Becomes (ReadsCells count) (B.octets_read bench.old) (B.octets_read bench.new)) }
+    ensures most_read { Becomes (ReadsAtMost (CELL * LONGEST)) (B.octets_read bench.old) (B.octets_read bench.new) }
     ensures bad_chain { IsErrOf result ClaimRefusal.BadChain → IfSome (B.chip bench.old).image (HasNoRecord (kept cells used.old links.old) first) }
     ensures used { length used.new ≡ length used.old }
     ensures links { length links.new ≡ length links.old }
@@ -47,7 +48,7 @@ pub fn claim_cells<B: Eeprom>(
 {
     payload.clear();
     let mut next = claim_cell(bench, cells, used, links, first, payload)?;
-    let Some(count) = cells_in(payload.as_slice()) else {
+    let Some(count) = record_cells(payload.as_slice()) else {
         return Err(ClaimRefusal::BadChain);
     };
     for _cell in 1..count {
@@ -79,6 +80,7 @@ fn claim_cell<B: Eeprom>(
     ensures payload { OnOk result (IfSome (B.chip bench.old).image (λ image. payload.new.items ≡ payload.old.items ++ payload_of image cells cell)) }
     ensures appends { OnOk result (Appends 30 payload.old.items payload.new.items) }
     ensures octets_read { OnOk result (Becomes (ReadsCells 1) (B.octets_read bench.old) (B.octets_read bench.new)) }
+    ensures most_read { Becomes (ReadsAtMost CELL) (B.octets_read bench.old) (B.octets_read bench.new) }
     ensures taken { IsErrOf result ClaimRefusal.BadChain → IsTakenCell (kept cells used.old links.old) cell }
     ensures used { length used.new ≡ length used.old }
     ensures links { length links.new ≡ length links.old }
@@ -96,9 +98,9 @@ fn claim_cell<B: Eeprom>(
 }
 
 /// How many cells the record has that begins with these octets of payload, where they say a length that a record may have.
-fn cells_in(payload: &[u8]) -> Option<u16>
+fn record_cells(payload: &[u8]) -> Option<u16>
     requires some { 2 ≤ length payload.now }
-    ensures { result ≡ cells_in payload.now }
+    ensures { result ≡ record_cells payload.now }
 {
     let size = number_of(payload[0], payload[1]);
     if 1 <= size && size <= 512 {

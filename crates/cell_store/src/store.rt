@@ -10,12 +10,12 @@ ghost use Rattle.cell_store.specs.Cells.{all_free, freed, StandsFor, IsUsedChain
 ghost use Rattle.cell_store.specs.Claims.{TakesChain, HasRecord, HasNoRecord};
 ghost use Rattle.cell_store.specs.Writing.{IsWritten, KeepsChains};
 ghost use Rattle.cell_store.specs.Placed.{KeepsMarked};
-ghost use Rattle.cell_store.specs.Reading.{ReadsCells, ReadsRecord};
+ghost use Rattle.cell_store.specs.Reading.{ReadsAtMost, ReadsCells, ReadsRecord};
 ghost use Rattle.cell_store.specs.CountsFaults.{CountsClaimFaults, CountsWriteFaults};
 
 use crate::chain::{Payload, RecordOctets, copy_record, read_record};
 use crate::claims::claim_cells;
-use crate::layout::{CELLS, LONGEST, NO_CELL};
+use crate::layout::{CELL, CELLS, LONGEST, NO_CELL};
 use crate::marks::count_free;
 use crate::placing::{payload_of_record, write_cells};
 use crate::{CellRefusal, ClaimRefusal};
@@ -71,9 +71,11 @@ impl CellStore {
     pub fn claim_chain<B: Eeprom>(&mut self, bench: &mut B, first: u16) -> Result<u16, ClaimRefusal>
         requires room { 70 * self.old.cells + 34 ≤ (B.chip bench.old).still.size }
         ensures takes { IfOk result (λ count. TakesChain self.old self.new first count) }
+        ensures some { IfOk result (λ count. 1 ≤ count) }
         ensures stands { OnOk result (IfSome (B.chip bench.old).image (λ image. StandsFor self.old image → StandsFor self.new image)) }
         ensures record { OnOk result (IfSome (B.chip bench.old).image (HasRecord self.new first)) }
         ensures octets_read { IfOk result (λ count. Becomes (ReadsCells count) (B.octets_read bench.old) (B.octets_read bench.new)) }
+        ensures most_read { Becomes (ReadsAtMost (CELL * LONGEST)) (B.octets_read bench.old) (B.octets_read bench.new) }
         ensures bad_chain { IsErrOf result ClaimRefusal.BadChain → IfSome (B.chip bench.old).image (HasNoRecord self.old first) }
         ensures same { B.chip bench.new ≡ B.chip bench.old }
         ensures cause { CountsClaimFaults (B.faults bench.old) (B.faults bench.new) result }
@@ -81,7 +83,8 @@ impl CellStore {
         self.claim_record(bench, first, &mut RecordOctets::new())
     }
 
-    /// The same, and the record is handed out: each of its cells is read once.
+    /// Claims the chain that begins at a cell, hands out the record that the image has in it, and answers how many cells it
+    /// has. As many octets are read as these cells have. After a refusal the store of cells isn't to be used again.
     pub fn claim_record<B: Eeprom>(
         &mut self,
         bench: &mut B,
@@ -97,6 +100,7 @@ impl CellStore {
         ensures some { OnOk result (1 ≤ length out.new.items) }
         ensures count { IfOk result (λ count. count ≡ image.cells_for (length out.new.items)) }
         ensures octets_read { IfOk result (λ count. Becomes (ReadsCells count) (B.octets_read bench.old) (B.octets_read bench.new)) }
+        ensures most_read { Becomes (ReadsAtMost (CELL * LONGEST)) (B.octets_read bench.old) (B.octets_read bench.new) }
         ensures bad_chain { IsErrOf result ClaimRefusal.BadChain → IfSome (B.chip bench.old).image (HasNoRecord self.old first) }
         ensures same { B.chip bench.new ≡ B.chip bench.old }
         ensures cause { CountsClaimFaults (B.faults bench.old) (B.faults bench.new) result }

@@ -2,20 +2,20 @@ use Rattle.std.proofs.Common.{◌≡◌, ◌*◌, ℕ, Some, length, IfSome, ref
 use Rattle.eeprom.specs.StoreOf.{payload_of}
 use Rattle.cell_store.specs.Cells.{Cells, kept}
 use Rattle.cell_store.specs.Claims.{TakesChain}
-use Rattle.cell_store.specs.Reading.{cells_in}
+use Rattle.cell_store.specs.Claiming.{record_cells}
 use Rattle.cell_store.proofs.Claiming.{Claiming, Claiming-start, Claiming-more, Claiming-taken, Claiming-on, Claiming-record, Claiming-takes, Claiming-stands, longer-none, longer-counted, no-length}
-use Rattle.cell_store.proofs.Counting.{told-count, count-short, cells_in-append}
-use Rattle.cell_store.proofs.Reading.{reads-more}
+use Rattle.cell_store.proofs.Counting.{told-count, count-short, record_cells-append}
+use Rattle.cell_store.proofs.Reading.{reads-more, reads-less, reads-then, reads-whole}
 use Rattle.cell_store.proofs.Walking.{Walked-start, Walked-more, Walked-end}
 use Rattle.cell_store.proofs.claims.claim_cells.Goals.{In-Some, After-loop-cell}
 use Rattle.cell_store.proofs.claims.claim_cells.Goals as goal
 
 -- the first payload says how many cells the record has
-front : (g : _) (c : In-Some g) → cells_in c.claim_cell.new.payload.items ≡ Some c.in-Some.count
-front g c = ap cells_in (sym c.as_slice.ensures.value) ∙ sym c.in-Some.ensures
+front : (g : _) (c : In-Some g) → record_cells c.claim_cell.new.payload.items ≡ Some c.in-Some.count
+front g c = ap record_cells (sym c.as_slice.ensures.value) ∙ sym c.in-Some.ensures
 
 -- it is that of the first cell
-told : (g : _) (c : In-Some g) → IfSome (g.B.Eeprom.chip c.args.bench.now).image (λ image. cells_in (payload_of image c.args.cells c.args.first) ≡ Some c.in-Some.count)
+told : (g : _) (c : In-Some g) → IfSome (g.B.Eeprom.chip c.args.bench.now).image (λ image. record_cells (payload_of image c.args.cells c.args.first) ≡ Some c.in-Some.count)
 told g c =
     told-count (g.B.Eeprom.chip c.args.bench.now).image c.args.cells c.args.first c.claim_cell.new.payload.items (Some c.in-Some.count) (rw c.clear.ensures at c.in_ok-next.ensures.payload) (front g c)
 
@@ -33,7 +33,7 @@ pub returns-in_default-clause-bad_chain : goal.returns-in_default-clause-bad_cha
 returns-in_default-clause-bad_chain g c = λ _.
     let start : Cells = kept c.args.cells c.args.used.now c.args.links.now in
     let image = (g.B.Eeprom.chip c.args.bench.now).image in
-    no-length start image c.args.first (told-count image c.args.cells c.args.first c.claim_cell.new.payload.items _ (rw c.clear.ensures at c.in_ok-next.ensures.payload) (ap cells_in (sym c.as_slice.ensures.value) ∙ (sym c.cells_in.ensures ∙ c.in_default.is)))
+    no-length start image c.args.first (told-count image c.args.cells c.args.first c.claim_cell.new.payload.items _ (rw c.clear.ensures at c.in_ok-next.ensures.payload) (ap record_cells (sym c.as_slice.ensures.value) ∙ (sym c.record_cells.ensures ∙ c.in_default.is)))
 
 pub loop-cell-init : goal.loop-cell-init
 loop-cell-init g c =
@@ -68,7 +68,7 @@ loop-cell-preserved g c =
       walked = Walked-more c.args.cells c.args.first c.loop-cell.next c.loop-cell.payload.items c.claim_cell-in-loop-cell.new.payload.items c.loop-cell._cell c.in_ok-next-2.next image c.requires.many c.in_ok-next-2.ensures.claims.inside
           (rw inv.same at c.in_ok-next-2.ensures.link) (rw inv.same at c.in_ok-next-2.ensures.payload) inv.walked;
       size = rw (more.2) (omega (arith, length-append c.loop-cell.payload.items more.0, more.1, inv.size));
-      front = rw (more.2) (cells_in-append c.loop-cell.payload.items more.0 (omega (arith, inv.size)) ∙ inv.front);
+      front = rw (more.2) (record_cells-append c.loop-cell.payload.items more.0 (omega (arith, inv.size)) ∙ inv.front);
       read = reads-more c.loop-cell._cell (g.B.Eeprom.octets_read c.args.bench.now) (g.B.Eeprom.octets_read c.loop-cell.bench) (g.B.Eeprom.octets_read c.claim_cell-in-loop-cell.new.bench) inv.read c.in_ok-next-2.ensures.octets_read;
       used = c.claim_cell-in-loop-cell.ensures.used ∙ inv.used;
       links = c.claim_cell-in-loop-cell.ensures.links ∙ inv.links;
@@ -92,7 +92,7 @@ returns-then-next-clause-takes g c =
     let end = at-end g (goal.at.returns-then-next-clause-takes g c).After-loop-cell in
     let short = count-short c.loop-cell.payload.items c.in-Some.count c.loop-cell.invariant.front in
     subst (TakesChain start now c.args.first) end (Claiming-takes start now (g.B.Eeprom.chip c.args.bench.now).image c.args.first c.loop-cell._cell c.loop-cell.next c.requires.links c.loop-cell.invariant.links c.if-next.true
-    (omega (arith, end, short.0)) (omega (arith, end, short.1)) c.loop-cell.invariant.claiming)
+    (omega (arith, end, short.1)) c.loop-cell.invariant.claiming)
 
 pub returns-then-next-clause-stands : goal.returns-then-next-clause-stands
 returns-then-next-clause-stands g c =
@@ -129,3 +129,25 @@ returns-else-next-clause-bad_chain g c = λ _.
     let end = at-end g (goal.at.returns-else-next-clause-bad_chain g c).After-loop-cell in
     Claiming-on start now image c.args.first c.in-Some.count c.loop-cell.next c.requires.many c.if-next.false (told g at)
     (subst (λ (count : ℕ). Claiming start now image c.args.first count c.loop-cell.next) end c.loop-cell.invariant.claiming)
+
+pub returns-in_err-next-clause-most_read : goal.returns-in_err-next-clause-most_read
+returns-in_err-next-clause-most_read g c = reads-less 32 576 (g.B.Eeprom.octets_read c.args.bench.now) (g.B.Eeprom.octets_read c.claim_cell.new.bench) (omega arith) c.claim_cell.ensures.most_read
+
+pub returns-in_default-clause-most_read : goal.returns-in_default-clause-most_read
+returns-in_default-clause-most_read g c = reads-less 32 576 (g.B.Eeprom.octets_read c.args.bench.now) (g.B.Eeprom.octets_read c.claim_cell.new.bench) (omega arith) c.claim_cell.ensures.most_read
+
+pub returns-in_err-next-2-clause-most_read : goal.returns-in_err-next-2-clause-most_read
+returns-in_err-next-2-clause-most_read g c =
+    let short = count-short c.loop-cell.payload.items c.in-Some.count c.loop-cell.invariant.front in
+    reads-then c.loop-cell._cell 32 576 (g.B.Eeprom.octets_read c.args.bench.now) (g.B.Eeprom.octets_read c.loop-cell.bench) (g.B.Eeprom.octets_read c.claim_cell-in-loop-cell.new.bench) (omega (arith, c.loop-cell-test.true, short.1))
+    c.loop-cell.invariant.read c.claim_cell-in-loop-cell.ensures.most_read
+
+pub returns-then-next-clause-most_read : goal.returns-then-next-clause-most_read
+returns-then-next-clause-most_read g c =
+    let short = count-short c.loop-cell.payload.items c.in-Some.count c.loop-cell.invariant.front in
+    reads-whole c.loop-cell._cell 576 (g.B.Eeprom.octets_read c.args.bench.now) (g.B.Eeprom.octets_read c.loop-cell.bench) (omega (arith, at-end g (goal.at.returns-then-next-clause-most_read g c).After-loop-cell, short.1)) c.loop-cell.invariant.read
+
+pub returns-else-next-clause-most_read : goal.returns-else-next-clause-most_read
+returns-else-next-clause-most_read g c =
+    let short = count-short c.loop-cell.payload.items c.in-Some.count c.loop-cell.invariant.front in
+    reads-whole c.loop-cell._cell 576 (g.B.Eeprom.octets_read c.args.bench.now) (g.B.Eeprom.octets_read c.loop-cell.bench) (omega (arith, at-end g (goal.at.returns-else-next-clause-most_read g c).After-loop-cell, short.1)) c.loop-cell.invariant.read

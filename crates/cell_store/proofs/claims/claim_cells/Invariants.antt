@@ -2,7 +2,8 @@ use Rattle.std.proofs.Common.{◌≡◌, ◌*◌, ℕ, List, Some, length, IfSom
 use Rattle.eeprom.specs.Chip.{Becomes}
 use Rattle.eeprom.specs.StoreOf.{chain_of}
 use Rattle.cell_store.specs.Cells.{kept}
-use Rattle.cell_store.specs.Reading.{ReadsCells, cells_in}
+use Rattle.cell_store.specs.Claiming.{record_cells}
+use Rattle.cell_store.specs.Reading.{ReadsCells}
 use Rattle.cell_store.specs.Walk.{Walked}
 use Rattle.cell_store.proofs.Claiming.{Claiming}
 use Rattle.cell_store.proofs.claims.claim_cells.Given as goal
@@ -13,7 +14,7 @@ invariant-loop-cell g l = record {
   walked : IfSome (g.B.Eeprom.chip l.fn.bench).image (λ image. (chain : List ℕ) → chain_of image l.cells (2 * l.cells) l.first ≡ Some chain
       → Walked l.cells chain l.next l.payload.items l._cell image);
   size : length l.payload.items ≡ 30 * l._cell;
-  front : cells_in l.payload.items ≡ Some l.count;
+  front : record_cells l.payload.items ≡ Some l.count;
   read : Becomes (ReadsCells l._cell) (g.B.Eeprom.octets_read l.fn.bench) (g.B.Eeprom.octets_read l.bench);
   used : length l.used ≡ 2 * l.cells;
   links : length l.links ≡ 2 * l.cells;
