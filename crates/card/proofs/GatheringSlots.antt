@@ -5,8 +5,10 @@ use Rattle.std.proofs.lemmas.Bool.Decides.{nat_tests}
 use Rattle.std.proofs.lemmas.List.{take-append-drop}
 use Rattle.std.proofs.lemmas.Option.{same_Some, none-some}
 use Rattle.eeprom.specs.StoreOf.{Slots, slots_at, store_of}
+use Rattle.record_store.specs.Held.{Held, contents}
+use Rattle.record_store.specs.declared.side.Side.TheVariants.{Committed}
 use Rattle.record_store.specs.Opening.{HeldSoFar, StandsSoFar, slots_so_far, slot_with}
-use Rattle.record_store.proofs.OpeningSlots.{so_far-first}
+use Rattle.record_store.proofs.OpeningSlots.{so_far-first, with-octets}
 use Rattle.scql_model.specs.Records.{User}
 use Rattle.card.specs.Opening.{Gathers, HoldNone}
 use Rattle.card.proofs.Gathering.{gathers-nothing, gathers-empty, none-no_counter}
@@ -46,10 +48,12 @@ gathered-next held next (Some image) octets counters counters' users users' is a
     go (Some slots) g = added slots g
 
 -- behind the last slot
-pub gathered-all : (held : HeldSoFar) (image : Option (List ℕ)) (counters : List ℕ) (users : List User) → ((image : List ℕ) → StandsSoFar held image → store_of image ≡ slots_so_far held image) → IfSome image (StandsSoFar held)
-    → GathersSoFar held image counters users → IfSome image (λ image. (slots : Slots) → store_of image ≡ Some slots → Gathers slots counters users)
-gathered-all held None counters users opened stands g = tt
-gathered-all held (Some image) counters users opened stands g = λ slots is. subst (λ (o : Option Slots). IfSome o (λ slots. Gathers slots counters users)) (sym (opened image stands) ∙ is) g
+pub gathered-all : (held : HeldSoFar) (image : Option (List ℕ)) (counters : List ℕ) (users : List User) (store : Held) → ((image : List ℕ) → StandsSoFar held image → store_of image ≡ contents store Committed image)
+    → ((image : List ℕ) → StandsSoFar held image → contents store Committed image ≡ slots_so_far held image) → IfSome image (StandsSoFar held) → GathersSoFar held image counters users
+    → IfSome image (λ image. (slots : Slots) → store_of image ≡ Some slots → Gathers slots counters users)
+gathered-all held None counters users store opened same stands g = tt
+gathered-all held (Some image) counters users store opened same stands g = λ slots is.
+    subst (λ (o : Option Slots). IfSome o (λ slots. Gathers slots counters users)) (sym (same image stands) ∙ (sym (opened image stands) ∙ is)) g
 
 pub none-without_counter : (image : Option (List ℕ)) (users : List User) → IfSome image (λ image. (slots : Slots) → store_of image ≡ Some slots → Gathers slots [] users) → IfSome image (λ image. (slots : Slots) → store_of image ≡ Some slots → HoldNone slots)
 none-without_counter None users g = tt
@@ -74,8 +78,9 @@ none-stored (Some image) none = λ slots is. absurd (none-some slots (sym none �
 
 -- a slot with a record
 record-slot : (octets : List ℕ) (empty : Bool) → empty ≡ (length octets == 0) → empty ≡ false → slot_with octets ≡ Some octets
-record-slot [] empty is some = absurd (true≢false (sym is ∙ some))
-record-slot (octet ∷ octets) empty is some = refl
+record-slot octets empty is some =
+    let test : (length octets == 0) ≡ false = sym is ∙ some in
+    sym (with-octets octets (grind (arith, nat_tests, test)))
 
 pub record-added : {T E : Type 0} (r : Result T E) (octets : List ℕ) (empty : Bool) (counters counters' : List ℕ) (users users' : List User) → empty ≡ (length octets == 0) → empty ≡ false
     → OnOk r ((slots : Slots) → Gathers slots counters users → Gathers (slots ++ Some octets ∷ []) counters' users') → OnOk r ((slots : Slots) → Gathers slots counters users → Gathers (slots ++ slot_with octets ∷ []) counters' users')

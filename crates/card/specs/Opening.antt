@@ -4,6 +4,7 @@ use Rattle.std.specs.List.{list_all, filter_map, AllByRecursion}
 use Rattle.std.specs.BTreeMap.{BTreeMap, values}
 use Rattle.eeprom.specs.StoreOf.{Slots}
 use Rattle.eeprom.specs.Slots.{AreApart, in_order, in_slot}
+use Rattle.record_store.specs.Opening.{front_octets}
 use Rattle.scql_model.specs.Records as records
 use Rattle.scql_model.specs.Records.{counter_record, user_record, counter_in, user_in}
 use Rattle.scql_model.specs.Database.{Database, IsValid, weight}
@@ -38,6 +39,6 @@ pub record Gathers (slots : Slots) (found_counters : List ℕ) (found_users : Li
 abbrev pub HoldNone : Slots → Type 0
 HoldNone slots = (db : Database) → Holds slots db → IsValid db → ⊥
 
--- So many octets are read where a card is opened at this database: the 9 that begin an image, a directory, and each cell of its records once.
+-- So many octets are read where a card is opened at this database: those that begin its image, and as many as the cells of its records have.
 abbrev pub ReadsCard : Database → ℕ → ℕ → Type 0
-ReadsCard db before after = after ≡ before + (9 + 2 * db.cells + 32 * weight db)
+ReadsCard db before after = after ≡ before + (front_octets db.cells + 32 * weight db)

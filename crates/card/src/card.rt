@@ -2,7 +2,9 @@
 ghost use Rattle.std.specs.Prelude.{◌≡◌, ◌≢◌, ◌↔◌, ℕ, List, slice_get, ◌<◌, ◌≤◌, ◌+◌, ◌*◌, [], ◌∷◌, Some, None, true, false, map, is_some, length, option_map, IfSome, IfOk, OnOk, IsTrue, IsErrOf};
 ghost use Rattle.eeprom.specs.Chip.{Chip, Becomes};
 ghost use Rattle.eeprom.specs.Fault.{Counts, Rose};
+ghost use Rattle.cell_store.specs.Reading.{ReadsAtMost};
 ghost use Rattle.record_store.specs.Held.{StandsFor};
+ghost use Rattle.record_store.specs.Opening.{most_octets};
 ghost use Rattle.scql_model.specs.Machine as machine;
 ghost use Rattle.scql_model.specs.Step as stepping;
 ghost use Rattle.scql_model.specs.Opens.{Opens};
@@ -81,7 +83,7 @@ impl Card {
     }
 
     /// Opens the card of an EEPROM, where its image opens to a database. Channel 0 is open, without a user.
-    /// Each cell of a record is read once. The records are let go at the end.
+    /// As many octets are read as begin the image, and as the cells of the records have. The records are let go at the end.
     pub fn open<B: Eeprom>(alloc: Global, bench: &mut B) -> Result<Card, OpenRefusal>
         ensures opens { IfOk result (λ card. IfSome (B.chip bench.old).image (λ image. (db : Database) × Opens image db)) }
         ensures starts { IfOk result (λ card. IfSome (B.chip bench.old).image (λ image.
@@ -89,6 +91,7 @@ impl Card {
         ensures ready { IfOk result (λ card. IsReady card (B.chip bench.new)) }
         ensures octets_read { OnOk result (IfSome (B.chip bench.old).image (λ image. (db : Database) → Opens image db
             → Becomes (ReadsCard db) (B.octets_read bench.old) (B.octets_read bench.new))) }
+        ensures most_read { Becomes (ReadsAtMost most_octets) (B.octets_read bench.old) (B.octets_read bench.new) }
         ensures not_a_card { IsErrOf result OpenRefusal.NotACard → IfSome (B.chip bench.old).image (λ image. (db : Database) → Opens image db → ⊥) }
         ensures same { B.chip bench.new ≡ B.chip bench.old }
         ensures fault { IsErrOf result OpenRefusal.Fault → Rose (B.faults bench.old) (B.faults bench.new) }

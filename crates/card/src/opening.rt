@@ -3,9 +3,10 @@ ghost use Rattle.std.specs.Prelude.{◌≡◌, ◌≢◌, OnErr, ◌+◌, ◌*�
 ghost use Rattle.eeprom.specs.Chip.{Becomes};
 ghost use Rattle.eeprom.specs.StoreOf.{Slots, store_of};
 ghost use Rattle.eeprom.specs.Slots.{has, place};
+ghost use Rattle.cell_store.specs.Reading.{ReadsAtMost};
 ghost use Rattle.record_store.specs.CountsFaults.{CountsFaults};
 ghost use Rattle.record_store.specs.Held.{StandsFor, contents};
-ghost use Rattle.record_store.specs.Opening.{ReadsStore, slot_with};
+ghost use Rattle.record_store.specs.Opening.{ReadsStore, most_octets, slot_with};
 ghost use Rattle.record_store.specs.declared.side.Side.TheVariants.{Committed};
 ghost use Rattle.scql_model.specs.Records as records;
 ghost use Rattle.card.specs.Opening.{AreByStamp, Gathers, HoldNone, counters_of, users_of};
@@ -49,6 +50,7 @@ pub(crate) fn open_records<B: Eeprom>(alloc: Global, bench: &mut B) -> Result<Op
     ensures by_stamp { IfOk result (λ opened. AreByStamp opened.records.users.entries) }
     ensures octets_read { IfOk result (λ opened. IfSome (B.chip bench.old).image (λ image. (slots : Slots) → store_of image ≡ Some slots
         → Becomes (ReadsStore opened.store.cells slots) (B.octets_read bench.old) (B.octets_read bench.new))) }
+    ensures most_read { Becomes (ReadsAtMost most_octets) (B.octets_read bench.old) (B.octets_read bench.new) }
     ensures not_a_card { IsErrOf result OpenRefusal.NotACard → IfSome (B.chip bench.old).image (λ image. (slots : Slots) → store_of image ≡ Some slots → HoldNone slots) }
     ensures same { B.chip bench.new ≡ B.chip bench.old }
     ensures cause { CountsFaults (B.faults bench.old) (B.faults bench.new) result }
@@ -85,7 +87,7 @@ impl Found {
             → Gathers (slots ++ slot_with octets.now ∷ []) (counters_of self.new.counter) (users_of self.new.users)) }
         ensures not_a_card { IsErrOf result OpenRefusal.NotACard → (slots : Slots) → (more : Slots) → Gathers slots (counters_of self.old.counter) (users_of self.old.users)
             → HoldNone (slots ++ slot_with octets.now ∷ more) }
-        ensures no_fault { IsErrOf result OpenRefusal.Fault → ⊥ }
+        ensures no_fault { ¬ (IsErrOf result OpenRefusal.Fault) }
     {
         if octets.is_empty() {
             return Ok(());
@@ -101,7 +103,7 @@ impl Found {
             → Gathers (slots ++ Some octets.now ∷ []) (counters_of self.new.counter) (users_of self.new.users)) }
         ensures not_a_card { IsErrOf result OpenRefusal.NotACard → (slots : Slots) → (more : Slots) → Gathers slots (counters_of self.old.counter) (users_of self.old.users)
             → HoldNone (slots ++ Some octets.now ∷ more) }
-        ensures no_fault { IsErrOf result OpenRefusal.Fault → ⊥ }
+        ensures no_fault { ¬ (IsErrOf result OpenRefusal.Fault) }
     {
         if let Some(counter) = Counter::decode(octets) {
             return self.set_counter(counter);
@@ -134,7 +136,7 @@ fn add_user(users: &mut BTreeMap<u32, User>, user: User) -> Result<(), OpenRefus
     ensures placed { OnOk result (users_of users.new ≡ place (λ (u : records.User). u.stamp) (user_of user) (users_of users.old)) }
     ensures first { OnOk result (count_by (has (λ (u : records.User). u.stamp) user.stamp) (users_of users.old) ≡ 0) }
     ensures second { IsErrOf result OpenRefusal.NotACard → 1 ≤ count_by (has (λ (u : records.User). u.stamp) user.stamp) (users_of users.old) }
-    ensures no_fault { IsErrOf result OpenRefusal.Fault → ⊥ }
+    ensures no_fault { ¬ (IsErrOf result OpenRefusal.Fault) }
 {
     match users.insert(user.stamp, user)? {
         None => Ok(()),

@@ -1,9 +1,10 @@
 -- Chains of an image: their cells, their payload and their records.
-use Rattle.std.proofs.Common.{◌≡◌, ℕ, zero, suc, ◌+◌, ◌*◌, ◌<◌, ◌≤◌, ◌==◌, ◌&&◌, Bool, true, false, List, [], ◌∷◌, ◌++◌, length, flat_map, nat_lt, nat_le, Option, Some, None, option_map, option_and_then, IfSome, if◌then◌else◌, sym, refl, ap, ◌∙◌, arith, length-append, length-take, length-drop, leb-true, eqb-true, ltb-true, ◌⊎◌, inl, inr}
+use Rattle.std.proofs.Common.{◌≡◌, ℕ, zero, suc, ◌+◌, ◌*◌, ◌<◌, ◌≤◌, ◌==◌, ◌&&◌, Bool, true, false, List, [], ◌∷◌, ◌++◌, length, take, flat_map, nat_lt, nat_le, Option, Some, None, option_map, option_and_then, IfSome, cond, map, if◌then◌else◌, sym, refl, ap, ◌∙◌, subst, arith, length-append, length-take, length-drop, leb-true, eqb-true, ltb-true, ◌⊎◌, inl, inr}
 use Rattle.std.proofs.lemmas.Bool.{and_parts}
 use Rattle.std.proofs.lemmas.Option.{same_Some, none-some}
-use Rattle.std.proofs.lemmas.List.{get_or_append_left}
-use Rattle.eeprom.specs.StoreOf.{chain_of, cell_place, cells_for, cells_of, payload_of, number_at, is_record, record_in, slot_of}
+use Rattle.std.proofs.lemmas.List.{get_or_append_left, length-map}
+use Rattle.std.specs.List.{list_all}
+use Rattle.eeprom.specs.StoreOf.{chain_of, chains_of, slots_at, are_apart, cell_place, cells_for, cells_of, payload_of, number_at, is_record, record_in, slot_of}
 use Rattle.cell_store.specs.Chains.{IsRecordChain}
 
 -- the payload of a chain is 30 octets a cell
@@ -97,6 +98,26 @@ chains-parts None rest chains h = absurd (none-some chains h)
 chains-parts (Some chain) None chains h = absurd (none-some chains h)
 chains-parts (Some chain) (Some others) chains h = (chain, others, refl, refl, sym (same_Some _ _ h))
 
+chains-join : (first : Option (List ℕ)) (rest : Option (List (List ℕ))) (chain : List ℕ) (chains : List (List ℕ)) → first ≡ Some chain → rest ≡ Some chains → option_and_then (λ cells. option_map (λ chains. cells ∷ chains) rest) first ≡ Some (chain ∷ chains)
+chains-join first rest chain chains is are = rw (is, are) refl
+
+-- a chain more
+pub chains-push : (image : List ℕ) (n : ℕ) (xs : List ℕ) (first : ℕ) (chains : List (List ℕ)) (chain : List ℕ) → chains_of image n xs ≡ Some chains → chain_of image n (2 * n) first ≡ Some chain → chains_of image n (xs ++ first ∷ []) ≡ Some (chains ++ chain ∷ [])
+chains-push image n [] first chains chain of is =
+    subst (λ (chains : List (List ℕ)). chains_of image n (first ∷ []) ≡ Some (chains ++ chain ∷ [])) (same_Some [] chains of) (rw is refl)
+chains-push image n (x ∷ xs) first chains chain of is =
+    let parts = chains-parts (chain_of image n (2 * n) x) (chains_of image n xs) chains of in
+    subst (λ (chains : List (List ℕ)). chains_of image n ((x ∷ xs) ++ first ∷ []) ≡ Some (chains ++ chain ∷ [])) (sym parts.4) (let rest = chains-push image n xs first parts.1 chain parts.3 is in chains-join (chain_of image n (2 * n) x) (chains_of image n (xs ++ first ∷ [])) parts.0 (parts.1 ++ chain ∷ []) parts.2 rest)
+
+-- the chains of the first slots
+pub chains-take : (image : List ℕ) (n : ℕ) (firsts : List ℕ) (chains : List (List ℕ)) (k : ℕ) → chains_of image n firsts ≡ Some chains → chains_of image n (take k firsts) ≡ Some (take k chains)
+chains-take image n firsts chains zero of = refl
+chains-take image n [] chains (suc k) of = subst (λ (chains : List (List ℕ)). Some [] ≡ Some (take (suc k) chains)) (same_Some [] chains of) refl
+chains-take image n (x ∷ firsts) chains (suc k) of =
+    let parts = chains-parts (chain_of image n (2 * n) x) (chains_of image n firsts) chains of in
+    subst (λ (chains : List (List ℕ)). chains_of image n (take (suc k) (x ∷ firsts)) ≡ Some (take (suc k) chains)) (sym parts.4)
+    (chains-join (chain_of image n (2 * n) x) (chains_of image n (take k firsts)) parts.0 (take k parts.1) parts.2 (chains-take image n firsts parts.1 k parts.3))
+
 -- a record's chain has the cells of its octets
 pub cells-chain : (image : List ℕ) (n first : ℕ) (chain : List ℕ) → 70 * n + 34 ≤ length image → chain_of image n (2 * n) first ≡ Some chain → is_record image n chain ≡ true → (length chain ≤ 18) × (length chain ≡ cells_of (slot_of image n chain))
 cells-chain image n first [] room h is = (omega arith, refl)
@@ -115,3 +136,27 @@ cells-chain image n first (cell ∷ cells) room h is =
     let total : length payload ≡ 30 * length (cell ∷ cells) = length-chain image n (2 * n) first (cell ∷ cells) room h in
     let octets : length (record_in payload) ≡ size = rw number (simp (length-take, length-drop) (omega arith)) in
     (omega arith, count ∙ ap cells_for (sym octets))
+
+-- as many chains as first cells
+pub length-chains_of : (image : List ℕ) (n : ℕ) (firsts : List ℕ) → IfSome (chains_of image n firsts) (λ chains. length chains ≡ length firsts)
+length-chains_of image n [] = refl
+length-chains_of image n (first ∷ rest) = joined (chain_of image n (2 * n) first) (chains_of image n rest) (length-chains_of image n rest)
+  where
+    joined : (chain : Option (List ℕ)) (chains : Option (List (List ℕ))) → IfSome chains (λ chains. length chains ≡ length rest)
+        → IfSome (option_and_then (λ cells. option_map (λ chains. cells ∷ chains) chains) chain) (λ chains. length chains ≡ suc (length rest))
+    joined None chains counted = tt
+    joined (Some cells) None counted = tt
+    joined (Some cells) (Some chains) counted = ap suc counted
+
+pub length-slots_at : (image : List ℕ) (n : ℕ) (firsts : List ℕ) → IfSome (slots_at image n firsts) (λ slots. length slots ≡ length firsts)
+length-slots_at image n firsts = tested (chains_of image n firsts) (length-chains_of image n firsts)
+  where
+    kept : (b : Bool) (chains : List (List ℕ)) → length chains ≡ length firsts
+        → IfSome (cond b (Some (map (slot_of image n) chains)) None) (λ slots. length slots ≡ length firsts)
+    kept true chains counted = length-map chains (slot_of image n) ∙ counted
+    kept false chains counted = tt
+
+    tested : (chains : Option (List (List ℕ))) → IfSome chains (λ chains. length chains ≡ length firsts)
+        → IfSome (option_and_then (λ chains. cond (list_all (is_record image n) chains && are_apart n chains) (Some (map (slot_of image n) chains)) None) chains) (λ slots. length slots ≡ length firsts)
+    tested None counted = tt
+    tested (Some chains) counted = kept (list_all (is_record image n) chains && are_apart n chains) chains counted

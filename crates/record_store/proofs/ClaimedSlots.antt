@@ -3,6 +3,7 @@ use Rattle.std.proofs.Common.{◌≡◌, ℕ, zero, suc, ◌+◌, ◌*◌, ◌<�
 use Rattle.std.specs.List.{AllByRecursion, list_all}
 use Rattle.std.proofs.lemmas.Bool.{and_parts, or_right}
 use Rattle.std.proofs.lemmas.Bool.Decides.{nat_tests}
+use Rattle.std.proofs.lemmas.Grind.{flat_map-append}
 use Rattle.std.proofs.lemmas.List.{drop_more, take_more, take_all, length-replicate, take-append-drop}
 use Rattle.std.proofs.lemmas.Option.{same_Some}
 use Rattle.eeprom.specs.StoreOf.{chain_of, chains_of, is_record, slots_at, is_distinct}
@@ -13,6 +14,7 @@ use Rattle.cell_store.proofs.Chains.{chains-parts}
 use Rattle.cell_store.proofs.Claiming.{free-parts, free-join}
 use Rattle.cell_store.proofs.Linking.{chain-linked, linked-inside}
 use Rattle.cell_store.proofs.Marking.{marked-with, with_marked-append, length-with_marked}
+use Rattle.cell_store.specs.Claims.{TakesChain}
 use Rattle.record_store.specs.Opening.{ClaimedSoFar, TakesSlot}
 use Rattle.record_store.specs.Sound.{AreChains, Claimed, cells_in}
 use Rattle.record_store.proofs.Sides.{all-among, chains-stay}
@@ -167,14 +169,13 @@ claims-over n firsts old new total count k image size inside over c before = non
 -- what a claim says of a slot's chain in the image
 pub claims-record : (old new : Cells) (first count : ℕ) (octets image : List ℕ) → TakesSlot (Some image) old new first octets count → ClaimsRecord old.cells first old.used new.used count image
 claims-record old new first count octets image takes =
-    record { chain = takes.chain; there = record { of = takes.told.of; is = takes.told.is; free = takes.free }; cells = takes.count_is; marks = takes.used }
+    record { chain = takes.chain.chain; there = record { of = takes.told.of; is = takes.told.is; free = takes.chain.free }; cells = takes.chain.count_is; marks = takes.chain.used }
 
 pub claimed-start : (n : ℕ) (firsts : List ℕ) → ClaimedSoFar (all_free n) (take 0 firsts) 0
 claimed-start n firsts = record { chains = []; are = tt; free = record { free = tt; distinct = refl }; count_is = refl; used = refl }
 
 pub cells-more : (chains : List (List ℕ)) (chain : List ℕ) → cells_in (chains ++ chain ∷ []) ≡ cells_in chains ++ chain
-cells-more [] chain = simp append-nil
-cells-more (first ∷ chains) chain = ap (λ (cells : List ℕ). first ++ cells) (cells-more chains chain) ∙ sym (append_assoc first (cells_in chains) chain)
+cells-more chains chain = flat_map-append (λ (chain : List ℕ). chain) chains (chain ∷ []) ∙ ap (λ (cells : List ℕ). cells_in chains ++ cells) (append-nil chain)
 
 chains-more : (links firsts : List ℕ) (chains : List (List ℕ)) (first : ℕ) (chain : List ℕ) → AreChains links firsts chains → AreLinked (link_in links) (length links) first chain → length chain ≤ 18 → AreChains links (firsts ++ first ∷ []) (chains ++ chain ∷ [])
 chains-more links [] [] first chain are linked short = (linked, short, tt)
@@ -209,8 +210,8 @@ free-so_far store firsts chain weight range c free =
     subst (AreFree (replicate (2 * store.cells) false)) (sym (cells-more c.chains chain))
     (free-join (replicate (2 * store.cells) false) (2 * store.cells) (cells_in c.chains) chain (length-replicate (2 * store.cells) false) (within-so_far store firsts weight range c) c.free (subst (λ (used : List Bool). AreFree used chain) c.used free))
 
-pub claimed-more : (image : Option (List ℕ)) (old new : Cells) (firsts octets : List ℕ) (total count k : ℕ) → IsInRange old → k < length firsts → TakesSlot image old new (get_or firsts k 0) octets count → ClaimedSoFar old (take k firsts) total → ClaimedSoFar new (take (k + 1) firsts) (total + count)
-claimed-more image old new firsts octets total count k range inside takes c =
+pub claimed-more : (old new : Cells) (firsts : List ℕ) (total count k : ℕ) → IsInRange old → k < length firsts → TakesChain old new (get_or firsts k 0) count → ClaimedSoFar old (take k firsts) total → ClaimedSoFar new (take (k + 1) firsts) (total + count)
+claimed-more old new firsts total count k range inside takes c =
     let before = chains-stay old.used old.links new.links (take k firsts) c.chains takes.links_count takes.stay (marked-so_far old (take k firsts) total range c) c.are in
     let cells = cells-more c.chains takes.chain in
     let none = ap (λ (n : ℕ). replicate (2 * n) false) takes.cells in
@@ -245,8 +246,8 @@ stands-start n (Some image) = record { links = λ cell is. absurd (true≢false 
 pub all_free-range : (n : ℕ) → 16 ≤ n → n ≤ 2048 → IsInRange (all_free n)
 all_free-range n few many = record { few = few; many = many; used_count = length-replicate (2 * n) false; links_count = length-replicate (2 * n) 65535 }
 
-pub takes-range : (image : Option (List ℕ)) (old new : Cells) (first : ℕ) (octets : List ℕ) (count : ℕ) → TakesSlot image old new first octets count → IsInRange old → IsInRange new
-takes-range image old new first octets count takes range = record {
+pub takes-range : (old new : Cells) (first count : ℕ) → TakesChain old new first count → IsInRange old → IsInRange new
+takes-range old new first count takes range = record {
   few = rw (takes.cells) (range.few);
   many = rw (takes.cells) (range.many);
   used_count = rw (takes.cells) (ap (length {A = Bool}) takes.used ∙ (length-with_marked old.used takes.chain ∙ range.used_count));

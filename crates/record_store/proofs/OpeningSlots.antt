@@ -2,21 +2,27 @@
 use Rattle.std.proofs.Common.{◌≡◌, ℕ, zero, suc, ◌+◌, ◌*◌, ◌<◌, ◌≤◌, ◌≢◌, ◌&&◌, ◌||◌, inl, Bool, true, false, List, [], ◌∷◌, ◌++◌, length, length-append, map, take, drop, get_or, nat_le, Option, Some, None, IfSome, Result, Ok, Err, IfOk, OnOk, option_map, option_and_then, sym, refl, ap, ◌∙◌, arith, subst, true≢false}
 use Rattle.std.specs.List.{list_all}
 use Rattle.std.proofs.lemmas.Bool.Decides.{nat_tests}
-use Rattle.std.proofs.lemmas.List.{take_more}
+use Rattle.std.proofs.lemmas.List.{map-append, take-map, take_all, take_more}
+use Rattle.std.proofs.lemmas.List.Folds.{list_all-append}
 use Rattle.std.proofs.lemmas.Option.{same_Some}
 use Rattle.eeprom.specs.Chip.{Becomes}
 use Rattle.eeprom.specs.StoreOf.{Slots, chain_of, chains_of, is_record, slot_of, slots_at, store_of, directory, are_apart, cells_for, cells_of, weight_of}
 use Rattle.cell_store.specs.Cells.{Cells, StandsFor, kept}
 use Rattle.cell_store.specs.Chains.{AreFree, IsRecordChain, is_among}
 use Rattle.cell_store.specs.Claims.{TakesChain, HasRecord, HasNoRecord}
-use Rattle.cell_store.proofs.Chains.{chain-empty, chains-parts}
+use Rattle.cell_store.specs.Reading.{ReadsAtMost}
+use Rattle.cell_store.proofs.Chains.{chain-empty, chains-push, chains-take}
 use Rattle.cell_store.proofs.Placements.{nowhere}
 use Rattle.record_store.specs.Held.{Held, contents, StandsFor as HeldStandsFor}
-use Rattle.record_store.specs.Opening.{HeldSoFar, StandsSoFar, IsSoundSoFar, TakesSlot, IsSlot, HasNoSlot, ReadsStore, slots_so_far, slot_with}
+use Rattle.record_store.specs.Opening.{HeldSoFar, StandsSoFar, IsSoundSoFar, TakesSlot, IsSlot, ReadsStore, front_octets, most_octets, slots_so_far, slot_with}
 use Rattle.record_store.specs.Sound.{IsSound, cells_in}
 use Rattle.record_store.specs.declared.side.Side.TheVariants.{Committed}
 use Rattle.record_store.proofs.ClaimedSlots.{Claims, cells-more, claims-so_far, claims-record, claims-refused, claims-over, claimed-more, claimed-all, takes-range, marked-so_far, free-so_far}
 use Rattle.record_store.proofs.Weights.{slots-chains, some-slots, header-room, cells-chains, chains-told}
+
+-- so many octets were read until then
+abbrev pub ReadsSoFar : HeldSoFar → ℕ → ℕ → Type 0
+ReadsSoFar held before after = after ≡ before + (front_octets held.cells + 32 * held.weight)
 
 -- its cells in memory
 abbrev pub cells_so_far : HeldSoFar → Cells
@@ -26,33 +32,11 @@ cells_so_far held = kept held.cells held.used held.links
 abbrev pub with_slot : HeldSoFar → Cells → ℕ → HeldSoFar
 with_slot held new count = record { cells = new.cells; used = new.used; links = new.links; selector = held.selector; firsts = held.firsts; claimed = held.claimed + 1; weight = held.weight + count }
 
-cons : (first : Option (List ℕ)) (rest : Option (List (List ℕ))) (chain : List ℕ) (chains : List (List ℕ)) → first ≡ Some chain → rest ≡ Some chains → option_and_then (λ cells. option_map (λ chains. cells ∷ chains) rest) first ≡ Some (chain ∷ chains)
-cons first rest chain chains is are = rw (is, are) refl
-
--- a chain more
-chains-push : (image : List ℕ) (n : ℕ) (xs : List ℕ) (first : ℕ) (chains : List (List ℕ)) (chain : List ℕ) → chains_of image n xs ≡ Some chains → chain_of image n (2 * n) first ≡ Some chain → chains_of image n (xs ++ first ∷ []) ≡ Some (chains ++ chain ∷ [])
-chains-push image n [] first chains chain of is =
-    subst (λ (chains : List (List ℕ)). chains_of image n (first ∷ []) ≡ Some (chains ++ chain ∷ [])) (same_Some [] chains of) (rw is refl)
-chains-push image n (x ∷ xs) first chains chain of is =
-    let parts = chains-parts (chain_of image n (2 * n) x) (chains_of image n xs) chains of in
-    subst (λ (chains : List (List ℕ)). chains_of image n ((x ∷ xs) ++ first ∷ []) ≡ Some (chains ++ chain ∷ [])) (sym parts.4) (let rest = chains-push image n xs first parts.1 chain parts.3 is in cons (chain_of image n (2 * n) x) (chains_of image n (xs ++ first ∷ [])) parts.0 (parts.1 ++ chain ∷ []) parts.2 rest)
-
-all-push : (p : List ℕ → Bool) (chains : List (List ℕ)) (chain : List ℕ) → list_all p chains ≡ true → p chain ≡ true → list_all p (chains ++ chain ∷ []) ≡ true
-all-push p [] chain all is = rw is refl
-all-push p (x ∷ chains) chain all is = elim (p x) as (λ b. (b && list_all p chains) ≡ true → (b && list_all p (chains ++ chain ∷ [])) ≡ true) [
-  | true ↦ λ all. all-push p chains chain all is
-  | false ↦ λ all. absurd (true≢false (sym all))
-] all
-
-map-push : (f : List ℕ → Option (List ℕ)) (chains : List (List ℕ)) (chain : List ℕ) → map f (chains ++ chain ∷ []) ≡ map f chains ++ f chain ∷ []
-map-push f [] chain = refl
-map-push f (x ∷ chains) chain = ap (λ (slots : Slots). f x ∷ slots) (map-push f chains chain)
-
 slots-push : (image : List ℕ) (n : ℕ) (xs : List ℕ) (first : ℕ) (chains : List (List ℕ)) (chain : List ℕ) (slots : Slots) (entry : Option (List ℕ)) → chains_of image n xs ≡ Some chains → list_all (is_record image n) chains ≡ true → slots ≡ map (slot_of image n) chains
     → chain_of image n (2 * n) first ≡ Some chain → is_record image n chain ≡ true → slot_of image n chain ≡ entry → are_apart n (chains ++ chain ∷ []) ≡ true → slots_at image n (xs ++ first ∷ []) ≡ Some (slots ++ entry ∷ [])
 slots-push image n xs first chains chain slots entry of records are there is entry_is apart =
-    rw (chains-push image n xs first chains chain of there, all-push (is_record image n) chains chain records is, apart)
-    (ap (λ (slots : Slots). Some slots) (map-push (slot_of image n) chains chain ∙ (ap (λ (before : Slots). before ++ slot_of image n chain ∷ []) (sym are) ∙ ap (λ (entry : Option (List ℕ)). slots ++ entry ∷ []) entry_is)))
+    rw (chains-push image n xs first chains chain of there, list_all-append (is_record image n) chains (chain ∷ []), records, is, apart)
+    (ap (λ (slots : Slots). Some slots) (map-append (slot_of image n) chains (chain ∷ []) ∙ (ap (λ (before : Slots). before ++ slot_of image n chain ∷ []) (sym are) ∙ ap (λ (entry : Option (List ℕ)). slots ++ entry ∷ []) entry_is)))
 
 -- the chains in memory are those of the image, with their records
 record ToldSoFar (held : HeldSoFar) (image : List ℕ) (chains : List (List ℕ)) (slots : Slots) : Type 0 where
@@ -89,8 +73,8 @@ next-slots held new count octets image slots sound left takes fits stands before
     let told = told-so_far held image slots sound stands before in
     let is = takes.told in
     let more : take (held.claimed + 1) held.firsts ≡ take held.claimed held.firsts ++ first ∷ [] = take_more held.firsts held.claimed 0 (omega (arith, left, sound.count)) in
-    let pushed = slots-push image n (take held.claimed held.firsts) first sound.chains.chains takes.chain slots (slot_with octets) told.of told.records told.is is.of is.is is.slot (apart-more held takes.chain count sound takes.free takes.count_is fits) in
-    subst (λ (n : ℕ). slots_at image n (take (held.claimed + 1) held.firsts) ≡ Some (slots ++ slot_with octets ∷ [])) (sym takes.cells)
+    let pushed = slots-push image n (take held.claimed held.firsts) first sound.chains.chains takes.chain.chain slots (slot_with octets) told.of told.records told.is is.of is.is is.slot (apart-more held takes.chain.chain count sound takes.chain.free takes.chain.count_is fits) in
+    subst (λ (n : ℕ). slots_at image n (take (held.claimed + 1) held.firsts) ≡ Some (slots ++ slot_with octets ∷ [])) (sym takes.chain.cells)
     (subst (λ (firsts : List ℕ). slots_at image n firsts ≡ Some (slots ++ slot_with octets ∷ [])) (sym more) pushed)
 
 pub slots-next : (held : HeldSoFar) (new : Cells) (count : ℕ) (octets : List ℕ) (image : Option (List ℕ)) → IsSoundSoFar held → held.claimed < held.cells → TakesSlot image (cells_so_far held) new (get_or held.firsts held.claimed 0) octets count
@@ -108,21 +92,21 @@ stands-next held new count octets (Some image) sound left takes links fits stand
     record {
       front = stands.front;
       header = stands.header;
-      cells = stands.cells ∙ sym takes.cells;
+      cells = stands.cells ∙ sym takes.chain.cells;
       selector = stands.selector;
-      selected = ap (directory image) takes.cells ∙ stands.selected;
+      selected = ap (directory image) takes.chain.cells ∙ stands.selected;
       links = (links (record { links = stands.links })).links;
       claimed = rw (next-slots held new count octets image slots.0 sound left takes fits stands slots.1) refl;
     }
 
-pub sound-next : (held : HeldSoFar) (new : Cells) (count : ℕ) (octets : List ℕ) (image : Option (List ℕ)) → IsSoundSoFar held → held.claimed < held.cells → TakesSlot image (cells_so_far held) new (get_or held.firsts held.claimed 0) octets count → held.weight + count ≤ held.cells → IsSoundSoFar (with_slot held new count)
-sound-next held new count octets image sound left takes fits = record {
-  range = takes-range image (cells_so_far held) new (get_or held.firsts held.claimed 0) octets count takes sound.range;
+pub sound-next : (held : HeldSoFar) (new : Cells) (count : ℕ) → IsSoundSoFar held → held.claimed < held.cells → TakesChain (cells_so_far held) new (get_or held.firsts held.claimed 0) count → held.weight + count ≤ held.cells → IsSoundSoFar (with_slot held new count)
+sound-next held new count sound left takes fits = record {
+  range = takes-range (cells_so_far held) new (get_or held.firsts held.claimed 0) count takes sound.range;
   selector = sound.selector;
   count = sound.count ∙ sym takes.cells;
   claimed = rw (takes.cells) (omega (arith, left));
   few = rw (takes.cells) fits;
-  chains = claimed-more image (cells_so_far held) new held.firsts octets held.weight count held.claimed sound.range (omega (arith, left, sound.count)) takes sound.chains;
+  chains = claimed-more (cells_so_far held) new held.firsts held.weight count held.claimed sound.range (omega (arith, left, sound.count)) takes sound.chains;
 }
 
 -- the store of the image has the slots of its directory
@@ -136,10 +120,18 @@ claims-held held image sound stands =
     let told = told-so_far held image slots.0 sound stands slots.1 in
     claims-so_far held.cells held.firsts held.used held.weight held.claimed sound.chains.chains image told.of told.records sound.chains.free sound.chains.count_is sound.chains.used
 
-pub store-refused : (held : HeldSoFar) (image : Option (List ℕ)) → IsSoundSoFar held → held.claimed < held.cells → IfSome image (HasNoSlot (cells_so_far held) (get_or held.firsts held.claimed 0)) → IfSome image (StandsSoFar held) → IfSome image (λ image. store_of image ≡ None)
-store-refused held None sound left none stands = tt
-store-refused held (Some image) sound left none stands =
-    store-slots held image stands ∙ claims-refused held.cells held.firsts held.used held.weight held.claimed image sound.range.used_count (omega (arith, left, sound.count)) none (claims-held held image sound stands)
+-- a chain that doesn't begin nowhere has a cell
+some-cells : (image : List ℕ) (n first : ℕ) (chain : List ℕ) → first ≢ 65535 → chain_of image n (2 * n) first ≡ Some chain → 0 < length chain
+some-cells image n first [] there of = absurd (there (chain-empty image n (2 * n) first of))
+some-cells image n first (cell ∷ cells) there of = omega arith
+
+pub store-refused : (held : HeldSoFar) (image : Option (List ℕ)) → IsSoundSoFar held → held.claimed < held.cells → get_or held.firsts held.claimed 0 ≢ 65535 → IfSome image (HasNoRecord (cells_so_far held) (get_or held.firsts held.claimed 0)) → IfSome image (StandsSoFar held)
+    → IfSome image (λ image. store_of image ≡ None)
+store-refused held None sound left there none stands = tt
+store-refused held (Some image) sound left there none stands =
+    let first : ℕ = get_or held.firsts held.claimed 0 in
+    store-slots held image stands ∙ claims-refused held.cells held.firsts held.used held.weight held.claimed image sound.range.used_count (omega (arith, left, sound.count))
+    (λ chain of is free. none chain (record { of = of; is = is; some = some-cells image held.cells first chain there of }) free) (claims-held held image sound stands)
 
 pub store-over : (held : HeldSoFar) (new : Cells) (count : ℕ) (octets : List ℕ) (image : Option (List ℕ)) → IsSoundSoFar held → held.claimed < held.cells → TakesSlot image (cells_so_far held) new (get_or held.firsts held.claimed 0) octets count
     → held.cells < held.weight + count → IfSome image (StandsSoFar held) → IfSome image (λ image. store_of image ≡ None)
@@ -150,12 +142,17 @@ store-over held new count octets (Some image) sound left takes over stands =
     (claims-record (cells_so_far held) new first count octets image takes) (claims-held held image sound stands)
 
 -- once all slots were claimed
-pub weight-held : (held : HeldSoFar) (image : List ℕ) (slots : Slots) → IsSoundSoFar held → StandsSoFar held image → slots_so_far held image ≡ Some slots → held.weight ≡ weight_of slots
+weight-held : (held : HeldSoFar) (image : List ℕ) (slots : Slots) → IsSoundSoFar held → StandsSoFar held image → slots_so_far held image ≡ Some slots → held.weight ≡ weight_of slots
 weight-held held image slots sound stands there =
     let told = told-so_far held image slots sound stands there in
     let room = header-room image held.cells stands.header stands.cells in
     let cells = cells-chains image held.cells (take held.claimed held.firsts) sound.chains.chains room told.of told.records in
     sym sound.chains.count_is ∙ (sym cells ∙ ap weight_of (sym told.is))
+
+pub weight-finished : (held : HeldSoFar) (image : List ℕ) (slots : Slots) → IsSoundSoFar held → held.claimed ≡ held.cells → StandsSoFar held image → slots_at image held.cells held.firsts ≡ Some slots → held.weight ≡ weight_of slots
+weight-finished held image slots sound all stands there =
+    let whole : take held.claimed held.firsts ≡ held.firsts = take_all held.claimed held.firsts (omega (arith, all, sound.count)) in
+    weight-held held image slots sound stands (ap (slots_at image held.cells) whole ∙ there)
 
 pub sound-finished : (held : HeldSoFar) (working : List ℕ) → IsSoundSoFar held → held.claimed ≡ held.cells → length working ≡ held.cells
     → IsSound (record { cells = held.cells; used = held.used; links = held.links; selector = held.selector; committed = held.firsts; working = working; begun = false })
@@ -176,43 +173,24 @@ sound-finished held working sound all count =
 -- an empty slot has no cell
 pub slot-empty : (store : Cells) (first : ℕ) (octets : List ℕ) (image : Option (List ℕ)) → first ≡ 65535 → octets ≡ [] → TakesSlot image store store first octets 0
 slot-empty store first octets image none empty = record {
-  chain = [];
-  linked = none;
+  chain = record { chain = []; linked = none; free = record { free = tt; distinct = refl }; count_is = refl; short = omega arith; used = refl; stay = λ cell is. refl; cells = refl; links_count = refl };
   told = told image;
-  free = record { free = tt; distinct = refl };
-  count_is = refl;
-  short = omega arith;
-  used = refl;
-  stay = λ cell is. refl;
-  cells = refl;
-  links_count = refl;
 }
   where
     told : (image : Option (List ℕ)) → IfSome image (λ image. IsSlot image store.cells first octets [])
     told None = tt
     told (Some image) = record { of = rw none (nowhere image store.cells (2 * store.cells)); is = refl; slot = rw empty refl }
 
-with-octets : (octets : List ℕ) → 1 ≤ length octets → Some octets ≡ slot_with octets
+pub with-octets : (octets : List ℕ) → 1 ≤ length octets → Some octets ≡ slot_with octets
 with-octets [] some = absurd (omega (arith, some))
 with-octets (octet ∷ octets) some = refl
 
 pub cells-with : (octets : List ℕ) → 1 ≤ length octets → cells_for (length octets) ≡ cells_of (slot_with octets)
 cells-with octets some = ap cells_of (with-octets octets some)
 
-pub slot-taken : (old new : Cells) (first count : ℕ) (octets : List ℕ) (image : Option (List ℕ)) → TakesChain old new first count → IfSome image (HasRecord new first) → IfSome image (λ image. (chain : List ℕ) → IsRecordChain image old.cells first chain → slot_of image old.cells chain ≡ Some octets)
+slot-taken : (old new : Cells) (first count : ℕ) (octets : List ℕ) (image : Option (List ℕ)) → TakesChain old new first count → IfSome image (HasRecord new first) → IfSome image (λ image. (chain : List ℕ) → IsRecordChain image old.cells first chain → slot_of image old.cells chain ≡ Some octets)
     → 1 ≤ length octets → TakesSlot image old new first octets count
-slot-taken old new first count octets image takes there reads some = record {
-  chain = takes.chain;
-  linked = takes.linked;
-  told = told image there reads;
-  free = takes.free;
-  count_is = takes.count_is;
-  short = takes.short;
-  used = takes.used;
-  stay = takes.stay;
-  cells = takes.cells;
-  links_count = takes.links_count;
-}
+slot-taken old new first count octets image takes there reads some = record { chain = takes; told = told image there reads }
   where
     told : (image : Option (List ℕ)) → IfSome image (HasRecord new first) → IfSome image (λ image. (chain : List ℕ) → IsRecordChain image old.cells first chain → slot_of image old.cells chain ≡ Some octets) → IfSome image (λ image. IsSlot image old.cells first octets takes.chain)
     told None there reads = tt
@@ -230,47 +208,24 @@ pub result-count : {E : Type 0} (result : Result ℕ E) (octets : List ℕ) → 
 result-count (Ok count) octets is some = is ∙ cells-with octets some
 result-count (Err e) octets is some = tt
 
--- another one has a chain of a cell at least
-pub slot-refused : (store : Cells) (first : ℕ) (image : Option (List ℕ)) → first ≢ 65535 → IfSome image (HasNoRecord store first) → IfSome image (HasNoSlot store first)
-slot-refused store first None other none = tt
-slot-refused store first (Some image) other none = λ chain of is free. none chain (record { of = of; is = is; some = nonempty chain of }) free
-  where
-    nonempty : (chain : List ℕ) → chain_of image store.cells (2 * store.cells) first ≡ Some chain → 0 < length chain
-    nonempty [] of = absurd (other (chain-empty image store.cells (2 * store.cells) first of))
-    nonempty (cell ∷ cells) of = omega arith
-
 -- what is said of an opened store, where its image is told
 pub finished-stands : (held : HeldSoFar) (store : Held) (image : Option (List ℕ)) → ((image : List ℕ) → StandsSoFar held image → HeldStandsFor store image) → IfSome image (StandsSoFar held) → IfSome image (HeldStandsFor store)
 finished-stands held store None finished stands = tt
 finished-stands held store (Some image) finished stands = finished image stands
 
-pub finished-opened : (held : HeldSoFar) (store : Held) (image : Option (List ℕ)) → ((image : List ℕ) → StandsSoFar held image → store_of image ≡ slots_so_far held image) → ((image : List ℕ) → StandsSoFar held image → contents store Committed image ≡ slots_so_far held image)
-    → IfSome image (StandsSoFar held) → IfSome image (λ image. store_of image ≡ contents store Committed image)
-finished-opened held store None opened committed stands = tt
-finished-opened held store (Some image) opened committed stands = opened image stands ∙ sym (committed image stands)
+pub finished-opened : (held : HeldSoFar) (store : Held) (image : Option (List ℕ)) → ((image : List ℕ) → StandsSoFar held image → store_of image ≡ contents store Committed image) → IfSome image (StandsSoFar held) → IfSome image (λ image. store_of image ≡ contents store Committed image)
+finished-opened held store None opened stands = tt
+finished-opened held store (Some image) opened stands = opened image stands
 
-pub finished-read : (held : HeldSoFar) (store : Held) (image : Option (List ℕ)) (old new : Option ℕ) → ((image : List ℕ) → StandsSoFar held image → store_of image ≡ slots_so_far held image)
-    → ((image : List ℕ) (slots : Slots) → StandsSoFar held image → slots_so_far held image ≡ Some slots → held.weight ≡ weight_of slots) → store.cells ≡ held.cells → IfSome image (StandsSoFar held)
-    → Becomes (λ before after. after ≡ before + (9 + 2 * held.cells + 32 * held.weight)) old new → IfSome image (λ image. (slots : Slots) → store_of image ≡ Some slots → Becomes (ReadsStore store.cells slots) old new)
+pub finished-read : (held : HeldSoFar) (store : Held) (image : Option (List ℕ)) (old new : Option ℕ) → ((image : List ℕ) → StandsSoFar held image → store_of image ≡ contents store Committed image)
+    → ((image : List ℕ) (slots : Slots) → StandsSoFar held image → contents store Committed image ≡ Some slots → held.weight ≡ weight_of slots) → store.cells ≡ held.cells → IfSome image (StandsSoFar held)
+    → Becomes (ReadsSoFar held) old new → IfSome image (λ image. (slots : Slots) → store_of image ≡ Some slots → Becomes (ReadsStore store.cells slots) old new)
 finished-read held store None old new opened weight cells stands read = tt
 finished-read held store (Some image) old new opened weight cells stands read = λ slots there.
     let weighs : held.weight ≡ weight_of slots = weight image slots stands (sym (opened image stands) ∙ there) in
     rw (cells, sym weighs) read
 
 -- the slots that were claimed are the first ones of the image's store
-chains-take : (image : List ℕ) (n : ℕ) (firsts : List ℕ) (chains : List (List ℕ)) (k : ℕ) → chains_of image n firsts ≡ Some chains → chains_of image n (take k firsts) ≡ Some (take k chains)
-chains-take image n firsts chains zero of = refl
-chains-take image n [] chains (suc k) of = subst (λ (chains : List (List ℕ)). Some [] ≡ Some (take (suc k) chains)) (same_Some [] chains of) refl
-chains-take image n (x ∷ firsts) chains (suc k) of =
-    let parts = chains-parts (chain_of image n (2 * n) x) (chains_of image n firsts) chains of in
-    subst (λ (chains : List (List ℕ)). chains_of image n (take (suc k) (x ∷ firsts)) ≡ Some (take (suc k) chains)) (sym parts.4)
-    (cons (chain_of image n (2 * n) x) (chains_of image n (take k firsts)) parts.0 (take k parts.1) parts.2 (chains-take image n firsts parts.1 k parts.3))
-
-map-take : (f : List ℕ → Option (List ℕ)) (k : ℕ) (chains : List (List ℕ)) → map f (take k chains) ≡ take k (map f chains)
-map-take f zero chains = refl
-map-take f (suc k) [] = refl
-map-take f (suc k) (x ∷ chains) = ap (λ (slots : Slots). f x ∷ slots) (map-take f k chains)
-
 pub so_far-first : (held : HeldSoFar) (image : List ℕ) (slots : Slots) → StandsSoFar held image → store_of image ≡ Some slots → slots_so_far held image ≡ Some (take held.claimed slots)
 so_far-first held image slots stands stored =
     let n = held.cells in
@@ -278,5 +233,5 @@ so_far-first held image slots stands stored =
     let some = some-slots (slots_so_far held image) stands.claimed in
     let part = slots-chains image n (take held.claimed held.firsts) some.0 some.1 in
     let same : part.chains ≡ take held.claimed whole.chains = same_Some _ _ (sym part.of ∙ chains-take image n held.firsts whole.chains held.claimed whole.of) in
-    let is : some.0 ≡ take held.claimed slots = part.is ∙ (ap (λ (chains : List (List ℕ)). map (slot_of image n) chains) same ∙ (map-take (slot_of image n) held.claimed whole.chains ∙ ap (λ (slots : Slots). take held.claimed slots) (sym whole.is))) in
+    let is : some.0 ≡ take held.claimed slots = part.is ∙ (ap (λ (chains : List (List ℕ)). map (slot_of image n) chains) same ∙ (sym (take-map (slot_of image n) held.claimed whole.chains) ∙ ap (λ (slots : Slots). take held.claimed slots) (sym whole.is))) in
     some.1 ∙ ap (λ (slots : Slots). Some slots) is

@@ -1,8 +1,9 @@
--- A store that is being opened: the chains of its slots are claimed one after another.
+-- A store that is being opened: its slots are claimed one after another.
 use Rattle.std.specs.Prelude.{◌≡◌, ℕ, ◌+◌, ◌*◌, ◌<◌, ◌≤◌, ◌%◌, Bool, true, false, List, [], ◌∷◌, length, replicate, take, Option, Some, None, IsSome, IfSome, slice_index}
 use Rattle.eeprom.specs.StoreOf.{Slots, slots_at, chain_of, is_record, slot_of, starts_with_magic, has_header, number_at, directory, weight_of}
-use Rattle.cell_store.specs.Cells.{Cells, IsInRange, StayLinked, kept, link_in, AreLinksOf}
-use Rattle.cell_store.specs.Chains.{AreFree, AreLinked, with_marked}
+use Rattle.cell_store.specs.Cells.{Cells, IsInRange, kept, AreLinksOf}
+use Rattle.cell_store.specs.Chains.{AreFree, with_marked}
+use Rattle.cell_store.specs.Claims.{TakesChain}
 use Rattle.record_store.specs.Sound.{AreChains, cells_in}
 
 -- the number of cells; which cells are used, and of each used cell the number of the next one; the octet that selects the
@@ -49,22 +50,10 @@ pub record IsSlot (image : List ℕ) (n first : ℕ) (octets chain : List ℕ) :
   pub is : is_record image n chain ≡ true
   pub slot : slot_of image n chain ≡ slot_with octets
 
--- The chain of a slot that begins at this cell is used now, and has these octets where the image is told. Its cells were free, and an empty slot has none. The links of all other used cells stay.
+-- The chain of a slot is used now, or it is empty and has no cell; where the image is told the chain has these octets.
 pub record TakesSlot (image : Option (List ℕ)) (old new : Cells) (first : ℕ) (octets : List ℕ) (count : ℕ) : Type 0 where
-  pub chain : List ℕ
-  pub linked : AreLinked (link_in new.links) (length new.links) first chain
-  pub told : IfSome image (λ image. IsSlot image old.cells first octets chain)
-  pub free : AreFree old.used chain
-  pub count_is : length chain ≡ count
-  pub short : count ≤ 18
-  pub used : new.used ≡ with_marked old.used chain
-  pub stay : StayLinked old.used old.links new.links
-  pub cells : new.cells ≡ old.cells
-  pub links_count : length new.links ≡ length old.links
-
--- no chain from this cell on has a record in the image, or none, in cells that are free
-abbrev pub HasNoSlot : Cells → ℕ → List ℕ → Type 0
-HasNoSlot store first image = (chain : List ℕ) → chain_of image store.cells (2 * store.cells) first ≡ Some chain → is_record image store.cells chain ≡ true → ¬ (AreFree store.used chain)
+  pub chain : TakesChain old new first count
+  pub told : IfSome image (λ image. IsSlot image old.cells first octets chain.chain)
 
 -- what holds of it in memory, whatever an EEPROM tells
 pub record IsSoundSoFar (held : HeldSoFar) : Type 0 where
@@ -75,10 +64,14 @@ pub record IsSoundSoFar (held : HeldSoFar) : Type 0 where
   pub few : held.weight ≤ held.cells
   pub chains : ClaimedSoFar (kept held.cells held.used held.links) (take held.claimed held.firsts) held.weight
 
--- so many octets are read before a slot is claimed: the 9 that begin an image, and a directory
-abbrev pub ReadsFront : ℕ → ℕ → ℕ → Type 0
-ReadsFront n before after = after ≡ before + (9 + 2 * n)
+-- how many octets begin an image of so many cells, as far as it is looked at: 9, and a directory
+abbrev pub front_octets : ℕ → ℕ
+front_octets n = 9 + 2 * n
 
--- so many are read where a store is opened: each cell of its records once
+-- these are read where a store is opened, and as many as the cells of its records have
 abbrev pub ReadsStore : ℕ → Slots → ℕ → ℕ → Type 0
-ReadsStore n slots before after = after ≡ before + (9 + 2 * n + 32 * weight_of slots)
+ReadsStore n slots before after = after ≡ before + (front_octets n + 32 * weight_of slots)
+
+-- so many are read at the most of any image: a store is refused as soon as the chains have more cells than it may have
+abbrev pub most_octets : ℕ
+most_octets = front_octets 2048 + 32 * (2048 + 18)

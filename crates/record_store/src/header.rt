@@ -2,6 +2,7 @@
 ghost use Rattle.std.specs.Prelude.{◌≡◌, ◌+◌, ◌*◌, ◌%◌, ◌<◌, None, length, is_some, slice_index, IfSome, IfOk, OnOk, IsErrOf};
 ghost use Rattle.eeprom.specs.Chip.{Becomes};
 ghost use Rattle.eeprom.specs.StoreOf.{store_of, number_at, numbers_at};
+ghost use Rattle.cell_store.specs.Reading.{ReadsAtMost};
 ghost use Rattle.record_store.specs.Header.{begins_store, IsHeader, IsHeaderOf};
 ghost use Rattle.record_store.specs.CountsFaults.{CountsFaults};
 
@@ -17,6 +18,7 @@ const FRONT: usize = 9;
 /// The octets of the largest directory.
 const DIRECTORY: usize = 4096;
 
+/// What the first octets of an image say: how many cells it has, and which directory is selected.
 #[derive(Clone, Copy)]
 pub struct Header {
     pub cells: u16,
@@ -24,11 +26,14 @@ pub struct Header {
     pub selector: u8,
 }
 
+/// Reads what an image begins with, where it begins as a store does.
 pub fn read_header<B: Eeprom>(bench: &mut B) -> Result<Header, OpenRefusal>
     ensures range { IfOk result (λ header. IsHeader (B.chip bench.old).still.size header) }
     ensures header { IfOk result (λ header. IfSome (B.chip bench.old).image (λ image. IsHeaderOf image header)) }
     ensures not_a_card { IsErrOf result OpenRefusal.NotACard → IfSome (B.chip bench.old).image (λ image. store_of image ≡ None) }
     ensures octets_read { OnOk result (Becomes (λ before after. after ≡ before + 9) (B.octets_read bench.old) (B.octets_read bench.new)) }
+    ensures most_read { Becomes (ReadsAtMost 9) (B.octets_read bench.old) (B.octets_read bench.new) }
+    ensures no_memory_taken { ¬ (IsErrOf result OpenRefusal.NoMemory) }
     ensures same { B.chip bench.new ≡ B.chip bench.old }
     ensures cause { CountsFaults (B.faults bench.old) (B.faults bench.new) result }
 {
@@ -38,10 +43,7 @@ pub fn read_header<B: Eeprom>(bench: &mut B) -> Result<Header, OpenRefusal>
     }
     let mut octets = [0; FRONT];
     bench.read(0, &mut octets)?;
-    match header_of(&octets, size) {
-        Some(header) => Ok(header),
-        None => Err(OpenRefusal::NotACard),
-    }
+    header_of(&octets, size).ok_or(OpenRefusal::NotACard)
 }
 
 fn header_of(octets: &[u8; FRONT], size: usize) -> Option<Header>
@@ -75,6 +77,7 @@ pub fn read_directory<B: Eeprom>(
     ensures count { IfOk result (λ firsts. length firsts.items ≡ header.cells) }
     ensures a_card { ¬ (IsErrOf result OpenRefusal.NotACard) }
     ensures octets_read { OnOk result (Becomes (λ before after. after ≡ before + 2 * header.cells) (B.octets_read bench.old) (B.octets_read bench.new)) }
+    ensures most_read { Becomes (ReadsAtMost (2 * header.cells)) (B.octets_read bench.old) (B.octets_read bench.new) }
     ensures same { B.chip bench.new ≡ B.chip bench.old }
     ensures cause { CountsFaults (B.faults bench.old) (B.faults bench.new) result }
 {

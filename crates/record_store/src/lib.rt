@@ -17,3 +17,6 @@ pub use opening::Opening;
 pub use refusal::{FormatRefusal, OpenRefusal, StoreRefusal};
 pub use side::Side;
 pub use store::Store;
+
+#[cfg(test)]
+mod tests;

@@ -1,12 +1,13 @@
-// A store that is being opened: the chains of its slots are claimed one after another, so that it is opened only where each has
-// a record and no cell is in two.
-ghost use Rattle.std.specs.Prelude.{◌≡◌, ◌+◌, ◌*◌, ◌≤◌, ◌<◌, ◌++◌, [], ◌∷◌, ℕ, List, None, length, option_map, IfSome, IfOk, IsErrOf, OnOk};
+// A store that is being opened: its slots are claimed one after another, so that it is opened only where each has the chain of a
+// record or none, and no cell is in two chains.
+ghost use Rattle.std.specs.Prelude.{◌≡◌, ◌≢◌, ◌+◌, ◌*◌, ◌≤◌, ◌<◌, ◌++◌, [], ◌∷◌, None, length, option_map, IfSome, IfOk, IsErrOf, OnOk};
 ghost use Rattle.eeprom.specs.Chip.{Becomes};
 ghost use Rattle.eeprom.specs.StoreOf.{store_of, cells_of};
-ghost use Rattle.cell_store.specs.Reading.{ReadsCells};
+ghost use Rattle.cell_store.specs.Reading.{ReadsAtMost, ReadsCells};
+ghost use Rattle.cell_store.specs.Claims.{HasNoRecord};
 ghost use Rattle.cell_store.specs.Cells.{StandsFor};
 ghost use Rattle.cell_store.specs.CountsFaults.{CountsClaimFaults};
-ghost use Rattle.record_store.specs.Opening.{StandsSoFar, TakesSlot, HasNoSlot, ReadsFront, slots_so_far, slot_with};
+ghost use Rattle.record_store.specs.Opening.{StandsSoFar, TakesSlot, front_octets, slots_so_far, slot_with};
 ghost use Rattle.record_store.specs.CountsFaults.{CountsFaults};
 
 use crate::OpenRefusal;
@@ -46,7 +47,8 @@ impl Opening {
         ensures weight { IfOk result (λ opening. opening.weight ≡ 0) }
         ensures stands { IfOk result (λ opening. IfSome (B.chip bench.old).image (StandsSoFar opening)) }
         ensures room { IfOk result (λ opening. 70 * opening.cells + 34 ≤ (B.chip bench.old).still.size) }
-        ensures octets_read { IfOk result (λ opening. Becomes (ReadsFront opening.cells) (B.octets_read bench.old) (B.octets_read bench.new)) }
+        ensures octets_read { IfOk result (λ opening. Becomes (λ before after. after ≡ before + front_octets opening.cells) (B.octets_read bench.old) (B.octets_read bench.new)) }
+        ensures most_read { Becomes (ReadsAtMost (front_octets 2048)) (B.octets_read bench.old) (B.octets_read bench.new) }
         ensures not_a_card { IsErrOf result OpenRefusal.NotACard → IfSome (B.chip bench.old).image (λ image. store_of image ≡ None) }
         ensures same { B.chip bench.new ≡ B.chip bench.old }
         ensures cause { CountsFaults (B.faults bench.old) (B.faults bench.new) result }
@@ -74,7 +76,15 @@ impl Opening {
         self.chains.cells()
     }
 
-    /// Claims the next slot, and reads its record, or no octets where the slot is empty. Each cell of the record is read once.
+    /// How many slots were claimed.
+    pub fn claimed(&self) -> u16
+        ensures { result ≡ self.now.claimed }
+    {
+        self.claimed
+    }
+
+    /// Claims the next slot, and hands out its record, or no octets where the slot is empty. As many octets are read as the
+    /// cells of the record have.
     pub fn claim_next<B: Eeprom>(
         self,
         bench: &mut B,
@@ -88,8 +98,11 @@ impl Opening {
         ensures stands { IfOk result (λ next. IfSome (B.chip bench.old).image (StandsSoFar next)) }
         ensures claimed { IfOk result (λ next. next.claimed ≡ self.claimed + 1) }
         ensures weight { IfOk result (λ next. next.weight ≡ self.weight + cells_of (slot_with out.new.items)) }
+        ensures few { IfOk result (λ next. next.weight ≤ next.cells) }
         ensures cells { IfOk result (λ next. next.cells ≡ self.cells) }
         ensures octets_read { OnOk result (Becomes (ReadsCells (cells_of (slot_with out.new.items))) (B.octets_read bench.old) (B.octets_read bench.new)) }
+        ensures most_read { Becomes (ReadsAtMost (32 * 18)) (B.octets_read bench.old) (B.octets_read bench.new) }
+        ensures no_memory_taken { ¬ (IsErrOf result OpenRefusal.NoMemory) }
         ensures not_a_card { IsErrOf result OpenRefusal.NotACard → IfSome (B.chip bench.old).image (λ image. store_of image ≡ None) }
         ensures same { B.chip bench.new ≡ B.chip bench.old }
         ensures cause { CountsFaults (B.faults bench.old) (B.faults bench.new) result }
@@ -131,7 +144,8 @@ fn claim_slot<B: Eeprom>(
     ensures stands { OnOk result (IfSome (B.chip bench.old).image (λ image. StandsFor chains.old image → StandsFor chains.new image)) }
     ensures count { IfOk result (λ count. count ≡ cells_of (slot_with out.new.items)) }
     ensures octets_read { IfOk result (λ count. Becomes (ReadsCells count) (B.octets_read bench.old) (B.octets_read bench.new)) }
-    ensures no_slot { IsErrOf result ClaimRefusal.BadChain → IfSome (B.chip bench.old).image (HasNoSlot chains.old first) }
+    ensures most_read { Becomes (ReadsAtMost (32 * 18)) (B.octets_read bench.old) (B.octets_read bench.new) }
+    ensures bad_chain { IsErrOf result ClaimRefusal.BadChain → (first ≢ 65535) × IfSome (B.chip bench.old).image (HasNoRecord chains.old first) }
     ensures same { B.chip bench.new ≡ B.chip bench.old }
     ensures cause { CountsClaimFaults (B.faults bench.old) (B.faults bench.new) result }
 {

@@ -5,12 +5,12 @@ ghost use Rattle.eeprom.specs.Fault.{Counts};
 ghost use Rattle.eeprom.specs.StoreOf.{Slots, store_of};
 ghost use Rattle.eeprom.specs.StoreOf as image;
 ghost use Rattle.record_store.specs.Held.{firsts, contents, record_at, StandsFor};
-ghost use Rattle.record_store.specs.Opening.{StandsSoFar, ReadsStore, slots_so_far};
+ghost use Rattle.record_store.specs.Opening.{StandsSoFar, ReadsStore, most_octets, slots_so_far};
 ghost use Rattle.record_store.specs.CountsFaults.{CountsFaults, CountsPutFaults};
 ghost use Rattle.eeprom.specs.StoreOf.{weight_of};
 ghost use Rattle.record_store.specs.Put.{IsPut, IsFull, IsWithin, emptied};
 ghost use Rattle.cell_store.specs.Marks.{StaysMarked};
-ghost use Rattle.cell_store.specs.Reading.{ReadsRecord};
+ghost use Rattle.cell_store.specs.Reading.{ReadsAtMost, ReadsRecord};
 ghost use Rattle.record_store.specs.Transaction.{begun_from, IsCommitted, Commits};
 ghost use Rattle.record_store.specs.declared.side.Side.TheVariants.{Committed, Working};
 
@@ -49,9 +49,9 @@ impl Opening {
     pub fn finish(self) -> Store
         requires all { self.claimed ≡ self.cells }
         ensures stands { (image : List ℕ) → StandsSoFar self image → StandsFor result image }
-        ensures opened { (image : List ℕ) → StandsSoFar self image → store_of image ≡ slots_so_far self image }
-        ensures committed { (image : List ℕ) → StandsSoFar self image → contents result Committed image ≡ slots_so_far self image }
-        ensures weight { (image : List ℕ) (slots : Slots) → StandsSoFar self image → slots_so_far self image ≡ Some slots → self.weight ≡ weight_of slots }
+        ensures opened { (image : List ℕ) → StandsSoFar self image → store_of image ≡ contents result Committed image }
+        ensures slots { (image : List ℕ) → StandsSoFar self image → contents result Committed image ≡ slots_so_far self image }
+        ensures weight { (image : List ℕ) (slots : Slots) → StandsSoFar self image → contents result Committed image ≡ Some slots → self.weight ≡ weight_of slots }
         ensures idle { result.begun ≡ false }
         ensures cells { result.cells ≡ self.cells }
     {
@@ -66,7 +66,8 @@ impl Opening {
 }
 
 impl Store {
-    /// Opens the store of an image, where it has one. Each cell of its records is read once.
+    /// Opens the store of an image, where it has one. As many octets are read as begin the image, and as the cells of the records
+    /// have.
     pub fn open<B: Eeprom>(alloc: Global, bench: &mut B) -> Result<Store, OpenRefusal>
         ensures stored { OnOk result (IfSome (B.chip bench.old).image (λ image. IsSome (store_of image))) }
         ensures stands { IfOk result (λ store. IfSome (B.chip bench.old).image (StandsFor store)) }
@@ -75,6 +76,7 @@ impl Store {
         ensures room { IfOk result (λ store. 70 * store.cells + 34 ≤ (B.chip bench.old).still.size) }
         ensures octets_read { IfOk result (λ store. IfSome (B.chip bench.old).image (λ image. (slots : Slots) → store_of image ≡ Some slots
             → Becomes (ReadsStore store.cells slots) (B.octets_read bench.old) (B.octets_read bench.new))) }
+        ensures most_read { Becomes (ReadsAtMost most_octets) (B.octets_read bench.old) (B.octets_read bench.new) }
         ensures not_a_card { IsErrOf result OpenRefusal.NotACard → IfSome (B.chip bench.old).image (λ image. store_of image ≡ None) }
         ensures same { B.chip bench.new ≡ B.chip bench.old }
         ensures cause { CountsFaults (B.faults bench.old) (B.faults bench.new) result }

@@ -1,8 +1,10 @@
 use Rattle.std.proofs.Common.{◌≡◌, ◌+◌, ◌*◌, ◌≤◌}
 use Rattle.std.specs.Prelude.{IfSome}
 use Rattle.eeprom.specs.Chip.{Becomes}
-use Rattle.record_store.specs.Opening.{StandsSoFar, slots_so_far}
-use Rattle.card.specs.Opening.{AreByStamp, Gathers, counters_of, users_of}
+use Rattle.record_store.specs.Opening.{StandsSoFar}
+use Rattle.record_store.proofs.OpeningSlots.{ReadsSoFar}
+use Rattle.card.specs.Opening.{AreByStamp, counters_of, users_of}
+use Rattle.card.proofs.GatheringSlots.{GathersSoFar}
 use Rattle.card.proofs.opening.open_records.Given as goal
 
 abbrev pub invariant-loop-slot : goal.invariant-loop-slot
@@ -11,9 +13,10 @@ invariant-loop-slot g l = record {
   cells : l.opening.cells ≡ l.initial.opening.cells;
   room : 70 * l.opening.cells + 34 ≤ (g.B.Eeprom.chip l.fn.bench).still.size;
   stands : IfSome (g.B.Eeprom.chip l.fn.bench).image (StandsSoFar l.opening);
-  read : Becomes (λ before after. after ≡ before + (9 + 2 * l.opening.cells + 32 * l.opening.weight)) (g.B.Eeprom.octets_read l.fn.bench) (g.B.Eeprom.octets_read l.bench);
+  few : l.opening.weight ≤ l.opening.cells;
+  read : Becomes (ReadsSoFar l.opening) (g.B.Eeprom.octets_read l.fn.bench) (g.B.Eeprom.octets_read l.bench);
   by_stamp : AreByStamp l.found.users.entries;
-  gathers : IfSome (g.B.Eeprom.chip l.fn.bench).image (λ image. IfSome (slots_so_far l.opening image) (λ slots. Gathers slots (counters_of l.found.counter) (users_of l.found.users)));
+  gathers : GathersSoFar l.opening (g.B.Eeprom.chip l.fn.bench).image (counters_of l.found.counter) (users_of l.found.users);
   same : g.B.Eeprom.chip l.bench ≡ g.B.Eeprom.chip l.fn.bench;
   faults : g.B.Eeprom.faults l.bench ≡ g.B.Eeprom.faults l.fn.bench;
 }

@@ -1,5 +1,5 @@
 -- An empty slot has no chain; another one has a chain exactly where it can be claimed.
-use Rattle.record_store.proofs.OpeningSlots.{slot-empty, slot-refused, result-taken, result-count}
+use Rattle.record_store.proofs.OpeningSlots.{slot-empty, result-taken, result-count}
 use Rattle.record_store.proofs.opening.claim_slot.Goals as goal
 
 pub returns-then-first-eq-NO_CELL-clause-takes : goal.returns-then-first-eq-NO_CELL-clause-takes
@@ -12,6 +12,3 @@ returns-clause-takes g c =
 
 pub returns-clause-count : goal.returns-clause-count
 returns-clause-count g c = result-count c.claim_record.result c.claim_record.new.out.items c.claim_record.ensures.count c.claim_record.ensures.some
-
-pub returns-clause-no_slot : goal.returns-clause-no_slot
-returns-clause-no_slot g c = λ refused. slot-refused c.args.chains.now c.args.first (g.B.Eeprom.chip c.args.bench.now).image c.if-first-eq-NO_CELL.false (c.claim_record.ensures.bad_chain refused)

@@ -3,7 +3,7 @@ use Rattle.std.proofs.Common.{◌≡◌, ◌<◌, ℕ, List, get_or, IfSome, ref
 use Rattle.std.specs.Prelude.{option_map, ◌++◌, [], ◌∷◌}
 use Rattle.cell_store.specs.Cells.{Cells}
 use Rattle.cell_store.proofs.Freeing.{link-read}
-use Rattle.record_store.specs.Opening.{HeldSoFar, StandsSoFar, TakesSlot, HasNoSlot, slots_so_far, slot_with}
+use Rattle.record_store.specs.Opening.{HeldSoFar, StandsSoFar, TakesSlot, slots_so_far, slot_with}
 use Rattle.record_store.proofs.OpeningSlots.{cells_so_far, with_slot, slots-next, stands-next, sound-next, store-refused, store-over}
 use Rattle.record_store.proofs.opening.Opening.claim_next.Goals.{After-claim_slot}
 use Rattle.record_store.proofs.opening.Opening.claim_next.Goals as goal
@@ -37,20 +37,20 @@ pub returns-in_err-count-clause-not_a_card : goal.returns-in_err-count-clause-no
 returns-in_err-count-clause-not_a_card g c = λ refused.
     let at = (goal.at.returns-in_err-count-clause-not_a_card g c).After-claim_slot in
     store-refused (mine g at) (g.B.Eeprom.chip c.args.bench.now).image c.self.invariant.1 (left g at)
-    (subst (λ (first : ℕ). IfSome (g.B.Eeprom.chip c.args.bench.now).image (HasNoSlot (cells_so_far (mine g at)) first)) (first g at) (c.in_err-count.ensures.no_slot (search rules))) (stands g at)
+    (rw (first g at) at (c.in_err-count.ensures.bad_chain (search rules)).0) (rw (first g at) at (c.in_err-count.ensures.bad_chain (search rules)).1) (stands g at)
 
 pub returns-then-weight-cells-clause-not_a_card : goal.returns-then-weight-cells-clause-not_a_card
 returns-then-weight-cells-clause-not_a_card g c = λ _.
     let at = (goal.at.returns-then-weight-cells-clause-not_a_card g c).After-claim_slot in
     let takes = takes-first g at c.claim_slot.new.chains c.claim_slot.new.out.items c.in_ok-count.count c.in_ok-count.ensures.takes in
     store-over (mine g at) c.claim_slot.new.chains c.in_ok-count.count c.claim_slot.new.out.items (g.B.Eeprom.chip c.args.bench.now).image c.self.invariant.1 (left g at) takes
-    (omega (arith, c.if-weight-cells.true, c.cells.ensures.number, takes.cells)) (stands g at)
+    (omega (arith, c.if-weight-cells.true, c.cells.ensures.number, takes.chain.cells)) (stands g at)
 
 pub invariant_of-result : goal.invariant_of-result
 invariant_of-result g c =
     let at = (goal.at.invariant_of-result g c).After-claim_slot in
     let takes = takes-first g at c.claim_slot.new.chains c.claim_slot.new.out.items c.in_ok-count.count c.in_ok-count.ensures.takes in
-    (c.self.invariant.0 ∙ sym takes.cells, sound-next (mine g at) c.claim_slot.new.chains c.in_ok-count.count c.claim_slot.new.out.items (g.B.Eeprom.chip c.args.bench.now).image c.self.invariant.1 (left g at) takes (omega (arith, c.if-weight-cells.false, c.cells.ensures.number, takes.cells)))
+    (c.self.invariant.0 ∙ sym takes.chain.cells, sound-next (mine g at) c.claim_slot.new.chains c.in_ok-count.count c.self.invariant.1 (left g at) takes.chain (omega (arith, c.if-weight-cells.false, c.cells.ensures.number, takes.chain.cells)))
 
 pub returns-clause-slots : goal.returns-clause-slots
 returns-clause-slots g c =
@@ -60,11 +60,11 @@ returns-clause-slots g c =
     let octets = c.claim_slot.new.out.items in
     subst (λ (held : HeldSoFar). IfSome image (λ image. slots_so_far (with_slot (mine g at) c.claim_slot.new.chains c.in_ok-count.count) image ≡ option_map (λ slots. slots ++ slot_with octets ∷ []) (slots_so_far held image))) c.self.view_is
     (slots-next (mine g at) c.claim_slot.new.chains c.in_ok-count.count octets image c.self.invariant.1 (left g at) takes
-    (omega (arith, c.if-weight-cells.false, c.cells.ensures.number, takes.cells)) (stands g at))
+    (omega (arith, c.if-weight-cells.false, c.cells.ensures.number, takes.chain.cells)) (stands g at))
 
 pub returns-clause-stands : goal.returns-clause-stands
 returns-clause-stands g c =
     let at = (goal.at.returns-clause-stands g c).After-claim_slot in
     let takes = takes-first g at c.claim_slot.new.chains c.claim_slot.new.out.items c.in_ok-count.count c.in_ok-count.ensures.takes in
     stands-next (mine g at) c.claim_slot.new.chains c.in_ok-count.count c.claim_slot.new.out.items (g.B.Eeprom.chip c.args.bench.now).image c.self.invariant.1 (left g at) takes
-    c.in_ok-count.ensures.stands (omega (arith, c.if-weight-cells.false, c.cells.ensures.number, takes.cells)) (stands g at)
+    c.in_ok-count.ensures.stands (omega (arith, c.if-weight-cells.false, c.cells.ensures.number, takes.chain.cells)) (stands g at)

@@ -6,7 +6,7 @@ pub returns-clause-stands : goal.returns-clause-stands
 returns-clause-stands g c = finished-stands c.loop-slot.opening c.finish.result (g.B.Eeprom.chip c.args.bench.now).image c.finish.ensures.stands c.loop-slot.invariant.stands
 
 pub returns-clause-opened : goal.returns-clause-opened
-returns-clause-opened g c = finished-opened c.loop-slot.opening c.finish.result (g.B.Eeprom.chip c.args.bench.now).image c.finish.ensures.opened c.finish.ensures.committed c.loop-slot.invariant.stands
+returns-clause-opened g c = finished-opened c.loop-slot.opening c.finish.result (g.B.Eeprom.chip c.args.bench.now).image c.finish.ensures.opened c.loop-slot.invariant.stands
 
 pub returns-clause-octets_read : goal.returns-clause-octets_read
 returns-clause-octets_read g c =
