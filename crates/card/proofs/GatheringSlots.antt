@@ -1,5 +1,5 @@
 -- The slots of a store are gathered as they are claimed.
-use Rattle.std.proofs.Common.{◌≡◌, ℕ, Bool, true, false, if◌then◌else◌, nat_le, List, [], ◌∷◌, ◌++◌, take, drop, Option, Some, None, option_map, sym, refl, ap, ◌∙◌, subst, append_assoc, length, ◌==◌, true≢false, arith, Result, Ok, Err}
+use Rattle.std.proofs.Common.{◌≡◌, ℕ, Bool, true, false, if◌then◌else◌, nat_le, List, [], ◌∷◌, ◌++◌, take, drop, Option, Some, None, option_map, sym, ap, ◌∙◌, subst, append_assoc, length, ◌==◌, true≢false, arith, Result, Ok, Err}
 use Rattle.std.specs.Prelude.{IfSome, OnOk}
 use Rattle.std.proofs.lemmas.Bool.Decides.{nat_tests}
 use Rattle.std.proofs.lemmas.List.{take-append-drop}

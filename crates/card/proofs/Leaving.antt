@@ -2,18 +2,14 @@
 use Rattle.std.proofs.Common.{◌≡◌, ℕ, List, ◌∷◌, Option, Some, refl, sym, subst, ◌∙◌, inl, arith}
 use Rattle.std.specs.Prelude.{IfSome}
 use Rattle.eeprom.specs.Chip.{Chip}
-use Rattle.eeprom.specs.StoreOf.{store_of}
-use Rattle.record_store.specs.Held.{Held, contents, StandsFor}
+use Rattle.record_store.specs.Held.{contents, StandsFor}
+use Rattle.record_store.proofs.Weights.{store_of-stands}
 use Rattle.record_store.specs.declared.side.Side.TheVariants.{Committed}
 use Rattle.scql_model.specs.Database.{Database}
 use Rattle.scql_model.specs.Machine.{Machine}
 use Rattle.scql_model.specs.Opens.{Opens}
 use Rattle.card.specs.Card.{Kept, IsReady, IsAt, committed_slots}
 use Rattle.card.specs.Answering.{LeavesOneOf}
-
--- the store of an image is what a store holds that stands for it
-pub store_of-stands : (held : Held) (image : List ℕ) → StandsFor held image → store_of image ≡ contents held Committed image
-store_of-stands held image stands = rw (stands.front, stands.header, stands.cells, stands.selected) refl
 
 -- the image of a card that is at a machine opens to the machine's database
 pub Opens-at : (card : Kept) (chip : Chip) (m : Machine) → IsReady card chip → IsAt card chip m → (image : List ℕ) → chip.image ≡ Some image → Opens image m.committed

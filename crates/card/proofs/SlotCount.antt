@@ -9,7 +9,7 @@ use Rattle.card.specs.Card.{committed_slots}
 
 pub length-committed : (store : Held) (image : List ℕ) → StandsFor store image → IfSome (contents store Committed image) (λ slots. length slots ≡ store.cells)
 length-committed store image stands =
-    let firsts : length store.committed ≡ store.cells = ap length (sym stands.selected) ∙ length-numbers_at image (32 + 2 * store.cells * (slice_index image 8 % 2)) store.cells in
+    let firsts : length store.committed ≡ store.cells = ap length (sym stands.begins.selected) ∙ length-numbers_at image (32 + 2 * store.cells * (slice_index image 8 % 2)) store.cells in
     subst (λ (n : ℕ). IfSome (contents store Committed image) (λ slots. length slots ≡ n)) firsts (length-slots_at image store.cells store.committed)
 
 pub length-committed_slots : (store : Held) (image : Option (List ℕ)) → IfSome image (StandsFor store) → IfSome (committed_slots store image) (λ slots. length slots ≡ store.cells)

@@ -14,7 +14,7 @@ use Rattle.record_store.specs.Transaction.{Commits, IsCommitted}
 use Rattle.record_store.specs.declared.side.Side.TheVariants.{Committed, Working}
 use Rattle.eeprom.proofs.Moments.{throughout-then}
 use Rattle.card.specs.Adding.{IsAdded, AddedTo, LeavesAdded, IsWritten, IsAsLong, IfCommitted}
-use Rattle.card.proofs.Leaving.{store_of-stands}
+use Rattle.record_store.proofs.Weights.{store_of-stands}
 use Rattle.card.proofs.SlotCount.{length-committed}
 
 abbrev length_cells : List ℕ → ℕ

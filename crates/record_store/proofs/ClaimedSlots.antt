@@ -1,5 +1,5 @@
 -- The chains of all slots, claimed one after another: there is a store where each one is.
-use Rattle.std.proofs.Common.{◌≡◌, ℕ, zero, suc, ◌+◌, ◌*◌, ◌<◌, ◌≤◌, ◌||◌, Bool, true, false, List, [], ◌∷◌, ◌++◌, length, take, drop, get_or, replicate, flat_map, nat_le, Option, Some, None, IsSome, IfSome, sym, refl, ap, ◌∙◌, arith, subst, true≢false, leb-true, length-append, append-nil, append_assoc, add-zero}
+use Rattle.std.proofs.Common.{◌≡◌, ℕ, zero, suc, ◌+◌, ◌*◌, ◌<◌, ◌≤◌, ◌||◌, Bool, true, false, List, [], ◌∷◌, ◌++◌, length, take, drop, get_or, replicate, flat_map, nat_le, Option, Some, None, IsSome, IfSome, sym, refl, ap, ◌∙◌, arith, subst, true≢false, leb-true, length-append, append-nil, add-zero}
 use Rattle.std.specs.List.{AllByRecursion, list_all}
 use Rattle.std.proofs.lemmas.Bool.{and_parts, or_right}
 use Rattle.std.proofs.lemmas.Bool.Decides.{nat_tests}

@@ -55,13 +55,13 @@ slots_stay n firsts left was few beside (Some slots) of there = slots-beside lef
 store_selects : (held : Held) (left was firsts : List ℕ) → IsSound held → StandsFor held was → Beside held.cells left was → directory left held.cells ≡ firsts → IsSome (slots_at was held.cells firsts)
     → store_of left ≡ slots_at was held.cells firsts
 store_selects held left was firsts range stands beside selects there =
-    let magic : starts_with_magic left ≡ true = same-magic left was beside.front ∙ stands.front in
-    let header : has_header left ≡ true = same-header left was beside.front ∙ stands.header in
-    let number : number_at left 6 ≡ held.cells = same-cells left was beside.front ∙ stands.cells in
+    let magic : starts_with_magic left ≡ true = same-magic left was beside.front ∙ stands.begins.front in
+    let header : has_header left ≡ true = same-header left was beside.front ∙ stands.begins.header in
+    let number : number_at left 6 ≡ held.cells = same-cells left was beside.front ∙ stands.begins.cells in
     rw (magic, header, number, selects) (slots_stay held.cells firsts left was range.range.many beside (slots_at was held.cells firsts) refl there)
 
 room-for : (held : Held) (was : List ℕ) → IsSound held → StandsFor held was → (32 + 2 * held.cells * (1 - held.selector)) + 2 * held.cells ≤ length was
-room-for held was range stands = omega (arith, header-room was held.cells stands.header stands.cells, before-cells held.cells held.selector range.selector)
+room-for held was range stands = omega (arith, header-room was held.cells stands.begins.header stands.begins.cells, before-cells held.cells held.selector range.selector)
 
 -- the image once the other directory is written
 abbrev with_other : Held → List ℕ → List ℕ → List ℕ
@@ -91,7 +91,7 @@ committed-stays held was octets range stands size =
       | inl front ↦ get-before was at octets k front (omega arith)
       | inr behind ↦ get-behind was at octets k (omega arith) fits
     ] in
-    numbers-agree (overwrite was at octets) was (32 + 2 * n * s) n agree ∙ rw (stands.selector) at stands.selected
+    numbers-agree (overwrite was at octets) was (32 + 2 * n * s) n agree ∙ rw (stands.begins.selector) at stands.begins.selected
 
 torn-directory : (held : Held) (was left : List ℕ) → IsSound held → StandsFor held was → IsTorn was (32 + 2 * held.cells * (1 - held.selector)) (2 * held.cells) left → store_of left ≡ contents held Committed was
 torn-directory held was left range stands torn =
@@ -100,12 +100,12 @@ torn-directory held was left range stands torn =
     let fits : at ≤ length was = omega (arith, room-for held was range stands) in
     let same : slice_index (overwrite was at torn.octets) 8 ≡ slice_index was 8 = get-before was at torn.octets 8 (omega arith) fits in
     let selects : directory (overwrite was at torn.octets) n ≡ held.committed =
-    rw (same, stands.selector) (committed-stays held was torn.octets range stands torn.count_is) in
+    rw (same, stands.begins.selector) (committed-stays held was torn.octets range stands torn.count_is) in
     rw (torn.is) (store_selects held (overwrite was at torn.octets) was held.committed range stands (beside-directory held was torn.octets range stands torn.count_is) selects stands.committed)
 
 room-for-selector : (held : Held) (was octets : List ℕ) → IsSound held → StandsFor held was → length octets ≡ 2 * held.cells → 9 ≤ length (with_other held was octets)
 room-for-selector held was octets range stands size =
-    omega (arith, (beside-directory held was octets range stands size).front.size, header-room was held.cells stands.header stands.cells)
+    omega (arith, (beside-directory held was octets range stands size).front.size, header-room was held.cells stands.begins.header stands.begins.cells)
 
 -- once the other directory is there, an octet of the selector selects one of the two
 beside-selector : (held : Held) (was octets selector : List ℕ) → IsSound held → StandsFor held was → length octets ≡ 2 * held.cells → length selector ≡ 1 → Beside held.cells (overwrite (with_other held was octets) 8 selector) was
@@ -189,11 +189,13 @@ committed-image held used was octets fewer range stands begun size is =
     record {
       store = rw working (store_selects held now was held.working range stands beside selects there);
       stands = record {
-        front = same-magic now was beside.front ∙ stands.front;
-        header = same-header now was beside.front ∙ stands.header;
-        cells = same-cells now was beside.front ∙ stands.cells;
-        selector = rw octet parity;
-        selected = selects;
+        begins = record {
+          front = same-magic now was beside.front ∙ stands.begins.front;
+          header = same-header now was beside.front ∙ stands.begins.header;
+          cells = same-cells now was beside.front ∙ stands.begins.cells;
+          selector = rw octet parity;
+          selected = selects;
+        };
         links = λ cell is. stands.links cell (fewer cell is) ∙ sym (links-beside now was n cell beside.cells);
         committed = rw slots there;
         working = rw slots there;

@@ -1,5 +1,5 @@
 -- A slot more of a store that is being opened, and the store once all slots were claimed.
-use Rattle.std.proofs.Common.{◌≡◌, ℕ, zero, suc, ◌+◌, ◌*◌, ◌<◌, ◌≤◌, ◌≢◌, ◌&&◌, ◌||◌, inl, Bool, true, false, List, [], ◌∷◌, ◌++◌, length, length-append, map, take, drop, get_or, nat_le, Option, Some, None, IfSome, Result, Ok, Err, IfOk, OnOk, option_map, option_and_then, sym, refl, ap, ◌∙◌, arith, subst, true≢false}
+use Rattle.std.proofs.Common.{◌≡◌, ℕ, ◌+◌, ◌*◌, ◌<◌, ◌≤◌, ◌≢◌, ◌||◌, inl, Bool, true, false, List, [], ◌∷◌, ◌++◌, length, length-append, map, take, drop, get_or, nat_le, Option, Some, None, IfSome, Result, Ok, Err, IfOk, OnOk, option_map, sym, refl, ap, ◌∙◌, arith, subst}
 use Rattle.std.specs.List.{list_all}
 use Rattle.std.proofs.lemmas.Bool.Decides.{nat_tests}
 use Rattle.std.proofs.lemmas.List.{map-append, take-map, take_all, take_more}
@@ -10,15 +10,14 @@ use Rattle.eeprom.specs.StoreOf.{Slots, chain_of, chains_of, is_record, slot_of,
 use Rattle.cell_store.specs.Cells.{Cells, StandsFor, kept}
 use Rattle.cell_store.specs.Chains.{AreFree, IsRecordChain, is_among}
 use Rattle.cell_store.specs.Claims.{TakesChain, HasRecord, HasNoRecord}
-use Rattle.cell_store.specs.Reading.{ReadsAtMost}
 use Rattle.cell_store.proofs.Chains.{chain-empty, chains-push, chains-take}
 use Rattle.cell_store.proofs.Placements.{nowhere}
 use Rattle.record_store.specs.Held.{Held, contents, StandsFor as HeldStandsFor}
-use Rattle.record_store.specs.Opening.{HeldSoFar, StandsSoFar, IsSoundSoFar, TakesSlot, IsSlot, ReadsStore, front_octets, most_octets, slots_so_far, slot_with}
+use Rattle.record_store.specs.Opening.{HeldSoFar, StandsSoFar, IsSoundSoFar, TakesSlot, IsSlot, ReadsStore, front_octets, slots_so_far, slot_with}
 use Rattle.record_store.specs.Sound.{IsSound, cells_in}
 use Rattle.record_store.specs.declared.side.Side.TheVariants.{Committed}
 use Rattle.record_store.proofs.ClaimedSlots.{Claims, cells-more, claims-so_far, claims-record, claims-refused, claims-over, claimed-more, claimed-all, takes-range, marked-so_far, free-so_far}
-use Rattle.record_store.proofs.Weights.{slots-chains, some-slots, header-room, cells-chains, chains-told}
+use Rattle.record_store.proofs.Weights.{store-begins, slots-chains, some-slots, header-room, cells-chains, chains-told}
 
 -- so many octets were read until then
 abbrev pub ReadsSoFar : HeldSoFar → ℕ → ℕ → Type 0
@@ -90,11 +89,13 @@ stands-next held new count octets None sound left takes links fits stands = tt
 stands-next held new count octets (Some image) sound left takes links fits stands =
     let slots = some-slots (slots_so_far held image) stands.claimed in
     record {
-      front = stands.front;
-      header = stands.header;
-      cells = stands.cells ∙ sym takes.chain.cells;
-      selector = stands.selector;
-      selected = ap (directory image) takes.chain.cells ∙ stands.selected;
+      begins = record {
+        front = stands.begins.front;
+        header = stands.begins.header;
+        cells = stands.begins.cells ∙ sym takes.chain.cells;
+        selector = stands.begins.selector;
+        selected = ap (directory image) takes.chain.cells ∙ stands.begins.selected;
+      };
       links = (links (record { links = stands.links })).links;
       claimed = rw (next-slots held new count octets image slots.0 sound left takes fits stands slots.1) refl;
     }
@@ -108,10 +109,6 @@ sound-next held new count sound left takes fits = record {
   few = rw (takes.cells) fits;
   chains = claimed-more (cells_so_far held) new held.firsts held.weight count held.claimed sound.range (omega (arith, left, sound.count)) takes sound.chains;
 }
-
--- the store of the image has the slots of its directory
-store-slots : (held : HeldSoFar) (image : List ℕ) → StandsSoFar held image → store_of image ≡ slots_at image held.cells held.firsts
-store-slots held image stands = rw (stands.front, stands.header, stands.cells, stands.selected) refl
 
 -- there is none where a slot can't be claimed, or with one cell too many
 claims-held : (held : HeldSoFar) (image : List ℕ) → IsSoundSoFar held → StandsSoFar held image → Claims held.cells held.firsts held.used held.weight (drop held.claimed held.firsts) image
@@ -130,7 +127,7 @@ pub store-refused : (held : HeldSoFar) (image : Option (List ℕ)) → IsSoundSo
 store-refused held None sound left there none stands = tt
 store-refused held (Some image) sound left there none stands =
     let first : ℕ = get_or held.firsts held.claimed 0 in
-    store-slots held image stands ∙ claims-refused held.cells held.firsts held.used held.weight held.claimed image sound.range.used_count (omega (arith, left, sound.count))
+    store-begins held.cells held.selector held.firsts image stands.begins ∙ claims-refused held.cells held.firsts held.used held.weight held.claimed image sound.range.used_count (omega (arith, left, sound.count))
     (λ chain of is free. none chain (record { of = of; is = is; some = some-cells image held.cells first chain there of }) free) (claims-held held image sound stands)
 
 pub store-over : (held : HeldSoFar) (new : Cells) (count : ℕ) (octets : List ℕ) (image : Option (List ℕ)) → IsSoundSoFar held → held.claimed < held.cells → TakesSlot image (cells_so_far held) new (get_or held.firsts held.claimed 0) octets count
@@ -138,14 +135,14 @@ pub store-over : (held : HeldSoFar) (new : Cells) (count : ℕ) (octets : List �
 store-over held new count octets None sound left takes over stands = tt
 store-over held new count octets (Some image) sound left takes over stands =
     let first : ℕ = get_or held.firsts held.claimed 0 in
-    store-slots held image stands ∙ claims-over held.cells held.firsts held.used new.used held.weight count held.claimed image sound.range.used_count (omega (arith, left, sound.count)) over
+    store-begins held.cells held.selector held.firsts image stands.begins ∙ claims-over held.cells held.firsts held.used new.used held.weight count held.claimed image sound.range.used_count (omega (arith, left, sound.count)) over
     (claims-record (cells_so_far held) new first count octets image takes) (claims-held held image sound stands)
 
 -- once all slots were claimed
 weight-held : (held : HeldSoFar) (image : List ℕ) (slots : Slots) → IsSoundSoFar held → StandsSoFar held image → slots_so_far held image ≡ Some slots → held.weight ≡ weight_of slots
 weight-held held image slots sound stands there =
     let told = told-so_far held image slots sound stands there in
-    let room = header-room image held.cells stands.header stands.cells in
+    let room = header-room image held.cells stands.begins.header stands.begins.cells in
     let cells = cells-chains image held.cells (take held.claimed held.firsts) sound.chains.chains room told.of told.records in
     sym sound.chains.count_is ∙ (sym cells ∙ ap weight_of (sym told.is))
 
@@ -229,7 +226,7 @@ finished-read held store (Some image) old new opened weight cells stands read = 
 pub so_far-first : (held : HeldSoFar) (image : List ℕ) (slots : Slots) → StandsSoFar held image → store_of image ≡ Some slots → slots_so_far held image ≡ Some (take held.claimed slots)
 so_far-first held image slots stands stored =
     let n = held.cells in
-    let whole = slots-chains image n held.firsts slots (sym (store-slots held image stands) ∙ stored) in
+    let whole = slots-chains image n held.firsts slots (sym (store-begins held.cells held.selector held.firsts image stands.begins) ∙ stored) in
     let some = some-slots (slots_so_far held image) stands.claimed in
     let part = slots-chains image n (take held.claimed held.firsts) some.0 some.1 in
     let same : part.chains ≡ take held.claimed whole.chains = same_Some _ _ (sym part.of ∙ chains-take image n held.firsts whole.chains held.claimed whole.of) in

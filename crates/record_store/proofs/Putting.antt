@@ -29,7 +29,7 @@ use Rattle.record_store.specs.declared.side.Side.TheVariants.{Committed, Working
 use Rattle.record_store.proofs.Replacing.{marked-chains, all-marked-same, replaced}
 use Rattle.record_store.proofs.SameSlots.{slots-same}
 use Rattle.record_store.proofs.Sides.{put_into, small-links, length-put, length-chains}
-use Rattle.record_store.proofs.Weights.{side-chains, told-chains, chains-told, some-slots, header-room, walk-chains, walk-without}
+use Rattle.record_store.proofs.Weights.{store-begins, side-chains, told-chains, chains-told, some-slots, header-room, walk-chains, walk-without}
 
 -- the front of an image that keeps all before the cells
 front-same : (marks : List Bool) (n : ℕ) (left was : List ℕ) → Keeping marks n left was → SameFront left was
@@ -70,12 +70,12 @@ pub store-kept : (held : Held) (left was : List ℕ) → IsSound held → Stands
 store-kept held left was sound stands keeping =
     let n = held.cells in
     let front = front-same held.used n left was keeping in
-    let magic : starts_with_magic left ≡ true = same-magic left was front ∙ stands.front in
-    let header : has_header left ≡ true = same-header left was front ∙ stands.header in
-    let number : number_at left 6 ≡ n = same-cells left was front ∙ stands.cells in
-    let selected : directory left n ≡ held.committed = directory-same held.used n left was keeping ∙ stands.selected in
+    let magic : starts_with_magic left ≡ true = same-magic left was front ∙ stands.begins.front in
+    let header : has_header left ≡ true = same-header left was front ∙ stands.begins.header in
+    let number : number_at left 6 ≡ n = same-cells left was front ∙ stands.begins.cells in
+    let selected : directory left n ≡ held.committed = directory-same held.used n left was keeping ∙ stands.begins.selected in
     let now : store_of left ≡ slots_at left n held.committed = rw (magic, header, number, selected) refl in
-    let before : store_of was ≡ slots_at was n held.committed = rw (stands.front, stands.header, stands.cells, stands.selected) refl in
+    let before : store_of was ≡ slots_at was n held.committed = store-begins n held.selector held.committed was stands.begins in
     now ∙ (side-kept held Committed left was sound stands stands.committed keeping ∙ sym before)
 
 pub keeps-store : (held : Held) (marks : List Bool) (n : ℕ) (old new : Chip) → n ≡ held.cells → marks ≡ held.used → IsSound held → IfSome old.image (StandsFor held) → KeepsMarked marks n old new → Keeps store_of old new
@@ -135,11 +135,7 @@ stands-emptied held slot used image sound next_sound begun inside fewer stands =
     refilled held (emptied held slot used) slot 65535 [] image image slots.0 sound next_sound refl next_is stands links (Keeping-same held.used n image) within (nowhere image n (2 * n)) refl slots.1 in
     record {
       stands = record {
-        front = stands.front;
-        header = stands.header;
-        cells = stands.cells;
-        selector = stands.selector;
-        selected = stands.selected;
+        begins = stands.begins;
         links = links;
         committed = stands.committed;
         working = subst (λ (o : Option Slots). IsSome o) (sym there) refl;
@@ -167,11 +163,13 @@ put-done held slot first count used links octets was now sound next_sound begun 
     let octet = octet-same held.used n now was 8 w.keeping (omega arith) in
     record {
       stands = record {
-        front = same-magic now was front ∙ stands.front;
-        header = same-header now was front ∙ stands.header;
-        cells = same-cells now was front ∙ stands.cells;
-        selector = rw octet (stands.selector);
-        selected = directory-same held.used n now was w.keeping ∙ stands.selected;
+        begins = record {
+          front = same-magic now was front ∙ stands.begins.front;
+          header = same-header now was front ∙ stands.begins.header;
+          cells = same-cells now was front ∙ stands.begins.cells;
+          selector = rw octet (stands.begins.selector);
+          selected = directory-same held.used n now was w.keeping ∙ stands.begins.selected;
+        };
         links = linked;
         committed = subst (λ (o : Option Slots). IsSome o) (sym committed) stands.committed;
         working = subst (λ (o : Option Slots). IsSome o) (sym working) refl;
@@ -210,7 +208,7 @@ weight-put held slot octets image slots sound begun stands inside there =
     let within : slot < length s.chains = omega (arith, inside, length-chains held.links held.working s.chains are, sound.working_count) in
     let count : length slots ≡ length s.chains = ap (length {A = Option (List ℕ)}) told.is ∙ length-map s.chains (slot_of image n) in
     let change = sum_by-set cells_of slots slot (Some octets) None (omega (arith, count, within)) in
-    let own = chain-cells image n held.working s.chains slot (header-room image n stands.header stands.cells) (subst (λ (firsts : List ℕ). chains_of image n firsts ≡ Some s.chains) working_is told.of) told.records in
+    let own = chain-cells image n held.working s.chains slot (header-room image n stands.begins.header stands.begins.cells) (subst (λ (firsts : List ℕ). chains_of image n firsts ≡ Some s.chains) working_is told.of) told.records in
     let own_is : cells_of (get_or slots slot None) ≡ length (get_or s.chains slot []) = ap (λ (slots : Slots). cells_of (get_or slots slot None)) told.is ∙ own in
     let walk = walk-without held.links held.working s.chains slot (small-links held sound) (omega (arith, inside, sound.working_count)) are in
     let less = length-put s.chains slot [] within in

@@ -4,13 +4,13 @@ use Rattle.std.specs.List.{list_all, AllByRecursion}
 use Rattle.std.proofs.lemmas.Bool.{and_parts}
 use Rattle.std.proofs.lemmas.Option.{same_Some, none-some}
 use Rattle.std.proofs.lemmas.List.Sums.{sum_by-cons}
-use Rattle.eeprom.specs.StoreOf.{Slots, chain_of, chains_of, cell_place, number_at, is_record, slot_of, slots_at, are_apart, has_header, cells_of, weight_of}
+use Rattle.eeprom.specs.StoreOf.{Slots, store_of, chain_of, chains_of, cell_place, number_at, is_record, slot_of, slots_at, are_apart, has_header, cells_of, weight_of}
 use Rattle.cell_store.specs.Cells.{link_in, AreLinksOf}
 use Rattle.cell_store.specs.Chains.{AreLinked, link_of, steps}
 use Rattle.cell_store.specs.Marks.{is_marked}
 use Rattle.cell_store.proofs.Chains.{cells-chain, chains-parts}
 use Rattle.cell_store.proofs.Linking.{linked-chain, linked-same, steps-linked}
-use Rattle.record_store.specs.Held.{Held, StandsFor, firsts, contents}
+use Rattle.record_store.specs.Held.{Held, BeginsAs, StandsFor, firsts, contents}
 use Rattle.record_store.specs.Slots.{steps_without}
 use Rattle.record_store.specs.Sound.{AreChains, HasChains, IsSound, cells_in}
 use Rattle.record_store.specs.declared.side.Side.{Side}
@@ -38,6 +38,13 @@ slots-of image n firsts slots (Some chains) of h = slots-if image n firsts slots
 
 pub slots-chains : (image : List ℕ) (n : ℕ) (firsts : List ℕ) (slots : Slots) → slots_at image n firsts ≡ Some slots → Chains image n firsts slots
 slots-chains image n firsts slots h = slots-of image n firsts slots (chains_of image n firsts) refl h
+
+-- the store of an image that begins as one does
+pub store-begins : (n selects : ℕ) (first_cells image : List ℕ) → BeginsAs n selects first_cells image → store_of image ≡ slots_at image n first_cells
+store-begins n selects first_cells image begins = rw (begins.front, begins.header, begins.cells, begins.selected) refl
+
+pub store_of-stands : (held : Held) (image : List ℕ) → StandsFor held image → store_of image ≡ contents held Committed image
+store_of-stands held image stands = store-begins held.cells held.selector held.committed image stands.begins
 
 -- the room of an image with a header
 pub header-room : (image : List ℕ) (n : ℕ) → has_header image ≡ true → number_at image 6 ≡ n → 70 * n + 34 ≤ length image
@@ -126,7 +133,7 @@ told-chains held image firsts chains slots sound stands has marked there =
       records = records;
       apart = rw same at c.apart;
       is = rw same at c.is;
-      weight = ap weight_of (rw same at c.is) ∙ cells-chains image n firsts chains (header-room image n stands.header stands.cells) of records;
+      weight = ap weight_of (rw same at c.is) ∙ cells-chains image n firsts chains (header-room image n stands.begins.header stands.begins.cells) of records;
     }
 
 pub some-slots : {X : Type 0} (o : Option X) → IsSome o → (x : X) × (o ≡ Some x)

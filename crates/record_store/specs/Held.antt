@@ -32,13 +32,17 @@ contents held side image = slots_at image held.cells (firsts held side)
 abbrev pub record_at : Held → Side → ℕ → List ℕ → Option (List ℕ)
 record_at held side slot image = option_and_then (λ slots. slice_index_or slots slot None) (contents held side image)
 
--- the image has the store that is held, and each side has its records
-pub record StandsFor (held : Held) (image : List ℕ) : Type 0 where
+-- the image begins as that of a store of so many cells does, and selects a directory with these first cells
+pub record BeginsAs (n selects : ℕ) (first_cells image : List ℕ) : Type 0 where
   pub front : starts_with_magic image ≡ true
   pub header : has_header image ≡ true
-  pub cells : number_at image 6 ≡ held.cells
-  pub selector : slice_index image 8 % 2 ≡ held.selector
-  pub selected : directory image held.cells ≡ held.committed
+  pub cells : number_at image 6 ≡ n
+  pub selector : slice_index image 8 % 2 ≡ selects
+  pub selected : directory image n ≡ first_cells
+
+-- the image has the store that is held, and each side has its records
+pub record StandsFor (held : Held) (image : List ℕ) : Type 0 where
+  pub begins : BeginsAs held.cells held.selector held.committed image
   pub links : AreLinksOf image held.cells held.used held.links
   pub committed : IsSome (contents held Committed image)
   pub working : IsSome (contents held Working image)

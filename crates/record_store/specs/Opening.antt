@@ -1,9 +1,10 @@
 -- A store that is being opened: its slots are claimed one after another.
-use Rattle.std.specs.Prelude.{◌≡◌, ℕ, ◌+◌, ◌*◌, ◌<◌, ◌≤◌, ◌%◌, Bool, true, false, List, [], ◌∷◌, length, replicate, take, Option, Some, None, IsSome, IfSome, slice_index}
-use Rattle.eeprom.specs.StoreOf.{Slots, slots_at, chain_of, is_record, slot_of, starts_with_magic, has_header, number_at, directory, weight_of}
+use Rattle.std.specs.Prelude.{◌≡◌, ℕ, ◌+◌, ◌*◌, ◌<◌, ◌≤◌, Bool, true, false, List, [], ◌∷◌, length, replicate, take, Option, Some, None, IsSome, IfSome}
+use Rattle.eeprom.specs.StoreOf.{Slots, slots_at, chain_of, is_record, slot_of, weight_of}
 use Rattle.cell_store.specs.Cells.{Cells, IsInRange, kept, AreLinksOf}
 use Rattle.cell_store.specs.Chains.{AreFree, with_marked}
 use Rattle.cell_store.specs.Claims.{TakesChain}
+use Rattle.record_store.specs.Held.{BeginsAs}
 use Rattle.record_store.specs.Sound.{AreChains, cells_in}
 
 -- the number of cells; which cells are used, and of each used cell the number of the next one; the octet that selects the
@@ -28,11 +29,7 @@ slots_so_far held image = slots_at image held.cells (take held.claimed held.firs
 
 -- the image begins as that of a store with these first cells, and the slots that were claimed have their records
 pub record StandsSoFar (held : HeldSoFar) (image : List ℕ) : Type 0 where
-  pub front : starts_with_magic image ≡ true
-  pub header : has_header image ≡ true
-  pub cells : number_at image 6 ≡ held.cells
-  pub selector : slice_index image 8 % 2 ≡ held.selector
-  pub selected : directory image held.cells ≡ held.firsts
+  pub begins : BeginsAs held.cells held.selector held.firsts image
   pub links : AreLinksOf image held.cells held.used held.links
   pub claimed : IsSome (slots_so_far held image)
 

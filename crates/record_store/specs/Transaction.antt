@@ -1,5 +1,5 @@
 -- What a transaction's beginning and end make of a store.
-use Rattle.std.specs.Prelude.{◌≡◌, ◌⊎◌, ℕ, true, List, Some}
+use Rattle.std.specs.Prelude.{◌≡◌, ◌⊎◌, ℕ, true, List}
 use Rattle.eeprom.specs.Chip.{Chip, LeavesOf}
 use Rattle.eeprom.specs.StoreOf.{store_of}
 use Rattle.record_store.specs.Held.{Held, contents, StandsFor}
