@@ -1,15 +1,16 @@
 -- The chains of all slots, claimed one after another: there is a store where each one is.
-use Rattle.std.proofs.Common.{◌≡◌, ℕ, zero, suc, ◌+◌, ◌*◌, ◌<◌, ◌≤◌, ◌||◌, Bool, true, false, List, [], ◌∷◌, ◌++◌, length, take, drop, get_or, replicate, flat_map, nat_le, Option, Some, None, IsSome, IfSome, sym, refl, ap, ◌∙◌, arith, subst, true≢false, leb-true, length-append, append-nil, add-zero}
+use Rattle.std.proofs.Common.{◌≡◌, ℕ, zero, suc, ◌+◌, ◌*◌, ◌<◌, ◌≤◌, ◌||◌, Bool, true, false, List, [], ◌∷◌, ◌++◌, length, take, drop, get_or, replicate, flat_map, nat_le, Option, Some, None, IsSome, sym, refl, ap, ◌∙◌, arith, subst, true≢false, leb-true, length-append, append-nil, add-zero}
 use Rattle.std.specs.List.{AllByRecursion, list_all}
-use Rattle.std.proofs.lemmas.Bool.{and_parts, or_right}
+use Rattle.std.proofs.lemmas.Bool.{and_parts, false_from_ne_true}
 use Rattle.std.proofs.lemmas.Bool.Decides.{nat_tests}
 use Rattle.std.proofs.lemmas.Grind.{flat_map-append}
-use Rattle.std.proofs.lemmas.List.{drop_more, take_more, take_all, length-replicate, take-append-drop}
+use Rattle.std.proofs.lemmas.List.{get_or_default, same_lists, drop_more, take_more, length-replicate, take-append-drop}
 use Rattle.std.proofs.lemmas.Option.{same_Some}
 use Rattle.eeprom.specs.StoreOf.{chain_of, chains_of, is_record, slots_at, is_distinct}
 use Rattle.cell_store.specs.Cells.{Cells, IsInRange, all_free, link_in, StandsFor}
 use Rattle.cell_store.specs.Chains.{AreLinked, AreFree, link_of, is_among, with_marked}
 use Rattle.cell_store.specs.Marks.{is_marked}
+use Rattle.cell_store.proofs.Among.{among-append, distinct-join}
 use Rattle.cell_store.proofs.Chains.{chains-parts}
 use Rattle.cell_store.proofs.Claiming.{free-parts, free-join}
 use Rattle.cell_store.proofs.Linking.{chain-linked, linked-inside}
@@ -17,7 +18,7 @@ use Rattle.cell_store.proofs.Marking.{marked-with, with_marked-append, length-wi
 use Rattle.cell_store.specs.Claims.{TakesChain}
 use Rattle.record_store.specs.Opening.{ClaimedSoFar, TakesSlot}
 use Rattle.record_store.specs.Sound.{AreChains, Claimed, cells_in}
-use Rattle.record_store.proofs.Sides.{all-among, chains-stay}
+use Rattle.record_store.proofs.Sides.{all-among, among-all, not-among-all, chains-stay}
 use Rattle.record_store.proofs.Weights.{slots-chains, some-slots}
 
 chain-inside : (image : List ℕ) (n first : ℕ) (chain : List ℕ) → chain_of image n (2 * n) first ≡ Some chain → AllByRecursion (λ cell. cell < 2 * n) chain
@@ -140,14 +141,6 @@ claims-many n firsts old total (first ∷ xs) ys chains image size of records fr
     let count : (total + length chain) + length others ≡ total + length (cells_in chains) = omega (arith, length-append chain others, ap (λ (chains : List (List ℕ)). length (cells_in chains)) parts.4) in
     subst (λ (total : ℕ). Claims n firsts (with_marked old (cells_in chains)) total ys image) count (subst (λ (marks : List Bool). Claims n firsts marks ((total + length chain) + length others) ys image) marks rest)
 
--- so are those of the slots that were claimed so far
-pub claims-so_far : (n : ℕ) (firsts : List ℕ) (used : List Bool) (weight k : ℕ) (chains : List (List ℕ)) (image : List ℕ) → chains_of image n (take k firsts) ≡ Some chains → list_all (is_record image n) chains ≡ true → AreFree (replicate (2 * n) false) (cells_in chains)
-    → length (cells_in chains) ≡ weight → used ≡ with_marked (replicate (2 * n) false) (cells_in chains) → Claims n firsts used weight (drop k firsts) image
-claims-so_far n firsts used weight k chains image of records free count is =
-    let start : Claims n firsts (replicate (2 * n) false) 0 (take k firsts ++ drop k firsts) image = subst (λ (all : List ℕ). Claims n firsts (replicate (2 * n) false) 0 all image) (sym (take-append-drop k firsts)) (claims-start n (2 * n) firsts image) in
-    let all = claims-many n firsts (replicate (2 * n) false) 0 (take k firsts) (drop k firsts) chains image (length-replicate (2 * n) false) of records free start in
-    subst (λ (used : List Bool). Claims n firsts used weight (drop k firsts) image) (sym is) (subst (λ (total : ℕ). Claims n firsts (with_marked (replicate (2 * n) false) (cells_in chains)) total (drop k firsts) image) (omega (arith, count)) all)
-
 none-unless : {X : Type 0} (o : Option X) → ¬ (IsSome o) → o ≡ None
 none-unless None wrong = refl
 none-unless (Some x) wrong = absurd (wrong refl)
@@ -172,7 +165,7 @@ claims-record old new first count octets image takes =
     record { chain = takes.chain.chain; there = record { of = takes.told.of; is = takes.told.is; free = takes.chain.free }; cells = takes.chain.count_is; marks = takes.chain.used }
 
 pub claimed-start : (n : ℕ) (firsts : List ℕ) → ClaimedSoFar (all_free n) (take 0 firsts) 0
-claimed-start n firsts = record { chains = []; are = tt; free = record { free = tt; distinct = refl }; count_is = refl; used = refl }
+claimed-start n firsts = record { slots = record { chains = []; has = record { are = tt; distinct = refl; few = omega arith }; used = none-marked (2 * n) }; count_is = refl }
 
 pub cells-more : (chains : List (List ℕ)) (chain : List ℕ) → cells_in (chains ++ chain ∷ []) ≡ cells_in chains ++ chain
 cells-more chains chain = flat_map-append (λ (chain : List ℕ). chain) chains (chain ∷ []) ∙ ap (λ (cells : List ℕ). cells_in chains ++ cells) (append-nil chain)
@@ -193,55 +186,71 @@ inside-chains links (x ∷ firsts) (y ∷ chains) are = joined y (cells_in chain
     joined [] ys a b = b
     joined (x ∷ xs) ys a b = (a.0, joined xs ys a.1 b)
 
-all-used : (store : Cells) (cells : List ℕ) → length store.used ≡ 2 * store.cells → AllByRecursion (λ cell. cell < 2 * store.cells) cells → store.used ≡ with_marked (replicate (2 * store.cells) false) cells → length (replicate (2 * store.cells) false) ≡ 2 * store.cells → (cell : ℕ) → is_among cell cells ≡ true → is_marked store.used cell ≡ true
-all-used store cells size inside used none cell here =
-    ap (λ (used : List Bool). is_marked used cell) used ∙ (marked-with (2 * store.cells) (replicate (2 * store.cells) false) cells cell none inside ∙ or_right (is_marked (replicate (2 * store.cells) false) cell) (is_among cell cells) here)
+within-claimed : (store : Cells) (firsts : List ℕ) → IsInRange store → (c : Claimed store firsts) → AllByRecursion (λ cell. cell < 2 * store.cells) (cells_in c.chains)
+within-claimed store firsts range c = subst (λ (size : ℕ). AllByRecursion (λ cell. cell < size) (cells_in c.chains)) range.links_count (inside-chains store.links firsts c.chains c.has.are)
 
-pub within-so_far : (store : Cells) (firsts : List ℕ) (weight : ℕ) → IsInRange store → (c : ClaimedSoFar store firsts weight) → AllByRecursion (λ cell. cell < 2 * store.cells) (cells_in c.chains)
-within-so_far store firsts weight range c = subst (λ (size : ℕ). AllByRecursion (λ cell. cell < size) (cells_in c.chains)) range.links_count (inside-chains store.links firsts c.chains c.are)
+pub marked-claimed : (store : Cells) (firsts : List ℕ) → (c : Claimed store firsts) → AllByRecursion (λ cell. is_marked store.used cell ≡ true) (cells_in c.chains)
+marked-claimed store firsts c = all-among (λ cell. is_marked store.used cell ≡ true) (cells_in c.chains) (λ cell here. c.used cell ∙ here)
 
-pub marked-so_far : (store : Cells) (firsts : List ℕ) (weight : ℕ) → IsInRange store → (c : ClaimedSoFar store firsts weight) → AllByRecursion (λ cell. is_marked store.used cell ≡ true) (cells_in c.chains)
-marked-so_far store firsts weight range c =
-    all-among (λ cell. is_marked store.used cell ≡ true) (cells_in c.chains) (all-used store (cells_in c.chains) range.used_count (within-so_far store firsts weight range c) c.used (length-replicate (2 * store.cells) false))
+-- no cell is in a chain of free cells and in one before it
+pub distinct-more : (store : Cells) (firsts chain : List ℕ) → (c : Claimed store firsts) → AreFree store.used chain → is_distinct (cells_in (c.chains ++ chain ∷ [])) ≡ true
+distinct-more store firsts chain c free =
+    let apart : (cell : ℕ) → is_among cell (cells_in c.chains) ≡ true → is_among cell chain ≡ false = λ cell here.
+    false_from_ne_true (is_among cell chain) (λ there. true≢false (sym (c.used cell ∙ here) ∙ among-all (λ cell. is_marked store.used cell ≡ false) chain free.free cell there)) in
+    ap is_distinct (cells-more c.chains chain) ∙ distinct-join (cells_in c.chains) chain c.has.distinct free.distinct (not-among-all (cells_in c.chains) chain apart)
 
--- a chain of free cells and the chains before it are free together
-pub free-so_far : (store : Cells) (firsts chain : List ℕ) (weight : ℕ) → IsInRange store → (c : ClaimedSoFar store firsts weight) → AreFree store.used chain → AreFree (replicate (2 * store.cells) false) (cells_in (c.chains ++ chain ∷ []))
-free-so_far store firsts chain weight range c free =
-    subst (AreFree (replicate (2 * store.cells) false)) (sym (cells-more c.chains chain))
-    (free-join (replicate (2 * store.cells) false) (2 * store.cells) (cells_in c.chains) chain (length-replicate (2 * store.cells) false) (within-so_far store firsts weight range c) c.free (subst (λ (used : List Bool). AreFree used chain) c.used free))
-
-pub claimed-more : (old new : Cells) (firsts : List ℕ) (total count k : ℕ) → IsInRange old → k < length firsts → TakesChain old new (get_or firsts k 0) count → ClaimedSoFar old (take k firsts) total → ClaimedSoFar new (take (k + 1) firsts) (total + count)
-claimed-more old new firsts total count k range inside takes c =
-    let before = chains-stay old.used old.links new.links (take k firsts) c.chains takes.links_count takes.stay (marked-so_far old (take k firsts) total range c) c.are in
-    let cells = cells-more c.chains takes.chain in
-    let none = ap (λ (n : ℕ). replicate (2 * n) false) takes.cells in
+pub claimed-more : (old new : Cells) (firsts : List ℕ) (total count k : ℕ) → IsInRange old → k < length firsts → TakesChain old new (get_or firsts k 0) count → total + count ≤ old.cells → ClaimedSoFar old (take k firsts) total → ClaimedSoFar new (take (k + 1) firsts) (total + count)
+claimed-more old new firsts total count k range inside takes fits c =
+    let chains : List (List ℕ) = c.slots.chains ++ takes.chain ∷ [] in
+    let before = chains-stay old.used old.links new.links (take k firsts) c.slots.chains takes.links_count takes.stay (marked-claimed old (take k firsts) c.slots) c.slots.has.are in
+    let cells : cells_in chains ≡ cells_in c.slots.chains ++ takes.chain = cells-more c.slots.chains takes.chain in
+    let number : length (cells_in chains) ≡ total + count = ap (length {A = ℕ}) cells ∙ (length-append (cells_in c.slots.chains) takes.chain ∙ omega (arith, c.count_is, takes.count_is)) in
+    let size : length new.links ≡ 2 * old.cells = takes.links_count ∙ range.links_count in
+    let within = subst (λ (size : ℕ). AllByRecursion (λ cell. cell < size) takes.chain) size (linked-inside (link_in new.links) (length new.links) (get_or firsts k 0) takes.chain takes.linked) in
     record {
-      chains = c.chains ++ takes.chain ∷ [];
-      are = subst (λ (firsts : List ℕ). AreChains new.links firsts (c.chains ++ takes.chain ∷ [])) (sym (take_more firsts k 0 inside))
-          (chains-more new.links (take k firsts) c.chains (get_or firsts k 0) takes.chain before takes.linked (omega (arith, takes.count_is, takes.short)));
-      free = subst (λ (marks : List Bool). AreFree marks (cells_in (c.chains ++ takes.chain ∷ []))) (sym none) (free-so_far old (take k firsts) takes.chain total range c takes.free);
-      count_is = ap (length {A = ℕ}) cells ∙ (length-append (cells_in c.chains) takes.chain ∙ omega (arith, c.count_is, takes.count_is));
-      used = takes.used ∙ (ap (λ (used : List Bool). with_marked used takes.chain) c.used ∙ (sym (with_marked-append (replicate (2 * old.cells) false) (cells_in c.chains) takes.chain)
-          ∙ (ap (λ (cells : List ℕ). with_marked (replicate (2 * old.cells) false) cells) (sym cells) ∙ ap (λ (marks : List Bool). with_marked marks (cells_in (c.chains ++ takes.chain ∷ []))) (sym none))));
+      slots = record {
+        chains = chains;
+        has = record {
+          are = subst (λ (firsts : List ℕ). AreChains new.links firsts chains) (sym (take_more firsts k 0 inside))
+              (chains-more new.links (take k firsts) c.slots.chains (get_or firsts k 0) takes.chain before takes.linked (omega (arith, takes.count_is, takes.short)));
+          distinct = distinct-more old (take k firsts) takes.chain c.slots takes.free;
+          few = omega (arith, number, fits, takes.cells);
+        };
+        used = λ cell. ap (λ (used : List Bool). is_marked used cell) takes.used
+            ∙ (marked-with (2 * old.cells) old.used takes.chain cell range.used_count within
+            ∙ (ap (λ (b : Bool). b || is_among cell takes.chain) (c.slots.used cell)
+            ∙ (sym (among-append cell (cells_in c.slots.chains) takes.chain) ∙ ap (is_among cell) (sym cells))));
+      };
+      count_is = number;
     }
 
-pub claimed-all : (store : Cells) (firsts : List ℕ) (total k : ℕ) → IsInRange store → length firsts ≤ k → total ≤ store.cells → ClaimedSoFar store (take k firsts) total → Claimed store firsts
-claimed-all store firsts total k range all few c =
-    let whole : take k firsts ≡ firsts = take_all k firsts all in
-    let are : AreChains store.links firsts c.chains = subst (λ (firsts : List ℕ). AreChains store.links firsts c.chains) whole c.are in
-    let within = subst (λ (size : ℕ). AllByRecursion (λ cell. cell < size) (cells_in c.chains)) range.links_count (inside-chains store.links firsts c.chains are) in
-    record {
-      chains = c.chains;
-      has = record { are = are; distinct = c.free.distinct; few = omega (arith, c.count_is, few) };
-      used = λ cell. ap (λ (used : List Bool). is_marked used cell) c.used
-          ∙ (marked-with (2 * store.cells) (replicate (2 * store.cells) false) (cells_in c.chains) cell (length-replicate (2 * store.cells) false) within
-          ∙ ap (λ (b : Bool). b || is_among cell (cells_in c.chains)) (none-marked (2 * store.cells) cell));
-    }
+-- the marks of claimed slots are those of their cells alone
+marks-claimed : (store : Cells) (firsts : List ℕ) → IsInRange store → (c : Claimed store firsts) → store.used ≡ with_marked (replicate (2 * store.cells) false) (cells_in c.chains)
+marks-claimed store firsts range c =
+    let none : length (replicate (2 * store.cells) false) ≡ 2 * store.cells = length-replicate (2 * store.cells) false in
+    let all : List Bool = with_marked (replicate (2 * store.cells) false) (cells_in c.chains) in
+    let size : length store.used ≡ length all = range.used_count ∙ sym (length-with_marked (replicate (2 * store.cells) false) (cells_in c.chains) ∙ none) in
+    same_lists store.used all size (λ k d inside.
+    get_or_default store.used k d false inside
+    ∙ (c.used k
+    ∙ (sym (marked-with (2 * store.cells) (replicate (2 * store.cells) false) (cells_in c.chains) k none (within-claimed store firsts range c) ∙ ap (λ (b : Bool). b || is_among k (cells_in c.chains)) (none-marked (2 * store.cells) k))
+    ∙ get_or_default all k false d (subst (λ (size : ℕ). k < size) size inside))))
+
+-- the chains of the slots that are left can be claimed just where there are slots
+pub claims-so_far : (store : Cells) (firsts : List ℕ) (weight k : ℕ) (image : List ℕ) → IsInRange store → (c : ClaimedSoFar store (take k firsts) weight) → chains_of image store.cells (take k firsts) ≡ Some c.slots.chains → list_all (is_record image store.cells) c.slots.chains ≡ true
+    → Claims store.cells firsts store.used weight (drop k firsts) image
+claims-so_far store firsts weight k image range c of records =
+    let n = store.cells in
+    let cells : List ℕ = cells_in c.slots.chains in
+    let free : AreFree (replicate (2 * n) false) cells = record { free = all-free (2 * n) cells; distinct = c.slots.has.distinct } in
+    let start : Claims n firsts (replicate (2 * n) false) 0 (take k firsts ++ drop k firsts) image = subst (λ (all : List ℕ). Claims n firsts (replicate (2 * n) false) 0 all image) (sym (take-append-drop k firsts)) (claims-start n (2 * n) firsts image) in
+    let all = claims-many n firsts (replicate (2 * n) false) 0 (take k firsts) (drop k firsts) c.slots.chains image (length-replicate (2 * n) false) of records free start in
+    subst (λ (used : List Bool). Claims n firsts used weight (drop k firsts) image) (sym (marks-claimed store (take k firsts) range c.slots))
+    (subst (λ (total : ℕ). Claims n firsts (with_marked (replicate (2 * n) false) cells) total (drop k firsts) image) (omega (arith, c.count_is)) all)
 
 -- what is claimed stands for the image
-pub stands-start : (n : ℕ) (image : Option (List ℕ)) → IfSome image (StandsFor (all_free n))
-stands-start n None = tt
-stands-start n (Some image) = record { links = λ cell is. absurd (true≢false (sym is ∙ none-marked (2 * n) cell)) }
+pub stands-start : (n : ℕ) (image : List ℕ) → StandsFor (all_free n) image
+stands-start n image = record { links = λ cell is. absurd (true≢false (sym is ∙ none-marked (2 * n) cell)) }
 
 pub all_free-range : (n : ℕ) → 16 ≤ n → n ≤ 2048 → IsInRange (all_free n)
 all_free-range n few many = record { few = few; many = many; used_count = length-replicate (2 * n) false; links_count = length-replicate (2 * n) 65535 }

@@ -6,17 +6,19 @@ use Rattle.std.proofs.lemmas.List.{map-append, take-map, take_all, take_more}
 use Rattle.std.proofs.lemmas.List.Folds.{list_all-append}
 use Rattle.std.proofs.lemmas.Option.{same_Some}
 use Rattle.eeprom.specs.Chip.{Becomes}
-use Rattle.eeprom.specs.StoreOf.{Slots, chain_of, chains_of, is_record, slot_of, slots_at, store_of, directory, are_apart, cells_for, cells_of, weight_of}
-use Rattle.cell_store.specs.Cells.{Cells, StandsFor, kept}
+use Rattle.eeprom.specs.StoreOf.{Slots, numbers_at, chain_of, chains_of, is_record, slot_of, slots_at, store_of, directory, are_apart, cells_for, cells_of, weight_of}
+use Rattle.cell_store.specs.Cells.{Cells, StandsFor, all_free, kept}
 use Rattle.cell_store.specs.Chains.{AreFree, IsRecordChain, is_among}
 use Rattle.cell_store.specs.Claims.{TakesChain, HasRecord, HasNoRecord}
 use Rattle.cell_store.proofs.Chains.{chain-empty, chains-push, chains-take}
 use Rattle.cell_store.proofs.Placements.{nowhere}
+use Rattle.record_store.specs.Header.{IsHeaderOf}
+use Rattle.record_store.specs.declared.header.Header.{Header}
 use Rattle.record_store.specs.Held.{Held, contents, StandsFor as HeldStandsFor}
 use Rattle.record_store.specs.Opening.{HeldSoFar, StandsSoFar, IsSoundSoFar, TakesSlot, IsSlot, ReadsStore, front_octets, slots_so_far, slot_with}
-use Rattle.record_store.specs.Sound.{IsSound, cells_in}
+use Rattle.record_store.specs.Sound.{Claimed, IsSound, cells_in}
 use Rattle.record_store.specs.declared.side.Side.TheVariants.{Committed}
-use Rattle.record_store.proofs.ClaimedSlots.{Claims, cells-more, claims-so_far, claims-record, claims-refused, claims-over, claimed-more, claimed-all, takes-range, marked-so_far, free-so_far}
+use Rattle.record_store.proofs.ClaimedSlots.{all_free-range, claimed-start, stands-start, Claims, cells-more, claims-so_far, claims-record, claims-refused, claims-over, claimed-more, distinct-more, marked-claimed, takes-range}
 use Rattle.record_store.proofs.Weights.{store-begins, slots-chains, some-slots, header-room, cells-chains, chains-told}
 
 -- so many octets were read until then
@@ -37,31 +39,55 @@ slots-push image n xs first chains chain slots entry of records are there is ent
     rw (chains-push image n xs first chains chain of there, list_all-append (is_record image n) chains (chain ∷ []), records, is, apart)
     (ap (λ (slots : Slots). Some slots) (map-append (slot_of image n) chains (chain ∷ []) ∙ (ap (λ (before : Slots). before ++ slot_of image n chain ∷ []) (sym are) ∙ ap (λ (entry : Option (List ℕ)). slots ++ entry ∷ []) entry_is)))
 
+-- before the first slot
+abbrev pub begun : Cells → ℕ → List ℕ → HeldSoFar
+begun store selector firsts = record { cells = store.cells; used = store.used; links = store.links; selector = selector; firsts = firsts; claimed = 0; weight = 0 }
+
+pub sound-begun : (n selector : ℕ) (firsts : List ℕ) (store : Cells) → store ≡ all_free n → 16 ≤ n → n ≤ 2048 → selector < 2 → length firsts ≡ n → IsSoundSoFar (begun store selector firsts)
+sound-begun n selector firsts store is few many select count = subst (λ (store : Cells). IsSoundSoFar (begun store selector firsts)) (sym is) (record {
+  range = all_free-range n few many;
+  selector = select;
+  count = count;
+  claimed = omega arith;
+  chains = claimed-start n firsts;
+})
+
+pub stands-begun : (header : Header) (firsts : List ℕ) (store : Cells) (image : Option (List ℕ)) → store ≡ all_free header.cells → IfSome image (λ image. IsHeaderOf image header) → IfSome image (λ image. firsts ≡ numbers_at image (32 + 2 * header.cells * header.selector) header.cells)
+    → IfSome image (StandsSoFar (begun store header.selector firsts))
+stands-begun header firsts store None is begins selected = tt
+stands-begun header firsts store (Some image) is begins selected =
+    let none : nat_le 0 header.cells ≡ true = grind (arith, nat_tests) in
+    subst (λ (store : Cells). StandsSoFar (begun store header.selector firsts) image) (sym is) (record {
+      begins = record { front = begins.front; header = begins.fields; cells = begins.cells; selector = begins.selector; selected = rw (begins.selector) (sym selected) };
+      links = (stands-start header.cells image).links;
+      claimed = rw none refl;
+    })
+
 -- the chains in memory are those of the image, with their records
 record ToldSoFar (held : HeldSoFar) (image : List ℕ) (chains : List (List ℕ)) (slots : Slots) : Type 0 where
   of : chains_of image held.cells (take held.claimed held.firsts) ≡ Some chains
   records : list_all (is_record image held.cells) chains ≡ true
   is : slots ≡ map (slot_of image held.cells) chains
 
-told-so_far : (held : HeldSoFar) (image : List ℕ) (slots : Slots) → (sound : IsSoundSoFar held) → StandsSoFar held image → slots_so_far held image ≡ Some slots → ToldSoFar held image sound.chains.chains slots
+told-so_far : (held : HeldSoFar) (image : List ℕ) (slots : Slots) → (sound : IsSoundSoFar held) → StandsSoFar held image → slots_so_far held image ≡ Some slots → ToldSoFar held image sound.chains.slots.chains slots
 told-so_far held image slots sound stands there =
     let n = held.cells in
     let firsts = take held.claimed held.firsts in
     let c = sound.chains in
-    let marked = marked-so_far (cells_so_far held) firsts held.weight sound.range c in
-    let of : chains_of image n firsts ≡ Some sound.chains.chains = chains-told image n held.used held.links firsts c.chains sound.range.few sound.range.many sound.range.links_count stands.links marked c.are in
+    let marked = marked-claimed (cells_so_far held) firsts c.slots in
+    let of : chains_of image n firsts ≡ Some sound.chains.slots.chains = chains-told image n held.used held.links firsts c.slots.chains sound.range.few sound.range.many sound.range.links_count stands.links marked c.slots.has.are in
     let t = slots-chains image n firsts slots there in
-    let same : t.chains ≡ c.chains = same_Some _ _ (sym t.of ∙ of) in
+    let same : t.chains ≡ c.slots.chains = same_Some _ _ (sym t.of ∙ of) in
     record { of = of; records = subst (λ (chains : List (List ℕ)). list_all (is_record image n) chains ≡ true) same t.records; is = t.is ∙ ap (λ (chains : List (List ℕ)). map (slot_of image n) chains) same }
 
-apart-more : (held : HeldSoFar) (chain : List ℕ) (count : ℕ) → (sound : IsSoundSoFar held) → AreFree held.used chain → length chain ≡ count → held.weight + count ≤ held.cells → are_apart held.cells (sound.chains.chains ++ chain ∷ []) ≡ true
+apart-more : (held : HeldSoFar) (chain : List ℕ) (count : ℕ) → (sound : IsSoundSoFar held) → AreFree held.used chain → length chain ≡ count → held.weight + count ≤ held.cells → are_apart held.cells (sound.chains.slots.chains ++ chain ∷ []) ≡ true
 apart-more held chain count sound free count_is fits =
     let c = sound.chains in
-    let chains : List (List ℕ) = sound.chains.chains ++ chain ∷ [] in
-    let all = free-so_far (cells_so_far held) (take held.claimed held.firsts) chain held.weight sound.range c free in
-    let total : length (cells_in chains) ≡ held.weight + count = ap (length {A = ℕ}) (cells-more sound.chains.chains chain) ∙ (length-append (cells_in sound.chains.chains) chain ∙ omega (arith, c.count_is, count_is)) in
+    let chains : List (List ℕ) = c.slots.chains ++ chain ∷ [] in
+    let distinct = distinct-more (cells_so_far held) (take held.claimed held.firsts) chain c.slots free in
+    let total : length (cells_in chains) ≡ held.weight + count = ap (length {A = ℕ}) (cells-more c.slots.chains chain) ∙ (length-append (cells_in c.slots.chains) chain ∙ omega (arith, c.count_is, count_is)) in
     let few : nat_le (length (cells_in chains)) held.cells ≡ true = grind (arith, nat_tests, total, fits) in
-    rw (all.distinct, few) refl
+    rw (distinct, few) refl
 
 -- the slots with the one that is claimed
 next-slots : (held : HeldSoFar) (new : Cells) (count : ℕ) (octets image : List ℕ) (slots : Slots) → IsSoundSoFar held → held.claimed < held.cells → TakesSlot (Some image) (cells_so_far held) new (get_or held.firsts held.claimed 0) octets count
@@ -72,7 +98,7 @@ next-slots held new count octets image slots sound left takes fits stands before
     let told = told-so_far held image slots sound stands before in
     let is = takes.told in
     let more : take (held.claimed + 1) held.firsts ≡ take held.claimed held.firsts ++ first ∷ [] = take_more held.firsts held.claimed 0 (omega (arith, left, sound.count)) in
-    let pushed = slots-push image n (take held.claimed held.firsts) first sound.chains.chains takes.chain.chain slots (slot_with octets) told.of told.records told.is is.of is.is is.slot (apart-more held takes.chain.chain count sound takes.chain.free takes.chain.count_is fits) in
+    let pushed = slots-push image n (take held.claimed held.firsts) first sound.chains.slots.chains takes.chain.chain slots (slot_with octets) told.of told.records told.is is.of is.is is.slot (apart-more held takes.chain.chain count sound takes.chain.free takes.chain.count_is fits) in
     subst (λ (n : ℕ). slots_at image n (take (held.claimed + 1) held.firsts) ≡ Some (slots ++ slot_with octets ∷ [])) (sym takes.chain.cells)
     (subst (λ (firsts : List ℕ). slots_at image n firsts ≡ Some (slots ++ slot_with octets ∷ [])) (sym more) pushed)
 
@@ -106,8 +132,7 @@ sound-next held new count sound left takes fits = record {
   selector = sound.selector;
   count = sound.count ∙ sym takes.cells;
   claimed = rw (takes.cells) (omega (arith, left));
-  few = rw (takes.cells) fits;
-  chains = claimed-more (cells_so_far held) new held.firsts held.weight count held.claimed sound.range (omega (arith, left, sound.count)) takes sound.chains;
+  chains = claimed-more (cells_so_far held) new held.firsts held.weight count held.claimed sound.range (omega (arith, left, sound.count)) takes fits sound.chains;
 }
 
 -- there is none where a slot can't be claimed, or with one cell too many
@@ -115,7 +140,7 @@ claims-held : (held : HeldSoFar) (image : List ℕ) → IsSoundSoFar held → St
 claims-held held image sound stands =
     let slots = some-slots (slots_so_far held image) stands.claimed in
     let told = told-so_far held image slots.0 sound stands slots.1 in
-    claims-so_far held.cells held.firsts held.used held.weight held.claimed sound.chains.chains image told.of told.records sound.chains.free sound.chains.count_is sound.chains.used
+    claims-so_far (cells_so_far held) held.firsts held.weight held.claimed image sound.range sound.chains told.of told.records
 
 -- a chain that doesn't begin nowhere has a cell
 some-cells : (image : List ℕ) (n first : ℕ) (chain : List ℕ) → first ≢ 65535 → chain_of image n (2 * n) first ≡ Some chain → 0 < length chain
@@ -143,7 +168,7 @@ weight-held : (held : HeldSoFar) (image : List ℕ) (slots : Slots) → IsSoundS
 weight-held held image slots sound stands there =
     let told = told-so_far held image slots sound stands there in
     let room = header-room image held.cells stands.begins.header stands.begins.cells in
-    let cells = cells-chains image held.cells (take held.claimed held.firsts) sound.chains.chains room told.of told.records in
+    let cells = cells-chains image held.cells (take held.claimed held.firsts) sound.chains.slots.chains room told.of told.records in
     sym sound.chains.count_is ∙ (sym cells ∙ ap weight_of (sym told.is))
 
 pub weight-finished : (held : HeldSoFar) (image : List ℕ) (slots : Slots) → IsSoundSoFar held → held.claimed ≡ held.cells → StandsSoFar held image → slots_at image held.cells held.firsts ≡ Some slots → held.weight ≡ weight_of slots
@@ -154,7 +179,7 @@ weight-finished held image slots sound all stands there =
 pub sound-finished : (held : HeldSoFar) (working : List ℕ) → IsSoundSoFar held → held.claimed ≡ held.cells → length working ≡ held.cells
     → IsSound (record { cells = held.cells; used = held.used; links = held.links; selector = held.selector; committed = held.firsts; working = working; begun = false })
 sound-finished held working sound all count =
-    let c = claimed-all (cells_so_far held) held.firsts held.weight held.claimed sound.range (omega (arith, all, sound.count)) sound.few sound.chains in
+    let c : Claimed (cells_so_far held) held.firsts = subst (Claimed (cells_so_far held)) (take_all held.claimed held.firsts (omega (arith, all, sound.count))) sound.chains.slots in
     record {
       range = sound.range;
       selector = sound.selector;

@@ -78,7 +78,7 @@ among-all P (x ∷ cells) all cell here = elim (or_cases (cell == x) (is_among c
   | inr later ↦ among-all P cells all.1 cell later
 ]
 
-not-among-all : (cells others : List ℕ) → ((cell : ℕ) → is_among cell cells ≡ true → is_among cell others ≡ false) → AreNotAmong cells others
+pub not-among-all : (cells others : List ℕ) → ((cell : ℕ) → is_among cell cells ≡ true → is_among cell others ≡ false) → AreNotAmong cells others
 not-among-all cells others each = all-among (λ cell. is_among cell others ≡ false) cells each
 
 -- chains and the cells that they begin at

@@ -1,11 +1,10 @@
 -- A store that is being opened: its slots are claimed one after another.
-use Rattle.std.specs.Prelude.{◌≡◌, ℕ, ◌+◌, ◌*◌, ◌<◌, ◌≤◌, Bool, true, false, List, [], ◌∷◌, length, replicate, take, Option, Some, None, IsSome, IfSome}
+use Rattle.std.specs.Prelude.{◌≡◌, ℕ, ◌+◌, ◌*◌, ◌<◌, ◌≤◌, Bool, true, List, [], ◌∷◌, length, take, Option, Some, None, IsSome, IfSome}
 use Rattle.eeprom.specs.StoreOf.{Slots, slots_at, chain_of, is_record, slot_of, weight_of}
 use Rattle.cell_store.specs.Cells.{Cells, IsInRange, kept, AreLinksOf}
-use Rattle.cell_store.specs.Chains.{AreFree, with_marked}
 use Rattle.cell_store.specs.Claims.{TakesChain}
 use Rattle.record_store.specs.Held.{BeginsAs}
-use Rattle.record_store.specs.Sound.{AreChains, cells_in}
+use Rattle.record_store.specs.Sound.{Claimed, cells_in}
 
 -- the number of cells; which cells are used, and of each used cell the number of the next one; the octet that selects the
 -- directory; for each slot the first cell of its chain; how many slots were claimed, and how many cells their chains have
@@ -33,13 +32,10 @@ pub record StandsSoFar (held : HeldSoFar) (image : List ℕ) : Type 0 where
   pub links : AreLinksOf image held.cells held.used held.links
   pub claimed : IsSome (slots_so_far held image)
 
--- the chains in memory that begin at these cells: no cell is in two of them, they have so many, and no others are used
+-- these slots are claimed, and their chains have so many cells
 pub record ClaimedSoFar (store : Cells) (firsts : List ℕ) (weight : ℕ) : Type 0 where
-  pub chains : List (List ℕ)
-  pub are : AreChains store.links firsts chains
-  pub free : AreFree (replicate (2 * store.cells) false) (cells_in chains)
-  pub count_is : length (cells_in chains) ≡ weight
-  pub used : store.used ≡ with_marked (replicate (2 * store.cells) false) (cells_in chains)
+  pub slots : Claimed store firsts
+  pub count_is : length (cells_in slots.chains) ≡ weight
 
 -- in the image this chain of a slot that begins at this cell has these octets as its record, or none
 pub record IsSlot (image : List ℕ) (n first : ℕ) (octets chain : List ℕ) : Type 0 where
@@ -58,7 +54,6 @@ pub record IsSoundSoFar (held : HeldSoFar) : Type 0 where
   pub selector : held.selector < 2
   pub count : length held.firsts ≡ held.cells
   pub claimed : held.claimed ≤ held.cells
-  pub few : held.weight ≤ held.cells
   pub chains : ClaimedSoFar (kept held.cells held.used held.links) (take held.claimed held.firsts) held.weight
 
 -- how many octets begin an image of so many cells, as far as it is looked at: 9, and a directory

@@ -45,7 +45,7 @@ pub record IsSound (held : Held) : Type 0 where
   pub working_count : length held.working ≡ held.cells
   pub sides : KeepsSides held
 
--- the chains of the slots of a store that is opened, whose cells are used, and no others
+-- the slots that begin at these cells have chains, whose cells are used, and no others
 pub record Claimed (store : Cells) (firsts : List ℕ) : Type 0 where
   pub chains : List (List ℕ)
   pub has : HasChains store.cells store.links firsts chains
