@@ -48,8 +48,7 @@ pub record StopsIn (stop : Stop) (m : Machine) (lines : List (List ℕ)) (before
   pub fails : FailsIn stop (run_text m clean) (machine_after m clean) (reading_of line) before now
 
 -- An outlet failed, and gave the start of a text.
-pub record IsCutShort (stop : Stop) (text : List ℕ) (before now : Option (List ℕ)) : Type 0 where
-  pub outlet : stop ≡ Outlet
+pub record IsCutShort (text : List ℕ) (before now : Option (List ℕ)) : Type 0 where
   pub said : List ℕ
   pub start : IsStartOf said text
   pub given : Prints said before now
