@@ -147,7 +147,7 @@ FailsIn-lines stop m taken before now fails =
 
 abbrev pub StopsIn-halted : (stop : Stop) (m : Machine) (input : List ℕ) (old now : Chip) → HaltsAt stop input (from_machine m) old now → StopsIn stop m (lines input true) old.still.given now
 StopsIn-halted stop m input old now halts = record {
-  clean = lines halts.taken false;
+  answered = lines halts.taken false;
   line = open_end halts.taken;
   rest = lines halts.rest true;
   split = ap (λ (x : List ℕ). lines x true) halts.split ∙ lines-line_feed halts.taken halts.rest true;
@@ -165,7 +165,7 @@ StopsIn-last stop m input old mid now running feeds ends =
     let fails : FailsAt stop (text ++ []) r old.chip.still.given now =
     FailsIn-after stop text [] r.machine (kept_reading r.begun) old.chip.still.given mid.chip.still.given now follows.text last.1 in
     record {
-      clean = lines input false;
+      answered = lines input false;
       line = open_end input;
       rest = [];
       split = lines-open input (subst (λ (s : Running). is_nothing_kept s.begun ≡ false) (after-lines m input) last.0);

@@ -245,7 +245,7 @@ keeps-too_long from to room count piece old mid new start before now m over with
     )
 
 KeepsTo-stopped : (stop : Stop) (from to : ℕ) (m : Machine) (input left : List ℕ) (old now : Chip) → RoseAt stop from to → (stops : StopsIn stop m (lines input true) old.still.given now)
-    → AreKept m (lines input true) (carried_out stop stops.clean) old now → KeepsTo (status_of stop) from to m input left old now
+    → AreKept m (lines input true) (carried_out stop stops.answered) old now → KeepsTo (status_of stop) from to m input left old now
 KeepsTo-stopped Eeprom from to m input left old now rose stops kept = (stops, kept)
 KeepsTo-stopped Outlet from to m input left old now rose stops kept = inl (stops, kept)
 KeepsTo-stopped Both from to m input left old now rose stops kept = inr (rose, (stops, kept))
