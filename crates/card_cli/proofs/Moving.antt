@@ -1,16 +1,15 @@
 -- How moments of a run go on: of a piece of output, of a line, of octets of input.
 use Rattle.std.proofs.Common.{◌≡◌, inl, inr, ℕ, ◌+◌, ◌≤◌, List, [], ◌∷◌, ◌++◌, length, drop, Option, Some, None, IfSome, Result, Ok, Err, false, refl, sym, ap, subst, ◌∙◌, arith, length-append, append_assoc, append-nil}
-use Rattle.std.specs.Prelude.{IsSome, is_some, OnOk, IfErr}
+use Rattle.std.specs.Prelude.{IsSome, is_some, OnOk}
 use Rattle.eeprom.specs.Chip.{Chip, Still, giving, LeftIn, Gives, Throughout}
 use Rattle.eeprom.proofs.Moments.{left-in-more, drop-more, left-told, left-cases, throughout-weaker}
 use Rattle.scql_model.specs.Machine.{Machine}
 use Rattle.scql_model.specs.Lines.{Reading, is_line_feed, reading_text, reading_step, reading_commits}
 use Rattle.scql_model.specs.Opens.{Opens, OpensToOneOf}
 use Rattle.card.specs.Answering.{LeavesOneOf}
-use Rattle.card.specs.Card.{Kept, IsReady, IsAt, committed_slots}
+use Rattle.card.specs.Card.{Kept, IsReady, IsAt}
 use Rattle.card.proofs.Leaving.{Opens-at, unwritten_leaves}
 use Rattle.card_cli.specs.declared.stop.Stop.{Stop}
-use Rattle.card_cli.specs.CutOff.{IsCutShort}
 use Rattle.card_cli.specs.RunState.{Prints}
 use Rattle.card_cli.specs.Line.{kept_reading, is_nothing_kept}
 use Rattle.card_cli.specs.Running.{Running, after, text_of}
@@ -97,21 +96,6 @@ answered-moments m reading old mid new leaves still gives opens within =
       done = λ past. opens left during.2;
     })
 
--- all of it went out
-pub line-answered : (m : Machine) (reading : Reading) (old mid new : Chip) → LeavesOneOf (m.committed ∷ reading_commits m reading) old mid → mid.still ≡ old.still
-    → Throughout mid new (IsInPiece mid new.still.mark) → ((image : List ℕ) → mid.image ≡ Some image → Opens image (reading_step m reading).committed)
-    → new.still.mark ≡ mid.still.mark + length (reading_text m reading) → IsAnswered m reading old new
-line-answered m reading old mid new leaves still gives opens mark =
-    let same : mid.still.mark ≡ old.still.mark = ap (λ (s : Still). s.mark) still in
-    record { mark = omega (arith, mark, same); moments = answered-moments m reading old mid new leaves still gives opens (omega (arith, mark)) }
-
--- The outlet failed: of an answer that was to be given some of the text went out.
-pub stopped-giving : (result : Result (Unit {0}) Stop) (m : Machine) (reading : Reading) (text : List ℕ) (before : Option (List ℕ)) (old now : Chip)
-    → IfErr result (λ (stop : Stop). IsCutShort stop text before now.still.given) → IfGiven now (Throughout old now (IsInAnswered m reading old.still.mark))
-    → IfErr result (λ (stop : Stop). IfGiven now (Throughout old now (IsInStopped stop m reading old.still.mark)))
-stopped-giving (Ok x) m reading text before old now cut moments = tt
-stopped-giving (Err stop) m reading text before old now cut moments = λ told. subst (λ (s : Stop). Throughout old now (IsInStopped s m reading old.still.mark)) (sym cut.outlet) (moments told)
-
 -- nothing is printed, and nothing happens
 pub line-silent : (m : Machine) (reading : Reading) (chip : Chip) → length (reading_text m reading) ≡ 0
     → ((image : List ℕ) → chip.image ≡ Some image → Opens image m.committed) → IsAnswered m reading chip chip
@@ -129,34 +113,23 @@ pub on_given : {P Q : Type 0} → (result : Result (Unit {0}) Stop) (now : Chip)
 on_given (Ok x) now holds then = λ told. then (holds told)
 on_given (Err stop) now holds then = tt
 
--- where the image stays, card and EEPROM stay at their machine, whether or not a piece of output could be given
-pub at_stays : (result : Result (Unit {0}) Stop) (card : Kept) (mid now : Chip) (m : Machine) → now.image ≡ mid.image → IsAt card mid m → OnOk result (IsAt card now m)
-at_stays (Ok x) card mid now m same at = record {
-  slots = at.slots;
-  committed = subst (λ (image : Option (List ℕ)). committed_slots card.store image ≡ Some at.slots) (sym same) at.committed;
-  holds = at.holds;
-  valid = at.valid;
-  transaction = at.transaction;
-  sessions = at.sessions;
+-- A line that reads as a note leaves the EEPROM, and of the note's text some went out,
+pub note-moments : (m : Machine) (note reading : Reading) (text : List ℕ) (card : Kept) (old now : Chip) → IsReady card old → IsAt card old m
+    → note ≡ reading → text ≡ reading_text m note → m.committed ≡ (reading_step m note).committed → IfSome old.past (λ past. length past ≡ old.clock) → Gives old now
+    → now.still.mark ≤ old.still.mark + length text → Throughout old now (IsInAnswered m reading old.still.mark)
+note-moments m note reading text card old now ready at is text_is stays clocked gives within =
+    subst (λ (r : Reading). Throughout old now (IsInAnswered m r old.still.mark)) is
+    (answered-moments m note old old now (unwritten_leaves card old old m (reading_commits m note) ready at refl) refl (gives-throughout old now clocked gives)
+    (λ image there. subst (Opens image) stays (Opens-at card old m ready at image there)) (omega (arith, within, ap length text_is)))
+
+-- or all of it
+pub note-answered : (m : Machine) (note reading : Reading) (text : List ℕ) (card : Kept) (old now : Chip) → IsReady card old → IsAt card old m
+    → note ≡ reading → text ≡ reading_text m note → m.committed ≡ (reading_step m note).committed → IfSome old.past (λ past. length past ≡ old.clock) → Gives old now
+    → now.still.mark ≡ old.still.mark + length text → IsAnswered m reading old now
+note-answered m note reading text card old now ready at is text_is stays clocked gives mark = record {
+  mark = mark ∙ ap (λ (t : List ℕ). old.still.mark + length t) (text_is ∙ ap (reading_text m) is);
+  moments = note-moments m note reading text card old now ready at is text_is stays clocked gives (omega (arith, mark));
 }
-at_stays (Err stop) card mid now m same at = tt
-
--- A line that is no command leaves the EEPROM, and its text goes out.
-pub note-moments : (result : Result (Unit {0}) Stop) (m : Machine) (reading : Reading) (text : List ℕ) (card : Kept) (old now : Chip) → IsReady card old → IsAt card old m
-    → text ≡ reading_text m reading → m.committed ≡ (reading_step m reading).committed → IfSome old.past (λ past. length past ≡ old.clock) → Gives old now
-    → IfErr result (λ (stop : Stop). IsCutShort stop text old.still.given now.still.given) → IfGiven now (now.still.mark ≤ old.still.mark + length text)
-    → IfErr result (λ (stop : Stop). IfGiven now (Throughout old now (IsInStopped stop m reading old.still.mark)))
-note-moments result m reading text card old now ready at is same clocked gives cut within =
-    stopped-giving result m reading text old.still.given old now cut
-    (λ told. answered-moments m reading old old now (unwritten_leaves card old old m (reading_commits m reading) ready at refl) refl (gives-throughout old now clocked gives)
-    (λ image there. subst (Opens image) same (Opens-at card old m ready at image there)) (omega (arith, within told, ap length is)))
-
-pub note-answered : (result : Result (Unit {0}) Stop) (m : Machine) (reading : Reading) (text : List ℕ) (card : Kept) (old now : Chip) → IsReady card old → IsAt card old m
-    → text ≡ reading_text m reading → m.committed ≡ (reading_step m reading).committed
-    → IfSome old.past (λ past. length past ≡ old.clock) → Gives old now → OnOk result (IfGiven now (now.still.mark ≡ old.still.mark + length text)) → OnOk result (IfGiven now (IsAnswered m reading old now))
-note-answered result m reading text card old now ready at is same clocked gives mark =
-    on_given result now mark (λ mark. line-answered m reading old old now (unwritten_leaves card old old m (reading_commits m reading) ready at refl) refl (gives-throughout old now clocked gives)
-    (λ image told. subst (Opens image) same (Opens-at card old m ready at image told)) (mark ∙ ap (λ (t : List ℕ). old.still.mark + length t) is))
 
 -- A moment among octets is one among more of them.
 while-longer : (xs ys : List ℕ) (r : Running) (mark g : ℕ) (left : List ℕ) → IsWhile xs r mark g left → IsWhile (xs ++ ys) r mark g left

@@ -1,6 +1,6 @@
 -- How a device stops a run, in a line and among octets.
 use Rattle.std.proofs.Common.{◌≡◌, ℕ, true, false, List, [], ◌∷◌, ◌++◌, take, drop, Option, Some, Result, Ok, Err, refl, sym, ap, subst, ◌∙◌, append-nil, append_assoc, take-append-drop}
-use Rattle.std.specs.Prelude.{IfErr, codes}
+use Rattle.std.specs.Prelude.{OnErr, IfErr, IsErrAnd, codes}
 use Rattle.hex.specs.Hex.{encode_upper, encode_with}
 use Rattle.eeprom.specs.Chip.{Chip, Throughout}
 use Rattle.eeprom.specs.Output.{Follows}
@@ -23,23 +23,28 @@ use Rattle.card_cli.specs.Halting.{FailsAt, HaltsAt, Halts}
 use Rattle.card_cli.proofs.Feeding.{Prints-then}
 use Rattle.card_cli.proofs.Streaming.{open_end, reading-kept, text_of-lines, after-lines, after-append, text_of-append, lines-open, lines-line_feed}
 
--- the first octets of a text are a start of it
-pub cut_short : (count : ℕ) (text : List ℕ) (before now : Option (List ℕ)) → Follows count text before now → IsCutShort Outlet text before now
-cut_short count text before now follows = record { outlet = refl; said = take count text; start = (drop count text, sym (take-append-drop count text)); given = follows }
+-- where an outlet failed, the first octets that it gave of a text are a start of it
+pub cut_short : {E : Type 0} (result : Result (Unit {0}) E) (text : List ℕ) (before now : Option (List ℕ))
+    → OnErr result ((count : ℕ) × Follows count text before now) → OnErr result (IsCutShort text before now)
+cut_short (Ok x) text before now given = tt
+cut_short (Err fault) text before now given = record { said = take given.0 text; start = (drop given.0 text, sym (take-append-drop given.0 text)); given = given.1 }
 
--- an answer was given, or the outlet failed
-pub fails_giving : (result : Result (Unit {0}) Stop) (m : Machine) (reading : Reading) (text : List ℕ) (before : Option (List ℕ)) (mid now : Chip)
-    → text ≡ reading_text m reading → IfErr result (λ (stop : Stop). IsCutShort stop text before now.still.given)
+-- what holds where the outlet failed, holds of the stop that its fault becomes
+pub at_outlet : (P : Stop → Type 0) (result : Result (Unit {0}) Stop) → IsErrAnd result (λ (stop : Stop). stop ≡ Outlet) → P Outlet → IfErr result P
+at_outlet P (Ok x) is holds = tt
+at_outlet P (Err stop) is holds = subst P (sym is) holds
+
+-- an answer was to be given, and the outlet failed
+pub fails_giving : (m : Machine) (reading : Reading) (text : List ℕ) (before : Option (List ℕ)) (mid now : Chip)
+    → text ≡ reading_text m reading → IsCutShort text before now.still.given
     → now.image ≡ mid.image → ((image : List ℕ) → mid.image ≡ Some image → Opens image (reading_step m reading).committed)
-    → IfErr result (λ (stop : Stop). FailsIn stop [] m reading before now)
-fails_giving (Ok x) m reading text before mid now is cut same opens = tt
-fails_giving (Err stop) m reading text before mid now is cut same opens =
-    subst (λ (s : Stop). FailsIn s [] m reading before now) (sym cut.outlet) (record {
-      said = cut.said;
-      says = (cut.start.0, sym is ∙ cut.start.1);
-      given = cut.given;
-      image = λ image told. opens image (sym same ∙ told);
-    })
+    → FailsIn Outlet [] m reading before now
+fails_giving m reading text before mid now is cut same opens = record {
+  said = cut.said;
+  says = (cut.start.0, sym is ∙ cut.start.1);
+  given = cut.given;
+  image = λ image told. opens image (sym same ∙ told);
+}
 
 -- what a line may leave of the EEPROM
 abbrev pub OpensWithin : Machine → Reading → Chip → Type 0
@@ -56,22 +61,22 @@ fails_mute m reading text before mid now is given same opens = record {
 }
 
 -- or the outlet failed as it did
-pub fails_both : (stop : Stop) (m : Machine) (reading : Reading) (text : List ℕ) (before : Option (List ℕ)) (mid now : Chip)
-    → text ≡ mute_text → IsCutShort stop text before now.still.given → now.image ≡ mid.image → OpensWithin m reading mid → FailsIn Both [] m reading before now
-fails_both stop m reading text before mid now is cut same opens = record {
+pub fails_both : (m : Machine) (reading : Reading) (text : List ℕ) (before : Option (List ℕ)) (mid now : Chip)
+    → text ≡ mute_text → IsCutShort text before now.still.given → now.image ≡ mid.image → OpensWithin m reading mid → FailsIn Both [] m reading before now
+fails_both m reading text before mid now is cut same opens = record {
   said = cut.said;
   says = (cut.start.0, sym is ∙ cut.start.1);
   given = cut.given;
   image = λ image told. opens image (sym same ∙ told);
 }
 
--- a line that is no command leaves the EEPROM
-pub fails_note : (result : Result (Unit {0}) Stop) (m : Machine) (reading : Reading) (text : List ℕ) (card : Kept) (old now : Chip) → IsReady card old → IsAt card old m
-    → text ≡ reading_text m reading → m.committed ≡ (reading_step m reading).committed
-    → IfErr result (λ (stop : Stop). IsCutShort stop text old.still.given now.still.given) → now.image ≡ old.image
-    → IfErr result (λ (stop : Stop). FailsIn stop [] m reading old.still.given now)
-fails_note result m reading text card old now ready at is stays cut same =
-    fails_giving result m reading text old.still.given old now is cut same (λ image told. subst (Opens image) stays (Opens-at card old m ready at image told))
+-- a line that reads as a note leaves the EEPROM
+pub fails_note : (m : Machine) (note reading : Reading) (text : List ℕ) (card : Kept) (old now : Chip) → IsReady card old → IsAt card old m
+    → note ≡ reading → text ≡ reading_text m note → m.committed ≡ (reading_step m note).committed
+    → IsCutShort text old.still.given now.still.given → now.image ≡ old.image → FailsIn Outlet [] m reading old.still.given now
+fails_note m note reading text card old now ready at is text_is stays cut same =
+    subst (λ (r : Reading). FailsIn Outlet [] m r old.still.given now) is
+    (fails_giving m note text old.still.given old now text_is cut same (λ image told. subst (Opens image) stays (Opens-at card old m ready at image told)))
 
 -- what a card says that goes mute
 pub mute_text-reply : (body : List ℕ) (word : StatusWord) → body ≡ [] → word ≡ memory_failure → encode_upper (reply_octets (record { body = body; word = word })) ++ codes "\n" ≡ mute_text
@@ -142,7 +147,7 @@ FailsIn-lines stop m taken before now fails =
 
 abbrev pub StopsIn-halted : (stop : Stop) (m : Machine) (input : List ℕ) (old now : Chip) → HaltsAt stop input (from_machine m) old now → StopsIn stop m (lines input true) old.still.given now
 StopsIn-halted stop m input old now halts = record {
-  clean = lines halts.taken false;
+  answered = lines halts.taken false;
   line = open_end halts.taken;
   rest = lines halts.rest true;
   split = ap (λ (x : List ℕ). lines x true) halts.split ∙ lines-line_feed halts.taken halts.rest true;
@@ -160,7 +165,7 @@ StopsIn-last stop m input old mid now running feeds ends =
     let fails : FailsAt stop (text ++ []) r old.chip.still.given now =
     FailsIn-after stop text [] r.machine (kept_reading r.begun) old.chip.still.given mid.chip.still.given now follows.text last.1 in
     record {
-      clean = lines input false;
+      answered = lines input false;
       line = open_end input;
       rest = [];
       split = lines-open input (subst (λ (s : Running). is_nothing_kept s.begun ≡ false) (after-lines m input) last.0);

@@ -220,26 +220,26 @@ lines-prefix octets rest ended =
     (without_open_end ended (pieces.0 ∷ pieces.1), ap (without_open_end ended) pieces.2 ∙ without_open_end-behind ended (lines octets false) pieces.0 pieces.1)
 
 -- one line more
-run_text-more : (m : Machine) (clean : List (List ℕ)) (line : List ℕ) → run_text m (clean ++ line ∷ []) ≡ run_text m clean ++ line_text (machine_after m clean) line
+run_text-more : (m : Machine) (answered : List (List ℕ)) (line : List ℕ) → run_text m (answered ++ line ∷ []) ≡ run_text m answered ++ line_text (machine_after m answered) line
 run_text-more m [] line = append-nil (line_text m line)
-run_text-more m (first ∷ clean) line =
-    ap (λ (x : List ℕ). line_text m first ++ x) (run_text-more (line_step m first) clean line)
-    ∙ sym (append_assoc (line_text m first) (run_text (line_step m first) clean) (line_text (machine_after (line_step m first) clean) line))
+run_text-more m (first ∷ answered) line =
+    ap (λ (x : List ℕ). line_text m first ++ x) (run_text-more (line_step m first) answered line)
+    ∙ sym (append_assoc (line_text m first) (run_text (line_step m first) answered) (line_text (machine_after (line_step m first) answered) line))
 
-machine_after-more : (m : Machine) (clean : List (List ℕ)) (line : List ℕ) → machine_after m (clean ++ line ∷ []) ≡ line_step (machine_after m clean) line
+machine_after-more : (m : Machine) (answered : List (List ℕ)) (line : List ℕ) → machine_after m (answered ++ line ∷ []) ≡ line_step (machine_after m answered) line
 machine_after-more m [] line = refl
-machine_after-more m (first ∷ clean) line = machine_after-more (line_step m first) clean line
+machine_after-more m (first ∷ answered) line = machine_after-more (line_step m first) answered line
 
 -- the run at the end of its input
 pub text_of-ended : (m : Machine) (octets : List ℕ) → text_of (from_machine m) octets ++ end_text (after (from_machine m) octets) ≡ run_text m (lines octets true)
 text_of-ended m octets =
-    let clean : List (List ℕ) = lines octets false in
+    let whole : List (List ℕ) = lines octets false in
     let line : List ℕ = open_end octets in
     ap (λ (x : List ℕ). x ++ end_text (after (from_machine m) octets)) (text_of-lines m octets)
-    ∙ (ap (λ (r : Running). run_text m clean ++ end_text r) (after-lines m octets)
+    ∙ (ap (λ (r : Running). run_text m whole ++ end_text r) (after-lines m octets)
     ∙ elim (cases_Bool (is_nothing_kept (kept line))) [
-      | inl t ↦ rw t (append-nil (run_text m clean) ∙ ap (run_text m) (sym (lines-closed octets t)))
-      | inr e ↦ rw e (ap (λ (x : List ℕ). run_text m clean ++ x) (begun_text-kept (machine_after m clean) line) ∙ (sym (run_text-more m clean line) ∙ ap (run_text m) (sym (lines-open octets e))))
+      | inl t ↦ rw t (append-nil (run_text m whole) ∙ ap (run_text m) (sym (lines-closed octets t)))
+      | inr e ↦ rw e (ap (λ (x : List ℕ). run_text m whole ++ x) (begun_text-kept (machine_after m whole) line) ∙ (sym (run_text-more m whole line) ∙ ap (run_text m) (sym (lines-open octets e))))
     ])
 
 pub after_end-lines : (m : Machine) (octets : List ℕ) → (after_end (after (from_machine m) octets)).machine ≡ machine_after m (lines octets true)

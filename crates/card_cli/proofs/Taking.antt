@@ -12,6 +12,7 @@ use Rattle.card.specs.Card.{IsReady, IsAt}
 use Rattle.card.proofs.Leaving.{Opens-at}
 use Rattle.card_cli.specs.declared.stop.Stop.{Stop}
 use Rattle.card_cli.specs.declared.stop.Stop.TheVariants.{Eeprom, Outlet, Both}
+use Rattle.card_cli.specs.declared.status.Status.{Status}
 use Rattle.card_cli.specs.declared.status.Status.TheVariants.{Done, ReadFault, TooLong}
 use Rattle.card_cli.specs.StatusNumber.{status_of}
 use Rattle.card_cli.specs.Running.{Running, from_machine, after, text_of, end_text, after_end}
@@ -34,6 +35,11 @@ pub record HasTaken (room : ℕ) (old new : RunState) (input left : List ℕ) : 
   pub split : input ≡ taken ++ left
   pub count : length taken + room ≡ longest_input
   pub feeds : Feeds taken old new
+
+-- How a run over its input ends, of which this is left, and what is kept at each moment of it, where what was given is told.
+pub record Ends (status : Status) (from to : ℕ) (m : Machine) (old new : Chip) (input left : List ℕ) : Type 0 where
+  pub leaves : LeavesOff status from to m input left old.still.given new
+  pub keeps : IfGiven new (KeepsTo status from to m input left old new)
 
 -- before the first read
 pub HasTaken-nothing : (state : RunState) (left : Option (List ℕ)) → IsReady state.card state.chip → Becomes (HasTaken longest_input state state) left left
@@ -68,12 +74,18 @@ HasAnswered-taken taken old mid m ready running feeds =
     }
 
 -- the source failed
-pub leaves-read_fault : (from to : ℕ) (room : ℕ) (old mid : RunState) (start before now : Option (List ℕ)) (m : Machine)
-    → IsReady mid.card mid.chip → IsRunning old (from_machine m) → Becomes (HasTaken room old mid) start before → now ≡ before
-    → Becomes (λ (input left : List ℕ). LeavesOff ReadFault from to m input left old.chip.still.given mid.chip) start now
-leaves-read_fault from to room old mid start before now m ready running so_far same = λ left told.
+pub Ends-read_fault : (from to : ℕ) (room : ℕ) (old mid : RunState) (start before now : Option (List ℕ)) (m : Machine)
+    → IsReady mid.card mid.chip → IsRunning old (from_machine m) → Becomes (HasTaken room old mid) start before → now ≡ before → Becomes (Ends ReadFault from to m old.chip mid.chip) start now
+Ends-read_fault from to room old mid start before now m ready running so_far same = λ left told.
     let first = so_far left (sym same ∙ told) in
-    (first.0, first.1, (first.2.taken, first.2.split, HasAnswered-taken first.2.taken old mid m ready running first.2.feeds))
+    let taken = first.2.taken in (
+      first.0,
+      first.1,
+      record {
+        leaves = (taken, first.2.split, HasAnswered-taken taken old mid m ready running first.2.feeds);
+        keeps = λ given. (taken, first.2.split, kept-taken m taken old.chip mid.chip ((first.2.feeds (from_machine m) running).passes given).moments);
+      },
+    )
 
 -- nothing is left, and all was taken
 taken_all : (room : ℕ) (piece : List ℕ) (old mid : RunState) (start before now : Option (List ℕ)) → Becomes (HasTaken room old mid) start before → Takes 0 piece before now
@@ -85,22 +97,28 @@ taken_all room piece old mid start before now so_far takes = λ left told.
     let is : first.0 ≡ taken = first.2.split ∙ (ap (λ (x : List ℕ). taken ++ x) (last.2.1 refl) ∙ append-nil taken) in
     (first.0, first.1, subst (λ (input : List ℕ). Feeds input old mid) (sym is) first.2.feeds)
 
-pub leaves-done : (from to : ℕ) (room : ℕ) (piece : List ℕ) (old mid new : RunState) (start before now : Option (List ℕ)) (m : Machine)
+-- the last line was answered
+pub Ends-done : (from to : ℕ) (room : ℕ) (piece : List ℕ) (old mid new : RunState) (start before now : Option (List ℕ)) (m : Machine)
     → IsRunning old (from_machine m) → Becomes (HasTaken room old mid) start before → Takes 0 piece before now → IsReady new.card new.chip
     → ((r : Running) → IsRunning mid r → IsAt new.card new.chip (after_end r).machine)
     → ((r : Running) → IsRunning mid r → Prints (end_text r) mid.chip.still.given new.chip.still.given)
-    → Becomes (λ (input left : List ℕ). LeavesOff Done from to m input left old.chip.still.given new.chip) start now
-leaves-done from to room piece old mid new start before now m running so_far takes ready at text = λ left told.
+    → ((r : Running) → IsRunning mid r → IfGiven new.chip (Throughout mid.chip new.chip (IsAtEnd r mid.chip.still.mark)))
+    → Becomes (Ends Done from to m old.chip new.chip) start now
+Ends-done from to room piece old mid new start before now m running so_far takes ready at text last = λ left told.
     let found = taken_all room piece old mid start before now so_far takes left told in
     let input : List ℕ = found.0 in
     let r : Running = after (from_machine m) input in
-    let follows = found.2 (from_machine m) running in (
+    let follows = found.2 (from_machine m) running in
+    let printed : Prints (end_text r) mid.chip.still.given new.chip.still.given = text r follows.running in (
       input,
       found.1,
       record {
-        text = subst (λ (t : List ℕ). Prints t old.chip.still.given new.chip.still.given) (text_of-ended m input)
-            (Prints-then (text_of (from_machine m) input) (end_text r) old.chip.still.given mid.chip.still.given new.chip.still.given follows.text (text r follows.running));
-        image = Opens-at new.card new.chip (machine_after m (lines input true)) ready (subst (λ (after : Machine). IsAt new.card new.chip after) (after_end-lines m input) (at r follows.running));
+        leaves = record {
+          text = subst (λ (t : List ℕ). Prints t old.chip.still.given new.chip.still.given) (text_of-ended m input)
+              (Prints-then (text_of (from_machine m) input) (end_text r) old.chip.still.given mid.chip.still.given new.chip.still.given follows.text printed);
+          image = Opens-at new.card new.chip (machine_after m (lines input true)) ready (subst (λ (after : Machine). IsAt new.card new.chip after) (after_end-lines m input) (at r follows.running));
+        };
+        keeps = λ given. kept-ended m input old.chip mid.chip new.chip (follows.passes (told-before (end_text r) mid.chip.still.given new.chip.still.given printed given)) (last r follows.running given);
       },
     )
 
@@ -148,17 +166,22 @@ looked_at-whole room piece old mid input within seen =
     (split, ap (take longest_input) split ∙ (ap (λ (k : ℕ). take k (all ++ seen.rest)) (sym long) ∙ take-append_seam all seen.rest))
 
 -- more came than a run takes
-pub leaves-too_long : (from to : ℕ) (room count : ℕ) (piece : List ℕ) (old mid new : RunState) (start before now : Option (List ℕ)) (m : Machine) → room ≤ count → count ≤ length piece
+pub Ends-too_long : (from to : ℕ) (room count : ℕ) (piece : List ℕ) (old mid new : RunState) (start before now : Option (List ℕ)) (m : Machine) → room ≤ count → count ≤ length piece
     → IsReady new.card new.chip → IsRunning old (from_machine m) → Becomes (HasTaken room old mid) start before → Takes count piece before now → Feeds (take room piece) mid new
-    → Becomes (λ (input left : List ℕ). LeavesOff TooLong from to m input left old.chip.still.given new.chip) start now
-leaves-too_long from to room count piece old mid new start before now m over within ready running so_far takes feeds = λ left told.
+    → Becomes (Ends TooLong from to m old.chip new.chip) start now
+Ends-too_long from to room count piece old mid new start before now m over within ready running so_far takes feeds = λ left told.
     let found = looks_at room count room piece old mid start before now over so_far takes left told in
     let seen = found.2 in
-    let all = looked_at-whole room piece old mid found.0 (omega (arith, over, within)) seen in (
+    let all = looked_at-whole room piece old mid found.0 (omega (arith, over, within)) seen in
+    let whole : List ℕ = seen.taken ++ take room piece in
+    let fed : Feeds whole old new = Feeds-then seen.taken (take room piece) old mid new seen.feeds feeds in (
       found.0,
       found.1,
-      subst (λ (taken : List ℕ). HasAnswered m (lines taken false) old.chip.still.given new.chip) (sym all.1)
-          (HasAnswered-taken (seen.taken ++ take room piece) old new m ready running (Feeds-then seen.taken (take room piece) old mid new seen.feeds feeds)),
+      record {
+        leaves = subst (λ (taken : List ℕ). HasAnswered m (lines taken false) old.chip.still.given new.chip) (sym all.1) (HasAnswered-taken whole old new m ready running fed);
+        keeps = λ given. subst (λ (taken : List ℕ). AreAllKept m (lines taken false) old.chip new.chip) (sym all.1)
+            (kept-taken m whole old.chip new.chip ((fed (from_machine m) running).passes given).moments);
+      },
     )
 
 -- where both devices failed the EEPROM's count rose
@@ -171,116 +194,45 @@ rose-at Eeprom start old new same causes = tt
 rose-at Outlet start old new same causes = tt
 rose-at Both start old new same causes = subst (λ (n : ℕ). Rose n new.eeprom) same (causes.both refl).0
 
-LeavesOff-stopped : (stop : Stop) (from to : ℕ) (m : Machine) (input left : List ℕ) (before : Option (List ℕ)) (now : Chip) → RoseAt stop from to → StopsIn stop m (lines input true) before now → LeavesOff (status_of stop) from to m input left before now
-LeavesOff-stopped Eeprom from to m input left before now rose stops = stops
-LeavesOff-stopped Outlet from to m input left before now rose stops = inl stops
-LeavesOff-stopped Both from to m input left before now rose stops = inr (rose, stops)
+Ends-stopped : (stop : Stop) (from to : ℕ) (m : Machine) (input left : List ℕ) (old now : Chip) → RoseAt stop from to → (stops : StopsIn stop m (lines input true) old.still.given now)
+    → IfGiven now (AreKept m (lines input true) (carried_out stop stops.answered) old now) → Ends (status_of stop) from to m old now input left
+Ends-stopped Eeprom from to m input left old now rose stops kept = record { leaves = stops; keeps = λ given. (stops, kept given) }
+Ends-stopped Outlet from to m input left old now rose stops kept = record { leaves = inl stops; keeps = λ given. inl (stops, kept given) }
+Ends-stopped Both from to m input left old now rose stops kept = record { leaves = inr (rose, stops); keeps = λ given. inr (rose, (stops, kept given)) }
 
 -- a device stopped the run among the octets of a piece, of which so many were looked at
-pub leaves-halted : (stop : Stop) (from to : ℕ) → RoseAt stop from to → (room count k : ℕ) (piece : List ℕ) (old mid : RunState) (now : Chip) (start before after : Option (List ℕ)) (m : Machine) → k ≤ count
-    → IsRunning old (from_machine m) → Becomes (HasTaken room old mid) start before → Takes count piece before after → Halts stop (take k piece) mid now
-    → Becomes (λ (input left : List ℕ). LeavesOff (status_of stop) from to m input left old.chip.still.given now) start after
-leaves-halted stop from to rose room count k piece old mid now start before after m fits running so_far takes halts = λ left told.
-    let found = looks_at room count k piece old mid start before after fits so_far takes left told in
-    let seen = found.2 in
-    let halted : HaltsAt stop (seen.taken ++ (take k piece ++ seen.rest)) (from_machine m) old.chip now =
-    Halts-within stop seen.taken (take k piece) seen.rest old mid now seen.feeds halts (from_machine m) running in (
-      found.0,
-      found.1,
-      LeavesOff-stopped stop from to m found.0 left old.chip.still.given now rose
-          (StopsIn-halted stop m found.0 old.chip now (subst (λ (x : List ℕ). HaltsAt stop x (from_machine m) old.chip now) (sym seen.split) halted)),
-    )
-
--- a device stopped the run in the last line
-pub leaves-last : (stop : Stop) (from to : ℕ) → RoseAt stop from to → (room : ℕ) (piece : List ℕ) (old mid : RunState) (now : Chip) (start before after : Option (List ℕ)) (m : Machine)
-    → IsRunning old (from_machine m) → Becomes (HasTaken room old mid) start before → Takes 0 piece before after
-    → ((r : Running) → IsRunning mid r → (is_nothing_kept r.begun ≡ false) × FailsAt stop [] r mid.chip.still.given now)
-    → Becomes (λ (input left : List ℕ). LeavesOff (status_of stop) from to m input left old.chip.still.given now) start after
-leaves-last stop from to rose room piece old mid now start before after m running so_far takes ends = λ left told.
-    let found = taken_all room piece old mid start before after so_far takes left told in
-    (found.0, found.1, LeavesOff-stopped stop from to m found.0 left old.chip.still.given now rose (StopsIn-last stop m found.0 old mid now running found.2 ends))
-
--- What is kept at each moment, by the ends of the run in the same order.
-pub keeps-read_fault : (from to : ℕ) (room : ℕ) (old mid : RunState) (start before now : Option (List ℕ)) (m : Machine) → IsRunning old (from_machine m)
-    → Becomes (HasTaken room old mid) start before → now ≡ before → IsSome mid.chip.still.given
-    → Becomes (λ (input left : List ℕ). KeepsTo ReadFault from to m input left old.chip mid.chip) start now
-keeps-read_fault from to room old mid start before now m running so_far same given = λ left told.
-    let first = so_far left (sym same ∙ told) in
-    let taken = first.2.taken in (
-      first.0,
-      first.1,
-      (
-        taken,
-        first.2.split,
-        kept-taken m taken old.chip mid.chip ((first.2.feeds (from_machine m) running).passes given).moments,
-      ),
-    )
-
-pub keeps-done : (from to : ℕ) (room : ℕ) (piece : List ℕ) (old mid new : RunState) (start before now : Option (List ℕ)) (m : Machine)
-    → IsRunning old (from_machine m) → Becomes (HasTaken room old mid) start before → Takes 0 piece before now
-    → ((r : Running) → IsRunning mid r → Prints (end_text r) mid.chip.still.given new.chip.still.given)
-    → ((r : Running) → IsRunning mid r → IfGiven new.chip (Throughout mid.chip new.chip (IsAtEnd r mid.chip.still.mark)))
-    → IsSome new.chip.still.given → Becomes (λ (input left : List ℕ). KeepsTo Done from to m input left old.chip new.chip) start now
-keeps-done from to room piece old mid new start before now m running so_far takes text last given = λ left told.
-    let found = taken_all room piece old mid start before now so_far takes left told in
-    let input : List ℕ = found.0 in
-    let r : Running = after (from_machine m) input in
-    let follows = found.2 (from_machine m) running in
-    let given_before : IsSome mid.chip.still.given = told-before (end_text r) mid.chip.still.given new.chip.still.given (text r follows.running) given in
-    (input, found.1, kept-ended m input old.chip mid.chip new.chip (follows.passes given_before) (last r follows.running given))
-
-pub keeps-too_long : (from to : ℕ) (room count : ℕ) (piece : List ℕ) (old mid new : RunState) (start before now : Option (List ℕ)) (m : Machine) → room ≤ count → count ≤ length piece
-    → IsRunning old (from_machine m) → Becomes (HasTaken room old mid) start before → Takes count piece before now → Feeds (take room piece) mid new → IsSome new.chip.still.given
-    → Becomes (λ (input left : List ℕ). KeepsTo TooLong from to m input left old.chip new.chip) start now
-keeps-too_long from to room count piece old mid new start before now m over within running so_far takes feeds given = λ left told.
-    let found = looks_at room count room piece old mid start before now over so_far takes left told in
-    let seen = found.2 in
-    let all = looked_at-whole room piece old mid found.0 (omega (arith, over, within)) seen in
-    let whole : List ℕ = seen.taken ++ take room piece in (
-      found.0,
-      found.1,
-      subst (λ (taken : List ℕ). AreAllKept m (lines taken false) old.chip new.chip) (sym all.1)
-          (kept-taken m whole old.chip new.chip
-          ((Feeds-then seen.taken (take room piece) old mid new seen.feeds feeds (from_machine m) running).passes given).moments),
-    )
-
-KeepsTo-stopped : (stop : Stop) (from to : ℕ) (m : Machine) (input left : List ℕ) (old now : Chip) → RoseAt stop from to → (stops : StopsIn stop m (lines input true) old.still.given now)
-    → AreKept m (lines input true) (carried_out stop stops.clean) old now → KeepsTo (status_of stop) from to m input left old now
-KeepsTo-stopped Eeprom from to m input left old now rose stops kept = (stops, kept)
-KeepsTo-stopped Outlet from to m input left old now rose stops kept = inl (stops, kept)
-KeepsTo-stopped Both from to m input left old now rose stops kept = inr (rose, (stops, kept))
-
-pub keeps-halted : (stop : Stop) (from to : ℕ) → RoseAt stop from to → (room count k : ℕ) (piece : List ℕ) (old mid : RunState) (now : Chip) (start before taken : Option (List ℕ)) (m : Machine) → k ≤ count
-    → IsRunning old (from_machine m) → Becomes (HasTaken room old mid) start before → Takes count piece before taken → Halts stop (take k piece) mid now → IsSome now.still.given
-    → Becomes (λ (input left : List ℕ). KeepsTo (status_of stop) from to m input left old.chip now) start taken
-keeps-halted stop from to rose room count k piece old mid now start before taken m fits running so_far takes halts given = λ left told.
+pub Ends-halted : (stop : Stop) (from to : ℕ) → RoseAt stop from to → (room count k : ℕ) (piece : List ℕ) (old mid : RunState) (now : Chip) (start before taken : Option (List ℕ)) (m : Machine) → k ≤ count
+    → IsRunning old (from_machine m) → Becomes (HasTaken room old mid) start before → Takes count piece before taken → Halts stop (take k piece) mid now
+    → Becomes (Ends (status_of stop) from to m old.chip now) start taken
+Ends-halted stop from to rose room count k piece old mid now start before taken m fits running so_far takes halts = λ left told.
     let found = looks_at room count k piece old mid start before taken fits so_far takes left told in
     let seen = found.2 in
     let halted : HaltsAt stop found.0 (from_machine m) old.chip now =
-    subst (λ (x : List ℕ). HaltsAt stop x (from_machine m) old.chip now) (sym seen.split) (Halts-within stop seen.taken (take k piece) seen.rest old mid now seen.feeds halts (from_machine m) running) in (
+    subst (λ (x : List ℕ). HaltsAt stop x (from_machine m) old.chip now) (sym seen.split) (Halts-within stop seen.taken (take k piece) seen.rest old mid now seen.feeds halts (from_machine m) running) in
+    let cut : lines found.0 true ≡ lines halted.taken false ++ open_end halted.taken ∷ lines halted.rest true = ap (λ (x : List ℕ). lines x true) halted.split ∙ lines-line_feed halted.taken halted.rest true in (
       found.0,
       found.1,
-      KeepsTo-stopped stop from to m found.0 left old.chip now rose (StopsIn-halted stop m found.0 old.chip now halted)
-          (kept-until stop m found.0 halted.taken (10 ∷ halted.rest) (lines halted.rest true) old.chip now halted.split
-          (ap (λ (x : List ℕ). lines x true) halted.split ∙ lines-line_feed halted.taken halted.rest true) (halted.moments given)),
+      Ends-stopped stop from to m found.0 left old.chip now rose (StopsIn-halted stop m found.0 old.chip now halted)
+          (λ given. kept-until stop m found.0 halted.taken (10 ∷ halted.rest) (lines halted.rest true) old.chip now halted.split cut (halted.moments given)),
     )
 
-pub keeps-last : (stop : Stop) (from to : ℕ) → RoseAt stop from to → (room : ℕ) (piece : List ℕ) (old mid : RunState) (now : Chip) (start before taken : Option (List ℕ)) (m : Machine)
+-- a device stopped the run in the last line
+pub Ends-last : (stop : Stop) (from to : ℕ) → RoseAt stop from to → (room : ℕ) (piece : List ℕ) (old mid : RunState) (now : Chip) (start before taken : Option (List ℕ)) (m : Machine)
     → IsRunning old (from_machine m) → Becomes (HasTaken room old mid) start before → Takes 0 piece before taken
     → ((r : Running) → IsRunning mid r → (is_nothing_kept r.begun ≡ false) × FailsAt stop [] r mid.chip.still.given now)
     → ((r : Running) → IsRunning mid r → IfGiven now (Throughout mid.chip now (IsInStopped stop r.machine (kept_reading r.begun) mid.chip.still.mark)))
-    → IsSome now.still.given → Becomes (λ (input left : List ℕ). KeepsTo (status_of stop) from to m input left old.chip now) start taken
-keeps-last stop from to rose room piece old mid now start before taken m running so_far takes ends last given = λ left told.
+    → Becomes (Ends (status_of stop) from to m old.chip now) start taken
+Ends-last stop from to rose room piece old mid now start before taken m running so_far takes ends last = λ left told.
     let found = taken_all room piece old mid start before taken so_far takes left told in
     let input : List ℕ = found.0 in
     let r : Running = after (from_machine m) input in
     let follows = found.2 (from_machine m) running in
     let failing = ends r follows.running in
-    let given_before : IsSome mid.chip.still.given = told-before failing.1.said mid.chip.still.given now.still.given failing.1.given given in
     let cut : lines input true ≡ lines input false ++ open_end input ∷ [] = lines-open input (subst (λ (s : Running). is_nothing_kept s.begun ≡ false) (after-lines m input) failing.0) in (
       input,
       found.1,
-      KeepsTo-stopped stop from to m input left old.chip now rose (StopsIn-last stop m input old mid now running found.2 ends)
-          (kept-until stop m input input [] [] old.chip now (sym (append-nil input)) cut
-          (until-last stop input (from_machine m) old.chip mid.chip now (follows.passes given_before) (last r follows.running given))),
+      Ends-stopped stop from to m input left old.chip now rose (StopsIn-last stop m input old mid now running found.2 ends)
+          (λ given.
+          let given_before : IsSome mid.chip.still.given = told-before failing.1.said mid.chip.still.given now.still.given failing.1.given given in
+          kept-until stop m input input [] [] old.chip now (sym (append-nil input)) cut (until-last stop input (from_machine m) old.chip mid.chip now (follows.passes given_before) (last r follows.running given))),
     )

@@ -39,17 +39,16 @@ pub record FailsIn (stop : Stop) (text : List ℕ) (m : Machine) (reading : Read
   pub given : Prints (text ++ said) before now.still.given
   pub image : (image : List ℕ) → now.image ≡ Some image → OpensBehind stop m reading image
 
--- The clean lines were answered, and in the one after them a device failed.
+-- Some first lines were answered, and in the one after them a device failed.
 pub record StopsIn (stop : Stop) (m : Machine) (lines : List (List ℕ)) (before : Option (List ℕ)) (now : Chip) : Type 0 where
-  pub clean : List (List ℕ)
+  pub answered : List (List ℕ)
   pub line : List ℕ
   pub rest : List (List ℕ)
-  pub split : lines ≡ clean ++ line ∷ rest
-  pub fails : FailsIn stop (run_text m clean) (machine_after m clean) (reading_of line) before now
+  pub split : lines ≡ answered ++ line ∷ rest
+  pub fails : FailsIn stop (run_text m answered) (machine_after m answered) (reading_of line) before now
 
 -- An outlet failed, and gave the start of a text.
-pub record IsCutShort (stop : Stop) (text : List ℕ) (before now : Option (List ℕ)) : Type 0 where
-  pub outlet : stop ≡ Outlet
+pub record IsCutShort (text : List ℕ) (before now : Option (List ℕ)) : Type 0 where
   pub said : List ℕ
   pub start : IsStartOf said text
   pub given : Prints said before now

@@ -17,9 +17,9 @@ use Rattle.card_cli.specs.Beginning.{LeavesUntilOpen}
 use Rattle.card_cli.specs.CutOff.{StopsIn}
 use Rattle.card_cli.specs.Ends.{longest_input}
 
--- At each moment from old on to new, the octets that have gone out being counted from old on, a power loss leaves what is kept of these lines, of which so many were carried out without a fault of the EEPROM.
+-- At each moment from old on to new a power loss leaves what is kept of these lines, of which the first so many are counted: those that were carried out without a fault of the EEPROM. The octets that have gone out count from old on.
 abbrev pub AreKept : Machine → List (List ℕ) → ℕ → Chip → Chip → Type 0
-AreKept m lines clean old new = Throughout old new (λ g left. (out : ℕ) × (g ≡ old.still.mark + out) × IsKept m lines clean out left)
+AreKept m lines counted old new = Throughout old new (λ g left. (out : ℕ) × (g ≡ old.still.mark + out) × IsKept m lines counted out left)
 
 -- the same of lines that all were carried out
 abbrev pub AreAllKept : Machine → List (List ℕ) → Chip → Chip → Type 0
@@ -27,13 +27,13 @@ AreAllKept m lines old new = AreKept m lines (length lines) old new
 
 -- how many lines were carried out: those before the line in which a device failed, and that line too where the outlet alone did
 abbrev pub carried_out : Stop → List (List ℕ) → ℕ
-carried_out Outlet clean = length clean + 1
-carried_out stop clean = length clean
+carried_out Outlet answered = length answered + 1
+carried_out stop answered = length answered
 
 -- of a run that a device stops
 abbrev pub AreKeptUntil : Stop → Machine → List ℕ → Chip → Chip → Type 0
 AreKeptUntil stop m input old new =
-    (stops : StopsIn stop m (lines input true) old.still.given new) × AreKept m (lines input true) (carried_out stop stops.clean) old new
+    (stops : StopsIn stop m (lines input true) old.still.given new) × AreKept m (lines input true) (carried_out stop stops.answered) old new
 
 -- What is kept where a run ends so, of whose input this is left: of all lines, or of those that were taken whole, or up to the line in which a device failed. The EEPROM's count of faults goes from one number to another.
 abbrev pub KeepsTo : Status → ℕ → ℕ → Machine → List ℕ → List ℕ → Chip → Chip → Type 0

@@ -1,5 +1,5 @@
 // The answers to lines, as they come in.
-ghost use Rattle.std.specs.Prelude.{◌≡◌, ◌+◌, ◌*◌, ◌≤◌, ◌++◌, ◌∷◌, [], length, OnOk, IfErr, codes};
+ghost use Rattle.std.specs.Prelude.{◌≡◌, ◌+◌, ◌*◌, ◌≤◌, ◌++◌, ◌∷◌, [], length, OnOk, OnErr, IfErr, codes};
 ghost use Rattle.hex.specs.Hex.{encode_upper};
 ghost use Rattle.scql_model.specs.Machine.{Machine};
 ghost use Rattle.scql_model.specs.Step.{step};
@@ -12,6 +12,7 @@ ghost use Rattle.card_cli.specs.CutOff.{FailsIn, IsCutShort};
 ghost use Rattle.card_cli.specs.Halting.{Halts};
 ghost use Rattle.card_cli.specs.Moments.{IsInStopped, IsAnswered, IfGiven};
 ghost use Rattle.eeprom.specs.Chip.{Gives, Throughout};
+ghost use Rattle.eeprom.specs.Fault.{Counts};
 
 use crate::line::{Line, Reading};
 use crate::stop::Stop;
@@ -89,12 +90,12 @@ pub(crate) fn answer_line<B: Bench>(card: &mut Card, bench: &mut B, line: &Line)
 {
     match line.read() {
         Reading::Nothing => Ok(()),
-        Reading::TooLong => give(bench, b"line too long\n"),
+        Reading::TooLong => Ok(give(bench, b"line too long\n")?),
         Reading::Reset => {
             card.reset();
-            give(bench, b"reset\n")
+            Ok(give(bench, b"reset\n")?)
         }
-        Reading::NotHexadecimal => give(bench, b"not hexadecimal\n"),
+        Reading::NotHexadecimal => Ok(give(bench, b"not hexadecimal\n")?),
         Reading::Command(octets) => answer_command(card, bench, &octets),
     }
 }
@@ -118,7 +119,7 @@ fn answer_command<B: Bench>(card: &mut Card, bench: &mut B, octets: &[u8]) -> Re
         word: StatusWord::DONE,
     };
     match card.answer(bench, octets, &mut reply) {
-        Outcome::Replied => give(bench, &text_of(&reply)),
+        Outcome::Replied => Ok(give(bench, &text_of(&reply))?),
         Outcome::Mute => match give(bench, &text_of(&reply)) {
             Ok(()) => Err(Stop::Eeprom),
             Err(_) => Err(Stop::Both),
@@ -160,18 +161,17 @@ fn print_into(octets: &[u8], digits: &mut [u8])
     digits.make_ascii_uppercase();
 }
 
-fn give<B: Bench>(bench: &mut B, text: &[u8]) -> Result<(), Stop>
+// Giving, as the EEPROM of the bench tells it: each of its moments has how much had gone out.
+fn give<B: Bench>(bench: &mut B, text: &[u8]) -> Result<(), SinkFault>
     ensures text { OnOk result (Prints text.now (B.chip bench.old).still.given (B.chip bench.new).still.given) }
-    ensures fails { IfErr result (λ stop. IsCutShort stop text.now (B.chip bench.old).still.given (B.chip bench.new).still.given) }
+    ensures fails { OnErr result (IsCutShort text.now (B.chip bench.old).still.given (B.chip bench.new).still.given) }
     ensures image { (B.chip bench.new).image ≡ (B.chip bench.old).image }
     ensures size { (B.chip bench.new).still.size ≡ (B.chip bench.old).still.size }
     ensures gives { Gives (B.chip bench.old) (B.chip bench.new) }
     ensures mark { OnOk result (IfGiven (B.chip bench.new) ((B.chip bench.new).still.mark ≡ (B.chip bench.old).still.mark + length text.now)) }
     ensures within { IfGiven (B.chip bench.new) ((B.chip bench.new).still.mark ≤ (B.chip bench.old).still.mark + length text.now) }
-    ensures causes { Causes (record { eeprom = B.faults bench.old; outlet = B.sink_faults bench.old }) (record { eeprom = B.faults bench.new; outlet = B.sink_faults bench.new }) result }
+    ensures counts { Counts (B.sink_faults bench.old) (B.sink_faults bench.new) result }
+    ensures faults { B.faults bench.new ≡ B.faults bench.old }
 {
-    match bench.give(text) {
-        Ok(()) => Ok(()),
-        Err(SinkFault) => Err(Stop::Outlet),
-    }
+    bench.give(text)
 }

@@ -1,33 +1,61 @@
 -- A card that replied was carried out to the end; a mute one leaves what it had committed by then.
-use Rattle.std.proofs.Common.{◌≡◌, ℕ, List, [], ◌+◌, ◌++◌, length, Option, refl, ap, subst, ◌∙◌, arith}
-use Rattle.std.specs.Prelude.{IfErr, codes}
+use Rattle.std.proofs.Common.{◌≡◌, ℕ, List, [], ◌+◌, ◌++◌, ◌≤◌, length, Option, Some, refl, ap, subst, ◌∙◌, arith}
+use Rattle.std.specs.Prelude.{codes}
 use Rattle.hex.specs.Hex.{encode_upper}
 use Rattle.eeprom.specs.Chip.{Chip, Still, Throughout}
 use Rattle.scql_model.specs.Machine.{Machine}
+use Rattle.scql_model.specs.Opens.{Opens}
 use Rattle.card.specs.Card.{IsAt}
-use Rattle.card_cli.specs.Moments.{IsInLine}
+use Rattle.card_cli.specs.Moments.{IsInLine, IsInAnswered}
 use Rattle.scql_model.specs.Commands.{Reply}
 use Rattle.scql_model.specs.Step.{step}
 use Rattle.card.proofs.Leaving.{Opens-at}
-use Rattle.card_cli.proofs.Moving.{at_stays, on_given, gives-throughout, line-moments, line-answered, answered-moments, stopped-giving}
+use Rattle.card_cli.proofs.Moving.{gives-throughout, line-moments, answered-moments}
 use Rattle.scql_model.specs.Lines.{command, reading_text, reply_octets}
-use Rattle.card_cli.specs.declared.stop.Stop.TheVariants.{Eeprom, Both}
-use Rattle.card_cli.specs.declared.stop.Stop.{Stop}
+use Rattle.card_cli.specs.declared.stop.Stop.TheVariants.{Eeprom, Outlet, Both}
 use Rattle.card_cli.specs.CutOff.{FailsIn, mute_text}
-use Rattle.card_cli.proofs.Stopping.{fails_giving, fails_mute, fails_both, mute_text-reply}
-use Rattle.card_cli.proofs.answering.answer_command.Goals.{After-give-in-Mute}
+use Rattle.card_cli.proofs.Stopping.{at_outlet, fails_giving, fails_mute, fails_both, mute_text-reply}
+use Rattle.card_cli.proofs.answering.answer_command.Goals.{After-give, After-give-in-Mute}
 use Rattle.card_cli.proofs.answering.answer_command.Goals as goal
 
-pub returns-in-Replied-clause-fails : goal.returns-in-Replied-clause-fails
-returns-in-Replied-clause-fails g c = λ m at.
+-- what a card says that replies, and to what its image opens
+replied_text : (g : _) (c : After-give g) (m : Machine) → IsAt c.args.card.now (g.B.Eeprom.chip c.args.bench.now) m → c.deref.result.now ≡ reading_text m (command c.args.octets.now)
+replied_text g c m at =
+    c.deref.ensures.0 ∙ (c.text_of.ensures ∙ ap (λ (reply : Reply). encode_upper (reply_octets reply) ++ codes "\n") (c.in-Replied.ensures.step m at refl).reply)
+
+replied_opens : (g : _) (c : After-give g) (m : Machine) → IsAt c.args.card.now (g.B.Eeprom.chip c.args.bench.now) m
+    → (image : List ℕ) → (g.B.Eeprom.chip c.answer.new.bench).image ≡ Some image → Opens image (step m c.args.octets.now).machine.committed
+replied_opens g c m at = Opens-at c.answer.new.self (g.B.Eeprom.chip c.answer.new.bench) (step m c.args.octets.now).machine (c.in-Replied.ensures.ready refl) (c.in-Replied.ensures.step m at refl).at
+
+replied_moments : (g : _) (c : After-give g) (m : Machine) → IsAt c.args.card.now (g.B.Eeprom.chip c.args.bench.now) m
+    → (g.B.Eeprom.chip c.give.new.bench).still.mark ≤ (g.B.Eeprom.chip c.answer.new.bench).still.mark + length c.deref.result.now
+    → Throughout (g.B.Eeprom.chip c.args.bench.now) (g.B.Eeprom.chip c.give.new.bench) (IsInAnswered m (command c.args.octets.now) (g.B.Eeprom.chip c.args.bench.now).still.mark)
+replied_moments g c m at within =
     let mid : Chip = g.B.Eeprom.chip c.answer.new.bench in
     let now : Chip = g.B.Eeprom.chip c.give.new.bench in
-    let answers = c.in-Replied.ensures.step m at refl in
-    let text : c.deref.result.now ≡ reading_text m (command c.args.octets.now) =
-    c.deref.ensures.0 ∙ (c.text_of.ensures ∙ ap (λ (reply : Reply). encode_upper (reply_octets reply) ++ codes "\n") answers.reply) in
-    subst (λ (before : Option (List ℕ)). IfErr c.give.result (λ (stop : Stop). FailsIn stop [] m (command c.args.octets.now) before now)) (ap (λ (s : Still). s.given) c.answer.ensures.still)
-    (fails_giving c.give.result m (command c.args.octets.now) c.deref.result.now mid.still.given mid now text c.give.ensures.fails c.give.ensures.image
-    (Opens-at c.answer.new.self mid (step m c.args.octets.now).machine (c.in-Replied.ensures.ready refl) answers.at))
+    answered-moments m (command c.args.octets.now) (g.B.Eeprom.chip c.args.bench.now) mid now (c.answer.ensures.moments m at) c.answer.ensures.still
+    (gives-throughout mid now (g.met.B.Eeprom.clocked c.answer.new.bench) c.give.ensures.gives) (replied_opens g c m at) (omega (arith, within, ap length (replied_text g c m at)))
+
+pub returns-in_ok-give-in-Replied-clause-answered : goal.returns-in_ok-give-in-Replied-clause-answered
+returns-in_ok-give-in-Replied-clause-answered g c = λ m at told.
+    let after : After-give g = (goal.at.returns-in_ok-give-in-Replied-clause-answered g c).After-give in
+    let same : (g.B.Eeprom.chip c.answer.new.bench).still.mark ≡ (g.B.Eeprom.chip c.args.bench.now).still.mark = ap (λ (s : Still). s.mark) c.answer.ensures.still in
+    let mark = c.in_ok-give-in-Replied.ensures.mark told in
+    record { mark = omega (arith, mark, same, ap length (replied_text g after m at)); moments = replied_moments g after m at (omega (arith, mark)) }
+
+pub returns-in_err-give-in-Replied-clause-moments : goal.returns-in_err-give-in-Replied-clause-moments
+returns-in_err-give-in-Replied-clause-moments g c = λ m at.
+    at_outlet _ c.from_residual.result c.from_residual.ensures.1
+    (λ told. replied_moments g (goal.at.returns-in_err-give-in-Replied-clause-moments g c).After-give m at (c.give.ensures.within told))
+
+pub returns-in_err-give-in-Replied-clause-fails : goal.returns-in_err-give-in-Replied-clause-fails
+returns-in_err-give-in-Replied-clause-fails g c = λ m at.
+    let after : After-give g = (goal.at.returns-in_err-give-in-Replied-clause-fails g c).After-give in
+    let mid : Chip = g.B.Eeprom.chip c.answer.new.bench in
+    let now : Chip = g.B.Eeprom.chip c.give.new.bench in
+    at_outlet _ c.from_residual.result c.from_residual.ensures.1
+    (subst (λ (before : Option (List ℕ)). FailsIn Outlet [] m (command c.args.octets.now) before now) (ap (λ (s : Still). s.given) c.answer.ensures.still)
+    (fails_giving m (command c.args.octets.now) c.deref.result.now mid.still.given mid now (replied_text g after m at) c.in_err-give-in-Replied.ensures.fails c.give.ensures.image (replied_opens g after m at)))
 
 -- what the card says that goes mute
 mute : (g : _) (c : After-give-in-Mute g) → c.deref-in-Mute.result.now ≡ mute_text
@@ -48,35 +76,8 @@ returns-in-Err-clause-fails g c = λ m at.
     let mid : Chip = g.B.Eeprom.chip c.answer.new.bench in
     let now : Chip = g.B.Eeprom.chip c.give-in-Mute.new.bench in
     subst (λ (before : Option (List ℕ)). FailsIn Both [] m (command c.args.octets.now) before now) (ap (λ (s : Still). s.given) c.answer.ensures.still)
-    (fails_both c.in-Err.field-0 m (command c.args.octets.now) c.deref-in-Mute.result.now mid.still.given mid now (mute g (goal.at.returns-in-Err-clause-fails g c).After-give-in-Mute) c.in-Err.ensures.fails c.give-in-Mute.ensures.image
+    (fails_both m (command c.args.octets.now) c.deref-in-Mute.result.now mid.still.given mid now (mute g (goal.at.returns-in-Err-clause-fails g c).After-give-in-Mute) c.in-Err.ensures.fails c.give-in-Mute.ensures.image
     (λ image told. ((c.answer.ensures.moments m at).now image told).1))
-
-pub returns-in-Replied-clause-answered : goal.returns-in-Replied-clause-answered
-returns-in-Replied-clause-answered g c = λ m at.
-    let old : Chip = g.B.Eeprom.chip c.args.bench.now in
-    let mid : Chip = g.B.Eeprom.chip c.answer.new.bench in
-    let now : Chip = g.B.Eeprom.chip c.give.new.bench in
-    let answers = c.in-Replied.ensures.step m at refl in
-    let text : c.deref.result.now ≡ reading_text m (command c.args.octets.now) =
-    c.deref.ensures.0 ∙ (c.text_of.ensures ∙ ap (λ (reply : Reply). encode_upper (reply_octets reply) ++ codes "\n") answers.reply) in
-    on_given c.give.result now c.give.ensures.mark (λ mark. line-answered m (command c.args.octets.now) old mid now (c.answer.ensures.moments m at) c.answer.ensures.still
-    (gives-throughout mid now (g.met.B.Eeprom.clocked c.answer.new.bench) c.give.ensures.gives)
-    (Opens-at c.answer.new.self mid (step m c.args.octets.now).machine (c.in-Replied.ensures.ready refl) answers.at)
-    (mark ∙ ap (λ (t : List ℕ). mid.still.mark + length t) text))
-
-pub returns-in-Replied-clause-moments : goal.returns-in-Replied-clause-moments
-returns-in-Replied-clause-moments g c = λ m at.
-    let old : Chip = g.B.Eeprom.chip c.args.bench.now in
-    let mid : Chip = g.B.Eeprom.chip c.answer.new.bench in
-    let now : Chip = g.B.Eeprom.chip c.give.new.bench in
-    let answers = c.in-Replied.ensures.step m at refl in
-    let text : c.deref.result.now ≡ reading_text m (command c.args.octets.now) =
-    c.deref.ensures.0 ∙ (c.text_of.ensures ∙ ap (λ (reply : Reply). encode_upper (reply_octets reply) ++ codes "\n") answers.reply) in
-    stopped-giving c.give.result m (command c.args.octets.now) c.deref.result.now mid.still.given old now c.give.ensures.fails
-    (λ told. answered-moments m (command c.args.octets.now) old mid now (c.answer.ensures.moments m at) c.answer.ensures.still
-    (gives-throughout mid now (g.met.B.Eeprom.clocked c.answer.new.bench) c.give.ensures.gives)
-    (Opens-at c.answer.new.self mid (step m c.args.octets.now).machine (c.in-Replied.ensures.ready refl) answers.at)
-    (omega (arith, c.give.ensures.within told, ap length text)))
 
 -- the card went mute: the line left what it had committed by then
 mute_moments : (g : _) (c : After-give-in-Mute g) (m : Machine) → IsAt c.args.card.now (g.B.Eeprom.chip c.args.bench.now) m
@@ -92,7 +93,3 @@ returns-in-Ok-clause-moments g c = λ m at told. mute_moments g (goal.at.returns
 
 pub returns-in-Err-clause-moments : goal.returns-in-Err-clause-moments
 returns-in-Err-clause-moments g c = λ m at told. mute_moments g (goal.at.returns-in-Err-clause-moments g c).After-give-in-Mute m at
-
-pub returns-in-Replied-clause-at : goal.returns-in-Replied-clause-at
-returns-in-Replied-clause-at g c = λ m at.
-    at_stays c.give.result c.answer.new.self (g.B.Eeprom.chip c.answer.new.bench) (g.B.Eeprom.chip c.give.new.bench) (step m c.args.octets.now).machine c.give.ensures.image (c.in-Replied.ensures.step m at refl).at
