@@ -25,13 +25,26 @@ use Rattle.record_store.proofs.Weights.{store-begins, slots-chains, some-slots, 
 abbrev pub ReadsSoFar : HeldSoFar → ℕ → ℕ → Type 0
 ReadsSoFar held before after = after ≡ before + (front_octets held.cells + 32 * held.weight)
 
+-- What holds before each slot is claimed, of so many cells in an EEPROM of this size, where so many octets had been read before and now.
+pub record IsOpening (held : HeldSoFar) (slot cells size : ℕ) (image : Option (List ℕ)) (before now : Option ℕ) : Type 0 where
+  pub claimed : held.claimed ≡ slot
+  pub cells_are : held.cells ≡ cells
+  pub room : 70 * held.cells + 34 ≤ size
+  pub stands : IfSome image (StandsSoFar held)
+  pub few : held.weight ≤ held.cells
+  pub read : Becomes (ReadsSoFar held) before now
+
 -- its cells in memory
 abbrev pub cells_so_far : HeldSoFar → Cells
 cells_so_far held = kept held.cells held.used held.links
 
+-- these cells, selector and first cells, with so many slots claimed and so many cells in their chains
+abbrev pub held_of : Cells → ℕ → List ℕ → ℕ → ℕ → HeldSoFar
+held_of store selector firsts claimed weight = record { cells = store.cells; used = store.used; links = store.links; selector = selector; firsts = firsts; claimed = claimed; weight = weight }
+
 -- one slot more is claimed, whose chain has so many cells
 abbrev pub with_slot : HeldSoFar → Cells → ℕ → HeldSoFar
-with_slot held new count = record { cells = new.cells; used = new.used; links = new.links; selector = held.selector; firsts = held.firsts; claimed = held.claimed + 1; weight = held.weight + count }
+with_slot held new count = held_of new held.selector held.firsts (held.claimed + 1) (held.weight + count)
 
 slots-push : (image : List ℕ) (n : ℕ) (xs : List ℕ) (first : ℕ) (chains : List (List ℕ)) (chain : List ℕ) (slots : Slots) (entry : Option (List ℕ)) → chains_of image n xs ≡ Some chains → list_all (is_record image n) chains ≡ true → slots ≡ map (slot_of image n) chains
     → chain_of image n (2 * n) first ≡ Some chain → is_record image n chain ≡ true → slot_of image n chain ≡ entry → are_apart n (chains ++ chain ∷ []) ≡ true → slots_at image n (xs ++ first ∷ []) ≡ Some (slots ++ entry ∷ [])
@@ -40,11 +53,8 @@ slots-push image n xs first chains chain slots entry of records are there is ent
     (ap (λ (slots : Slots). Some slots) (map-append (slot_of image n) chains (chain ∷ []) ∙ (ap (λ (before : Slots). before ++ slot_of image n chain ∷ []) (sym are) ∙ ap (λ (entry : Option (List ℕ)). slots ++ entry ∷ []) entry_is)))
 
 -- before the first slot
-abbrev pub begun : Cells → ℕ → List ℕ → HeldSoFar
-begun store selector firsts = record { cells = store.cells; used = store.used; links = store.links; selector = selector; firsts = firsts; claimed = 0; weight = 0 }
-
-pub sound-begun : (n selector : ℕ) (firsts : List ℕ) (store : Cells) → store ≡ all_free n → 16 ≤ n → n ≤ 2048 → selector < 2 → length firsts ≡ n → IsSoundSoFar (begun store selector firsts)
-sound-begun n selector firsts store is few many select count = subst (λ (store : Cells). IsSoundSoFar (begun store selector firsts)) (sym is) (record {
+pub sound-begun : (n selector : ℕ) (firsts : List ℕ) (store : Cells) → store ≡ all_free n → 16 ≤ n → n ≤ 2048 → selector < 2 → length firsts ≡ n → IsSoundSoFar (held_of store selector firsts 0 0)
+sound-begun n selector firsts store is few many select count = subst (λ (store : Cells). IsSoundSoFar (held_of store selector firsts 0 0)) (sym is) (record {
   range = all_free-range n few many;
   selector = select;
   count = count;
@@ -53,11 +63,11 @@ sound-begun n selector firsts store is few many select count = subst (λ (store 
 })
 
 pub stands-begun : (header : Header) (firsts : List ℕ) (store : Cells) (image : Option (List ℕ)) → store ≡ all_free header.cells → IfSome image (λ image. IsHeaderOf image header) → IfSome image (λ image. firsts ≡ numbers_at image (32 + 2 * header.cells * header.selector) header.cells)
-    → IfSome image (StandsSoFar (begun store header.selector firsts))
+    → IfSome image (StandsSoFar (held_of store header.selector firsts 0 0))
 stands-begun header firsts store None is begins selected = tt
 stands-begun header firsts store (Some image) is begins selected =
     let none : nat_le 0 header.cells ≡ true = grind (arith, nat_tests) in
-    subst (λ (store : Cells). StandsSoFar (begun store header.selector firsts) image) (sym is) (record {
+    subst (λ (store : Cells). StandsSoFar (held_of store header.selector firsts 0 0) image) (sym is) (record {
       begins = record { front = begins.front; header = begins.fields; cells = begins.cells; selector = begins.selector; selected = rw (begins.selector) (sym selected) };
       links = (stands-start header.cells image).links;
       claimed = rw none refl;

@@ -134,25 +134,25 @@ heard-greatest m (line ∷ lines) g (suc i) within fits =
     omega (arith, one, heard-greatest (line_step m line) lines (g - length text) i (omega (arith, within)) (omega (arith, size)))
 
 -- where nothing has gone out, the lines heard commit nothing
-silent : (m : Machine) (lines : List (List ℕ)) (clean : ℕ) → commits_to m lines (heard m (take clean lines) 0) ≡ 0
+silent : (m : Machine) (lines : List (List ℕ)) (counted : ℕ) → commits_to m lines (heard m (take counted lines) 0) ≡ 0
 silent m [] zero = refl
-silent m [] (suc clean) = refl
+silent m [] (suc counted) = refl
 silent m (line ∷ lines) zero = refl
-silent m (line ∷ lines) (suc clean) = elim (leb_tells (length (line_text m line)) 0) [
+silent m (line ∷ lines) (suc counted) = elim (leb_tells (length (line_text m line)) 0) [
   | inl t ↦
       let none : length (line_text m line) ≡ 0 = omega (arith, t.1) in
-      let one : heard m (line ∷ take clean lines) 0 ≡ suc (heard (line_step m line) (take clean lines) 0) =
-      ap (λ (g : ℕ). heard m (line ∷ take clean lines) g) (omega (arith, none)) ∙ heard-line m line (take clean lines) 0 in
-      ap (commits_to m (line ∷ lines)) one ∙ (commits_to-line m line lines (heard (line_step m line) (take clean lines) 0)
-      ∙ omega (arith, silent-line m line none, silent (line_step m line) lines clean))
+      let one : heard m (line ∷ take counted lines) 0 ≡ suc (heard (line_step m line) (take counted lines) 0) =
+      ap (λ (g : ℕ). heard m (line ∷ take counted lines) g) (omega (arith, none)) ∙ heard-line m line (take counted lines) 0 in
+      ap (commits_to m (line ∷ lines)) one ∙ (commits_to-line m line lines (heard (line_step m line) (take counted lines) 0)
+      ∙ omega (arith, silent-line m line none, silent (line_step m line) lines counted))
   | inr f ↦ rw (f.0) refl
 ]
 
 -- between two lines the image opens to the database after the first, whatever lines come
-pub kept-idle : (m : Machine) (lines : List (List ℕ)) (clean : ℕ) (left : List ℕ) → Opens left m.committed → IsKept m lines clean 0 left
-kept-idle m lines clean left opens = record {
+pub kept-idle : (m : Machine) (lines : List (List ℕ)) (counted : ℕ) (left : List ℕ) → Opens left m.committed → IsKept m lines counted 0 left
+kept-idle m lines counted left opens = record {
   commits = 0;
-  least = omega (arith, silent m lines clean);
+  least = omega (arith, silent m lines counted);
   most = omega arith;
   opens = opens;
 }
@@ -166,9 +166,9 @@ opens-after db (next ∷ commits) left (inr there) =
     (suc found.0, omega (arith, found.1), found.2)
 
 -- In the first line, which wasn't heard, the image opens to the database before it or to one that it commits.
-kept-unheard : (m : Machine) (line : List ℕ) (lines : List (List ℕ)) (clean g : ℕ) (left : List ℕ) → heard m (take clean (line ∷ lines)) g ≡ 0
-    → OpensToOneOf (m.committed ∷ reading_commits m (reading_of line)) left → IsKept m (line ∷ lines) clean g left
-kept-unheard m line lines clean g left unheard opens =
+kept-unheard : (m : Machine) (line : List ℕ) (lines : List (List ℕ)) (counted g : ℕ) (left : List ℕ) → heard m (take counted (line ∷ lines)) g ≡ 0
+    → OpensToOneOf (m.committed ∷ reading_commits m (reading_of line)) left → IsKept m (line ∷ lines) counted g left
+kept-unheard m line lines counted g left unheard opens =
     let found = opens-after m.committed (reading_commits m (reading_of line)) left opens in
     record {
       commits = found.0;
@@ -183,13 +183,13 @@ pub kept-failing : (m : Machine) (line : List ℕ) (lines : List (List ℕ)) (g 
 kept-failing m line lines g left opens = kept-unheard m line lines 0 g left refl opens
 
 -- behind the first line
-pub kept-behind : (m : Machine) (line : List ℕ) (lines : List (List ℕ)) (clean g : ℕ) (left : List ℕ) → IsKept (line_step m line) lines clean g left
-    → IsKept m (line ∷ lines) (suc clean) (length (line_text m line) + g) left
-kept-behind m line lines clean g left kept =
+pub kept-behind : (m : Machine) (line : List ℕ) (lines : List (List ℕ)) (counted g : ℕ) (left : List ℕ) → IsKept (line_step m line) lines counted g left
+    → IsKept m (line ∷ lines) (suc counted) (length (line_text m line) + g) left
+kept-behind m line lines counted g left kept =
     let own : List Database = reading_commits m (reading_of line) in
     let others : List Database = commits_of (line_step m line) lines in
-    let i : ℕ = heard (line_step m line) (take clean lines) g in
-    let one : heard m (line ∷ take clean lines) (length (line_text m line) + g) ≡ suc i = heard-line m line (take clean lines) g in
+    let i : ℕ = heard (line_step m line) (take counted lines) g in
+    let one : heard m (line ∷ take counted lines) (length (line_text m line) + g) ≡ suc i = heard-line m line (take counted lines) g in
     let next : commits_to m (line ∷ lines) (suc i + 1) ≡ length own + commits_to (line_step m line) lines (i + 1) =
     let more : suc i + 1 ≡ suc (i + 1) = omega arith in
     ap (commits_to m (line ∷ lines)) more ∙ commits_to-line m line lines (i + 1) in
@@ -203,10 +203,10 @@ kept-behind m line lines clean g left kept =
     }
 
 -- A line that is answered: the image opens to the database before it or to one that it commits, and to the last of these once an octet of its text has gone out.
-pub kept-answered : (m : Machine) (line : List ℕ) (lines : List (List ℕ)) (clean g : ℕ) (left : List ℕ) → g ≤ length (line_text m line)
+pub kept-answered : (m : Machine) (line : List ℕ) (lines : List (List ℕ)) (counted g : ℕ) (left : List ℕ) → g ≤ length (line_text m line)
     → OpensToOneOf (m.committed ∷ reading_commits m (reading_of line)) left → (suc zero ≤ g → Opens left (line_step m line).committed)
-    → IsKept m (line ∷ lines) (suc clean) g left
-kept-answered m line lines clean g left within opens done = elim (leb_tells (length (line_text m line)) g) [
+    → IsKept m (line ∷ lines) (suc counted) g left
+kept-answered m line lines counted g left within opens done = elim (leb_tells (length (line_text m line)) g) [
   | inl t ↦
       let whole : length (line_text m line) + 0 ≡ g = omega (arith, t.1, within) in
       let own : List Database = reading_commits m (reading_of line) in
@@ -217,22 +217,22 @@ kept-answered m line lines clean g left within opens done = elim (leb_tells (len
             let all : found.0 ≡ length own = omega (arith, found.1, silent-line m line (omega (arith, none.1, within, whole))) in
             subst (Opens left) (ap (after_commits m.committed own) all ∙ last-line m line) found.2
       ] in
-      subst (λ (g : ℕ). IsKept m (line ∷ lines) (suc clean) g left) whole
-      (kept-behind m line lines clean 0 left (kept-idle (line_step m line) lines clean left last))
-  | inr f ↦ kept-unheard m line lines (suc clean) g left (heard-not m line (take clean lines) g (omega (arith, f.1))) opens
+      subst (λ (g : ℕ). IsKept m (line ∷ lines) (suc counted) g left) whole
+      (kept-behind m line lines counted 0 left (kept-idle (line_step m line) lines counted left last))
+  | inr f ↦ kept-unheard m line lines (suc counted) g left (heard-not m line (take counted lines) g (omega (arith, f.1))) opens
 ]
 
 -- the same counts
-pub kept-same : (m : Machine) (lines : List (List ℕ)) (clean count g mark : ℕ) (left : List ℕ) → clean ≡ count → g ≡ mark → IsKept m lines clean g left → IsKept m lines count mark left
-kept-same m lines clean count g mark left lines_same mark_same kept = subst (λ (n : ℕ). IsKept m lines n mark left) lines_same (subst (λ (g : ℕ). IsKept m lines clean g left) mark_same kept)
+pub kept-same : (m : Machine) (lines : List (List ℕ)) (counted count g mark : ℕ) (left : List ℕ) → counted ≡ count → g ≡ mark → IsKept m lines counted g left → IsKept m lines count mark left
+kept-same m lines counted count g mark left lines_same mark_same kept = subst (λ (n : ℕ). IsKept m lines n mark left) lines_same (subst (λ (g : ℕ). IsKept m lines counted g left) mark_same kept)
 
 -- behind lines that were answered
-pub kept-after : (m : Machine) (before lines : List (List ℕ)) (clean g : ℕ) (left : List ℕ) → IsKept (machine_after m before) lines clean g left
-    → IsKept m (before ++ lines) (length before + clean) (length (run_text m before) + g) left
-kept-after m [] lines clean g left kept = kept-same m lines clean (0 + clean) g (0 + g) left (omega arith) (omega arith) kept
-kept-after m (line ∷ before) lines clean g left kept =
+pub kept-after : (m : Machine) (before lines : List (List ℕ)) (counted g : ℕ) (left : List ℕ) → IsKept (machine_after m before) lines counted g left
+    → IsKept m (before ++ lines) (length before + counted) (length (run_text m before) + g) left
+kept-after m [] lines counted g left kept = kept-same m lines counted (0 + counted) g (0 + g) left (omega arith) (omega arith) kept
+kept-after m (line ∷ before) lines counted g left kept =
     let text : List ℕ = line_text m line in
     let others : List ℕ = run_text (line_step m line) before in
     let size : length text + (length others + g) ≡ length (text ++ others) + g = omega (arith, length-append text others) in
-    kept-same m (line ∷ (before ++ lines)) (suc (length before + clean)) (length (line ∷ before) + clean) (length text + (length others + g)) (length (text ++ others) + g) left (omega arith) size
-    (kept-behind m line (before ++ lines) (length before + clean) (length others + g) left (kept-after (line_step m line) before lines clean g left kept))
+    kept-same m (line ∷ (before ++ lines)) (suc (length before + counted)) (length (line ∷ before) + counted) (length text + (length others + g)) (length (text ++ others) + g) left (omega arith) size
+    (kept-behind m line (before ++ lines) (length before + counted) (length others + g) left (kept-after (line_step m line) before lines counted g left kept))

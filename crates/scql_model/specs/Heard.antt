@@ -32,8 +32,8 @@ heard m (line ∷ lines) g =
     if nat_le size g then suc (heard (line_step m line) lines (g - size)) else 0
 
 -- Of these lines the first so many were answered without a fault of the EEPROM. Where g octets had gone out, the image opens to a database that keeps each commit of the lines heard by then, and has none but those and commits of the line after them.
-pub record IsKept (m : Machine) (lines : List (List ℕ)) (clean g : ℕ) (left : List ℕ) : Type 0 where
+pub record IsKept (m : Machine) (lines : List (List ℕ)) (counted g : ℕ) (left : List ℕ) : Type 0 where
   pub commits : ℕ
-  pub least : commits_to m lines (heard m (take clean lines) g) ≤ commits
-  pub most : commits ≤ commits_to m lines (heard m (take clean lines) g + 1)
+  pub least : commits_to m lines (heard m (take counted lines) g) ≤ commits
+  pub most : commits ≤ commits_to m lines (heard m (take counted lines) g + 1)
   pub opens : Opens left (database_after m lines commits)

@@ -13,21 +13,21 @@ returns-in_err-add_slot-clause-not_a_card g c = λ refused.
 pub returns-in_default-clause-not_a_card : goal.returns-in_default-clause-not_a_card
 returns-in_default-clause-not_a_card g c = λ _.
     none-without_counter (g.B.Eeprom.chip c.args.bench.now).image (users_of c.loop-slot.found.users)
-    (gathered-all c.loop-slot.opening (g.B.Eeprom.chip c.args.bench.now).image [] (users_of c.loop-slot.found.users) c.finish-store.result c.finish-store.ensures.opened c.finish-store.ensures.slots c.loop-slot.invariant.stands (rw c.in_default.is at c.loop-slot.invariant.gathers))
+    (gathered-all c.loop-slot.opening (g.B.Eeprom.chip c.args.bench.now).image [] (users_of c.loop-slot.found.users) c.finish-store.result c.finish-store.ensures.opened c.finish-store.ensures.slots c.loop-slot.invariant.opening.stands (rw c.in_default.is at c.loop-slot.invariant.gathers))
 
 pub returns-clause-stands : goal.returns-clause-stands
-returns-clause-stands g c = finished-stands c.loop-slot.opening c.finish-store.result (g.B.Eeprom.chip c.args.bench.now).image c.finish-store.ensures.stands c.loop-slot.invariant.stands
+returns-clause-stands g c = finished-stands c.loop-slot.opening c.finish-store.result (g.B.Eeprom.chip c.args.bench.now).image c.finish-store.ensures.stands c.loop-slot.invariant.opening.stands
 
 pub returns-clause-stored : goal.returns-clause-stored
 returns-clause-stored g c =
-    finished-opened c.loop-slot.opening c.finish-store.result (g.B.Eeprom.chip c.args.bench.now).image c.finish-store.ensures.opened c.loop-slot.invariant.stands
+    finished-opened c.loop-slot.opening c.finish-store.result (g.B.Eeprom.chip c.args.bench.now).image c.finish-store.ensures.opened c.loop-slot.invariant.opening.stands
 
 pub returns-clause-gathers : goal.returns-clause-gathers
 returns-clause-gathers g c =
-    gathered-all c.loop-slot.opening (g.B.Eeprom.chip c.args.bench.now).image (c.in-Some.counter.next ∷ []) (users_of c.loop-slot.found.users) c.finish-store.result c.finish-store.ensures.opened c.finish-store.ensures.slots c.loop-slot.invariant.stands
+    gathered-all c.loop-slot.opening (g.B.Eeprom.chip c.args.bench.now).image (c.in-Some.counter.next ∷ []) (users_of c.loop-slot.found.users) c.finish-store.result c.finish-store.ensures.opened c.finish-store.ensures.slots c.loop-slot.invariant.opening.stands
     (rw c.in-Some.is at c.loop-slot.invariant.gathers)
 
 pub returns-clause-octets_read : goal.returns-clause-octets_read
 returns-clause-octets_read g c =
     finished-read c.loop-slot.opening c.finish-store.result (g.B.Eeprom.chip c.args.bench.now).image (g.B.Eeprom.octets_read c.args.bench.now) (g.B.Eeprom.octets_read c.loop-slot.bench) c.finish-store.ensures.opened
-    c.finish-store.ensures.weight c.finish-store.ensures.cells c.loop-slot.invariant.stands c.loop-slot.invariant.read
+    c.finish-store.ensures.weight c.finish-store.ensures.cells c.loop-slot.invariant.opening.stands c.loop-slot.invariant.opening.read

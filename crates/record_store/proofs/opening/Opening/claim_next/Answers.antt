@@ -4,21 +4,13 @@ use Rattle.std.specs.Prelude.{option_map, ◌++◌, [], ◌∷◌}
 use Rattle.cell_store.specs.Cells.{Cells}
 use Rattle.cell_store.proofs.Freeing.{link-read}
 use Rattle.record_store.specs.Opening.{HeldSoFar, StandsSoFar, TakesSlot, slots_so_far, slot_with}
-use Rattle.record_store.proofs.OpeningSlots.{cells_so_far, with_slot, slots-next, stands-next, sound-next, store-refused, store-over}
+use Rattle.record_store.proofs.OpeningSlots.{held_of, cells_so_far, with_slot, slots-next, stands-next, sound-next, store-refused, store-over}
 use Rattle.record_store.proofs.opening.Opening.claim_next.Goals.{After-claim_slot}
 use Rattle.record_store.proofs.opening.Opening.claim_next.Goals as goal
 
 -- what was held before
 abbrev mine : (g : _) → After-claim_slot g → HeldSoFar
-mine g c = record {
-  cells = c.self.inside.chains.cells;
-  used = c.self.inside.chains.used;
-  links = c.self.inside.chains.links;
-  selector = c.self.inside.selector;
-  firsts = c.self.inside.committed.items;
-  claimed = c.self.inside.claimed;
-  weight = c.self.inside.weight;
-}
+mine g c = held_of c.self.inside.chains c.self.inside.selector c.self.inside.committed.items c.self.inside.claimed c.self.inside.weight
 
 left : (g : _) (c : After-claim_slot g) → (mine g c).claimed < (mine g c).cells
 left g c = subst (λ (held : HeldSoFar). held.claimed < held.cells) (sym c.self.view_is) c.requires.left

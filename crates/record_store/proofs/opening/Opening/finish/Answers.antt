@@ -2,32 +2,17 @@
 use Rattle.std.proofs.Common.{◌≡◌, sym, subst}
 use Rattle.eeprom.specs.StoreOf.{weight_of}
 use Rattle.record_store.specs.Opening.{HeldSoFar, StandsSoFar}
-use Rattle.record_store.proofs.OpeningSlots.{sound-finished, weight-finished}
+use Rattle.record_store.proofs.OpeningSlots.{held_of, sound-finished, weight-finished}
 use Rattle.record_store.proofs.opening.Opening.finish.Goals as goal
 
 pub invariant_of-result : goal.invariant_of-result
 invariant_of-result c =
-    let held : HeldSoFar = record {
-      cells = c.self.inside.chains.cells;
-      used = c.self.inside.chains.used;
-      links = c.self.inside.chains.links;
-      selector = c.self.inside.selector;
-      firsts = c.self.inside.committed.items;
-      claimed = c.self.inside.claimed;
-      weight = c.self.inside.weight;
-    } in
-    sound-finished held c.self.inside.working.items c.self.invariant.1 (subst (λ (held : HeldSoFar). held.claimed ≡ held.cells) (sym c.self.view_is) c.requires.all) c.self.invariant.0
+    let mine = c.self.inside in
+    sound-finished (held_of mine.chains mine.selector mine.committed.items mine.claimed mine.weight) mine.working.items c.self.invariant.1 (subst (λ (held : HeldSoFar). held.claimed ≡ held.cells) (sym c.self.view_is) c.requires.all) c.self.invariant.0
 
 pub returns-clause-weight : goal.returns-clause-weight
 returns-clause-weight c = λ image slots stands there.
-    let held : HeldSoFar = record {
-      cells = c.self.inside.chains.cells;
-      used = c.self.inside.chains.used;
-      links = c.self.inside.chains.links;
-      selector = c.self.inside.selector;
-      firsts = c.self.inside.committed.items;
-      claimed = c.self.inside.claimed;
-      weight = c.self.inside.weight;
-    } in
+    let mine = c.self.inside in
     subst (λ (held : HeldSoFar). held.weight ≡ weight_of slots) c.self.view_is
-    (weight-finished held image slots c.self.invariant.1 (subst (λ (held : HeldSoFar). held.claimed ≡ held.cells) (sym c.self.view_is) c.requires.all) (subst (λ (held : HeldSoFar). StandsSoFar held image) (sym c.self.view_is) stands) there)
+    (weight-finished (held_of mine.chains mine.selector mine.committed.items mine.claimed mine.weight) image slots c.self.invariant.1 (subst (λ (held : HeldSoFar). held.claimed ≡ held.cells) (sym c.self.view_is) c.requires.all)
+    (subst (λ (held : HeldSoFar). StandsSoFar held image) (sym c.self.view_is) stands) there)
