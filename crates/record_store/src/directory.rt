@@ -2,13 +2,11 @@
 ghost use Rattle.std.specs.Prelude.{◌≡◌, ◌*◌, ◌≤◌, length};
 ghost use Rattle.eeprom.specs.StoreOf.{numbers_at};
 
+use crate::layout::LARGEST_DIRECTORY;
 use arrayvec::ArrayVec;
 use cell_store::octets_of;
 
-/// The octets of the largest directory.
-const LARGEST: usize = 4096;
-
-pub type DirectoryOctets = ArrayVec<u8, LARGEST>;
+pub type DirectoryOctets = ArrayVec<u8, LARGEST_DIRECTORY>;
 
 /// The octets of a directory with these first cells.
 pub fn directory_octets(firsts: &[u16]) -> DirectoryOctets

@@ -7,16 +7,13 @@ ghost use Rattle.record_store.specs.Header.{begins_store, IsHeader, IsHeaderOf};
 ghost use Rattle.record_store.specs.CountsFaults.{CountsFaults};
 
 use crate::OpenRefusal;
-use crate::layout::{FORMAT, directory_place, image_size};
+use crate::layout::{FORMAT, LARGEST_DIRECTORY, directory_place, image_size};
 use cell_store::number_of;
 use eeprom::Eeprom;
 use std::alloc::{AllocError, Global};
 
 /// How many octets of an image say whether it has a store, and of which size.
 const FRONT: usize = 9;
-
-/// The octets of the largest directory.
-const DIRECTORY: usize = 4096;
 
 /// What the first octets of an image say: how many cells it has, and which directory is selected.
 #[derive(Clone, Copy)]
@@ -81,7 +78,7 @@ pub fn read_directory<B: Eeprom>(
     ensures same { B.chip bench.new ≡ B.chip bench.old }
     ensures cause { CountsFaults (B.faults bench.old) (B.faults bench.new) result }
 {
-    let mut octets = [0; DIRECTORY];
+    let mut octets = [0; LARGEST_DIRECTORY];
     let directory = &mut octets[..2 * header.cells as usize];
     bench.read(directory_place(header.cells, header.selector), directory)?;
     Ok(numbers_of(alloc, directory, header.cells)?)

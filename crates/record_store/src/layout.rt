@@ -10,6 +10,9 @@ pub const FORMAT: u8 = 1;
 /// Where the octet is that selects a directory.
 pub const SELECTOR: usize = 8;
 
+/// How many octets the largest directory has.
+pub const LARGEST_DIRECTORY: usize = 4096;
+
 /// How many octets an image of so many cells has at least.
 pub fn image_size(cells: u16) -> usize
     ensures { result ≡ 70 * cells + 34 }
