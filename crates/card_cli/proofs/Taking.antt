@@ -41,6 +41,20 @@ pub record Ends (status : Status) (from to : ℕ) (m : Machine) (old new : Chip)
   pub leaves : LeavesOff status from to m input left old.still.given new
   pub keeps : IfGiven new (KeepsTo status from to m input left old new)
 
+-- how it ends
+pub Ends-leaves : {status : Status} {from to : ℕ} {m : Machine} {old new : Chip} {start now : Option (List ℕ)} → Becomes (Ends status from to m old new) start now
+    → Becomes (λ input left. LeavesOff status from to m input left old.still.given new) start now
+Ends-leaves ends = λ left told.
+    let last = ends left told in
+    (last.0, last.1, last.2.leaves)
+
+-- what is kept
+pub Ends-keeps : {status : Status} {from to : ℕ} {m : Machine} {old new : Chip} {start now : Option (List ℕ)} → Becomes (Ends status from to m old new) start now
+    → IfGiven new (Becomes (λ input left. KeepsTo status from to m input left old new) start now)
+Ends-keeps ends = λ given left told.
+    let last = ends left told in
+    (last.0, last.1, last.2.keeps given)
+
 -- before the first read
 pub HasTaken-nothing : (state : RunState) (left : Option (List ℕ)) → IsReady state.card state.chip → Becomes (HasTaken longest_input state state) left left
 HasTaken-nothing state left ready = λ all told. (all, told, record { taken = []; split = refl; count = refl; feeds = Feeds-nothing state ready })

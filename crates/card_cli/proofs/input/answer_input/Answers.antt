@@ -9,7 +9,7 @@ use Rattle.card_cli.specs.declared.status.Status.TheVariants.{Done, ReadFault, T
 use Rattle.card_cli.specs.Line.{kept_line}
 use Rattle.card_cli.specs.RunState.{RunState, Faults, Feeds}
 use Rattle.card_cli.specs.Ends.{longest_input}
-use Rattle.card_cli.proofs.Taking.{rose-at, HasTaken, HasTaken-nothing, HasTaken-more, Ends, Ends-read_fault, Ends-done, Ends-last, Ends-halted, Ends-too_long}
+use Rattle.card_cli.proofs.Taking.{rose-at, HasTaken, HasTaken-nothing, HasTaken-more, Ends, Ends-leaves, Ends-keeps, Ends-read_fault, Ends-done, Ends-last, Ends-halted, Ends-too_long}
 use Rattle.card_cli.proofs.input.answer_input.Given as given
 use Rattle.card_cli.proofs.input.answer_input.Goals.{In_default, In-Ok-answer_last, After-status, After-status-in-Err-take_octets, Then-room-count}
 use Rattle.card_cli.proofs.input.answer_input.Goals as goal
@@ -47,14 +47,10 @@ read_failed g c m at =
     c.loop-count.invariant.ready (record { at = at; line = refl }) c.loop-count.invariant.taken c.in_default.ensures.err
 
 pub returns-in_default-clause-leaves : goal.returns-in_default-clause-leaves
-returns-in_default-clause-leaves g c = λ m at left told.
-    let ends = read_failed g (goal.at.returns-in_default-clause-leaves g c).In_default m at left told in
-    (ends.0, ends.1, ends.2.leaves)
+returns-in_default-clause-leaves g c = λ m at. Ends-leaves (read_failed g (goal.at.returns-in_default-clause-leaves g c).In_default m at)
 
 pub returns-in_default-clause-moments : goal.returns-in_default-clause-moments
-returns-in_default-clause-moments g c = λ m at given left told.
-    let ends = read_failed g (goal.at.returns-in_default-clause-moments g c).In_default m at left told in
-    (ends.0, ends.1, ends.2.keeps given)
+returns-in_default-clause-moments g c = λ m at. Ends-keeps (read_failed g (goal.at.returns-in_default-clause-moments g c).In_default m at)
 
 -- the last line was answered
 done : (g : given.Over) (c : In-Ok-answer_last g) (m : Machine) → IsAt c.args.card.now (g.B.Eeprom.chip c.args.bench.now) m
@@ -69,14 +65,10 @@ done g c m at =
     c.in-Ok-answer_last.ensures.ready c.in-Ok-answer_last.ensures.at c.in-Ok-answer_last.ensures.text c.in-Ok-answer_last.ensures.answered
 
 pub returns-in-Ok-answer_last-clause-leaves : goal.returns-in-Ok-answer_last-clause-leaves
-returns-in-Ok-answer_last-clause-leaves g c = λ m at left told.
-    let ends = done g (goal.at.returns-in-Ok-answer_last-clause-leaves g c).In-Ok-answer_last m at left told in
-    (ends.0, ends.1, ends.2.leaves)
+returns-in-Ok-answer_last-clause-leaves g c = λ m at. Ends-leaves (done g (goal.at.returns-in-Ok-answer_last-clause-leaves g c).In-Ok-answer_last m at)
 
 pub returns-in-Ok-answer_last-clause-moments : goal.returns-in-Ok-answer_last-clause-moments
-returns-in-Ok-answer_last-clause-moments g c = λ m at given left told.
-    let ends = done g (goal.at.returns-in-Ok-answer_last-clause-moments g c).In-Ok-answer_last m at left told in
-    (ends.0, ends.1, ends.2.keeps given)
+returns-in-Ok-answer_last-clause-moments g c = λ m at. Ends-keeps (done g (goal.at.returns-in-Ok-answer_last-clause-moments g c).In-Ok-answer_last m at)
 
 -- a device failed in the last line
 last_failed : (g : given.Over) (c : After-status g) (m : Machine) → IsAt c.args.card.now (g.B.Eeprom.chip c.args.bench.now) m
@@ -93,14 +85,10 @@ last_failed g c m at =
     c.in-Err.ensures.fails c.in-Err.ensures.moments)
 
 pub returns-in-Err-clause-leaves : goal.returns-in-Err-clause-leaves
-returns-in-Err-clause-leaves g c = λ m at left told.
-    let ends = last_failed g (goal.at.returns-in-Err-clause-leaves g c).After-status m at left told in
-    (ends.0, ends.1, ends.2.leaves)
+returns-in-Err-clause-leaves g c = λ m at. Ends-leaves (last_failed g (goal.at.returns-in-Err-clause-leaves g c).After-status m at)
 
 pub returns-in-Err-clause-moments : goal.returns-in-Err-clause-moments
-returns-in-Err-clause-moments g c = λ m at given left told.
-    let ends = last_failed g (goal.at.returns-in-Err-clause-moments g c).After-status m at left told in
-    (ends.0, ends.1, ends.2.keeps given)
+returns-in-Err-clause-moments g c = λ m at. Ends-keeps (last_failed g (goal.at.returns-in-Err-clause-moments g c).After-status m at)
 
 -- a device failed among the octets of a piece
 halted : (g : given.Over) (c : After-status-in-Err-take_octets g) (m : Machine) → IsAt c.args.card.now (g.B.Eeprom.chip c.args.bench.now) m
@@ -116,14 +104,10 @@ halted g c m at =
     (record { at = at; line = refl }) c.loop-count.invariant.taken c.in-Ok.ensures.taken c.in-Err-take_octets.ensures.halts)
 
 pub returns-in-Err-take_octets-clause-leaves : goal.returns-in-Err-take_octets-clause-leaves
-returns-in-Err-take_octets-clause-leaves g c = λ m at left told.
-    let ends = halted g (goal.at.returns-in-Err-take_octets-clause-leaves g c).After-status-in-Err-take_octets m at left told in
-    (ends.0, ends.1, ends.2.leaves)
+returns-in-Err-take_octets-clause-leaves g c = λ m at. Ends-leaves (halted g (goal.at.returns-in-Err-take_octets-clause-leaves g c).After-status-in-Err-take_octets m at)
 
 pub returns-in-Err-take_octets-clause-moments : goal.returns-in-Err-take_octets-clause-moments
-returns-in-Err-take_octets-clause-moments g c = λ m at given left told.
-    let ends = halted g (goal.at.returns-in-Err-take_octets-clause-moments g c).After-status-in-Err-take_octets m at left told in
-    (ends.0, ends.1, ends.2.keeps given)
+returns-in-Err-take_octets-clause-moments g c = λ m at. Ends-keeps (halted g (goal.at.returns-in-Err-take_octets-clause-moments g c).After-status-in-Err-take_octets m at)
 
 -- more came than a run takes
 more_came : (g : given.Over) (c : Then-room-count g) (m : Machine) → IsAt c.args.card.now (g.B.Eeprom.chip c.args.bench.now) m
@@ -139,14 +123,10 @@ more_came g c m at =
     (subst (λ (count : ℕ). Feeds (take count c.read.new.into) mid new) all c.in_default-take_octets.ensures.feeds)
 
 pub returns-then-room-count-clause-leaves : goal.returns-then-room-count-clause-leaves
-returns-then-room-count-clause-leaves g c = λ m at left told.
-    let ends = more_came g (goal.at.returns-then-room-count-clause-leaves g c).Then-room-count m at left told in
-    (ends.0, ends.1, ends.2.leaves)
+returns-then-room-count-clause-leaves g c = λ m at. Ends-leaves (more_came g (goal.at.returns-then-room-count-clause-leaves g c).Then-room-count m at)
 
 pub returns-then-room-count-clause-moments : goal.returns-then-room-count-clause-moments
-returns-then-room-count-clause-moments g c = λ m at given left told.
-    let ends = more_came g (goal.at.returns-then-room-count-clause-moments g c).Then-room-count m at left told in
-    (ends.0, ends.1, ends.2.keeps given)
+returns-then-room-count-clause-moments g c = λ m at. Ends-keeps (more_came g (goal.at.returns-then-room-count-clause-moments g c).Then-room-count m at)
 
 pub loop-count-preserved : goal.loop-count-preserved
 loop-count-preserved g c =
