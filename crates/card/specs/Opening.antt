@@ -2,6 +2,7 @@
 use Rattle.std.specs.Prelude.{◌≡◌, ℕ, ◌+◌, ◌*◌, true, List, [], ◌∷◌, map, Option, Some, None}
 use Rattle.std.specs.List.{list_all, filter_map, AllByRecursion}
 use Rattle.std.specs.BTreeMap.{BTreeMap, values}
+use Rattle.eeprom.specs.Chip.{RisesBy}
 use Rattle.eeprom.specs.StoreOf.{Slots}
 use Rattle.eeprom.specs.Slots.{AreApart, in_order, in_slot}
 use Rattle.record_store.specs.Opening.{front_octets}
@@ -41,4 +42,4 @@ HoldNone slots = (db : Database) → Holds slots db → IsValid db → ⊥
 
 -- So many octets are read where a card is opened at this database: those that begin its image, and as many as the cells of its records have.
 abbrev pub ReadsCard : Database → ℕ → ℕ → Type 0
-ReadsCard db before after = after ≡ before + (front_octets db.cells + 32 * weight db)
+ReadsCard db = RisesBy (front_octets db.cells + 32 * weight db)

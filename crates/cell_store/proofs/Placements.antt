@@ -1,6 +1,6 @@
 -- The writing of a chain: its start, a step, and its moments.
 use Rattle.std.proofs.Common.{◌≡◌, inl, ℕ, zero, suc, ◌+◌, ◌*◌, ◌-◌, ◌≤◌, Bool, List, [], length, slice_range, Option, Some, None, is_some, option_map, IfSome, sym, refl, ap, ◌∙◌, arith, subst, true≢false}
-use Rattle.eeprom.specs.Chip.{Chip, Writes, Becomes}
+use Rattle.eeprom.specs.Chip.{Chip, Writes, Becomes, RisesBy}
 use Rattle.eeprom.specs.Image.{overwrite, IsTorn}
 use Rattle.eeprom.specs.StoreOf.{chain_of, cell_place}
 use Rattle.cell_store.specs.Marks.{IsFreeRun, StaysMarked}
@@ -51,10 +51,10 @@ is_some-map f None = refl
 is_some-map f (Some x) = refl
 
 -- how many octets were written, of none and of some more
-pub written-none : (old : Option ℕ) (none : ℕ) → none ≡ 0 → Becomes (λ before after. after ≡ before + none) old old
+pub written-none : (old : Option ℕ) (none : ℕ) → none ≡ 0 → Becomes (RisesBy none) old old
 written-none old none is = λ after told. (after, told, omega (arith, is))
 
-pub written-more : (old mid new : Option ℕ) (some more all : ℕ) → all ≡ some + more → Becomes (λ before after. after ≡ before + some) old mid → Becomes (λ before after. after ≡ before + more) mid new → Becomes (λ before after. after ≡ before + all) old new
+pub written-more : (old mid new : Option ℕ) (some more all : ℕ) → all ≡ some + more → Becomes (RisesBy some) old mid → Becomes (RisesBy more) mid new → Becomes (RisesBy all) old new
 written-more old mid new some more all is first second = λ after told.
     let later = second after told in
     let sooner = first later.0 later.1 in

@@ -1,6 +1,6 @@
 -- How many octets are read of a chain and of a record.
 use Rattle.std.proofs.Common.{◌≡◌, ℕ, ◌+◌, ◌*◌, ◌≤◌, List, length, Option, Some, None, IsSome, IfSome, refl, ap, arith, subst}
-use Rattle.eeprom.specs.Chip.{Becomes}
+use Rattle.eeprom.specs.Chip.{Becomes, RisesBy}
 use Rattle.eeprom.specs.StoreOf.{chain_of, cells_of, slot_of}
 use Rattle.cell_store.specs.Reading.{ReadsAtMost, ReadsCells, ReadsRecord}
 use Rattle.cell_store.specs.Walk.{Walked}
@@ -11,7 +11,7 @@ use Rattle.cell_store.proofs.Walking.{end-cell}
 pub reads-none : (count : Option ℕ) → Becomes (ReadsCells 0) count count
 reads-none count = λ after e. (after, e, omega arith)
 
-pub reads-more : (step : ℕ) (old mid new : Option ℕ) → Becomes (ReadsCells step) old mid → Becomes (λ before after. after ≡ before + 32) mid new → Becomes (ReadsCells (step + 1)) old new
+pub reads-more : (step : ℕ) (old mid new : Option ℕ) → Becomes (ReadsCells step) old mid → Becomes (RisesBy 32) mid new → Becomes (ReadsCells (step + 1)) old new
 reads-more step old mid new first next = λ after e.
     let last = next after e in
     let start = first last.0 last.1 in

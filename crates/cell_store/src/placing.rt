@@ -1,7 +1,7 @@
 // A record's chain, written into cells that no other chain has.
 ghost use Rattle.std.specs.Prelude.{◌≡◌, ◌+◌, ◌*◌, ◌≤◌, ◌<◌, ◌++◌, length, IfOk, is_some, OnOk};
 ghost use Rattle.arrayvec.specs.ArrayVec.{array_vec_len};
-ghost use Rattle.eeprom.specs.Chip.{Becomes};
+ghost use Rattle.eeprom.specs.Chip.{Becomes, RisesBy};
 ghost use Rattle.eeprom.specs.Fault.{Counts};
 ghost use Rattle.eeprom.specs.StoreOf.{number_at, record_in, two_octets};
 ghost use Rattle.cell_store.specs.Marks.{unmarked};
@@ -109,7 +109,7 @@ pub fn write_cells<B: Eeprom>(
     ensures there { IfOk result (λ first. first < 2 * cells) }
     ensures told { OnOk result (is_some (B.chip bench.new).image ≡ is_some (B.chip bench.old).image) }
     ensures links { length links.new ≡ length links.old }
-    ensures octets_written { OnOk result (Becomes (λ before after. after ≡ before + 32 * count) (B.chip bench.old).written (B.chip bench.new).written) }
+    ensures octets_written { OnOk result (Becomes (RisesBy (32 * count)) (B.chip bench.old).written (B.chip bench.new).written) }
     ensures moments { KeepsMarked marks.old cells (B.chip bench.old) (B.chip bench.new) }
     ensures cause { Counts (B.faults bench.old) (B.faults bench.new) result }
 {

@@ -1,6 +1,6 @@
 // The cells of an EEPROM, of which it is kept in memory which are used, and how these are linked.
 ghost use Rattle.std.specs.Prelude.{◌≡◌, ◌↔◌, ◌+◌, ◌*◌, ◌≤◌, ◌<◌, ℕ, List, false, Some, length, is_some, replicate, IfSome, IfOk, OnOk, IsErrOf};
-ghost use Rattle.eeprom.specs.Chip.{Becomes};
+ghost use Rattle.eeprom.specs.Chip.{Becomes, RisesBy};
 ghost use Rattle.eeprom.specs.Fault.{Counts};
 ghost use Rattle.eeprom.specs.StoreOf.{slot_of};
 ghost use Rattle.eeprom.specs.StoreOf as image;
@@ -129,7 +129,7 @@ impl CellStore {
         ensures fault { IsErrOf result CellRefusal.Fault → KeepsChains self.old self.new }
         ensures there { IfOk result (λ first. first < 2 * self.old.cells) }
         ensures told { OnOk result (is_some (B.chip bench.new).image ≡ is_some (B.chip bench.old).image) }
-        ensures octets_written { OnOk result (Becomes (λ before after. after ≡ before + 32 * image.cells_for (length octets.now)) (B.chip bench.old).written (B.chip bench.new).written) }
+        ensures octets_written { OnOk result (Becomes (RisesBy (32 * image.cells_for (length octets.now))) (B.chip bench.old).written (B.chip bench.new).written) }
         ensures moments { KeepsMarked self.old.used self.old.cells (B.chip bench.old) (B.chip bench.new) }
         ensures cause { CountsWriteFaults (B.faults bench.old) (B.faults bench.new) result }
     {

@@ -3,7 +3,7 @@ use Rattle.std.proofs.Common.{◌≡◌, ℕ, ◌+◌, ◌<◌, min, ltb, List, 
 use Rattle.std.proofs.lemmas.Bool.{cases_Bool, ltb-true, lt-ltb}
 use Rattle.std.proofs.lemmas.Grind.{common_steps}
 use Rattle.std.specs.declared.alloc.AllocError.{AllocError}
-use Rattle.eeprom.specs.Chip.{Becomes, Writes}
+use Rattle.eeprom.specs.Chip.{Becomes, RisesBy, Writes}
 use Rattle.eeprom.specs.Output.{Follows}
 use Rattle.eeprom.specs.Told.{Told, WritesDown, counted, chip_from}
 
@@ -18,7 +18,7 @@ counted-below : (count : ℕ) → count < 34028236692093846346337460743176821145
 counted-below count h = rw (lt-ltb count 340282366920938463463374607431768211455 h) refl
 
 -- so many more, as far as it is kept
-pub counted-more : (before more after : ℕ) → after ≡ min (before + more) 340282366920938463463374607431768211455 → Becomes (λ before after. after ≡ before + more) (counted before) (counted after)
+pub counted-more : (before more after : ℕ) → after ≡ min (before + more) 340282366920938463463374607431768211455 → Becomes (RisesBy more) (counted before) (counted after)
 counted-more before more after e now told =
     elim (cases_Bool (ltb after 340282366920938463463374607431768211455)) [
       | inl t ↦ (let below : after < 340282366920938463463374607431768211455 = ltb-true _ _ t in

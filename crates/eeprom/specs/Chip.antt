@@ -49,6 +49,10 @@ LeftSince chip t g left =
 abbrev pub Becomes : {A B : Type 0} → (A → B → Type 0) → Option A → Option B → Type 0
 Becomes {A} {B} step old new = (after : B) → new ≡ Some after → (before : A) × (old ≡ Some before) × step before after
 
+-- a count rises by so many
+abbrev pub RisesBy : ℕ → ℕ → ℕ → Type 0
+RisesBy count before after = after ≡ before + count
+
 -- time goes on by one stretch of the image as it is, or nothing happens
 abbrev pub GoesOn : (List ℕ → Stretch) → Chip → Chip → Type 0
 GoesOn stretch old new =
@@ -58,7 +62,7 @@ GoesOn stretch old new =
 -- a write of these octets at this place, whether it was done or failed
 pub record Writes (at : ℕ) (octets : List ℕ) (old new : Chip) : Type 0 where
   pub still : new.still ≡ old.still
-  pub written : Becomes (λ before after. after ≡ before + length octets) old.written new.written
+  pub written : Becomes (RisesBy (length octets)) old.written new.written
   pub image : Becomes (λ was now. IsTorn was at (length octets) now) old.image new.image
   pub later : old.clock ≤ new.clock
   pub past : GoesOn (λ image. writing (record { image = image; at = at; count = length octets; mark = old.still.mark })) old new

@@ -89,11 +89,15 @@ abbrev pub starts_with_magic : List ℕ → Bool
 starts_with_magic (a ∷ b ∷ c ∷ d ∷ rest) = (a == 0x53) && (b == 0x43) && (c == 0x51) && (d == 0x4C)
 starts_with_magic image = false
 
--- format 1 with an even version, and a number of cells that the image has room for
+-- these first octets say format 1 with an even version, and a number of cells that an image of this size has room for
+abbrev pub is_header : List ℕ → ℕ → Bool
+is_header octets size =
+    let n = number_at octets 6 in
+    (slice_index octets 4 == 1) && (slice_index octets 5 % 2 == 0) && nat_le 16 n && nat_le n 2048 && nat_le (70 * n + 34) size
+
+-- those of the image do
 abbrev pub has_header : List ℕ → Bool
-has_header image =
-    let n = number_at image 6 in
-    (slice_index image 4 == 1) && (slice_index image 5 % 2 == 0) && nat_le 16 n && nat_le n 2048 && nat_le (70 * n + 34) (length image)
+has_header image = is_header image (length image)
 
 -- the store of an image, or none
 abbrev pub store_of : List ℕ → Option Slots

@@ -1,6 +1,6 @@
 // The EEPROM of a card, and the bench that has one together with the outlet of the card's answers.
 ghost use Rattle.std.specs.Prelude.{◌≡◌, ◌<◌, ◌≤◌, ◌+◌, ◌^◌, ℕ, List, Option, length, slice_range, option_map, IfSome, OnOk};
-ghost use Rattle.eeprom.specs.Chip.{Chip, Becomes, Writes, Gives};
+ghost use Rattle.eeprom.specs.Chip.{Chip, Becomes, RisesBy, Writes, Gives};
 ghost use Rattle.eeprom.specs.Fault.{Counts};
 ghost use Rattle.eeprom.specs.Image.{overwrite};
 
@@ -26,7 +26,7 @@ pub trait Eeprom {
         requires { at + length into.old ≤ (chip self.old).still.size }
         ensures octets { OnOk result (IfSome (chip self.old).image (λ image. into.new ≡ slice_range image at (at + length into.old))) }
         ensures same { chip self.new ≡ chip self.old }
-        ensures read { Becomes (λ before after. after ≡ before + length into.old) (octets_read self.old) (octets_read self.new) }
+        ensures read { Becomes (RisesBy (length into.old)) (octets_read self.old) (octets_read self.new) }
         ensures cause { Counts (faults self.old) (faults self.new) result };
 
     /// Writes octets from `at` on. Where it fails, or where power is lost meanwhile, the range may hold anything.

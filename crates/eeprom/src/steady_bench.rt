@@ -99,7 +99,7 @@ impl SteadyBench {
 
 impl Eeprom for SteadyBench {
     ghost use Rattle.std.specs.Prelude.{◌≡◌, ◌<◌, ◌≤◌, ◌+◌, ◌-◌, length, slice_range, option_map, Some, IfSome, OnOk, IsOk, refl};
-    ghost use Rattle.eeprom.specs.Chip.{Becomes, Writes, writing};
+    ghost use Rattle.eeprom.specs.Chip.{Becomes, RisesBy, Writes, writing};
     ghost use Rattle.eeprom.specs.Fault.{Counts};
     ghost use Rattle.eeprom.specs.Image.{overwrite};
     ghost use Rattle.eeprom.specs.SteadyBench.{chip_of, octets_read_of, room_for_writes, room_for_output, ToldWithin, TellsStretch, small_of, clocked_of};
@@ -120,7 +120,7 @@ impl Eeprom for SteadyBench {
         ensures octets { OnOk result (IfSome (chip_of self.old).image (λ image. into.new ≡ slice_range image at (at + length into.old))) }
         ensures same { chip_of self.new ≡ chip_of self.old }
         ensures room { (room_for_writes self.new ≡ room_for_writes self.old) × (room_for_output self.new ≡ room_for_output self.old) }
-        ensures read { Becomes (λ before after. after ≡ before + length into.old) (octets_read_of self.old) (octets_read_of self.new) }
+        ensures read { Becomes (RisesBy (length into.old)) (octets_read_of self.old) (octets_read_of self.new) }
         ensures cause { Counts 0 0 result }
     {
         self.octets_read = self.octets_read.saturating_add(into.len() as u128);

@@ -5,7 +5,7 @@ use Rattle.std.proofs.lemmas.Bool.Decides.{nat_tests}
 use Rattle.std.proofs.lemmas.List.{map-append, take-map, take_all, take_more}
 use Rattle.std.proofs.lemmas.List.Folds.{list_all-append}
 use Rattle.std.proofs.lemmas.Option.{same_Some}
-use Rattle.eeprom.specs.Chip.{Becomes}
+use Rattle.eeprom.specs.Chip.{Becomes, RisesBy}
 use Rattle.eeprom.specs.StoreOf.{Slots, numbers_at, chain_of, chains_of, is_record, slot_of, slots_at, store_of, directory, are_apart, cells_for, cells_of, weight_of}
 use Rattle.cell_store.specs.Cells.{Cells, StandsFor, all_free, kept}
 use Rattle.cell_store.specs.Chains.{AreFree, IsRecordChain, is_among}
@@ -23,7 +23,7 @@ use Rattle.record_store.proofs.Weights.{store-begins, slots-chains, some-slots, 
 
 -- so many octets were read until then
 abbrev pub ReadsSoFar : HeldSoFar → ℕ → ℕ → Type 0
-ReadsSoFar held before after = after ≡ before + (front_octets held.cells + 32 * held.weight)
+ReadsSoFar held = RisesBy (front_octets held.cells + 32 * held.weight)
 
 -- What holds before each slot is claimed, of so many cells in an EEPROM of this size, where so many octets had been read before and now.
 pub record IsOpening (held : HeldSoFar) (slot cells size : ℕ) (image : Option (List ℕ)) (before now : Option ℕ) : Type 0 where

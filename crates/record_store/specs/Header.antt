@@ -1,13 +1,11 @@
 -- What the first octets of an image say.
-use Rattle.std.specs.Prelude.{◌≡◌, ℕ, ◌+◌, ◌*◌, ◌%◌, ◌==◌, ◌≤◌, ◌<◌, nat_le, ◌&&◌, Bool, true, List, slice_index}
-use Rattle.eeprom.specs.StoreOf.{number_at, starts_with_magic, has_header}
+use Rattle.std.specs.Prelude.{◌≡◌, ℕ, ◌+◌, ◌*◌, ◌%◌, ◌≤◌, ◌<◌, ◌&&◌, Bool, true, List, slice_index}
+use Rattle.eeprom.specs.StoreOf.{number_at, starts_with_magic, is_header, has_header}
 use Rattle.record_store.specs.declared.header.Header.{Header}
 
 -- they are those of a store in an image of this size
 abbrev pub begins_store : List ℕ → ℕ → Bool
-begins_store octets size =
-    let n = number_at octets 6 in
-    starts_with_magic octets && ((slice_index octets 4 == 1) && (slice_index octets 5 % 2 == 0) && nat_le 16 n && nat_le n 2048 && nat_le (70 * n + 34) size)
+begins_store octets size = starts_with_magic octets && is_header octets size
 
 -- a header of an image of this size
 pub record IsHeader (size : ℕ) (header : Header) : Type 0 where

@@ -1,5 +1,6 @@
 -- A store that is being opened: its slots are claimed one after another.
 use Rattle.std.specs.Prelude.{◌≡◌, ℕ, ◌+◌, ◌*◌, ◌<◌, ◌≤◌, Bool, true, List, [], ◌∷◌, length, take, Option, Some, None, IsSome, IfSome}
+use Rattle.eeprom.specs.Chip.{RisesBy}
 use Rattle.eeprom.specs.StoreOf.{Slots, slots_at, chain_of, is_record, slot_of, weight_of}
 use Rattle.cell_store.specs.Cells.{Cells, IsInRange, kept, AreLinksOf}
 use Rattle.cell_store.specs.Claims.{TakesChain}
@@ -62,7 +63,7 @@ front_octets n = 9 + 2 * n
 
 -- these are read where a store is opened, and as many as the cells of its records have
 abbrev pub ReadsStore : ℕ → Slots → ℕ → ℕ → Type 0
-ReadsStore n slots before after = after ≡ before + (front_octets n + 32 * weight_of slots)
+ReadsStore n slots = RisesBy (front_octets n + 32 * weight_of slots)
 
 -- so many are read at the most of any image: a store is refused as soon as the chains have more cells than it may have
 abbrev pub most_octets : ℕ

@@ -1,6 +1,6 @@
 // What an image says of its store: its header, and the directory that is selected.
 ghost use Rattle.std.specs.Prelude.{◌≡◌, ◌+◌, ◌*◌, ◌%◌, ◌<◌, None, length, is_some, slice_index, IfSome, IfOk, OnOk, IsErrOf};
-ghost use Rattle.eeprom.specs.Chip.{Becomes};
+ghost use Rattle.eeprom.specs.Chip.{Becomes, RisesBy};
 ghost use Rattle.eeprom.specs.StoreOf.{store_of, number_at, numbers_at};
 ghost use Rattle.cell_store.specs.Reading.{ReadsAtMost};
 ghost use Rattle.record_store.specs.Header.{begins_store, IsHeader, IsHeaderOf};
@@ -28,7 +28,7 @@ pub fn read_header<B: Eeprom>(bench: &mut B) -> Result<Header, OpenRefusal>
     ensures range { IfOk result (λ header. IsHeader (B.chip bench.old).still.size header) }
     ensures header { IfOk result (λ header. IfSome (B.chip bench.old).image (λ image. IsHeaderOf image header)) }
     ensures not_a_card { IsErrOf result OpenRefusal.NotACard → IfSome (B.chip bench.old).image (λ image. store_of image ≡ None) }
-    ensures octets_read { OnOk result (Becomes (λ before after. after ≡ before + 9) (B.octets_read bench.old) (B.octets_read bench.new)) }
+    ensures octets_read { OnOk result (Becomes (RisesBy 9) (B.octets_read bench.old) (B.octets_read bench.new)) }
     ensures most_read { Becomes (ReadsAtMost 9) (B.octets_read bench.old) (B.octets_read bench.new) }
     ensures no_memory_taken { ¬ (IsErrOf result OpenRefusal.NoMemory) }
     ensures same { B.chip bench.new ≡ B.chip bench.old }
@@ -73,7 +73,7 @@ pub fn read_directory<B: Eeprom>(
         (λ image. firsts.items ≡ numbers_at image (32 + 2 * header.cells * header.selector) header.cells)) }
     ensures count { IfOk result (λ firsts. length firsts.items ≡ header.cells) }
     ensures a_card { ¬ (IsErrOf result OpenRefusal.NotACard) }
-    ensures octets_read { OnOk result (Becomes (λ before after. after ≡ before + 2 * header.cells) (B.octets_read bench.old) (B.octets_read bench.new)) }
+    ensures octets_read { OnOk result (Becomes (RisesBy (2 * header.cells)) (B.octets_read bench.old) (B.octets_read bench.new)) }
     ensures most_read { Becomes (ReadsAtMost (2 * header.cells)) (B.octets_read bench.old) (B.octets_read bench.new) }
     ensures same { B.chip bench.new ≡ B.chip bench.old }
     ensures cause { CountsFaults (B.faults bench.old) (B.faults bench.new) result }

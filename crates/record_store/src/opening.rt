@@ -1,7 +1,7 @@
 // A store that is being opened: its slots are claimed one after another, so that it is opened only where each has the chain of a
 // record or none, and no cell is in two chains.
 ghost use Rattle.std.specs.Prelude.{◌≡◌, ◌≢◌, ◌+◌, ◌*◌, ◌≤◌, ◌<◌, ◌++◌, [], ◌∷◌, None, length, option_map, IfSome, IfOk, IsErrOf, OnOk};
-ghost use Rattle.eeprom.specs.Chip.{Becomes};
+ghost use Rattle.eeprom.specs.Chip.{Becomes, RisesBy};
 ghost use Rattle.eeprom.specs.StoreOf.{store_of, cells_of};
 ghost use Rattle.cell_store.specs.Reading.{ReadsAtMost, ReadsCells};
 ghost use Rattle.cell_store.specs.Claims.{HasNoRecord};
@@ -47,7 +47,7 @@ impl Opening {
         ensures weight { IfOk result (λ opening. opening.weight ≡ 0) }
         ensures stands { IfOk result (λ opening. IfSome (B.chip bench.old).image (StandsSoFar opening)) }
         ensures room { IfOk result (λ opening. 70 * opening.cells + 34 ≤ (B.chip bench.old).still.size) }
-        ensures octets_read { IfOk result (λ opening. Becomes (λ before after. after ≡ before + front_octets opening.cells) (B.octets_read bench.old) (B.octets_read bench.new)) }
+        ensures octets_read { IfOk result (λ opening. Becomes (RisesBy (front_octets opening.cells)) (B.octets_read bench.old) (B.octets_read bench.new)) }
         ensures most_read { Becomes (ReadsAtMost (front_octets 2048)) (B.octets_read bench.old) (B.octets_read bench.new) }
         ensures not_a_card { IsErrOf result OpenRefusal.NotACard → IfSome (B.chip bench.old).image (λ image. store_of image ≡ None) }
         ensures same { B.chip bench.new ≡ B.chip bench.old }

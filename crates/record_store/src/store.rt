@@ -1,6 +1,6 @@
 // A store of records, of which a directory in memory knows where each begins.
 ghost use Rattle.std.specs.Prelude.{◌≡◌, ◌+◌, ◌*◌, ◌≤◌, ◌<◌, ℕ, List, Some, None, false, IsTrue, IsSome, if◌then◌else◌, length, slice_index, is_some, IfSome, IfOk, IsErrOf, OnOk, OnErr};
-ghost use Rattle.eeprom.specs.Chip.{Becomes, Keeps};
+ghost use Rattle.eeprom.specs.Chip.{Becomes, RisesBy, Keeps};
 ghost use Rattle.eeprom.specs.Fault.{Counts};
 ghost use Rattle.eeprom.specs.StoreOf.{Slots, store_of};
 ghost use Rattle.eeprom.specs.StoreOf as image;
@@ -176,7 +176,7 @@ impl Store {
         ensures told { OnOk result (is_some (B.chip bench.new).image ≡ is_some (B.chip bench.old).image) }
         ensures begun { OnOk result (self.new.begun ≡ self.old.begun) }
         ensures cells { OnOk result (self.new.cells ≡ self.old.cells) }
-        ensures octets_written { OnOk result (Becomes (λ before after. after ≡ before + 32 * image.cells_for (length octets.now)) (B.chip bench.old).written (B.chip bench.new).written) }
+        ensures octets_written { OnOk result (Becomes (RisesBy (32 * image.cells_for (length octets.now))) (B.chip bench.old).written (B.chip bench.new).written) }
         ensures moments { Keeps store_of (B.chip bench.old) (B.chip bench.new) }
         ensures cause { CountsPutFaults (B.faults bench.old) (B.faults bench.new) result }
     {
