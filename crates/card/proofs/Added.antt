@@ -8,10 +8,11 @@ use Rattle.eeprom.specs.Slots.{in_slot}
 use Rattle.record_store.specs.declared.side.Side.TheVariants.{Committed}
 use Rattle.record_store.specs.Held.{Held, contents}
 use Rattle.record_store.proofs.Emptying.{weight-more}
-use Rattle.scql_model.specs.declared.words.Actor.{Actor}
-use Rattle.scql_model.specs.declared.words.Profile.{Profile}
-use Rattle.scql_model.specs.Words.{no_space}
-use Rattle.scql_model.specs.Records.{User, counter_record, user_record, counter_in}
+use Rattle.scql_base.specs.declared.words.Actor.{Actor}
+use Rattle.scql_base.specs.declared.words.Profile.{Profile}
+use Rattle.scql_base.specs.Words.{no_space}
+use Rattle.scql_base.specs.declared.records.User.{User}
+use Rattle.scql_model.specs.Records.{counter_record, user_record, counter_in}
 use Rattle.scql_model.specs.Database.{Database, IsValid, weight}
 use Rattle.scql_model.specs.Opens.{Holds}
 use Rattle.scql_model.specs.Creating.{created, new_user, with_user, is_overfull, with_user_written, AreReady}

@@ -8,7 +8,8 @@ use Rattle.std.proofs.lemmas.List.Sums.{sum_by-cons, sum_by-append}
 use Rattle.eeprom.specs.StoreOf.{Slots}
 use Rattle.eeprom.specs.Slots.{AreApart, has, place, in_order, in_slot}
 use Rattle.eeprom.proofs.InOrder.{counts, counts_not, count_by-in_order, sum_by-in_order, list_all-in_order, in_order-middle, AreApart-rising}
-use Rattle.scql_model.specs.Records.{User, counter_record, user_record, counter_in, user_in}
+use Rattle.scql_base.specs.declared.records.User.{User}
+use Rattle.scql_model.specs.Records.{counter_record, user_record, counter_in, user_in}
 use Rattle.scql_model.specs.Opens.{is_spelled, counter_stamp}
 use Rattle.scql_model.proofs.CreatingSlots.{no_user-counter}
 use Rattle.scql_model.proofs.LongerLists.{all-added}

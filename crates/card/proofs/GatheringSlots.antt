@@ -9,7 +9,7 @@ use Rattle.record_store.specs.Held.{Held, contents}
 use Rattle.record_store.specs.declared.side.Side.TheVariants.{Committed}
 use Rattle.record_store.specs.Opening.{HeldSoFar, StandsSoFar, slots_so_far, slot_with}
 use Rattle.record_store.proofs.OpeningSlots.{so_far-first, with-octets}
-use Rattle.scql_model.specs.Records.{User}
+use Rattle.scql_base.specs.declared.records.User.{User}
 use Rattle.card.specs.Opening.{Gathers, HoldNone}
 use Rattle.card.proofs.Gathering.{gathers-nothing, gathers-empty, none-no_counter}
 

@@ -12,7 +12,8 @@ use Rattle.record_store.specs.Held.{Held, StandsFor, contents}
 use Rattle.record_store.specs.Opening.{ReadsStore}
 use Rattle.record_store.specs.Sound.{IsSound}
 use Rattle.record_store.proofs.Weights.{steps-firsts}
-use Rattle.scql_model.specs.Records.{User, counter_record, user_in}
+use Rattle.scql_base.specs.declared.records.User.{User}
+use Rattle.scql_model.specs.Records.{counter_record, user_in}
 use Rattle.scql_model.specs.Database.{Database, weight}
 use Rattle.scql_model.specs.Opens.{Holds, Opens, counter_stamp}
 use Rattle.scql_model.specs.Validity.{of_users, are_valid_users}

@@ -1,6 +1,6 @@
 -- The search for OWNER goes through the users one by one.
 use Rattle.std.proofs.Common.{Bool, true, false, List, [], ◌∷◌, filter}
-use Rattle.scql_model.specs.Records.{User}
+use Rattle.scql_base.specs.declared.records.User.{User}
 use Rattle.scql_model.specs.Database.{is_db_o}
 use Rattle.scql_model.specs.Validity.{is_owner_alone}
 

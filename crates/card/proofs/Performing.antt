@@ -13,12 +13,13 @@ use Rattle.record_store.specs.declared.refusal.StoreRefusal.{StoreRefusal}
 use Rattle.record_store.specs.declared.refusal.StoreRefusal.TheVariants.{Full, Fault}
 use Rattle.record_store.specs.declared.side.Side.TheVariants.{Committed}
 use Rattle.record_store.specs.Held.{Held, contents, StandsFor}
-use Rattle.scql_model.specs.declared.words.StatusWord.{StatusWord}
-use Rattle.scql_model.specs.declared.words.Actor.{Actor}
-use Rattle.scql_model.specs.declared.words.Actor.TheVariants.{Public, User as a_user}
-use Rattle.scql_model.specs.declared.words.Profile.{Profile}
-use Rattle.scql_model.specs.Words.{done, no_space}
-use Rattle.scql_model.specs.Records.{User, counter_record, user_record, user_in}
+use Rattle.scql_base.specs.declared.words.StatusWord.{StatusWord}
+use Rattle.scql_base.specs.declared.words.Actor.{Actor}
+use Rattle.scql_base.specs.declared.words.Actor.TheVariants.{Public, User as a_user}
+use Rattle.scql_base.specs.declared.words.Profile.{Profile}
+use Rattle.scql_base.specs.Words.{done, no_space}
+use Rattle.scql_base.specs.declared.records.User.{User}
+use Rattle.scql_model.specs.Records.{counter_record, user_record, user_in}
 use Rattle.scql_model.specs.Database.{Database, user_stamped}
 use Rattle.scql_model.specs.Machine.{Machine, Session, Presented, actor, actor_of, base, session_of, open_channels}
 use Rattle.scql_model.specs.Opens.{OpensToOneOf}

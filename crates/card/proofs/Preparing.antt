@@ -6,10 +6,11 @@ use Rattle.std.proofs.lemmas.Option.{none-some}
 use Rattle.std.proofs.lemmas.Bool.{false≢true}
 use Rattle.eeprom.specs.StoreOf.{Slots}
 use Rattle.eeprom.specs.Slots.{in_slot, in_order}
-use Rattle.scql_model.specs.declared.words.Actor.{Actor}
-use Rattle.scql_model.specs.declared.words.Profile.{Profile}
-use Rattle.scql_model.specs.Words.{no_space}
-use Rattle.scql_model.specs.Records.{User, counter_in, user_in}
+use Rattle.scql_base.specs.declared.words.Actor.{Actor}
+use Rattle.scql_base.specs.declared.words.Profile.{Profile}
+use Rattle.scql_base.specs.Words.{no_space}
+use Rattle.scql_base.specs.declared.records.User.{User}
+use Rattle.scql_model.specs.Records.{counter_in, user_in}
 use Rattle.scql_model.specs.Database.{Database, IsValid, public_name, is_named}
 use Rattle.scql_model.specs.Opens.{Holds, counter_stamp}
 use Rattle.scql_model.specs.Creating.{may_create, actor_stamp, is_taken, stamps_end, created}

@@ -7,9 +7,10 @@ use Rattle.std.specs.List.{find, filter_map}
 use Rattle.std.specs.Str.{bytes_eq}
 use Rattle.eeprom.specs.Chip.{Chip}
 use Rattle.eeprom.specs.Slots.{in_slot}
-use Rattle.scql_model.specs.declared.StatusWord.{StatusWord}
-use Rattle.scql_model.specs.Words.{done, not_found}
-use Rattle.scql_model.specs.Records.{User, user_in}
+use Rattle.scql_base.specs.declared.StatusWord.{StatusWord}
+use Rattle.scql_base.specs.Words.{done, not_found}
+use Rattle.scql_base.specs.declared.records.User.{User}
+use Rattle.scql_model.specs.Records.{user_in}
 use Rattle.scql_model.specs.Database.{public_name, is_named, user_named}
 use Rattle.scql_model.specs.Machine.{Machine, Session, open_channels}
 use Rattle.scql_model.specs.Step.{Answer, said, answered, done_with, step, operated, user_of_session, presented}

@@ -4,10 +4,10 @@ use Rattle.eeprom.specs.Chip.{Chip, Leaves}
 use Rattle.scql_model.specs.Database.{Database}
 use Rattle.scql_model.specs.Opens.{OpensToOneOf}
 use Rattle.eeprom.specs.declared.EepromFault.{EepromFault}
-use Rattle.scql_model.specs.declared.words.StatusWord.{StatusWord}
+use Rattle.scql_base.specs.declared.words.StatusWord.{StatusWord}
 use Rattle.record_store.specs.declared.refusal.StoreRefusal.{StoreRefusal}
 use Rattle.record_store.specs.declared.refusal.StoreRefusal.TheVariants.{Full, Fault}
-use Rattle.scql_model.specs.Words.{done, no_space}
+use Rattle.scql_base.specs.Words.{done, no_space}
 use Rattle.scql_model.specs.Commands as model
 use Rattle.scql_model.specs.Machine.{Machine}
 use Rattle.scql_model.specs.Step.{Answer, said}

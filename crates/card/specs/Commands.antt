@@ -1,10 +1,10 @@
 -- The program's commands, as the model's.
 use Rattle.std.specs.Prelude.{ℕ, List, Result, Ok, Err, option_map}
-use Rattle.scql_model.specs.Strings.{params_of}
-use Rattle.scql_model.specs.Words.{wrong_data}
+use Rattle.scql_base.specs.Strings.{params_of}
+use Rattle.scql_base.specs.Words.{wrong_data}
 use Rattle.scql_model.specs.Commands as model
 use Rattle.scql_model.specs.Form as form
-use Rattle.scql_model.specs.declared.words.StatusWord.{StatusWord}
+use Rattle.scql_base.specs.declared.words.StatusWord.{StatusWord}
 use Rattle.card.specs.declared.command.Command.{Command}
 use Rattle.card.specs.declared.command.Operation.{Operation}
 use Rattle.card.specs.declared.command.Operation.TheVariants.{PresentUser, CreateUser}

@@ -2,8 +2,8 @@
 use Rattle.std.specs.Prelude.{◌≡◌, ℕ, ◌==◌, true, false, List, Some, None, Err, is_some, slice_index_or}
 use Rattle.eeprom.specs.Slots.{in_slot}
 use Rattle.eeprom.specs.StoreOf.{Slots}
-use Rattle.scql_model.specs.declared.words.Actor.{Actor}
-use Rattle.scql_model.specs.declared.words.Profile.{Profile}
+use Rattle.scql_base.specs.declared.words.Actor.{Actor}
+use Rattle.scql_base.specs.declared.words.Profile.{Profile}
 use Rattle.scql_model.specs.Records.{counter_in}
 use Rattle.scql_model.specs.Database.{Database}
 use Rattle.scql_model.specs.Creating.{IsAsked, may_create, is_taken, stamps_end, new_user, created}

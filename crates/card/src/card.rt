@@ -8,7 +8,7 @@ ghost use Rattle.record_store.specs.Opening.{most_octets};
 ghost use Rattle.scql_model.specs.Machine as machine;
 ghost use Rattle.scql_model.specs.Step as stepping;
 ghost use Rattle.scql_model.specs.Opens.{Opens};
-ghost use Rattle.scql_model.specs.Words.{done, memory_failure};
+ghost use Rattle.scql_base.specs.Words.{done, memory_failure};
 ghost use Rattle.scql_model.specs.Database.{Database, fresh};
 ghost use Rattle.eeprom.specs.Image.{overwrite};
 ghost use Rattle.card.specs.Card.{Kept, IsReady, IsAt, committed_slots, fresh_card};
@@ -21,8 +21,8 @@ ghost use Rattle.card.specs.Sessions.{proved_user, sessions_of};
 ghost use Rattle.scql_model.specs.Commands as model;
 ghost use Rattle.scql_model.specs.Creating.{created};
 ghost use Rattle.scql_model.specs.WellFormed.{IsWellFormed};
-ghost use Rattle.scql_model.specs.declared.words.Actor.{Actor};
-ghost use Rattle.scql_model.specs.declared.words.Profile.{Profile};
+ghost use Rattle.scql_base.specs.declared.words.Actor.{Actor};
+ghost use Rattle.scql_base.specs.declared.words.Profile.{Profile};
 ghost use Rattle.std.specs.Option.{option_flatten};
 
 use crate::adding::add_and_change;
@@ -36,7 +36,7 @@ use crate::users::{Wanted, find_user};
 use crate::validity::are_valid;
 use eeprom::{Eeprom, EepromFault};
 use record_store::{FormatRefusal, OpenRefusal, RecordOctets, Store, StoreRefusal};
-use scql_model::{Actor, Name, Octets, Profile, StatusWord};
+use scql_base::{Actor, Name, Octets, Profile, StatusWord};
 use std::alloc::Global;
 use std::marker::Model;
 

@@ -4,11 +4,11 @@ ghost use Rattle.arrayvec.specs.ArrayVec.{array_vec_len};
 ghost use Rattle.scql_model.specs.Fields as fields;
 ghost use Rattle.scql_model.specs.Records as records;
 ghost use Rattle.scql_model.specs.Database as database;
-ghost use Rattle.scql_model.specs.Name.{is_name};
+ghost use Rattle.scql_base.specs.Name.{is_name};
 ghost use Rattle.card.specs.Users.{next_of, user_of};
 
 use record_store::RecordOctets;
-use scql_model::{Name, Octets, Profile};
+use scql_base::{Name, Octets, Profile};
 
 /// The record of the stamp that the next record takes.
 #[derive(Clone, Copy)]

@@ -2,10 +2,10 @@
 ghost use Rattle.std.specs.Prelude.{◌≡◌, ◌∷◌, [], true, Some, Err, IfOk, IfSome, IfNone, slice_get, option_map, length};
 ghost use Rattle.scql_model.specs.Form as form;
 ghost use Rattle.scql_model.specs.WellFormed.{IsWellFormed};
-ghost use Rattle.scql_model.specs.Words.{wrong_data};
+ghost use Rattle.scql_base.specs.Words.{wrong_data};
 ghost use Rattle.card.specs.Commands.{command_of, operation_of, kind_view, tail_view, seen, strings_read};
 
-use scql_model::{Name, Octets, Params, Profile, StatusWord};
+use scql_base::{Name, Octets, Params, Profile, StatusWord};
 
 /// What a command asks for.
 #[derive(Drop)]

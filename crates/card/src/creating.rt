@@ -17,7 +17,7 @@ use crate::counter::find_counter;
 use crate::users::{Wanted, find_user};
 use eeprom::{Eeprom, EepromFault};
 use record_store::Store;
-use scql_model::{Actor, Name, Octets, Profile, StatusWord};
+use scql_base::{Actor, Name, Octets, Profile, StatusWord};
 
 /// The name of everybody.
 pub(crate) const PUBLIC: &[u8] = b"PUBLIC";

@@ -1,6 +1,6 @@
 // The card's answer to a command (ISO/IEC 7816-4, response APDU).
 use arrayvec::ArrayVec;
-use scql_model::StatusWord;
+use scql_base::StatusWord;
 
 /// Data octets, and a status word.
 #[derive(Drop)]

@@ -11,7 +11,7 @@ ghost use Rattle.card.specs.Card.{committed_slots};
 use crate::coding::User;
 use eeprom::{Eeprom, EepromFault};
 use record_store::{RecordOctets, Side, Store};
-use scql_model::Name;
+use scql_base::Name;
 
 /// Which user is looked for.
 #[derive(Clone, Copy)]

@@ -10,7 +10,7 @@ ghost use Rattle.card.specs.Users.{user_of};
 use crate::coding::User;
 use crate::creating::PUBLIC;
 use crate::opening::Records;
-use scql_model::Profile;
+use scql_base::Profile;
 use std::alloc::{AllocError, Global};
 use std::collections::{BTreeMap, BTreeSet};
 

@@ -4,8 +4,8 @@ use Rattle.std.specs.Prelude.{OnErr, IfErr, IsErrAnd, codes}
 use Rattle.hex.specs.Hex.{encode_upper, encode_with}
 use Rattle.eeprom.specs.Chip.{Chip, Throughout}
 use Rattle.eeprom.specs.Output.{Follows}
-use Rattle.scql_model.specs.declared.words.StatusWord.{StatusWord}
-use Rattle.scql_model.specs.Words.{memory_failure}
+use Rattle.scql_base.specs.declared.words.StatusWord.{StatusWord}
+use Rattle.scql_base.specs.Words.{memory_failure}
 use Rattle.scql_model.specs.Machine.{Machine}
 use Rattle.scql_model.specs.Lines.{Reading, lines, reading_of, reading_text, reading_step, reply_octets, run_text, machine_after, reading_commits}
 use Rattle.scql_model.specs.Opens.{Opens, OpensToOneOf}

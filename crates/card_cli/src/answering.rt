@@ -19,7 +19,7 @@ use crate::stop::Stop;
 use arrayvec::ArrayVec;
 use card::{Card, Outcome, Reply};
 use eeprom::{Bench, SinkFault};
-use scql_model::StatusWord;
+use scql_base::StatusWord;
 
 /// The longest answer: 256 data octets and a status word in hexadecimal, and a line feed.
 const LONGEST_ANSWER: usize = 517;

@@ -3,10 +3,11 @@ use Rattle.std.proofs.Common.{◌≡◌, ℕ, ◌==◌, Bool, true, false, Optio
 use Rattle.std.specs.Prelude.{option_map, option_and_then}
 use Rattle.std.specs.Option.{option_map_or}
 use Rattle.std.proofs.lemmas.Bool.{eqb-true}
-use Rattle.scql_model.specs.declared.words.Actor.TheVariants.{Public, User as a_user}
-use Rattle.scql_model.specs.Records.{User}
+use Rattle.scql_base.specs.declared.words.Actor.TheVariants.{Public, User as a_user}
+use Rattle.scql_base.specs.declared.records.User.{User}
 use Rattle.scql_model.specs.Database.{Database, user_stamped}
-use Rattle.scql_model.specs.Machine.{Machine, Session, Presented, actor, actor_of, base, session_of}
+use Rattle.scql_base.specs.declared.cursor.Presented.{Presented}
+use Rattle.scql_model.specs.Machine.{Machine, Session, actor, actor_of, base, session_of}
 use Rattle.scql_model.specs.Creating.{IsActorOf}
 use Rattle.scql_model.proofs.LongerLists.{find-passes}
 

@@ -9,9 +9,13 @@ use Rattle.std.proofs.lemmas.List.{map-append}
 use Rattle.std.proofs.lemmas.List.Folds.{list_any-append, find-append}
 use Rattle.std.proofs.lemmas.List.Elements.{filter-append}
 use Rattle.eeprom.specs.StoreOf.{is_distinct}
-use Rattle.scql_model.specs.declared.words.Profile.{Profile}
-use Rattle.scql_model.specs.declared.words.Profile.TheVariants.{DbO, Dboo, Dbbu}
-use Rattle.scql_model.specs.Records.{User, Object, Grant, Row, counter_record, user_record, object_fits, grant_record, row_record, object_spelling}
+use Rattle.scql_base.specs.declared.words.Profile.{Profile}
+use Rattle.scql_base.specs.declared.words.Profile.TheVariants.{DbO, Dboo, Dbbu}
+use Rattle.scql_base.specs.declared.records.User.{User}
+use Rattle.scql_base.specs.declared.records.Object.{Object}
+use Rattle.scql_base.specs.declared.records.Grant.{Grant}
+use Rattle.scql_base.specs.declared.records.RowRecord.{RowRecord}
+use Rattle.scql_model.specs.Records.{counter_record, user_record, object_fits, grant_record, row_record, object_spelling}
 use Rattle.scql_model.specs.Database.{Database, IsValid, owner, public_name, are_different, stamps, weight, is_db_o, is_maker, user_stamped, is_made_by_maker, has_maker, has_all_tries, has_object_and_grantee}
 use Rattle.scql_model.specs.Creating.{with_user}
 use Rattle.scql_model.proofs.LongerLists.{all-weaker, all-added, all-inserted, distinct-inserted, rises-added, names_different-added}
@@ -44,7 +48,7 @@ pub record IsAddable (db : Database) (u : User) : Type 0 where
   pub tries : has_all_tries u ≡ true
 
 abbrev others_stamps : Database → List ℕ
-others_stamps db = map (λ (o : Object). o.stamp) db.objects ++ (map (λ (g : Grant). g.stamp) db.grants ++ map (λ (r : Row). r.stamp) db.rows)
+others_stamps db = map (λ (o : Object). o.stamp) db.objects ++ (map (λ (g : Grant). g.stamp) db.grants ++ map (λ (r : RowRecord). r.stamp) db.rows)
 
 abbrev stamp_of : User → ℕ
 stamp_of u = u.stamp
@@ -146,6 +150,7 @@ pub IsValid-with_user : (db : Database) (u : User) → IsValid db → IsAddable 
 IsValid-with_user db u valid addable room next = record {
   cells = valid.cells;
   room = room;
+  limit = valid.limit;
   counter = next;
   limits = limits-added db.users u (list_all object_fits db.objects) (list_all grant_record.fits db.grants) (list_all row_record.fits db.rows) valid.limits addable.fits;
   lengths = lengths-inserted db.users u (map object_spelling db.objects ++ (map grant_record.spell db.grants ++ map row_record.spell db.rows)) valid.lengths addable.size;

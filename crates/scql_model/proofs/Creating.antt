@@ -9,13 +9,14 @@ use Rattle.std.specs.Str.{bytes_eq}
 use Rattle.std.proofs.lemmas.Bool.{cases_Bool, and_parts, or_parts, false≢true, ltb-true, ltb-false, lt-ltb, le-leb, leb-true, eqb-true, eqb-false}
 use Rattle.std.proofs.lemmas.List.{length-append}
 use Rattle.std.proofs.lemmas.Option.{none-some, same_Some}
-use Rattle.scql_model.specs.declared.words.Actor.{Actor}
-use Rattle.scql_model.specs.declared.words.Actor.TheVariants.{Public, User as a_user}
-use Rattle.scql_model.specs.declared.words.Profile.{Profile}
-use Rattle.scql_model.specs.declared.words.Profile.TheVariants.{DbO, Dboo, Dbbu}
-use Rattle.scql_model.specs.Words.{security_not_satisfied, no_space, already_exists}
-use Rattle.scql_model.specs.Name.{is_name, is_name_octet}
-use Rattle.scql_model.specs.Records.{User, is_secret, is_tries, user_record, object_fits, grant_record, row_record}
+use Rattle.scql_base.specs.declared.words.Actor.{Actor}
+use Rattle.scql_base.specs.declared.words.Actor.TheVariants.{Public, User as a_user}
+use Rattle.scql_base.specs.declared.words.Profile.{Profile}
+use Rattle.scql_base.specs.declared.words.Profile.TheVariants.{DbO, Dboo, Dbbu}
+use Rattle.scql_base.specs.Words.{security_not_satisfied, no_space, already_exists}
+use Rattle.scql_base.specs.Name.{is_name, is_name_octet}
+use Rattle.scql_base.specs.declared.records.User.{User}
+use Rattle.scql_model.specs.Records.{is_secret, is_tries, user_record, object_fits, grant_record, row_record}
 use Rattle.scql_model.specs.Database.{Database, IsValid, owner, public_name, weight, is_db_o, is_maker, user_stamped, is_made_by_maker, has_maker, has_all_tries, is_named}
 use Rattle.scql_model.specs.Creating.{IsAsked, may_create, actor_stamp, IsActorOf, is_taken, new_user, with_user, stamps_end, is_overfull, created}
 use Rattle.scql_model.proofs.LongerLists.{not_equal-sym, find-passes, find-all, all-filtered, any-map}

@@ -8,9 +8,10 @@ use Rattle.std.proofs.lemmas.Option.{none-some}
 use Rattle.eeprom.specs.StoreOf.{Slots, store_of}
 use Rattle.eeprom.specs.Slots.{in_slot, kept, Rises, replaced}
 use Rattle.eeprom.proofs.Kept.{kept-other, kept-new, kept-changed}
-use Rattle.scql_model.specs.declared.words.Actor.{Actor}
-use Rattle.scql_model.specs.declared.words.Profile.{Profile}
-use Rattle.scql_model.specs.Records.{User, counter_record, user_record, counter_in, user_in}
+use Rattle.scql_base.specs.declared.words.Actor.{Actor}
+use Rattle.scql_base.specs.declared.words.Profile.{Profile}
+use Rattle.scql_base.specs.declared.records.User.{User}
+use Rattle.scql_model.specs.Records.{counter_record, user_record, counter_in, user_in}
 use Rattle.scql_model.specs.Database.{Database, IsValid}
 use Rattle.scql_model.specs.Opens.{Holds, Opens, is_spelled, counter_stamp}
 use Rattle.scql_model.specs.Creating.{with_user, new_user, created, IsAsked, AreReady, with_user_written}
@@ -75,6 +76,7 @@ Holds-user_created slots db counter_slot slot u holds valid stamp fits next_fits
     subst (λ n. AllByRecursion (λ (v : User). v.stamp < n) db.users) (sym stamp) (users_below db valid) in
     record {
       cells = length-set between slot user ∙ (length-set slots counter_slot counter ∙ holds.cells);
+      limit = holds.limit;
       spelled = all-set is_spelled between slot user (all-set is_spelled slots counter_slot counter holds.spelled (spelled-counter (db.next + 1) next_fits)) (spelled-user u fits);
       counter = kept-other counter_stamp (in_slot counter_in) between slot user still_within (ap (in_slot counter_in) still_empty) refl
           ∙ counter_written slots db counter_slot (db.next + 1) holds ready.counter_within ready.counts next_fits;

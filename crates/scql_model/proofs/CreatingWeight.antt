@@ -5,8 +5,9 @@ use Rattle.std.specs.List.{sum_by}
 use Rattle.std.proofs.lemmas.List.{map-append}
 use Rattle.std.proofs.lemmas.List.Sums.{sum_by-cons, sum_by-append}
 use Rattle.eeprom.specs.StoreOf.{cells_for}
-use Rattle.scql_model.specs.Name.{is_name}
-use Rattle.scql_model.specs.Records.{User, counter_record, user_record, grant_record, row_record, object_spelling}
+use Rattle.scql_base.specs.Name.{is_name}
+use Rattle.scql_base.specs.declared.records.User.{User}
+use Rattle.scql_model.specs.Records.{counter_record, user_record, grant_record, row_record, object_spelling}
 use Rattle.scql_model.specs.Database.{Database, weight}
 use Rattle.scql_model.specs.Creating.{with_user, is_overfull}
 use Rattle.scql_model.proofs.Creating.{user-size, name-size}

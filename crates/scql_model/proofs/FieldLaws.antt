@@ -11,8 +11,8 @@ use Rattle.std.proofs.lemmas.Option.{none-some, same_Some, option_and_then_some}
 use Rattle.std.proofs.Math.Seq.{take-append_seam, drop-append_seam}
 use Rattle.scql_model.specs.Fields.{Field, number, octet, letter, text, ◌then◌, counted, as_record, marked, whole, with_rest, with_front, many_at}
 use Rattle.scql_model.specs.Records.{values_to_the_end, no_rest, is_row}
-use Rattle.scql_model.specs.Strings.{spelled, params_of}
-use Rattle.scql_model.proofs.Splitting.{AreParams-from_params_of, params_of-again}
+use Rattle.scql_base.specs.Strings.{spelled, params_of}
+use Rattle.scql_base.proofs.Splitting.{AreParams-from_params_of, params_of-again}
 
 -- each of the numbers is an octet
 abbrev pub AreOctets : List ℕ → Type 0

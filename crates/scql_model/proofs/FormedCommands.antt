@@ -3,14 +3,16 @@ use Rattle.std.proofs.Common.{◌≡◌, ℕ, ◌==◌, Bool, true, false, List,
 use Rattle.std.specs.Result.{result_ok}
 use Rattle.std.proofs.lemmas.Option.{none-some, same_Some}
 use Rattle.std.proofs.lemmas.Bool.{false≢true}
-use Rattle.scql_model.specs.declared.words.StatusWord.{StatusWord}
-use Rattle.scql_model.specs.declared.words.Profile.{Profile}
-use Rattle.scql_model.specs.declared.words.Profile.TheVariants.{DbO, Dboo, Dbbu}
-use Rattle.scql_model.specs.Words.{wrong_data, wrong_length}
-use Rattle.scql_model.specs.Name.{is_name, name_of}
+use Rattle.scql_base.specs.declared.words.StatusWord.{StatusWord}
+use Rattle.scql_base.specs.declared.words.Profile.{Profile}
+use Rattle.scql_base.specs.declared.words.Profile.TheVariants.{DbO, Dboo, Dbbu}
+use Rattle.scql_base.specs.Words.{wrong_data, wrong_length}
+use Rattle.scql_base.specs.Name.{is_name, name_of}
 use Rattle.scql_model.specs.Records.{is_secret}
-use Rattle.scql_model.specs.Strings.{params_of}
-use Rattle.scql_model.specs.Commands.{Command, Operation, present_user, create_user}
+use Rattle.scql_base.specs.Strings.{params_of}
+use Rattle.scql_base.specs.declared.operation.Command.{Command}
+use Rattle.scql_base.specs.declared.operation.Operation.{Operation}
+use Rattle.scql_base.specs.declared.operation.Operation.TheVariants.{PresentUser, CreateUser}
 use Rattle.scql_model.specs.WellFormed.{IsWellFormed}
 use Rattle.scql_model.specs.Form.{◌>>=◌, or_refused, class_of, instruction_of, channel_of, Kind, presents_user, creates_user, kind_of, tail_of, presented_in, made_profile_of, secret_of, created_in, operation_in, form_of}
 
@@ -40,8 +42,8 @@ presented-formed : (strings : List (List ℕ)) (operation : Operation) → prese
 presented-formed [] operation is = refused wrong_data operation is
 presented-formed (name ∷ x ∷ rest) operation is = refused wrong_data operation is
 presented-formed (name ∷ []) operation is =
-    bound (or_refused (name_of name) wrong_data) (λ n. Ok (present_user n)) operation is (λ n at same.
-    subst IsWellFormed (same_Ok (present_user n) operation same) (named name n (not_refused (name_of name) wrong_data n at)))
+    bound (or_refused (name_of name) wrong_data) (λ n. Ok (PresentUser n)) operation is (λ n at same.
+    subst IsWellFormed (same_Ok (PresentUser n) operation same) (named name n (not_refused (name_of name) wrong_data n at)))
 
 -- OWNER's profile isn't asked for
 no_owner : (string : List ℕ) (profile : Profile) → made_profile_of string ≡ Some profile → profile ≡ DbO → ⊥
@@ -73,8 +75,8 @@ created-formed (a ∷ b ∷ c ∷ d ∷ rest) operation is = refused wrong_data 
 created-formed (name ∷ profile ∷ secret ∷ []) operation is =
     bound (or_refused (name_of name) wrong_data) _ operation is (λ n at-name is'.
     bound (or_refused (made_profile_of profile) wrong_data) _ operation is' (λ p at-profile is''.
-    bound (or_refused (secret_of secret) wrong_data) (λ s. Ok (create_user n p s)) operation is'' (λ s at-secret same.
-    subst IsWellFormed (same_Ok (create_user n p s) operation same) (
+    bound (or_refused (secret_of secret) wrong_data) (λ s. Ok (CreateUser n p s)) operation is'' (λ s at-secret same.
+    subst IsWellFormed (same_Ok (CreateUser n p s) operation same) (
       named name n (not_refused (name_of name) wrong_data n at-name),
       no_secret secret s (not_refused (secret_of secret) wrong_data s at-secret),
       no_owner profile p (not_refused (made_profile_of profile) wrong_data p at-profile),

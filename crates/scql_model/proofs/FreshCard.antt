@@ -2,7 +2,8 @@
 use Rattle.std.proofs.Common.{◌≡◌, ℕ, zero, suc, ◌≤◌, ◌-◌, Option, List, [], ◌∷◌, replicate, refl, ap, true, Some, None, arith}
 use Rattle.std.proofs.lemmas.List.{length-replicate}
 use Rattle.eeprom.specs.StoreOf.{store_of, fresh_slots}
-use Rattle.scql_model.specs.Records.{User, counter_record, user_record, counter_in, user_in}
+use Rattle.scql_base.specs.declared.records.User.{User}
+use Rattle.scql_model.specs.Records.{counter_record, user_record, counter_in, user_in}
 use Rattle.scql_model.specs.Database.{IsValid, fresh, owner}
 use Rattle.scql_model.specs.Opens.{Holds, Opens, is_spelled, counter_stamp}
 use Rattle.std.specs.List.{filter_map, list_all}
@@ -12,6 +13,7 @@ pub IsValid-fresh : (n : ℕ) → 16 ≤ n → n ≤ 2048 → IsValid (fresh n)
 IsValid-fresh n few many = record {
   cells = (few, many);
   room = omega arith;
+  limit = refl;
   counter = refl;
   limits = refl;
   lengths = refl;
@@ -47,6 +49,7 @@ list_all-replicate_none (suc count) = list_all-replicate_none count
 pub Holds-fresh : (n : ℕ) → 16 ≤ n → Holds (fresh_slots n (counter_record.spell 2) (user_record.spell owner)) (fresh n)
 Holds-fresh n few = record {
   cells = omega (arith, length-replicate {A = Option (List ℕ)} (n - 2) None);
+  limit = refl;
   spelled = list_all-replicate_none (n - 2);
   counter = ap (λ (xs : List ℕ). in_order counter_stamp (2 ∷ xs)) (filter_map-replicate_none counter_in (n - 2));
   users = ap (λ (xs : List User). in_order (λ (u : User). u.stamp) (owner ∷ xs)) (filter_map-replicate_none user_in (n - 2));

@@ -5,11 +5,13 @@ use Rattle.std.proofs.lemmas.Bool.Decides.{leb_tells}
 use Rattle.std.specs.Prelude.{IfOk, codes}
 use Rattle.std.specs.Str.{bytes_eq}
 use Rattle.hex.specs.Hex.{encode_upper}
-use Rattle.scql_model.specs.declared.words.StatusWord.{StatusWord}
-use Rattle.scql_model.specs.Records.{User}
+use Rattle.scql_base.specs.declared.words.StatusWord.{StatusWord}
+use Rattle.scql_base.specs.declared.records.User.{User}
 use Rattle.scql_model.specs.Database.{Database, public_name, user_named}
 use Rattle.scql_model.specs.Machine.{Machine, open_channels, base, actor}
-use Rattle.scql_model.specs.Commands.{Command, Operation, present_user, create_user}
+use Rattle.scql_base.specs.declared.operation.Command.{Command}
+use Rattle.scql_base.specs.declared.operation.Operation.{Operation}
+use Rattle.scql_base.specs.declared.operation.Operation.TheVariants.{PresentUser, CreateUser}
 use Rattle.scql_model.specs.Creating.{created}
 use Rattle.scql_model.specs.Form.{form_of, ◌>>=◌}
 use Rattle.scql_model.specs.Step.{Answer, answered, changed, user_presented, operated, step}
@@ -49,14 +51,14 @@ last-presented m channel None = tt
 last-presented m channel (Some u) = refl
 
 last-operated : (m : Machine) (channel : ℕ) (operation : Operation) → IfOk (operated m channel operation) (IsLast m)
-last-operated m channel (present_user name) = elim (cases_Bool (is_some m.transaction)) [
+last-operated m channel (PresentUser name) = elim (cases_Bool (is_some m.transaction)) [
   | inl t ↦ rw t tt
   | inr f ↦ rw f (elim (cases_Bool (bytes_eq name public_name)) [
     | inl p ↦ rw p refl
     | inr q ↦ rw q (last-presented m channel (user_named (base m channel).users name))
   ])
 ]
-last-operated m channel (create_user name profile secret) = elim (cases_Bool (is_some m.transaction)) [
+last-operated m channel (CreateUser name profile secret) = elim (cases_Bool (is_some m.transaction)) [
   | inl t ↦ rw t tt
   | inr f ↦ rw f (last-changed m (created (base m channel) (actor m channel) name profile secret))
 ]

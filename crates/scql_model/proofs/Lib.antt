@@ -4,7 +4,6 @@ pub mod CounterSlot
 pub mod Creating
 pub mod CreatingSlots
 pub mod CreatingWeight
-mod ExampleValues
 pub mod FieldLaws
 pub mod FormedCommands
 pub mod FreshCard
@@ -16,7 +15,6 @@ pub mod Refusing
 pub mod Room
 pub mod SpellingLengths
 pub mod Spellings
-pub mod Splitting
 pub mod Validity
 mod WorkedCreating
 mod WorkedRows

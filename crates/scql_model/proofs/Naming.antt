@@ -7,7 +7,8 @@ use Rattle.std.proofs.lemmas.Slice.Eq.{bytes_eq-Decides}
 use Rattle.eeprom.proofs.InOrder.{count_by-cons, count_by-in_order, find-in_order, AreApart-rising}
 use Rattle.eeprom.specs.Slots.{in_slot, in_order}
 use Rattle.eeprom.specs.StoreOf.{Slots}
-use Rattle.scql_model.specs.Records.{User, user_in}
+use Rattle.scql_base.specs.declared.records.User.{User}
+use Rattle.scql_model.specs.Records.{user_in}
 use Rattle.scql_model.specs.Database.{Database, IsValid, are_different, is_named, user_named, user_stamped}
 use Rattle.scql_model.specs.Opens.{Holds}
 

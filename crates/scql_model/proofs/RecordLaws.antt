@@ -2,13 +2,14 @@
 use Rattle.std.proofs.Common.{◌≡◌, ℕ, ◌==◌, Bool, true, false, List, Option, Some, if◌then◌else◌, refl, sym, ◌∙◌, ap}
 use Rattle.std.proofs.lemmas.Bool.{eqb-true}
 use Rattle.std.proofs.lemmas.Option.{none-some, same_Some}
-use Rattle.scql_model.specs.declared.words.Profile.TheVariants.{DbO, Dboo, Dbbu}
-use Rattle.scql_model.specs.declared.words.Subject.TheVariants.{Objects, Users, Grants}
-use Rattle.scql_model.specs.declared.words.Comparison.TheVariants.{Equal, Less, Greater, AtMost, AtLeast, NotEqual}
-use Rattle.scql_model.specs.Name.{is_name}
-use Rattle.scql_model.specs.Row.{is_narrow}
+use Rattle.scql_base.specs.declared.words.Profile.TheVariants.{DbO, Dboo, Dbbu}
+use Rattle.scql_base.specs.declared.words.Subject.TheVariants.{Objects, Users, Grants}
+use Rattle.scql_base.specs.declared.words.Comparison.TheVariants.{Equal, Less, Greater, AtMost, AtLeast, NotEqual}
+use Rattle.scql_base.specs.Name.{is_name}
+use Rattle.scql_base.specs.Row.{is_narrow}
 use Rattle.scql_model.specs.Fields.{number, text, ◌then◌}
-use Rattle.scql_model.specs.Records.{User, profile_code, profile_of, subject_code, subject_of, comparison_code, comparison_of, is_secret, is_tries, is_privileges, is_one_to_fifteen, is_at_most_eight, columns, conditions, to_condition, from_condition, to_user, from_user, to_grant, from_grant, to_row, from_row, counter_record, user_record, table_record, view_record, dictionary_record, grant_record, row_record, counter_in, user_in}
+use Rattle.scql_base.specs.declared.records.User.{User}
+use Rattle.scql_model.specs.Records.{profile_code, profile_of, subject_code, subject_of, comparison_code, comparison_of, is_secret, is_tries, is_privileges, is_one_to_fifteen, is_at_most_eight, columns, conditions, to_condition, from_condition, to_user, from_user, to_grant, from_grant, to_row, from_row, counter_record, user_record, table_record, view_record, dictionary_record, grant_record, row_record, counter_in, user_in}
 use Rattle.scql_model.proofs.FieldLaws.{AreOctets, Codes, CodesAlone, IsField, IsLastField, IsLastField-from_IsField, IsField-number, IsField-octet, IsField-letter, IsField-text, IsField-then, IsLastField-then, IsField-counted, IsField-as_record, IsLastField-as_record, IsField-marked, IsLastField-marked, IsLastField-values_to_the_end, whole_took, whole_again}
 
 -- Codes. A chain of choices among numbers gives a value only for its code.

@@ -1,13 +1,15 @@
 -- A command that isn't done is refused: the machine stays, and nothing is committed.
 use Rattle.std.proofs.Common.{◌≡◌, ℕ, Bool, true, false, List, [], Option, Some, None, is_some, Result, Ok, Err, if◌then◌else◌, refl}
 use Rattle.std.specs.Str.{bytes_eq}
-use Rattle.scql_model.specs.declared.words.StatusWord.{StatusWord}
-use Rattle.scql_model.specs.Words.{done, conditions_not_satisfied}
-use Rattle.scql_model.specs.Records.{User}
+use Rattle.scql_base.specs.declared.words.StatusWord.{StatusWord}
+use Rattle.scql_base.specs.Words.{done, conditions_not_satisfied}
+use Rattle.scql_base.specs.declared.records.User.{User}
 use Rattle.scql_model.specs.Database.{Database, public_name, user_named}
-use Rattle.scql_model.specs.Machine.{Machine, Session, base, actor, open_channels}
+use Rattle.scql_model.specs.Machine.{Machine, new_session, base, actor, open_channels}
 use Rattle.scql_model.specs.Creating.{created}
-use Rattle.scql_model.specs.Commands.{Command, Operation, create_table, create_view, create_dictionary, drop_table, drop_view, grant, revoke, declare_cursor, open_cursor, next, fetch, fetch_next, insert, update, delete, begin, commit, rollback, present_user, create_user, delete_user, verify, open_channel, close_channel}
+use Rattle.scql_base.specs.declared.operation.Command.{Command}
+use Rattle.scql_base.specs.declared.operation.Operation.{Operation}
+use Rattle.scql_base.specs.declared.operation.Operation.TheVariants.{CreateTable, CreateView, CreateDictionary, DropTable, DropView, Grant, Revoke, DeclareCursor, OpenCursor, Next, Fetch, FetchNext, Insert, Update, Delete, Begin, Commit, Rollback, PresentUser, CreateUser, DeleteUser, Verify, OpenChannel, CloseChannel, GetResponse}
 use Rattle.scql_model.specs.Form.{form_of, ◌>>=◌}
 use Rattle.scql_model.specs.Step.{Answer, answered, done_with, with_session, user_presented, changed, operated, step}
 
@@ -29,34 +31,35 @@ done-changed m (Ok db) = refl
 done-changed m (Err word) = tt
 
 done-operated : (m : Machine) (channel : ℕ) (operation : Operation) → SaysDone (operated m channel operation)
-done-operated m channel (present_user name) =
+done-operated m channel (PresentUser name) =
     done-if (is_some m.transaction) (Err conditions_not_satisfied) _ tt (
-    done-if (bytes_eq name public_name) (Ok (done_with (with_session m channel (let s : Session = record { user = None; cursor = None } in s)))) _ refl
+    done-if (bytes_eq name public_name) (Ok (done_with (with_session m channel new_session))) _ refl
     (done-presented m channel (user_named (base m channel).users name)))
-done-operated m channel (create_user name profile secret) =
+done-operated m channel (CreateUser name profile secret) =
     done-if (is_some m.transaction) (Err conditions_not_satisfied) _ tt (done-changed m (created (base m channel) (actor m channel) name profile secret))
-done-operated m channel (create_table name columns) = tt
-done-operated m channel (create_view name base columns conditions) = tt
-done-operated m channel (create_dictionary name subject) = tt
-done-operated m channel (drop_table name) = tt
-done-operated m channel (drop_view name) = tt
-done-operated m channel (grant privileges object grantee) = tt
-done-operated m channel (revoke privileges object grantee) = tt
-done-operated m channel (declare_cursor object columns conditions) = tt
-done-operated m channel open_cursor = tt
-done-operated m channel next = tt
-done-operated m channel fetch = tt
-done-operated m channel fetch_next = tt
-done-operated m channel (insert table values) = tt
-done-operated m channel (update changes) = tt
-done-operated m channel delete = tt
-done-operated m channel begin = tt
-done-operated m channel commit = tt
-done-operated m channel rollback = tt
-done-operated m channel (delete_user name) = tt
-done-operated m channel (verify secret) = tt
-done-operated m channel (open_channel number) = tt
-done-operated m channel (close_channel number) = tt
+done-operated m channel (CreateTable name columns) = tt
+done-operated m channel (CreateView name base columns conditions) = tt
+done-operated m channel (CreateDictionary name subject) = tt
+done-operated m channel (DropTable name) = tt
+done-operated m channel (DropView name) = tt
+done-operated m channel (Grant privileges object grantee) = tt
+done-operated m channel (Revoke privileges object grantee) = tt
+done-operated m channel (DeclareCursor object columns conditions) = tt
+done-operated m channel OpenCursor = tt
+done-operated m channel Next = tt
+done-operated m channel Fetch = tt
+done-operated m channel FetchNext = tt
+done-operated m channel (Insert table values) = tt
+done-operated m channel (Update changes) = tt
+done-operated m channel Delete = tt
+done-operated m channel Begin = tt
+done-operated m channel Commit = tt
+done-operated m channel Rollback = tt
+done-operated m channel (DeleteUser name) = tt
+done-operated m channel (Verify secret) = tt
+done-operated m channel (OpenChannel number) = tt
+done-operated m channel (CloseChannel number) = tt
+done-operated m channel GetResponse = tt
 
 answered-stays : (m : Machine) (outcome : Result Answer StatusWord) → SaysDone outcome → ((answered m outcome).reply.word ≡ done → ⊥)
     → ((answered m outcome).machine ≡ m) × ((answered m outcome).commits ≡ [])

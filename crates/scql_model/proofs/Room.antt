@@ -7,7 +7,8 @@ use Rattle.std.proofs.lemmas.List.Sums.{sum_by-cons, sum_by-append}
 use Rattle.eeprom.specs.StoreOf.{Slots, cells_for, cells_of}
 use Rattle.eeprom.specs.Slots.{in_slot}
 use Rattle.eeprom.proofs.InOrder.{sum_by-in_order}
-use Rattle.scql_model.specs.Records.{User, counter_record, user_record, counter_in, user_in}
+use Rattle.scql_base.specs.declared.records.User.{User}
+use Rattle.scql_model.specs.Records.{counter_record, user_record, counter_in, user_in}
 use Rattle.scql_model.specs.Database.{Database, weight}
 use Rattle.scql_model.specs.Opens.{Holds, is_spelled, counter_stamp}
 use Rattle.scql_model.specs.Creating.{with_user, is_overfull}

@@ -3,9 +3,10 @@ use Rattle.std.proofs.Common.{◌≡◌, ℕ, ◌+◌, nat_lt, ◌==◌, Bool, L
 use Rattle.std.proofs.lemmas.Bool.{eqb-true}
 use Rattle.std.proofs.lemmas.List.{length-append, take-append-drop}
 use Rattle.std.proofs.lemmas.Option.{none-some, same_Some, option_and_then_some}
-use Rattle.scql_model.specs.Name.{is_name}
+use Rattle.scql_base.specs.Name.{is_name}
 use Rattle.scql_model.specs.Fields.{Field, number, octet, letter, text, ◌then◌, as_record, marked, whole, with_rest}
-use Rattle.scql_model.specs.Records.{User, profile_code, profile_of, is_secret, is_tries, to_user, from_user, counter_record, user_record, counter_in, user_in}
+use Rattle.scql_base.specs.declared.records.User.{User}
+use Rattle.scql_model.specs.Records.{profile_code, profile_of, is_secret, is_tries, to_user, from_user, counter_record, user_record, counter_in, user_in}
 use Rattle.scql_model.proofs.FieldLaws.{mapped_some, chosen_some, not_chosen_some}
 
 -- what is read and what is behind it are as long as the whole

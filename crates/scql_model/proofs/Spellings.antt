@@ -2,10 +2,13 @@
 use Rattle.std.proofs.Common.{◌≡◌, ℕ, List, [], ◌∷◌, ◌++◌, length, refl}
 use Rattle.std.specs.Int.{w32, to_be_bytes}
 use Rattle.std.specs.List.{flat_map}
-use Rattle.scql_model.specs.declared.condition.Condition.{Condition}
-use Rattle.scql_model.specs.declared.words.Subject.{Subject}
-use Rattle.scql_model.specs.Strings.{spelled}
-use Rattle.scql_model.specs.Records.{User, Grant, Row, profile_code, subject_code, comparison_code, counter_record, user_record, table_record, view_record, dictionary_record, grant_record, row_record}
+use Rattle.scql_base.specs.declared.condition.Condition.{Condition}
+use Rattle.scql_base.specs.declared.words.Subject.{Subject}
+use Rattle.scql_base.specs.Strings.{spelled}
+use Rattle.scql_base.specs.declared.records.User.{User}
+use Rattle.scql_base.specs.declared.records.Grant.{Grant}
+use Rattle.scql_base.specs.declared.records.RowRecord.{RowRecord}
+use Rattle.scql_model.specs.Records.{profile_code, subject_code, comparison_code, counter_record, user_record, table_record, view_record, dictionary_record, grant_record, row_record}
 use Rattle.scql_model.specs.Database.{fresh, weight}
 
 -- four octets, the highest first
@@ -41,7 +44,7 @@ dictionary-spelling stamp owner name subject = refl
 pub grant-spelling : (g : Grant) → grant_record.spell g ≡ 0x05 ∷ (four g.stamp ++ (four g.object ++ (four g.grantee ++ (g.privileges ∷ []))))
 grant-spelling g = refl
 
-pub row-spelling : (r : Row) → row_record.spell r ≡ 0x06 ∷ (four r.stamp ++ (four r.table ++ flat_map spelled r.values))
+pub row-spelling : (r : RowRecord) → row_record.spell r ≡ 0x06 ∷ (four r.stamp ++ (four r.table ++ flat_map spelled r.row))
 row-spelling r = refl
 
 -- the counter and the owner fill a cell each

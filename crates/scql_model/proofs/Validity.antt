@@ -8,10 +8,11 @@ use Rattle.std.proofs.lemmas.List.{append-nil, length-append}
 use Rattle.std.proofs.lemmas.Slice.Eq.{bytes_eq-Decides}
 use Rattle.eeprom.specs.StoreOf.{is_distinct}
 use Rattle.eeprom.specs.Slots.{Rises}
-use Rattle.scql_model.specs.declared.words.Profile.{Profile}
-use Rattle.scql_model.specs.declared.words.Profile.TheVariants.{DbO, Dboo, Dbbu}
-use Rattle.scql_model.specs.Name.{is_name}
-use Rattle.scql_model.specs.Records.{User, counter_record, user_record, is_secret}
+use Rattle.scql_base.specs.declared.words.Profile.{Profile}
+use Rattle.scql_base.specs.declared.words.Profile.TheVariants.{DbO, Dboo, Dbbu}
+use Rattle.scql_base.specs.Name.{is_name}
+use Rattle.scql_base.specs.declared.records.User.{User}
+use Rattle.scql_model.specs.Records.{counter_record, user_record, is_secret}
 use Rattle.scql_model.specs.Database.{Database, IsValid, owner, owner_name, public_name, are_different, is_db_o, has_maker, has_all_tries, weight}
 use Rattle.scql_model.specs.Validity.{of_users, is_owner, is_owner_alone, is_valid_user, are_valid_users}
 use Rattle.scql_model.proofs.LongerLists.{all-weaker}
@@ -114,6 +115,7 @@ IsValid-of_users cells next users few many room counter limits rises valid =
     record {
       cells = (few, many);
       room = room;
+      limit = refl;
       counter = counter;
       limits = rw limits refl;
       lengths = rw (append-nil (map user_record.spell users)) (all-map is_short user_record.spell users ∙ all-weaker user_record.fits (λ (u : User). is_short (user_record.spell u)) users length-fitting limits);

@@ -1,11 +1,11 @@
 -- Worked rows of CREATE USER: the definition computes each answer.
 use Rattle.std.proofs.Common.{◌≡◌, true, [], ◌∷◌, refl, Ok, Err}
 use Rattle.std.specs.Prelude.{codes, is_ok}
-use Rattle.scql_model.specs.declared.words.Actor.{Actor}
-use Rattle.scql_model.specs.declared.words.Actor.TheVariants.{Public, User as a_user}
-use Rattle.scql_model.specs.declared.words.Profile.TheVariants.{DbO, Dboo, Dbbu}
-use Rattle.scql_model.specs.Words.{security_not_satisfied, no_space, already_exists}
-use Rattle.scql_model.specs.Records.{User}
+use Rattle.scql_base.specs.declared.words.Actor.{Actor}
+use Rattle.scql_base.specs.declared.words.Actor.TheVariants.{Public, User as a_user}
+use Rattle.scql_base.specs.declared.words.Profile.TheVariants.{DbO, Dboo, Dbbu}
+use Rattle.scql_base.specs.Words.{security_not_satisfied, no_space, already_exists}
+use Rattle.scql_base.specs.declared.records.User.{User}
 use Rattle.scql_model.specs.Database.{Database, fresh, owner}
 use Rattle.scql_model.specs.Creating.{created}
 
@@ -13,7 +13,7 @@ abbrev ann : User
 ann = record { stamp = 2; name = codes "ANN"; profile = Dbbu; owner = 1; secret = []; tries = 3 }
 
 abbrev with_ann : Database
-with_ann = record { cells = 64; next = 3; users = owner ∷ ann ∷ []; objects = []; grants = []; rows = [] }
+with_ann = record { cells = 64; limit = 240; next = 3; users = owner ∷ ann ∷ []; objects = []; grants = []; rows = [] }
 
 abbrev the_owner : Actor
 the_owner = a_user 1 DbO

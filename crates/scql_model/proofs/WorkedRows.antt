@@ -2,7 +2,7 @@
 use Rattle.std.proofs.Common.{◌≡◌, [], ◌∷◌, replicate, refl, true, false}
 use Rattle.std.specs.Prelude.{codes}
 use Rattle.hex.proofs.OnLiterals.{hex_on_literals}
-use Rattle.scql_model.specs.Strings.{params_of, pieces_of}
+use Rattle.scql_base.specs.Strings.{params_of, pieces_of}
 use Rattle.scql_model.specs.Database.{fresh}
 use Rattle.scql_model.specs.Machine.{Machine, start}
 use Rattle.scql_model.specs.Form.{form_of}

@@ -2,16 +2,17 @@
 use Rattle.std.specs.Prelude.{◌≡◌, ℕ, ◌+◌, ◌==◌, nat_lt, not, ◌||◌, Bool, true, false, List, [], ◌∷◌, ◌++◌, length, set, get_or, ◌<◌, Some, None, option_map, Result, Ok, Err, if◌then◌else◌}
 use Rattle.std.specs.List.{list_any}
 use Rattle.std.specs.Str.{bytes_eq}
-use Rattle.scql_model.specs.declared.words.Actor.{Actor}
-use Rattle.scql_model.specs.declared.words.Actor.TheVariants.{Public, User as a_user}
-use Rattle.scql_model.specs.declared.words.Profile.{Profile}
-use Rattle.scql_model.specs.declared.words.Profile.TheVariants.{DbO, Dboo, Dbbu}
-use Rattle.scql_model.specs.declared.words.StatusWord.{StatusWord}
-use Rattle.scql_model.specs.Words.{security_not_satisfied, no_space, already_exists}
+use Rattle.scql_base.specs.declared.words.Actor.{Actor}
+use Rattle.scql_base.specs.declared.words.Actor.TheVariants.{Public, User as a_user}
+use Rattle.scql_base.specs.declared.words.Profile.{Profile}
+use Rattle.scql_base.specs.declared.words.Profile.TheVariants.{DbO, Dboo, Dbbu}
+use Rattle.scql_base.specs.declared.words.StatusWord.{StatusWord}
+use Rattle.scql_base.specs.Words.{security_not_satisfied, no_space, already_exists}
 use Rattle.eeprom.specs.StoreOf.{Slots}
 use Rattle.eeprom.specs.Slots.{in_slot}
-use Rattle.scql_model.specs.Name.{is_name}
-use Rattle.scql_model.specs.Records.{User, is_secret, counter_record, user_record, counter_in}
+use Rattle.scql_base.specs.Name.{is_name}
+use Rattle.scql_base.specs.declared.records.User.{User}
+use Rattle.scql_model.specs.Records.{is_secret, counter_record, user_record, counter_in}
 use Rattle.scql_model.specs.Database.{Database, public_name, weight, user_stamped, is_named}
 
 -- DB_O makes users, and DBOO makes users of profile DBBU

@@ -5,19 +5,27 @@ use Rattle.std.specs.Option.{option_map_or}
 use Rattle.std.specs.Str.{bytes_eq}
 use Rattle.eeprom.specs.StoreOf.{cells_for, is_distinct}
 use Rattle.eeprom.specs.Slots.{Rises}
-use Rattle.scql_model.specs.declared.words.Profile.{Profile}
-use Rattle.scql_model.specs.declared.words.Profile.TheVariants.{DbO, Dboo, Dbbu}
-use Rattle.scql_model.specs.declared.condition.Condition.{Condition}
-use Rattle.scql_model.specs.Records.{User, Object, ObjectKind, table, view, dictionary, Grant, Row, counter_record, user_record, grant_record, row_record, object_spelling, object_fits}
+use Rattle.scql_base.specs.declared.words.Profile.{Profile}
+use Rattle.scql_base.specs.declared.words.Profile.TheVariants.{DbO, Dboo, Dbbu}
+use Rattle.scql_base.specs.declared.condition.Condition.{Condition}
+use Rattle.scql_base.specs.declared.records.User.{User}
+use Rattle.scql_base.specs.declared.records.Object.{Object}
+use Rattle.scql_base.specs.declared.records.ObjectKind.{ObjectKind}
+use Rattle.scql_base.specs.declared.records.ObjectKind.TheVariants.{Table, View, Dictionary}
+use Rattle.scql_base.specs.declared.records.Grant.{Grant}
+use Rattle.scql_base.specs.declared.records.RowRecord.{RowRecord}
+use Rattle.scql_model.specs.Records.{counter_record, user_record, grant_record, row_record, object_spelling, object_fits}
 
--- the number of cells of its card, the stamp that the next record takes, and the records in rising order of their stamps
+-- the number of cells of its card, the most octets that a row may have, the stamp that the next record takes, and the records in rising
+-- order of their stamps
 pub record Database : Type 0 where
   pub cells : ℕ
+  pub limit : ℕ
   pub next : ℕ
   pub users : List User
   pub objects : List Object
   pub grants : List Grant
-  pub rows : List Row
+  pub rows : List RowRecord
 
 -- the user with whom a card is made, `OWNER`
 abbrev pub owner_name : List ℕ
@@ -31,7 +39,7 @@ abbrev pub public_name : List ℕ
 public_name = 0x50 ∷ 0x55 ∷ 0x42 ∷ 0x4C ∷ 0x49 ∷ 0x43 ∷ []
 
 abbrev pub fresh : ℕ → Database
-fresh n = record { cells = n; next = 2; users = owner ∷ []; objects = []; grants = []; rows = [] }
+fresh n = record { cells = n; limit = 240; next = 2; users = owner ∷ []; objects = []; grants = []; rows = [] }
 
 -- all records, as they are spelled
 abbrev pub spellings : Database → List (List ℕ)
@@ -54,7 +62,7 @@ are_among names columns = list_all (λ name. list_any (bytes_eq name) columns) n
 abbrev pub stamps : Database → List ℕ
 stamps db =
     map (λ (u : User). u.stamp) db.users
-    ++ (map (λ (o : Object). o.stamp) db.objects ++ (map (λ (g : Grant). g.stamp) db.grants ++ map (λ (r : Row). r.stamp) db.rows))
+    ++ (map (λ (o : Object). o.stamp) db.objects ++ (map (λ (g : Grant). g.stamp) db.grants ++ map (λ (r : RowRecord). r.stamp) db.rows))
 
 -- a profile that makes users and objects
 abbrev pub is_maker : Profile → Bool
@@ -97,12 +105,12 @@ abbrev pub has_all_tries : User → Bool
 has_all_tries u = not (length u.secret == 0) || (u.tries == 3)
 
 abbrev pub columns_of_table : ObjectKind → List (List ℕ)
-columns_of_table (table columns) = columns
-columns_of_table (view base columns conditions) = []
-columns_of_table (dictionary subject) = []
+columns_of_table (Table columns) = columns
+columns_of_table (View base columns conditions) = []
+columns_of_table (Dictionary subject) = []
 
 abbrev pub is_table : ObjectKind → Bool
-is_table (table columns) = true
+is_table (Table columns) = true
 is_table kind = false
 
 -- a view's base is an earlier table of the same owner; its columns are different and the table's, and so are its conditions' columns
@@ -115,10 +123,10 @@ abbrev pub is_founded : List Object → Object → Bool
 is_founded objects o = is_right o.kind
   where
     is_right : ObjectKind → Bool
-    is_right (table columns) = are_different columns
-    is_right (view base columns conditions) =
+    is_right (Table columns) = are_different columns
+    is_right (View base columns conditions) =
         are_different columns && option_map_or (rests_on o columns conditions) (object_stamped objects base) false
-    is_right (dictionary subject) = true
+    is_right (Dictionary subject) = true
 
 abbrev pub has_object_and_grantee : Database → Grant → Bool
 has_object_and_grantee db g =
@@ -131,16 +139,18 @@ abbrev pub are_different_pairs : List Grant → Bool
 are_different_pairs [] = true
 are_different_pairs (g ∷ grants) = not (list_any (is_of_pair g) grants) && are_different_pairs grants
 
-abbrev pub fits_table : Row → Object → Bool
-fits_table r o = is_table o.kind && nat_lt o.stamp r.stamp && (length (columns_of_table o.kind) == length r.values)
+abbrev pub fits_table : RowRecord → Object → Bool
+fits_table r o = is_table o.kind && nat_lt o.stamp r.stamp && (length (columns_of_table o.kind) == length r.row)
 
-abbrev pub has_table : List Object → Row → Bool
+abbrev pub has_table : List Object → RowRecord → Bool
 has_table objects r = option_map_or (fits_table r) (object_stamped objects r.table) false
 
 pub record IsValid (db : Database) : Type 0 where
   -- a card's number of cells, and all records have room
   pub cells : (16 ≤ db.cells) × (db.cells ≤ 2048)
   pub room : weight db ≤ db.cells
+  -- a row has at most 240 octets, or on a migrated card 1,020
+  pub limit : (db.limit == 240 || db.limit == 1020) ≡ true
   -- each record is within the limits, and so has a spelling, of at most 512 octets
   pub counter : counter_record.fits db.next ≡ true
   pub limits : (list_all user_record.fits db.users && list_all object_fits db.objects && list_all grant_record.fits db.grants && list_all row_record.fits db.rows) ≡ true
@@ -152,7 +162,7 @@ pub record IsValid (db : Database) : Type 0 where
   pub users_rise : Rises (λ (u : User). u.stamp) db.users
   pub objects_rise : Rises (λ (o : Object). o.stamp) db.objects
   pub grants_rise : Rises (λ (g : Grant). g.stamp) db.grants
-  pub rows_rise : Rises (λ (r : Row). r.stamp) db.rows
+  pub rows_rise : Rises (λ (r : RowRecord). r.stamp) db.rows
   -- OWNER is the one user of profile 01
   pub owner : filter is_db_o db.users ≡ owner ∷ []
   pub user_names : are_different (map (λ (u : User). u.name) db.users) ≡ true

@@ -1,12 +1,14 @@
 -- The reading of a command: which command octets are, or the first refusal that applies.
 use Rattle.std.specs.Prelude.{ℕ, ◌+◌, ◌/◌, ◌%◌, ◌==◌, not, ◌&&◌, Bool, false, List, [], ◌∷◌, length, take, Option, Some, None, Result, Ok, Err, slice_get, slice_index, if◌then◌else◌}
-use Rattle.scql_model.specs.declared.words.StatusWord.{StatusWord}
-use Rattle.scql_model.specs.declared.words.Profile.{Profile}
-use Rattle.scql_model.specs.declared.words.Profile.TheVariants.{Dboo, Dbbu}
-use Rattle.scql_model.specs.Name.{name_of}
-use Rattle.scql_model.specs.Strings.{params_of}
-use Rattle.scql_model.specs.Commands.{Command, Operation, present_user, create_user}
-use Rattle.scql_model.specs.Words.{wrong_length, class_not_supported, secure_messaging_not_supported, chaining_not_supported, instruction_not_supported, channel_not_supported, wrong_parameters, wrong_data}
+use Rattle.scql_base.specs.declared.words.StatusWord.{StatusWord}
+use Rattle.scql_base.specs.declared.words.Profile.{Profile}
+use Rattle.scql_base.specs.declared.words.Profile.TheVariants.{Dboo, Dbbu}
+use Rattle.scql_base.specs.Name.{name_of}
+use Rattle.scql_base.specs.Strings.{params_of}
+use Rattle.scql_base.specs.declared.operation.Command.{Command}
+use Rattle.scql_base.specs.declared.operation.Operation.{Operation}
+use Rattle.scql_base.specs.declared.operation.Operation.TheVariants.{PresentUser, CreateUser}
+use Rattle.scql_base.specs.Words.{wrong_length, class_not_supported, secure_messaging_not_supported, chaining_not_supported, instruction_not_supported, channel_not_supported, wrong_parameters, wrong_data}
 
 infixl 10 ◌>>=◌
 abbrev pub ◌>>=◌ : {A B : Type 0} → Result A StatusWord → (A → Result B StatusWord) → Result B StatusWord
@@ -72,7 +74,7 @@ tail_of (lc ∷ x ∷ rest) = if lc == 0 then None else data_of lc (x ∷ rest)
 abbrev pub presented_in : List (List ℕ) → Result Operation StatusWord
 presented_in (name ∷ []) = do
   name ← or_refused (name_of name) wrong_data
-  Ok (present_user name)
+  Ok (PresentUser name)
 presented_in strings = Err wrong_data
 
 -- CREATE USER: the name, the profile in one octet, and the secret, which is empty until secrets are built.
@@ -88,7 +90,7 @@ created_in (name ∷ profile ∷ secret ∷ []) = do
   name ← or_refused (name_of name) wrong_data
   profile ← or_refused (made_profile_of profile) wrong_data
   secret ← or_refused (secret_of secret) wrong_data
-  Ok (create_user name profile secret)
+  Ok (CreateUser name profile secret)
 created_in strings = Err wrong_data
 
 abbrev pub operation_in : Kind → List (List ℕ) → Result Operation StatusWord

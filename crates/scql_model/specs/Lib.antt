@@ -5,15 +5,9 @@ pub mod Fields
 pub mod Form
 pub mod Heard
 pub mod Lines
-pub mod Lists
 pub mod Machine
-pub mod Name
-pub mod Octets
 pub mod Opens
 pub mod Records
-pub mod Row
 pub mod Step
-pub mod Strings
 pub mod Validity
 pub mod WellFormed
-pub mod Words

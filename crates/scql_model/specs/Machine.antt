@@ -1,33 +1,28 @@
 -- The table machine: the committed database, a transaction or none, and what is kept for each of four channels.
 use Rattle.std.specs.Prelude.{ℕ, ◌==◌, Bool, List, [], ◌∷◌, map, Option, Some, None, is_some, option_and_then, slice_get, if◌then◌else◌}
 use Rattle.std.specs.Option.{option_flatten, option_map_or}
-use Rattle.scql_model.specs.declared.words.Actor.{Actor}
-use Rattle.scql_model.specs.declared.words.Actor.TheVariants.{Public, User as a_user}
-use Rattle.scql_model.specs.declared.condition.Condition.{Condition}
-use Rattle.scql_model.specs.Records.{User}
+use Rattle.scql_base.specs.declared.words.Actor.{Actor}
+use Rattle.scql_base.specs.declared.words.Actor.TheVariants.{Public, User as a_user}
+use Rattle.scql_base.specs.declared.cursor.Cursor.{Cursor}
+use Rattle.scql_base.specs.declared.cursor.Presented.{Presented}
+use Rattle.scql_base.specs.declared.operation.OperationKind.{OperationKind}
+use Rattle.scql_base.specs.declared.records.User.{User}
 use Rattle.scql_model.specs.Database.{Database, user_stamped}
 
--- where a cursor stands: at a row's stamp, before its first opening, or past the last row
-pub data Place : Type 0 where
-  not_open : Place
-  at_stamp : ℕ → Place
-  at_end : Place
+-- what reading changes of a session: its cursor, and the octets that are left of an answer
+pub record Reading : Type 0 where
+  pub cursor : Option Cursor
+  pub pending : List ℕ
 
--- a cursor over an object, which is named by its stamp
-pub record Cursor : Type 0 where
-  pub object : ℕ
-  pub columns : List (List ℕ)
-  pub conditions : List Condition
-  pub place : Place
-
--- a presented user, by its stamp, and whether that user is proved
-pub record Presented : Type 0 where
-  pub stamp : ℕ
-  pub proved : Bool
+-- the parts so far of a command that comes in parts
+pub record Chain : Type 0 where
+  pub operation : OperationKind
+  pub parts : List (List ℕ)
 
 pub record Session : Type 0 where
   pub user : Option Presented
-  pub cursor : Option Cursor
+  pub reading : Reading
+  pub chain : Option Chain
 
 -- an open transaction: its channel, the database as it has changed it, and the stamps of the records that it touched, the counter's being 0
 pub record Transaction : Type 0 where
@@ -41,8 +36,16 @@ pub record Machine : Type 0 where
   pub transaction : Option Transaction
   pub sessions : List (Option Session)
 
+-- nothing is read
+abbrev pub no_reading : Reading
+no_reading = record { cursor = None; pending = [] }
+
+-- the session of a user, or of nobody
+abbrev pub session_for : Option Presented → Session
+session_for user = record { user = user; reading = no_reading; chain = None }
+
 abbrev pub new_session : Session
-new_session = record { user = None; cursor = None }
+new_session = session_for None
 
 -- channel 0 alone is open, without a user
 abbrev pub start : Database → Machine

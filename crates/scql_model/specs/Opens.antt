@@ -3,7 +3,8 @@ use Rattle.std.specs.Prelude.{◌≡◌, ◌⊎◌, ℕ, ◌||◌, Bool, true, L
 use Rattle.std.specs.List.{list_all}
 use Rattle.eeprom.specs.StoreOf.{Slots, store_of}
 use Rattle.eeprom.specs.Slots.{kept}
-use Rattle.scql_model.specs.Records.{User, counter_in, user_in}
+use Rattle.scql_base.specs.declared.records.User.{User}
+use Rattle.scql_model.specs.Records.{counter_in, user_in}
 use Rattle.scql_model.specs.Database.{Database, IsValid}
 
 -- an empty slot, or the spelling of a record
@@ -18,6 +19,8 @@ counter_stamp next = 0
 -- The database's records are those in the slots: of each kind those that its reader gives, in rising order of their stamps.
 pub record Holds (slots : Slots) (db : Database) : Type 0 where
   pub cells : length slots ≡ db.cells
+  -- cards with longer rows aren't read yet
+  pub limit : db.limit ≡ 240
   pub spelled : list_all is_spelled slots ≡ true
   pub counter : kept counter_stamp counter_in slots ≡ db.next ∷ []
   pub users : kept (λ (u : User). u.stamp) user_in slots ≡ db.users

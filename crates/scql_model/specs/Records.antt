@@ -1,50 +1,23 @@
 -- The records of a database, and how each is spelled.
 use Rattle.std.specs.Prelude.{ℕ, ◌==◌, nat_le, ◌&&◌, ◌||◌, Bool, List, [], length, Option, Some, None, option_and_then, if◌then◌else◌}
 use Rattle.std.specs.List.{flat_map, list_all}
-use Rattle.scql_model.specs.declared.words.Profile.{Profile}
-use Rattle.scql_model.specs.declared.words.Profile.TheVariants.{DbO, Dboo, Dbbu}
-use Rattle.scql_model.specs.declared.words.Subject.{Subject}
-use Rattle.scql_model.specs.declared.words.Subject.TheVariants.{Objects, Users, Grants}
-use Rattle.scql_model.specs.declared.words.Comparison.{Comparison}
-use Rattle.scql_model.specs.declared.words.Comparison.TheVariants.{Equal, Less, Greater, AtMost, AtLeast, NotEqual}
-use Rattle.scql_model.specs.declared.condition.Condition.{Condition}
-use Rattle.scql_model.specs.Name.{is_name}
-use Rattle.scql_model.specs.Row.{is_narrow, row_size}
-use Rattle.scql_model.specs.Strings.{spelled, params_of}
+use Rattle.scql_base.specs.declared.words.Profile.{Profile}
+use Rattle.scql_base.specs.declared.words.Profile.TheVariants.{DbO, Dboo, Dbbu}
+use Rattle.scql_base.specs.declared.words.Subject.{Subject}
+use Rattle.scql_base.specs.declared.words.Subject.TheVariants.{Objects, Users, Grants}
+use Rattle.scql_base.specs.declared.words.Comparison.{Comparison}
+use Rattle.scql_base.specs.declared.words.Comparison.TheVariants.{Equal, Less, Greater, AtMost, AtLeast, NotEqual}
+use Rattle.scql_base.specs.declared.condition.Condition.{Condition}
+use Rattle.scql_base.specs.declared.records.User.{User}
+use Rattle.scql_base.specs.declared.records.Object.{Object}
+use Rattle.scql_base.specs.declared.records.ObjectKind.{ObjectKind}
+use Rattle.scql_base.specs.declared.records.ObjectKind.TheVariants.{Table, View, Dictionary}
+use Rattle.scql_base.specs.declared.records.Grant.{Grant}
+use Rattle.scql_base.specs.declared.records.RowRecord.{RowRecord}
+use Rattle.scql_base.specs.Name.{is_name}
+use Rattle.scql_base.specs.Row.{is_narrow, row_size}
+use Rattle.scql_base.specs.Strings.{spelled, params_of}
 use Rattle.scql_model.specs.Fields.{Field, ◌then◌, number, octet, letter, text, counted, as_record, marked, whole}
-
--- Stamps number users, objects, grants and rows in the order in which they were made; an owner, a base, an object and a
--- grantee are stamps of others. Names and values are their octets.
-pub record User : Type 0 where
-  pub stamp : ℕ
-  pub name : List ℕ
-  pub profile : Profile
-  pub owner : ℕ
-  pub secret : List ℕ
-  pub tries : ℕ
-
-pub data ObjectKind : Type 0 where
-  table : (columns : List (List ℕ)) → ObjectKind
-  view : (base : ℕ) (columns : List (List ℕ)) (conditions : List Condition) → ObjectKind
-  dictionary : Subject → ObjectKind
-
-pub record Object : Type 0 where
-  pub stamp : ℕ
-  pub name : List ℕ
-  pub owner : ℕ
-  pub kind : ObjectKind
-
--- the grantee is a user's stamp, or 0 for PUBLIC; the privileges are bits: 1 SELECT, 2 INSERT, 4 UPDATE, 8 DELETE
-pub record Grant : Type 0 where
-  pub stamp : ℕ
-  pub object : ℕ
-  pub grantee : ℕ
-  pub privileges : ℕ
-
-pub record Row : Type 0 where
-  pub stamp : ℕ
-  pub table : ℕ
-  pub values : List (List ℕ)
 
 -- Codes.
 abbrev pub profile_code : Profile → ℕ
@@ -98,7 +71,7 @@ abbrev pub is_at_most_eight : ℕ → Bool
 is_at_most_eight n = nat_le n 8
 
 abbrev pub is_row : List (List ℕ) → Bool
-is_row values = is_one_to_fifteen (length values) && list_all is_narrow values && nat_le (row_size values) 240
+is_row values = is_one_to_fifteen (length values) && list_all is_narrow values && nat_le (row_size values) 1020
 
 -- The spellings. Columns and values are texts; a row's values go to the end.
 abbrev pub columns : Field (List (List ℕ))
@@ -162,30 +135,30 @@ abbrev pub grant_record : Field Grant
 grant_record = marked 0x05 (as_record to_grant from_grant (number then number then number then octet is_privileges))
 
 -- row: stamp, table, values
-abbrev pub to_row : ℕ × (ℕ × List (List ℕ)) → Row
-to_row x = record { stamp = x.0; table = x.1.0; values = x.1.1 }
+abbrev pub to_row : ℕ × (ℕ × List (List ℕ)) → RowRecord
+to_row x = record { stamp = x.0; table = x.1.0; row = x.1.1 }
 
-abbrev pub from_row : Row → ℕ × (ℕ × List (List ℕ))
-from_row r = (r.stamp, (r.table, r.values))
+abbrev pub from_row : RowRecord → ℕ × (ℕ × List (List ℕ))
+from_row r = (r.stamp, (r.table, r.row))
 
-abbrev pub row_record : Field Row
+abbrev pub row_record : Field RowRecord
 row_record = marked 0x06 (as_record to_row from_row (number then number then values_to_the_end))
 
 abbrev pub object_spelling : Object → List ℕ
 object_spelling o = kind_spelling o o.kind
   where
     kind_spelling : Object → ObjectKind → List ℕ
-    kind_spelling o (table columns) = table_record.spell (o.stamp, (o.owner, (o.name, columns)))
-    kind_spelling o (view base columns conditions) = view_record.spell (o.stamp, (o.owner, (base, (o.name, (columns, conditions)))))
-    kind_spelling o (dictionary subject) = dictionary_record.spell (o.stamp, (o.owner, (o.name, subject)))
+    kind_spelling o (Table columns) = table_record.spell (o.stamp, (o.owner, (o.name, columns)))
+    kind_spelling o (View base columns conditions) = view_record.spell (o.stamp, (o.owner, (base, (o.name, (columns, conditions)))))
+    kind_spelling o (Dictionary subject) = dictionary_record.spell (o.stamp, (o.owner, (o.name, subject)))
 
 abbrev pub object_fits : Object → Bool
 object_fits o = kind_fits o o.kind
   where
     kind_fits : Object → ObjectKind → Bool
-    kind_fits o (table columns) = table_record.fits (o.stamp, (o.owner, (o.name, columns)))
-    kind_fits o (view base columns conditions) = view_record.fits (o.stamp, (o.owner, (base, (o.name, (columns, conditions)))))
-    kind_fits o (dictionary subject) = dictionary_record.fits (o.stamp, (o.owner, (o.name, subject)))
+    kind_fits o (Table columns) = table_record.fits (o.stamp, (o.owner, (o.name, columns)))
+    kind_fits o (View base columns conditions) = view_record.fits (o.stamp, (o.owner, (base, (o.name, (columns, conditions)))))
+    kind_fits o (Dictionary subject) = dictionary_record.fits (o.stamp, (o.owner, (o.name, subject)))
 
 -- The readers of the kinds that are built. What is read has the kind's spelling and limits, with nothing left over.
 abbrev pub counter_in : List ℕ → Option ℕ

@@ -1,14 +1,18 @@
 -- A step of the table machine: the answer to a command, the next machine, and the databases that are committed in turn.
 use Rattle.std.specs.Prelude.{ℕ, ◌==◌, List, [], ◌∷◌, length, Option, Some, None, Result, Ok, Err, is_some, slice_set, if◌then◌else◌}
-use Rattle.scql_model.specs.declared.words.StatusWord.{StatusWord}
-use Rattle.scql_model.specs.declared.words.Profile.{Profile}
-use Rattle.scql_model.specs.Words.{done, conditions_not_satisfied, not_found, instruction_not_supported}
-use Rattle.scql_model.specs.Records.{User}
+use Rattle.scql_base.specs.declared.words.StatusWord.{StatusWord}
+use Rattle.scql_base.specs.declared.words.Profile.{Profile}
+use Rattle.scql_base.specs.Words.{done, conditions_not_satisfied, not_found, instruction_not_supported}
+use Rattle.scql_base.specs.declared.records.User.{User}
 use Rattle.scql_model.specs.Database.{Database, public_name, user_named}
 use Rattle.std.specs.Str.{bytes_eq}
-use Rattle.scql_model.specs.Machine.{Machine, Session, Presented, open_channels, base, actor}
+use Rattle.scql_model.specs.Machine.{Machine, Session, session_for, new_session, open_channels, base, actor}
 use Rattle.scql_model.specs.Creating.{created}
-use Rattle.scql_model.specs.Commands.{Command, Operation, present_user, create_user, Reply}
+use Rattle.scql_base.specs.declared.cursor.Presented.{Presented}
+use Rattle.scql_base.specs.declared.operation.Command.{Command}
+use Rattle.scql_base.specs.declared.operation.Operation.{Operation}
+use Rattle.scql_base.specs.declared.operation.Operation.TheVariants.{PresentUser, CreateUser}
+use Rattle.scql_model.specs.Commands.{Reply}
 use Rattle.scql_model.specs.Form.{form_of, ◌>>=◌}
 
 pub record Answer : Type 0 where
@@ -38,13 +42,13 @@ presented u = record { stamp = u.stamp; proved = length u.secret == 0 }
 
 abbrev pub user_presented : Machine → ℕ → Option User → Result Answer StatusWord
 user_presented m channel None = Err not_found
-user_presented m channel (Some u) = Ok (done_with (with_session m channel (record { user = Some (presented u); cursor = None })))
+user_presented m channel (Some u) = Ok (done_with (with_session m channel (session_for (Some (presented u)))))
 
 -- PRESENT USER: the session's user is the named one, or nobody where the name is PUBLIC; its cursor is dropped
 abbrev pub user_of_session : Machine → ℕ → List ℕ → Result Answer StatusWord
 user_of_session m channel name =
     if is_some m.transaction then Err conditions_not_satisfied
-    else if bytes_eq name public_name then Ok (done_with (with_session m channel (record { user = None; cursor = None })))
+    else if bytes_eq name public_name then Ok (done_with (with_session m channel new_session))
     else user_presented m channel (user_named (base m channel).users name)
 
 -- done, and this database is committed
@@ -64,8 +68,8 @@ user_created m channel name profile secret =
 
 -- what isn't built is refused before it comes here
 abbrev pub operated : Machine → ℕ → Operation → Result Answer StatusWord
-operated m channel (present_user name) = user_of_session m channel name
-operated m channel (create_user name profile secret) = user_created m channel name profile secret
+operated m channel (PresentUser name) = user_of_session m channel name
+operated m channel (CreateUser name profile secret) = user_created m channel name profile secret
 operated m channel operation = Err instruction_not_supported
 
 unfoldable pub step : Machine → List ℕ → Answer

@@ -2,12 +2,12 @@
 use Rattle.std.specs.Prelude.{ℕ, ◌==◌, nat_le, nat_lt, not, ◌&&◌, Bool, false, List, [], ◌∷◌, length, map, filter}
 use Rattle.std.specs.List.{list_all}
 use Rattle.std.specs.Str.{bytes_eq}
-use Rattle.scql_model.specs.Records.{User}
+use Rattle.scql_base.specs.declared.records.User.{User}
 use Rattle.scql_model.specs.Database.{Database, owner_name, public_name, is_db_o, has_maker, has_all_tries, are_different}
 
 -- a database that has no other records than these users
 abbrev pub of_users : ℕ → ℕ → List User → Database
-of_users cells next users = record { cells = cells; next = next; users = users; objects = []; grants = []; rows = [] }
+of_users cells next users = record { cells = cells; limit = 240; next = next; users = users; objects = []; grants = []; rows = [] }
 
 -- whether a user is OWNER as a card is made with it
 abbrev pub is_owner : User → Bool

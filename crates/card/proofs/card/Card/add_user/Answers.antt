@@ -3,7 +3,7 @@ use Rattle.std.proofs.Common.{◌≡◌, ◌+◌, ℕ, List, Result, ap, sym, su
 use Rattle.std.specs.Prelude.{IfSome}
 use Rattle.eeprom.specs.declared.EepromFault.{EepromFault}
 use Rattle.record_store.specs.Held.{Held}
-use Rattle.scql_model.specs.declared.StatusWord.{StatusWord}
+use Rattle.scql_base.specs.declared.StatusWord.{StatusWord}
 use Rattle.scql_model.specs.Records.{counter_record, user_record}
 use Rattle.scql_model.specs.Creating.{created}
 use Rattle.scql_model.specs.Step.{answered, changed}

@@ -1,7 +1,7 @@
 -- What was prepared for the machine's actor is what the machine makes.
 use Rattle.std.proofs.Common.{◌≡◌, Result, Err, sym, ap, subst, ◌∙◌, rules}
 use Rattle.eeprom.specs.Chip.{Chip}
-use Rattle.scql_model.specs.declared.StatusWord.{StatusWord}
+use Rattle.scql_base.specs.declared.StatusWord.{StatusWord}
 use Rattle.scql_model.specs.Creating.{created}
 use Rattle.scql_model.specs.Step.{Answer, answered, changed, user_created}
 use Rattle.std.specs.Prelude.{IfOk}

@@ -1,6 +1,7 @@
 -- The two records of a new card are the counter and OWNER.
 use Rattle.std.proofs.Common.{◌≡◌, ap, ◌∙◌}
-use Rattle.scql_model.specs.Records.{User, counter_record, user_record}
+use Rattle.scql_base.specs.declared.records.User.{User}
+use Rattle.scql_model.specs.Records.{counter_record, user_record}
 use Rattle.scql_model.specs.Database.{owner}
 use Rattle.card.proofs.Starting.{opens_fresh, made_moments}
 use Rattle.card.proofs.card.Card.format.Goals.{After-format}

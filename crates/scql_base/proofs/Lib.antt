@@ -1,0 +1,3 @@
+mod ExampleValues
+pub mod RowOctets
+pub mod Splitting

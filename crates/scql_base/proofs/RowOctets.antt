@@ -1,0 +1,64 @@
+-- A row as one run of octets: it splits into the values that it spells, and a value more is its spelling more.
+use Rattle.std.proofs.Common.{◌≡◌, ℕ, ◌+◌, ◌<◌, ◌≤◌, List, [], ◌∷◌, ◌++◌, length, Some, Ok, Err, refl, sym, ◌∙◌, ap, arith, append-nil}
+use Rattle.std.specs.List.{flat_map}
+use Rattle.std.proofs.lemmas.Bool.{le-leb, lt-ltb, le-ltb, ne_eqb, and_from}
+use Rattle.std.proofs.lemmas.Grind.{flat_map-append}
+use Rattle.std.proofs.lemmas.List.{length-append}
+use Rattle.std.proofs.lemmas.List.Folds.{list_all-append}
+use Rattle.std.proofs.lemmas.List.Sums.{sum_by-append, sum_by-cons}
+use Rattle.scql_base.specs.declared.row_refusal.RowRefusal.TheVariants.{TooWide}
+use Rattle.scql_base.specs.Strings.{spelled, params_of, strings_of}
+use Rattle.scql_base.specs.Row.{IsRow, is_narrow, row_size, with_value}
+use Rattle.scql_base.proofs.Splitting.{params_of-again}
+
+pub strings_of-spelled : (values : List (List ℕ)) → strings_of (flat_map spelled values) ≡ values
+strings_of-spelled values = rw (params_of-again values) refl
+
+-- octets that spell what they split into do split
+pub params_of-spelling : (octets : List ℕ) → octets ≡ flat_map spelled (strings_of octets) → params_of octets ≡ Some (strings_of octets)
+params_of-spelling octets is = ap params_of is ∙ params_of-again (strings_of octets)
+
+pub strings_of-empty : (octets : List ℕ) → octets ≡ [] → strings_of octets ≡ []
+strings_of-empty octets is = ap strings_of is ∙ strings_of-spelled []
+
+pub row_size-spelled : (values : List (List ℕ)) → length (flat_map spelled values) ≡ row_size values
+row_size-spelled [] = refl
+row_size-spelled (value ∷ values) =
+    let more : length (flat_map spelled (value ∷ values)) ≡ (length value + 1) + row_size values =
+    omega (arith, length-append value (flat_map spelled values), row_size-spelled values) in
+    more ∙ sym (sum_by-cons (λ (v : List ℕ). length v + 1) value values)
+
+-- the run with one spelling more
+pub longer_run : (octets longer value : List ℕ) (values : List (List ℕ)) → octets ≡ flat_map spelled values → longer ≡ octets ++ spelled value
+    → longer ≡ flat_map spelled (values ++ value ∷ [])
+longer_run octets longer value values is more =
+    more ∙ (ap (λ front. front ++ spelled value) is
+    ∙ (ap (λ back. flat_map spelled values ++ back) (sym (append-nil (spelled value))) ∙ sym (flat_map-append spelled values (value ∷ []))))
+
+-- it splits into the values with one more
+pub strings_of-longer : (octets longer value : List ℕ) (values : List (List ℕ)) → octets ≡ flat_map spelled values → longer ≡ octets ++ spelled value
+    → strings_of longer ≡ values ++ value ∷ []
+strings_of-longer octets longer value values is more =
+    ap strings_of (longer_run octets longer value values is more) ∙ strings_of-spelled (values ++ value ∷ [])
+
+-- the row with a value more, where it has room
+pub IsRow-longer : (values : List (List ℕ)) (value : List ℕ) → IsRow values → (length values ≡ 15 → ⊥) → length value ≤ 200
+    → row_size values + length value + 1 ≤ 1020 → IsRow (values ++ value ∷ [])
+IsRow-longer values value row few narrow room = record {
+  count = omega (arith, length-append values (value ∷ []), row.count, few);
+  widths = list_all-append is_narrow values (value ∷ []) ∙ and_from _ _ row.widths (and_from _ _ (le-leb (length value) 200 narrow) refl);
+  size = omega (arith, sum_by-append (λ v. length v + 1) values (value ∷ []), room);
+}
+
+pub with_value-longer : (values : List (List ℕ)) (value : List ℕ) → (length values ≡ 15 → ⊥) → length value ≤ 200
+    → row_size values + length value + 1 ≤ 1020 → with_value values value ≡ Ok (values ++ value ∷ [])
+with_value-longer values value few narrow room =
+    rw (ne_eqb (length values) 15 few, le-ltb 200 (length value) narrow, le-ltb 1020 (row_size values + length value + 1) room) refl
+
+pub with_value-wide : (values : List (List ℕ)) (value : List ℕ) → (length values ≡ 15 → ⊥) → 200 < length value → with_value values value ≡ Err TooWide
+with_value-wide values value few wide = rw (ne_eqb (length values) 15 few, lt-ltb 200 (length value) wide) refl
+
+pub with_value-full : (values : List (List ℕ)) (value : List ℕ) → (length values ≡ 15 → ⊥) → length value ≤ 200 → 1020 < row_size values + length value + 1
+    → with_value values value ≡ Err TooWide
+with_value-full values value few narrow full =
+    rw (ne_eqb (length values) 15 few, le-ltb 200 (length value) narrow, lt-ltb 1020 (row_size values + length value + 1) full) refl

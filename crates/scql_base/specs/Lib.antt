@@ -1,0 +1,6 @@
+pub mod Lists
+pub mod Name
+pub mod Octets
+pub mod Row
+pub mod Strings
+pub mod Words

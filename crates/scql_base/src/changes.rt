@@ -1,0 +1,106 @@
+// Lists of changes to the columns of a row.
+ghost use Rattle.std.specs.Prelude.{◌≡◌, ◌<◌, ◌↔◌, [], ◌∷◌, ◌++◌, IsOk, IsSome, OnOk, OnErr, length, map, option_copied, slice_get};
+ghost use Rattle.scql_base.specs.Lists.{AreChanges};
+
+use crate::blank::Blank;
+use crate::{ListFull, Name, Octets};
+use arrayvec::ArrayVec;
+use std::marker::Model;
+
+/// One change: a column, and the value that it is to have.
+#[derive(Drop)]
+pub struct Change {
+    pub pair: (Name, Octets<200>),
+}
+
+impl Change {
+    /// The same change once more.
+    pub fn copy(&self) -> Change
+        ensures { result ≡ self.now }
+    {
+        Change {
+            pair: (self.pair.0.copy(), self.pair.1.copy()),
+        }
+    }
+}
+
+/// A list of at most 15 changes.
+#[derive(Drop)]
+pub struct Changes {
+    held: ArrayVec<Change, 15, Blank>,
+}
+
+impl Model for Changes {
+    ghost use Rattle.std.specs.Prelude.{List, ℕ, map};
+    ghost use Rattle.scql_base.specs.Lists.{AreChanges};
+
+    ghost Value = { List (List ℕ × List ℕ) };
+
+    ghost view = { λ l. map (λ change. change.pair) l.held.items };
+
+    ghost invariant = { λ l. AreChanges (map (λ change. change.pair) l.held.items) };
+}
+
+impl Changes {
+    /// No changes.
+    pub fn new() -> Changes
+        ensures { result ≡ [] }
+    {
+        Changes {
+            held: ArrayVec::new_in(Blank),
+        }
+    }
+
+    /// How many changes there are.
+    pub fn len(&self) -> usize
+        ensures count { result ≡ length self.now }
+        ensures list { AreChanges self.now }
+    {
+        self.held.len()
+    }
+
+    /// The change at a place, counted from 0.
+    pub fn get(&self, place: usize) -> Option<&(Name, Octets<200>)>
+        ensures value { option_copied result ≡ slice_get self.now place }
+        ensures found { IsSome result ↔ (place < length self.now) }
+    {
+        match self.held.as_slice().get(place) {
+            Some(change) => Some(&change.pair),
+            None => None,
+        }
+    }
+
+    /// The changes in their order.
+    pub fn as_slice(&self) -> &[Change]
+        ensures changes { map (λ change. change.pair) result.now ≡ self.now }
+        ensures list { AreChanges self.now }
+    {
+        self.held.as_slice()
+    }
+
+    /// Adds a change at the end. A full list stays as it is.
+    pub fn push(&mut self, change: (Name, Octets<200>)) -> Result<(), ListFull>
+        ensures variant { IsOk result ↔ (length self.old < 15) }
+        ensures ok { OnOk result (self.new ≡ self.old ++ change ∷ []) }
+        ensures full { OnErr result (self.new ≡ self.old) }
+    {
+        if self.held.is_full() {
+            return Err(ListFull);
+        }
+        change.0.told();
+        change.1.told();
+        self.held.push(Change { pair: change });
+        Ok(())
+    }
+
+    /// The same changes once more.
+    pub fn copy(&self) -> Changes
+        ensures { result ≡ self.now }
+    {
+        let mut held = ArrayVec::new_in(Blank);
+        for change in self.held.as_slice() {
+            held.push(change.copy());
+        }
+        Changes { held }
+    }
+}

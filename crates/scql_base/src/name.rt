@@ -1,0 +1,106 @@
+// Names of users, objects and columns.
+ghost use Rattle.std.specs.Prelude.{◌≡◌, ◌≤◌, ◌↔◌, ◌∷◌, [], IsSome, length};
+ghost use Rattle.std.specs.List.{list_all};
+ghost use Rattle.scql_base.specs.Name as names;
+
+use arrayvec::ArrayVec;
+use std::marker::Model;
+
+/// A name: 1 to 8 octets, a letter `A` to `Z`, then letters, digits `0` to `9` and `_`.
+#[derive(Drop)]
+pub struct Name {
+    held: ArrayVec<u8, 8>,
+}
+
+impl Model for Name {
+    ghost use Rattle.std.specs.Prelude.{List, ℕ};
+    ghost use Rattle.scql_base.specs.Name.{IsName};
+
+    ghost Value = { List ℕ };
+
+    ghost view = { λ n. n.held.items };
+
+    ghost invariant = { λ n. IsName n.held.items };
+}
+
+impl Name {
+    /// The name that these octets are.
+    pub fn read(octets: &[u8]) -> Option<Name>
+        ensures value { result ≡ names.name_of octets.now }
+        ensures found { IsSome result ↔ names.IsName octets.now }
+    {
+        if !is_name(octets) {
+            return None;
+        }
+        Some(Name {
+            held: held_name(octets),
+        })
+    }
+
+    /// Its octets.
+    pub fn octets(&self) -> &[u8]
+        ensures octets { result.now ≡ self.now }
+        ensures name { names.IsName result.now }
+        ensures short { length result.now ≤ 8 }
+    {
+        self.held.as_slice()
+    }
+
+    /// The name `A`.
+    pub(crate) fn blank() -> Name
+        ensures { result ≡ 0x41 ∷ [] }
+    {
+        Name {
+            held: held_name(b"A"),
+        }
+    }
+
+    // Does nothing but tell a proof that this is a name.
+    pub(crate) fn told(&self)
+        ensures { names.IsName self.now }
+    {
+        let _ = &self.held;
+    }
+
+    /// The same name once more.
+    pub fn copy(&self) -> Name
+        ensures { result ≡ self.now }
+    {
+        Name {
+            held: held_name(self.held.as_slice()),
+        }
+    }
+}
+
+fn held_name(octets: &[u8]) -> ArrayVec<u8, 8>
+    requires { names.IsName octets.now }
+    ensures { result.items ≡ octets.now }
+{
+    let mut held = ArrayVec::new();
+    let copied = held.try_extend_from_slice(octets).is_ok();
+    prove!(copied);
+    held
+}
+
+fn is_name(octets: &[u8]) -> bool
+    ensures { result ≡ names.is_name octets.now }
+{
+    match octets {
+        [first, rest @ ..] => {
+            first.is_ascii_uppercase() && are_name_octets(rest) && rest.len() <= 7
+        }
+        [] => false,
+    }
+}
+
+fn are_name_octets(octets: &[u8]) -> bool
+    ensures { result ≡ list_all names.is_name_octet octets.now }
+{
+    octets.iter().all(|octet| is_name_octet(*octet))
+}
+
+fn is_name_octet(octet: u8) -> bool
+    ensures { result ≡ names.is_name_octet octet }
+{
+    octet.is_ascii_uppercase() || octet.is_ascii_digit() || octet == b'_'
+}

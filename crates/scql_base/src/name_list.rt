@@ -1,0 +1,85 @@
+// Lists of names, as the columns of a table.
+ghost use Rattle.std.specs.Prelude.{◌≡◌, ◌<◌, ◌↔◌, [], ◌∷◌, ◌++◌, IsOk, IsSome, OnOk, OnErr, length, option_copied, slice_get};
+ghost use Rattle.scql_base.specs.Lists.{AreNames};
+
+use crate::blank::Blank;
+use crate::{ListFull, Name};
+use arrayvec::ArrayVec;
+use std::marker::Model;
+
+/// A list of at most 15 names.
+#[derive(Drop)]
+pub struct NameList {
+    held: ArrayVec<Name, 15, Blank>,
+}
+
+impl Model for NameList {
+    ghost use Rattle.std.specs.Prelude.{List, ℕ};
+    ghost use Rattle.scql_base.specs.Lists.{AreNames};
+
+    ghost Value = { List (List ℕ) };
+
+    ghost view = { λ l. l.held.items };
+
+    ghost invariant = { λ l. AreNames l.held.items };
+}
+
+impl NameList {
+    /// No names.
+    pub fn new() -> NameList
+        ensures { result ≡ [] }
+    {
+        NameList {
+            held: ArrayVec::new_in(Blank),
+        }
+    }
+
+    /// How many names there are.
+    pub fn len(&self) -> usize
+        ensures count { result ≡ length self.now }
+        ensures list { AreNames self.now }
+    {
+        self.held.len()
+    }
+
+    /// The name at a place, counted from 0.
+    pub fn get(&self, place: usize) -> Option<&Name>
+        ensures value { option_copied result ≡ slice_get self.now place }
+        ensures found { IsSome result ↔ (place < length self.now) }
+    {
+        self.held.as_slice().get(place)
+    }
+
+    /// The names in their order.
+    pub fn as_slice(&self) -> &[Name]
+        ensures names { result.now ≡ self.now }
+        ensures list { AreNames self.now }
+    {
+        self.held.as_slice()
+    }
+
+    /// Adds a name at the end. A full list stays as it is.
+    pub fn push(&mut self, name: Name) -> Result<(), ListFull>
+        ensures variant { IsOk result ↔ (length self.old < 15) }
+        ensures ok { OnOk result (self.new ≡ self.old ++ name ∷ []) }
+        ensures full { OnErr result (self.new ≡ self.old) }
+    {
+        if self.held.is_full() {
+            return Err(ListFull);
+        }
+        name.told();
+        self.held.push(name);
+        Ok(())
+    }
+
+    /// The same names once more.
+    pub fn copy(&self) -> NameList
+        ensures { result ≡ self.now }
+    {
+        let mut held = ArrayVec::new_in(Blank);
+        for name in self.held.as_slice() {
+            held.push(name.copy());
+        }
+        NameList { held }
+    }
+}

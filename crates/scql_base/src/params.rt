@@ -1,0 +1,98 @@
+// The parameters of a command: the strings that its data field splits into.
+ghost use Rattle.std.specs.Prelude.{◌≡◌, ◌<◌, ◌↔◌, ◌==◌, ℕ, List, [], ◌∷◌, Some, None, if◌then◌else◌, IsSome, IfSome, IfNone, length, option_copied, option_map, slice_get};
+ghost use Rattle.scql_base.specs.Strings.{AreParams, first_of, params_of, with_string};
+
+use std::marker::Model;
+
+/// The parameters of a data field: octet strings, each a length in one octet and so many octets.
+#[derive(Drop)]
+pub struct Params<'a> {
+    pub(crate) octets: &'a [u8],
+    pub(crate) count: usize,
+}
+
+impl<'a> Model for Params<'a> {
+    ghost use Rattle.std.specs.Prelude.{List, ℕ, Some, length, ◌≡◌};
+    ghost use Rattle.scql_base.specs.Strings.{params_of, strings_of};
+
+    ghost Value = { List (List ℕ) };
+
+    ghost view = { λ p. strings_of p.octets.now };
+
+    ghost invariant = { λ p. (params_of p.octets.now ≡ Some (strings_of p.octets.now)) × (p.count ≡ length (strings_of p.octets.now)) };
+}
+
+impl<'a> Params<'a> {
+    /// The one split of a data field, where there is one.
+    pub fn read(octets: &'a [u8]) -> Option<Params<'a>>
+        ensures value { result ≡ params_of octets.now }
+        ensures found { IfSome result (λ strings. AreParams octets.now strings) }
+        ensures only { (strings : List (List ℕ)) → AreParams octets.now strings → result ≡ Some strings }
+    {
+        let count = count_of(octets)?;
+        Some(Params { octets, count })
+    }
+
+    /// How many parameters there are.
+    pub fn count(&self) -> usize
+        ensures { result ≡ length self.now }
+    {
+        self.count
+    }
+
+    /// The parameter at a place, counted from 0.
+    pub fn get(&self, place: usize) -> Option<&'a [u8]>
+        ensures value { option_copied result ≡ slice_get self.now place }
+        ensures found { IsSome result ↔ (place < length self.now) }
+    {
+        let mut rest = self.octets;
+        for _ in 0..place {
+            let (_, after) = first(rest)?;
+            rest = after;
+        }
+        let (string, _) = first(rest)?;
+        Some(string)
+    }
+
+    /// The first parameter, and the others.
+    pub fn split_first(&self) -> Option<(&'a [u8], Params<'a>)>
+        ensures some { IfSome result (λ x. self.now ≡ x.0.now ∷ x.1) }
+        ensures none { IfNone result (self.now ≡ []) }
+    {
+        let (string, octets) = first(self.octets)?;
+        let others = Params {
+            octets,
+            count: self.count - 1,
+        };
+        Some((string, others))
+    }
+}
+
+fn count_of(octets: &[u8]) -> Option<usize>
+    ensures { result ≡ option_map length (params_of octets.now) }
+{
+    let mut count = 0;
+    let mut rest = octets;
+    while let Some((_, after)) = first(rest) {
+        rest = after;
+        count += 1;
+    }
+    if rest.is_empty() { Some(count) } else { None }
+}
+
+// The first string, and the octets behind it.
+fn first(octets: &[u8]) -> Option<(&[u8], &[u8])>
+    ensures exact { option_map (λ x. (x.0.now, x.1.now)) result ≡ first_of octets.now }
+    ensures some { IfSome result (λ x. params_of octets.now ≡ with_string x.0.now (params_of x.1.now)) }
+    ensures none { IfNone result (params_of octets.now ≡ (if length octets.now == 0 then Some [] else None)) }
+    ensures shorter { IfSome result (λ x. length x.1.now < length octets.now) }
+{
+    let [len, after @ ..] = octets else {
+        return None;
+    };
+    let len = usize::from(*len);
+    if after.len() < len {
+        return None;
+    }
+    Some(after.split_at(len))
+}

@@ -1,0 +1,20 @@
+// What a grant allows.
+use std::marker::Model;
+
+/// One to four privileges on an object, as the sum of 1 SELECT, 2 INSERT, 4 UPDATE and 8 DELETE.
+#[derive(Clone, Copy, PartialEq, Eq, Debug)]
+pub struct Privileges {
+    pub bits: u8,
+}
+
+impl Model for Privileges {
+    ghost use Rattle.std.specs.Prelude.{ℕ, ◌≤◌};
+
+    ghost Value = { ℕ };
+
+    ghost view = { λ p. p.bits };
+
+    ghost invariant = { λ p. (1 ≤ p.bits) × (p.bits ≤ 15) };
+
+    ghost inverse = { λ bits. record { bits = bits } };
+}

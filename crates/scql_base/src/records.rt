@@ -1,0 +1,60 @@
+// The records of a database, of each kind. Stamps number users, objects, grants and rows in the order in which they were made;
+// an owner, a base, an object and a grantee are stamps of others.
+use crate::{Conditions, Name, NameList, Octets, Privileges, Profile, Row, Subject};
+
+/// A user. Without a secret there are always three tries.
+#[derive(Drop)]
+pub struct User {
+    pub stamp: u32,
+    pub name: Name,
+    pub profile: Profile,
+    /// The user who made this one.
+    pub owner: u32,
+    pub secret: Octets<8>,
+    /// How often a secret may still be presented, 0 to 3.
+    pub tries: u8,
+}
+
+/// What an object is.
+#[derive(Drop)]
+pub enum ObjectKind {
+    Table {
+        columns: NameList,
+    },
+    /// Some columns of a base, and those of its rows that meet the conditions.
+    View {
+        base: u32,
+        columns: NameList,
+        conditions: Conditions,
+    },
+    Dictionary {
+        subject: Subject,
+    },
+}
+
+/// A table, a view or a dictionary.
+#[derive(Drop)]
+pub struct Object {
+    pub stamp: u32,
+    pub name: Name,
+    pub owner: u32,
+    pub kind: ObjectKind,
+}
+
+/// What a user may do with an object.
+#[derive(Drop)]
+pub struct Grant {
+    pub stamp: u32,
+    pub object: u32,
+    /// The stamp of a user, or 0 for PUBLIC.
+    pub grantee: u32,
+    pub privileges: Privileges,
+}
+
+/// A row of a table.
+#[derive(Drop)]
+pub struct RowRecord {
+    pub stamp: u32,
+    pub table: u32,
+    pub row: Row,
+}

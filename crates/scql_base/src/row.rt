@@ -1,0 +1,118 @@
+// Rows of values.
+ghost use Rattle.std.specs.Prelude.{◌≡◌, ◌<◌, ◌≤◌, ◌+◌, ◌↔◌, [], ◌∷◌, ◌++◌, Ok, Err, IsSome, OnErr, OnOk, IfErr, length, option_copied, slice_get};
+ghost use Rattle.std.specs.List.{flat_map};
+ghost use Rattle.scql_base.specs.Strings.{spelled};
+ghost use Rattle.scql_base.specs.Row.{IsRow, row_size, with_value};
+
+use crate::RowRefusal;
+use crate::params::Params;
+use arrayvec::ArrayVec;
+use std::marker::Model;
+
+/// A row of at most 15 values, of at most 200 octets each and a size of at most 1,020.
+/// It is kept as it stands in records, commands and answers: each value as its length in one octet and its octets.
+#[derive(Drop)]
+pub struct Row {
+    octets: ArrayVec<u8, 1020>,
+    count: usize,
+}
+
+impl Model for Row {
+    ghost use Rattle.std.specs.Prelude.{List, ℕ, ◌≡◌, length};
+    ghost use Rattle.std.specs.List.{flat_map};
+    ghost use Rattle.scql_base.specs.Strings.{spelled, strings_of};
+    ghost use Rattle.scql_base.specs.Row.{IsRow};
+
+    ghost Value = { List (List ℕ) };
+
+    ghost view = { λ r. strings_of r.octets.items };
+
+    ghost invariant = { λ r. IsRow (strings_of r.octets.items) × (r.octets.items ≡ flat_map spelled (strings_of r.octets.items)) × (r.count ≡ length (strings_of r.octets.items)) };
+}
+
+impl Row {
+    /// No values.
+    pub fn new() -> Row
+        ensures { result ≡ [] }
+    {
+        Row {
+            octets: ArrayVec::new(),
+            count: 0,
+        }
+    }
+
+    /// How many values there are.
+    pub fn len(&self) -> usize
+        ensures count { result ≡ length self.now }
+        ensures row { IsRow self.now }
+    {
+        self.count
+    }
+
+    /// The octets that the values take in a record: each value's, and one for its length.
+    pub fn size(&self) -> usize
+        ensures { result ≡ row_size self.now }
+    {
+        self.octets.len()
+    }
+
+    /// The values as they stand in a record: each as its length in one octet and its octets.
+    pub fn octets(&self) -> &[u8]
+        ensures { result.now ≡ flat_map spelled self.now }
+    {
+        self.octets.as_slice()
+    }
+
+    /// The value at a place, counted from 0.
+    pub fn get(&self, place: usize) -> Option<&[u8]>
+        ensures value { option_copied result ≡ slice_get self.now place }
+        ensures found { IsSome result ↔ (place < length self.now) }
+    {
+        Params {
+            octets: self.octets.as_slice(),
+            count: self.count,
+        }
+        .get(place)
+    }
+
+    /// Adds a value at the end. A row that refuses it stays as it is.
+    pub fn push(&mut self, value: &[u8]) -> Result<(), RowRefusal>
+        ensures ok { OnOk result (with_value self.old value.now ≡ Ok self.new) }
+        ensures err { IfErr result (λ refusal. with_value self.old value.now ≡ Err refusal) }
+        ensures same { OnErr result (self.new ≡ self.old) }
+    {
+        if self.count == 15 {
+            return Err(RowRefusal::TooMany);
+        }
+        if value.len() > 200 || self.octets.len() + value.len() >= 1020 {
+            return Err(RowRefusal::TooWide);
+        }
+        spell(&mut self.octets, value);
+        self.count += 1;
+        Ok(())
+    }
+
+    /// The same row once more.
+    pub fn copy(&self) -> Row
+        ensures { result ≡ self.now }
+    {
+        let mut octets = ArrayVec::new();
+        let copied = octets.try_extend_from_slice(self.octets.as_slice()).is_ok();
+        prove!(copied);
+        Row {
+            octets,
+            count: self.count,
+        }
+    }
+}
+
+// Puts a value behind others: its length in one octet, and its octets.
+fn spell(octets: &mut ArrayVec<u8, 1020>, value: &[u8])
+    requires short { length value.now ≤ 200 }
+    requires room { length octets.old.items + length value.now < 1020 }
+    ensures { octets.new.items ≡ octets.old.items ++ spelled value.now }
+{
+    octets.push(value.len() as u8);
+    let fits = octets.try_extend_from_slice(value).is_ok();
+    prove!(fits);
+}

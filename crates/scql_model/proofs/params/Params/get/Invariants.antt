@@ -1,7 +1,0 @@
--- So many strings are behind as rounds were made.
-use Rattle.std.proofs.Common.{◌≡◌, Some, drop}
-use Rattle.scql_model.specs.Strings.{params_of}
-use Rattle.scql_model.proofs.params.Params.get.Given as goal
-
-abbrev pub invariant-loop : goal.invariant-loop
-invariant-loop l = params_of l.rest ≡ Some (drop l.counter l.self)
