@@ -8,6 +8,7 @@ pub mod Lines
 pub mod Machine
 pub mod Opens
 pub mod Records
+pub mod Rights
 pub mod Step
 pub mod Validity
 pub mod WellFormed
