@@ -1,11 +1,15 @@
 pub mod Commands
+pub mod Contents
 pub mod Creating
 pub mod Database
+pub mod Dictionaries
 pub mod Fields
 pub mod Form
 pub mod Heard
 pub mod Lines
 pub mod Machine
+pub mod Matching
+pub mod Objects
 pub mod Opens
 pub mod Records
 pub mod Rights
