@@ -9,8 +9,10 @@ pub mod Heard
 pub mod Lines
 pub mod Machine
 pub mod Matching
+pub mod Moves
 pub mod Objects
 pub mod Opens
+pub mod ReadingCommands
 pub mod Records
 pub mod Rights
 pub mod Step
