@@ -1,6 +1,7 @@
 pub mod Commands
 pub mod Creating
 pub mod Database
+pub mod Edits
 pub mod Fields
 pub mod Form
 pub mod Heard
@@ -8,6 +9,7 @@ pub mod Lines
 pub mod Machine
 pub mod Opens
 pub mod Records
+pub mod Refusals
 pub mod Step
 pub mod Validity
 pub mod WellFormed
