@@ -52,6 +52,10 @@ changing r = record { action = changes; entry = r }
 abbrev pub removing : AnyRecord → Edit
 removing r = record { action = removes; entry = r }
 
+-- a record is made: it takes the next stamp, and the counter has given that out
+abbrev pub making : Database → AnyRecord → List Edit
+making db r = changing (of_counter (db.next + 1)) ∷ adding r ∷ []
+
 -- the records of one kind after an edit of one of them; the key of a record is its stamp
 abbrev pub list_after : {X : Type 0} → Action → (X → ℕ) → X → List X → List X
 list_after adds key x xs = xs ++ x ∷ []
@@ -75,14 +79,17 @@ applied db (e ∷ edits) = applied (edited e.action e.entry db) edits
 abbrev pub touched : List Edit → List ℕ
 touched edits = map (λ (e : Edit). record_stamp e.entry) edits
 
+abbrev pub cells_of_record : AnyRecord → ℕ
+cells_of_record r = cells_for (length (record_spelling r))
+
 -- how many cells the records take that are added or changed
+abbrev pub cells_of_edit : Action → AnyRecord → ℕ
+cells_of_edit adds r = cells_of_record r
+cells_of_edit changes r = cells_of_record r
+cells_of_edit removes r = 0
+
 abbrev pub cells_written : List Edit → ℕ
-cells_written edits = sum_by (λ (e : Edit). cells_of_edit e.action (cells_for (length (record_spelling e.entry)))) edits
-  where
-    cells_of_edit : Action → ℕ → ℕ
-    cells_of_edit adds cells = cells
-    cells_of_edit changes cells = cells
-    cells_of_edit removes cells = 0
+cells_written edits = sum_by (λ (e : Edit). cells_of_edit e.action e.entry) edits
 
 -- at most so many octets are written for the cells, each of which has 32
 abbrev pub octets_for_cells : ℕ → ℕ
