@@ -6,7 +6,7 @@ use Rattle.scql_base.specs.declared.words.StatusWord.{StatusWord}
 use Rattle.scql_base.specs.declared.cursor.Cursor.{Cursor}
 use Rattle.scql_base.specs.declared.records.ObjectKind.TheVariants.{Table, Dictionary}
 use Rattle.scql_base.specs.declared.operation.Operation.{Operation}
-use Rattle.scql_base.specs.declared.operation.Operation.TheVariants.{CreateTable, CreateView, CreateDictionary, DropTable, DropView, Grant, Revoke, Insert, CreateUser, DeleteUser}
+use Rattle.scql_base.specs.declared.operation.Operation.TheVariants.{CreateTable, CreateView, CreateDictionary, DropTable, DropView, Grant, Revoke, Insert, Update, Delete, CreateUser, DeleteUser}
 use Rattle.scql_base.specs.Words.{no_space, instruction_not_supported}
 use Rattle.scql_model.specs.Database.{Database}
 use Rattle.scql_model.specs.Creating.{stamps_end, is_overfull}
@@ -14,7 +14,7 @@ use Rattle.scql_model.specs.Refusals.{◌>>=◌}
 use Rattle.scql_model.specs.Edits.{Edit, applied, touched}
 use Rattle.scql_model.specs.Defining.{object_created, view_created, table_dropped, view_dropped}
 use Rattle.scql_model.specs.Granting.{privileges_granted, privileges_revoked}
-use Rattle.scql_model.specs.Writing.{row_inserted}
+use Rattle.scql_model.specs.Writing.{row_inserted, row_updated, row_deleted}
 use Rattle.scql_model.specs.Users.{user_added, user_deleted}
 
 -- The edits that a changing command makes for an actor, or the first refusal that applies, but for those of a full card. UPDATE and DELETE
@@ -28,6 +28,8 @@ edits_of db actor cursor (DropView name) = view_dropped db actor name
 edits_of db actor cursor (Grant privileges object grantee) = privileges_granted db actor privileges object grantee
 edits_of db actor cursor (Revoke privileges object grantee) = privileges_revoked db actor privileges object grantee
 edits_of db actor cursor (Insert table row) = row_inserted db actor table row
+edits_of db actor cursor (Update changes) = row_updated db actor cursor changes
+edits_of db actor cursor Delete = row_deleted db actor cursor
 edits_of db actor cursor (CreateUser name profile secret) = user_added db actor name profile secret
 edits_of db actor cursor (DeleteUser name) = user_deleted db actor name
 edits_of db actor cursor operation = Err instruction_not_supported
