@@ -13,8 +13,10 @@ pub mod Heard
 pub mod Lines
 pub mod Machine
 pub mod Matching
+pub mod Moves
 pub mod Objects
 pub mod Opens
+pub mod ReadingCommands
 pub mod Records
 pub mod Refusals
 pub mod Rights
