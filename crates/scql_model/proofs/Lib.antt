@@ -1,9 +1,11 @@
 pub mod Acting
 pub mod AddedUser
+pub mod ChangeLaws
 pub mod CounterSlot
 pub mod Creating
 pub mod CreatingSlots
 pub mod CreatingWeight
+pub mod EditLaws
 pub mod FieldLaws
 pub mod FormedCommands
 pub mod FreshCard

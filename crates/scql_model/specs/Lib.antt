@@ -1,10 +1,14 @@
+pub mod Changing
 pub mod Commands
 pub mod Contents
 pub mod Creating
 pub mod Database
+pub mod Defining
 pub mod Dictionaries
+pub mod Edits
 pub mod Fields
 pub mod Form
+pub mod Granting
 pub mod Heard
 pub mod Lines
 pub mod Machine
@@ -14,7 +18,10 @@ pub mod Objects
 pub mod Opens
 pub mod ReadingCommands
 pub mod Records
+pub mod Refusals
 pub mod Rights
 pub mod Step
+pub mod Users
 pub mod Validity
 pub mod WellFormed
+pub mod Writing

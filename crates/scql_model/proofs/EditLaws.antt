@@ -1,0 +1,223 @@
+-- What edits do to a database: what stays, what stands where, and how much it weighs.
+use Rattle.std.proofs.Common.{◌≡◌, ℕ, ◌+◌, ◌≤◌, false, eqb, List, [], ◌∷◌, ◌++◌, length, map, Some, refl, ap, sym, ◌∙◌, inl, inr, arith}
+use Rattle.std.specs.List.{list_any, sum_by, count_by, find}
+use Rattle.std.proofs.lemmas.Bool.{cases_Bool, eqb-true}
+use Rattle.std.proofs.lemmas.Option.{none-some, same_Some}
+use Rattle.std.proofs.lemmas.List.Sums.{sum_by-cons, sum_by-append, sum_by_push}
+use Rattle.eeprom.specs.StoreOf.{cells_for}
+use Rattle.eeprom.specs.Slots.{has, replaced, without}
+use Rattle.eeprom.proofs.InOrder.{counts, counts_not, without-none, replaced-none}
+use Rattle.scql_base.specs.declared.records.User.{User}
+use Rattle.scql_base.specs.declared.records.Object.{Object}
+use Rattle.scql_base.specs.declared.records.Grant.{Grant}
+use Rattle.scql_base.specs.declared.records.RowRecord.{RowRecord}
+use Rattle.scql_model.specs.Records.{counter_record, user_record, object_spelling, grant_record, row_record}
+use Rattle.scql_model.specs.Database.{Database, weight}
+use Rattle.scql_model.specs.Edits.{AnyRecord, of_counter, of_user, of_object, of_grant, of_row, Action, adds, changes, removes, Edit, list_after, edited, applied, cells_of_record, making}
+
+-- The card's cells and its row limit stay.
+edited-cells : (action : Action) (r : AnyRecord) (db : Database) → (edited action r db).cells ≡ db.cells
+edited-cells action (of_counter next) db = refl
+edited-cells action (of_user u) db = refl
+edited-cells action (of_object o) db = refl
+edited-cells action (of_grant g) db = refl
+edited-cells action (of_row r) db = refl
+
+edited-limit : (action : Action) (r : AnyRecord) (db : Database) → (edited action r db).limit ≡ db.limit
+edited-limit action (of_counter next) db = refl
+edited-limit action (of_user u) db = refl
+edited-limit action (of_object o) db = refl
+edited-limit action (of_grant g) db = refl
+edited-limit action (of_row r) db = refl
+
+pub applied-cells : (db : Database) (edits : List Edit) → (applied db edits).cells ≡ db.cells
+applied-cells db [] = refl
+applied-cells db (e ∷ edits) = applied-cells (edited e.action e.entry db) edits ∙ edited-cells e.action e.entry db
+
+pub applied-limit : (db : Database) (edits : List Edit) → (applied db edits).limit ≡ db.limit
+applied-limit db [] = refl
+applied-limit db (e ∷ edits) = applied-limit (edited e.action e.entry db) edits ∙ edited-limit e.action e.entry db
+
+-- Edits may be applied in two parts.
+pub applied-append : (db : Database) (first then : List Edit) → applied db (first ++ then) ≡ applied (applied db first) then
+applied-append db [] then = refl
+applied-append db (e ∷ first) then = applied-append (edited e.action e.entry db) first then
+
+-- A removed record is no longer there.
+pub removed-gone : {X : Type 0} (key : X → ℕ) (x : X) (xs : List X) → list_any (has key (key x)) (list_after removes key x xs) ≡ false
+removed-gone key x [] = refl
+removed-gone key x (y ∷ ys) =
+    elim (cases_Bool (eqb (key y) (key x))) [ inl t ↦ rw t (removed-gone key x ys) | inr f ↦ rw (f, f) (removed-gone key x ys) ]
+
+-- A changed record keeps its place, and the others theirs.
+pub changed-keys : {X : Type 0} (key : X → ℕ) (x : X) (xs : List X) → map key (list_after changes key x xs) ≡ map key xs
+changed-keys key x [] = refl
+changed-keys key x (y ∷ ys) =
+    elim (cases_Bool (eqb (key y) (key x))) [
+      | inl t ↦ rw t (rw (sym (eqb-true (key y) (key x) t)) (ap (λ keys. key y ∷ keys) (changed-keys key x ys)))
+      | inr f ↦ rw f (ap (λ keys. key y ∷ keys) (changed-keys key x ys))
+    ]
+
+-- Sums over a list of which one element goes, or has another in its place.
+sum-removed : {X : Type 0} (key f : X → ℕ) (x : X) (xs : List X) → find (has key (key x)) xs ≡ Some x → count_by (has key (key x)) xs ≤ 1
+    → sum_by f (without key (key x) xs) + f x ≡ sum_by f xs
+sum-removed key f x [] found one = absurd (none-some x found)
+sum-removed key f x (y ∷ ys) found one =
+    elim (cases_Bool (eqb (key y) (key x))) [
+      | inl t ↦ (let a = counts (has key (key x)) y ys t in
+          let none = without-none key (key x) ys (omega arith) in
+          let same : y ≡ x = same_Some y x (rw t at found) in
+          let b = sum_by-cons f y ys in
+          rw (t, none) (omega (arith, ap f same)))
+      | inr e ↦ (let a = counts_not (has key (key x)) y ys e in
+          let rest = sum-removed key f x ys (rw e at found) (omega arith) in
+          let b = sum_by-cons f y ys in
+          let c = sum_by-cons f y (without key (key x) ys) in
+          rw e (omega arith))
+    ]
+
+sum-replaced : {X : Type 0} (key f : X → ℕ) (x y : X) (xs : List X) → key x ≡ key y → find (has key (key y)) xs ≡ Some y → count_by (has key (key y)) xs ≤ 1
+    → sum_by f (replaced key x xs) + f y ≡ sum_by f xs + f x
+sum-replaced key f x y [] same found one = absurd (none-some y found)
+sum-replaced key f x y (z ∷ zs) same found one =
+    elim (cases_Bool (eqb (key z) (key y))) [
+      | inl t ↦ (let a = counts (has key (key y)) z zs t in
+          let none : replaced key x zs ≡ zs = replaced-none key x zs (rw same (omega arith)) in
+          let is : z ≡ y = same_Some z y (rw t at found) in
+          let b = sum_by-cons f z zs in
+          let c = sum_by-cons f x zs in
+          rw (same, t, none) (omega (arith, ap f is)))
+      | inr e ↦ (let a = counts_not (has key (key y)) z zs e in
+          let rest = sum-replaced key f x y zs same (rw e at found) (omega arith) in
+          let b = sum_by-cons f z zs in
+          let c = sum_by-cons f z (replaced key x zs) in
+          rw (same, e) (omega arith))
+    ]
+
+sum_by-map : {X Y : Type 0} (f : Y → ℕ) (g : X → Y) (xs : List X) → sum_by f (map g xs) ≡ sum_by (λ x. f (g x)) xs
+sum_by-map f g [] = refl
+sum_by-map f g (x ∷ xs) = sum_by-cons f (g x) (map g xs) ∙ ap (λ n. f (g x) + n) (sum_by-map f g xs) ∙ sym (sum_by-cons (λ x. f (g x)) x xs)
+
+-- The weight of a database by the kinds of its records.
+abbrev octets_cells : List ℕ → ℕ
+octets_cells octets = cells_for (length octets)
+
+abbrev pub users_weight : List User → ℕ
+users_weight users = sum_by (λ u. cells_of_record (of_user u)) users
+
+abbrev pub objects_weight : List Object → ℕ
+objects_weight objects = sum_by (λ o. cells_of_record (of_object o)) objects
+
+abbrev pub grants_weight : List Grant → ℕ
+grants_weight grants = sum_by (λ g. cells_of_record (of_grant g)) grants
+
+abbrev pub rows_weight : List RowRecord → ℕ
+rows_weight rows = sum_by (λ r. cells_of_record (of_row r)) rows
+
+pub weight-kinds : (db : Database) → weight db ≡ cells_of_record (of_counter db.next) + (users_weight db.users + (objects_weight db.objects + (grants_weight db.grants + rows_weight db.rows)))
+weight-kinds db =
+    let users = map user_record.spell db.users in
+    let objects = map object_spelling db.objects in
+    let grants = map grant_record.spell db.grants in
+    let rows = map row_record.spell db.rows in
+    let a = sum_by-cons octets_cells (counter_record.spell db.next) (users ++ (objects ++ (grants ++ rows))) in
+    let b = sum_by-append octets_cells users (objects ++ (grants ++ rows)) in
+    let c = sum_by-append octets_cells objects (grants ++ rows) in
+    let d = sum_by-append octets_cells grants rows in
+    let u = sum_by-map octets_cells user_record.spell db.users in
+    let o = sum_by-map octets_cells object_spelling db.objects in
+    let g = sum_by-map octets_cells grant_record.spell db.grants in
+    let r = sum_by-map octets_cells row_record.spell db.rows in
+    omega arith
+
+-- the cells that a record takes beside the counter's, which are there in every database
+abbrev pub own_cells : AnyRecord → ℕ
+own_cells (of_counter next) = 0
+own_cells (of_user u) = cells_of_record (of_user u)
+own_cells (of_object o) = cells_of_record (of_object o)
+own_cells (of_grant g) = cells_of_record (of_grant g)
+own_cells (of_row r) = cells_of_record (of_row r)
+
+-- The counter takes one cell whatever it counts.
+pub weight-next : (db : Database) (next : ℕ) → weight (record db { next = next }) ≡ weight db
+weight-next db next = let a = weight-kinds db in let b = weight-kinds (record db { next = next }) in omega arith
+
+-- A record that is added weighs what its cells are.
+pub weight-adding : (db : Database) (r : AnyRecord) → weight (edited adds r db) ≡ weight db + own_cells r
+weight-adding db (of_counter next) = let a = weight-next db next in omega arith
+weight-adding db (of_user u) =
+    let a = weight-kinds db in
+    let b = weight-kinds (edited adds (of_user u) db) in
+    let c = sum_by_push (λ u. cells_of_record (of_user u)) db.users u in
+    omega arith
+weight-adding db (of_object o) =
+    let a = weight-kinds db in
+    let b = weight-kinds (edited adds (of_object o) db) in
+    let c = sum_by_push (λ o. cells_of_record (of_object o)) db.objects o in
+    omega arith
+weight-adding db (of_grant g) =
+    let a = weight-kinds db in
+    let b = weight-kinds (edited adds (of_grant g) db) in
+    let c = sum_by_push (λ g. cells_of_record (of_grant g)) db.grants g in
+    omega arith
+weight-adding db (of_row r) =
+    let a = weight-kinds db in
+    let b = weight-kinds (edited adds (of_row r) db) in
+    let c = sum_by_push (λ r. cells_of_record (of_row r)) db.rows r in
+    omega arith
+
+pub weight-making : (db : Database) (r : AnyRecord) → weight (applied db (making db r)) ≡ weight db + own_cells r
+weight-making db r = weight-adding (record db { next = db.next + 1 }) r ∙ ap (λ n. n + own_cells r) (weight-next db (db.next + 1))
+
+-- one record of a list has the stamp of this one, and it is this one
+abbrev pub IsAmong : {X : Type 0} → (X → ℕ) → X → List X → Type 0
+IsAmong key x xs = (find (has key (key x)) xs ≡ Some x) × (count_by (has key (key x)) xs ≤ 1)
+
+-- the database has this record, and no other of its kind has its stamp
+abbrev pub HasRecord : Database → AnyRecord → Type 0
+HasRecord db (of_counter next) = db.next ≡ next
+HasRecord db (of_user u) = IsAmong (λ (v : User). v.stamp) u db.users
+HasRecord db (of_object o) = IsAmong (λ (p : Object). p.stamp) o db.objects
+HasRecord db (of_grant g) = IsAmong (λ (h : Grant). h.stamp) g db.grants
+HasRecord db (of_row r) = IsAmong (λ (s : RowRecord). s.stamp) r db.rows
+
+-- A record that is removed takes its cells with it.
+pub weight-removing : (db : Database) (r : AnyRecord) → HasRecord db r → weight (edited removes r db) + own_cells r ≡ weight db
+weight-removing db (of_counter next) there = let a = weight-next db next in omega arith
+weight-removing db (of_user u) there =
+    let a = weight-kinds db in
+    let b = weight-kinds (edited removes (of_user u) db) in
+    let c = sum-removed (λ (v : User). v.stamp) (λ u. cells_of_record (of_user u)) u db.users there.0 there.1 in
+    omega arith
+weight-removing db (of_object o) there =
+    let a = weight-kinds db in
+    let b = weight-kinds (edited removes (of_object o) db) in
+    let c = sum-removed (λ (p : Object). p.stamp) (λ o. cells_of_record (of_object o)) o db.objects there.0 there.1 in
+    omega arith
+weight-removing db (of_grant g) there =
+    let a = weight-kinds db in
+    let b = weight-kinds (edited removes (of_grant g) db) in
+    let c = sum-removed (λ (h : Grant). h.stamp) (λ g. cells_of_record (of_grant g)) g db.grants there.0 there.1 in
+    omega arith
+weight-removing db (of_row r) there =
+    let a = weight-kinds db in
+    let b = weight-kinds (edited removes (of_row r) db) in
+    let c = sum-removed (λ (s : RowRecord). s.stamp) (λ r. cells_of_record (of_row r)) r db.rows there.0 there.1 in
+    omega arith
+
+-- A grant or a row that takes the place of another weighs its own cells for the other's.
+pub weight-grant : (db : Database) (old new : Grant) → new.stamp ≡ old.stamp → HasRecord db (of_grant old)
+    → weight (edited changes (of_grant new) db) + cells_of_record (of_grant old) ≡ weight db + cells_of_record (of_grant new)
+weight-grant db old new same there =
+    let a = weight-kinds db in
+    let b = weight-kinds (edited changes (of_grant new) db) in
+    let c = sum-replaced (λ (h : Grant). h.stamp) (λ g. cells_of_record (of_grant g)) new old db.grants same there.0 there.1 in
+    omega arith
+
+pub weight-row : (db : Database) (old new : RowRecord) → new.stamp ≡ old.stamp → HasRecord db (of_row old)
+    → weight (edited changes (of_row new) db) + cells_of_record (of_row old) ≡ weight db + cells_of_record (of_row new)
+weight-row db old new same there =
+    let a = weight-kinds db in
+    let b = weight-kinds (edited changes (of_row new) db) in
+    let c = sum-replaced (λ (s : RowRecord). s.stamp) (λ r. cells_of_record (of_row r)) new old db.rows same there.0 there.1 in
+    omega arith

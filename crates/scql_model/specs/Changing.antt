@@ -1,0 +1,53 @@
+-- What a changing command does to a database: its edits, and the new database or the first refusal that applies.
+use Rattle.std.specs.Prelude.{◌==◌, ◌&&◌, ◌||◌, Bool, List, Option, Result, Ok, Err, if◌then◌else◌}
+use Rattle.std.specs.List.{list_any}
+use Rattle.scql_base.specs.declared.words.Actor.{Actor}
+use Rattle.scql_base.specs.declared.words.StatusWord.{StatusWord}
+use Rattle.scql_base.specs.declared.cursor.Cursor.{Cursor}
+use Rattle.scql_base.specs.declared.records.ObjectKind.TheVariants.{Table, Dictionary}
+use Rattle.scql_base.specs.declared.operation.Operation.{Operation}
+use Rattle.scql_base.specs.declared.operation.Operation.TheVariants.{CreateTable, CreateView, CreateDictionary, DropTable, DropView, Grant, Revoke, Insert, Update, Delete, CreateUser, DeleteUser}
+use Rattle.scql_base.specs.Words.{no_space, instruction_not_supported}
+use Rattle.scql_model.specs.Database.{Database}
+use Rattle.scql_model.specs.Creating.{stamps_end, is_overfull}
+use Rattle.scql_model.specs.Refusals.{◌>>=◌}
+use Rattle.scql_model.specs.Edits.{Edit, applied, touched}
+use Rattle.scql_model.specs.Defining.{object_created, view_created, table_dropped, view_dropped}
+use Rattle.scql_model.specs.Granting.{privileges_granted, privileges_revoked}
+use Rattle.scql_model.specs.Writing.{row_inserted, row_updated, row_deleted}
+use Rattle.scql_model.specs.Users.{user_added, user_deleted}
+
+-- The edits that a changing command makes for an actor, or the first refusal that applies, but for those of a full card. UPDATE and DELETE
+-- are of the row at the cursor. The other operations change no database.
+unfoldable pub edits_of : Database → Actor → Option Cursor → Operation → Result (List Edit) StatusWord
+edits_of db actor cursor (CreateTable name columns) = object_created db actor name (Table columns)
+edits_of db actor cursor (CreateView name base columns conditions) = view_created db actor name base columns conditions
+edits_of db actor cursor (CreateDictionary name subject) = object_created db actor name (Dictionary subject)
+edits_of db actor cursor (DropTable name) = table_dropped db actor name
+edits_of db actor cursor (DropView name) = view_dropped db actor name
+edits_of db actor cursor (Grant privileges object grantee) = privileges_granted db actor privileges object grantee
+edits_of db actor cursor (Revoke privileges object grantee) = privileges_revoked db actor privileges object grantee
+edits_of db actor cursor (Insert table row) = row_inserted db actor table row
+edits_of db actor cursor (Update changes) = row_updated db actor cursor changes
+edits_of db actor cursor Delete = row_deleted db actor cursor
+edits_of db actor cursor (CreateUser name profile secret) = user_added db actor name profile secret
+edits_of db actor cursor (DeleteUser name) = user_deleted db actor name
+edits_of db actor cursor operation = Err instruction_not_supported
+
+-- a stamp is taken where the counter is edited
+abbrev pub takes_stamp : List Edit → Bool
+takes_stamp edits = list_any (λ stamp. stamp == 0) (touched edits)
+
+-- no stamp is left that is to be taken, or the records would take more cells than the card has
+abbrev pub lacks_room : Database → List Edit → Bool
+lacks_room db edits = takes_stamp edits && db.next == stamps_end || is_overfull (applied db edits)
+
+-- the database with the edits, where there is room for them
+abbrev pub with_edits : Database → List Edit → Result Database StatusWord
+with_edits db edits = if lacks_room db edits then Err no_space else Ok (applied db edits)
+
+-- The new database, or the first refusal that applies.
+unfoldable pub change_of : Database → Actor → Option Cursor → Operation → Result Database StatusWord
+change_of db actor cursor operation = do
+  edits ← edits_of db actor cursor operation
+  with_edits db edits

@@ -1,0 +1,118 @@
+-- Edits of a database: records are added, changed and removed, the counter among them.
+use Rattle.std.specs.Prelude.{ℕ, ◌+◌, ◌*◌, ◌==◌, not, ◌||◌, Bool, List, [], ◌∷◌, ◌++◌, length, map, filter}
+use Rattle.std.specs.List.{list_any, sum_by}
+use Rattle.eeprom.specs.StoreOf.{cells_for}
+use Rattle.eeprom.specs.Slots.{replaced, without}
+use Rattle.scql_base.specs.declared.records.User.{User}
+use Rattle.scql_base.specs.declared.records.Object.{Object}
+use Rattle.scql_base.specs.declared.records.Grant.{Grant}
+use Rattle.scql_base.specs.declared.records.RowRecord.{RowRecord}
+use Rattle.scql_model.specs.Records.{counter_record, user_record, object_spelling, grant_record, row_record}
+use Rattle.scql_model.specs.Database.{Database, stamps}
+
+-- a record of any kind: the counter, which has the next stamp, or that of a user, an object, a grant or a row
+pub data AnyRecord : Type 0 where
+  of_counter : ℕ → AnyRecord
+  of_user : User → AnyRecord
+  of_object : Object → AnyRecord
+  of_grant : Grant → AnyRecord
+  of_row : RowRecord → AnyRecord
+
+-- a record is named by its stamp, and the counter by 0
+abbrev pub record_stamp : AnyRecord → ℕ
+record_stamp (of_counter next) = 0
+record_stamp (of_user u) = u.stamp
+record_stamp (of_object o) = o.stamp
+record_stamp (of_grant g) = g.stamp
+record_stamp (of_row r) = r.stamp
+
+abbrev pub record_spelling : AnyRecord → List ℕ
+record_spelling (of_counter next) = counter_record.spell next
+record_spelling (of_user u) = user_record.spell u
+record_spelling (of_object o) = object_spelling o
+record_spelling (of_grant g) = grant_record.spell g
+record_spelling (of_row r) = row_record.spell r
+
+-- A record is added behind all others of its kind, it takes the place of the one that has its stamp, or it is removed.
+pub data Action : Type 0 where
+  adds : Action
+  changes : Action
+  removes : Action
+
+pub record Edit : Type 0 where
+  pub action : Action
+  pub entry : AnyRecord
+
+abbrev pub adding : AnyRecord → Edit
+adding r = record { action = adds; entry = r }
+
+abbrev pub changing : AnyRecord → Edit
+changing r = record { action = changes; entry = r }
+
+abbrev pub removing : AnyRecord → Edit
+removing r = record { action = removes; entry = r }
+
+-- a record is made: it takes the next stamp, and the counter has given that out
+abbrev pub making : Database → AnyRecord → List Edit
+making db r = changing (of_counter (db.next + 1)) ∷ adding r ∷ []
+
+-- the records of one kind after an edit of one of them; the key of a record is its stamp
+abbrev pub list_after : {X : Type 0} → Action → (X → ℕ) → X → List X → List X
+list_after adds key x xs = xs ++ x ∷ []
+list_after changes key x xs = replaced key x xs
+list_after removes key x xs = without key (key x) xs
+
+-- the database after an edit of this record; there is one counter, whose every edit sets the next stamp
+abbrev pub edited : Action → AnyRecord → Database → Database
+edited action (of_counter next) db = record db { next = next }
+edited action (of_user u) db = record db { users = list_after action (λ (v : User). v.stamp) u db.users }
+edited action (of_object o) db = record db { objects = list_after action (λ (p : Object). p.stamp) o db.objects }
+edited action (of_grant g) db = record db { grants = list_after action (λ (h : Grant). h.stamp) g db.grants }
+edited action (of_row r) db = record db { rows = list_after action (λ (s : RowRecord). s.stamp) r db.rows }
+
+-- the database after edits, one after another
+abbrev pub applied : Database → List Edit → Database
+applied db [] = db
+applied db (e ∷ edits) = applied (edited e.action e.entry db) edits
+
+-- the stamps of the records that are added, changed or removed
+abbrev pub touched : List Edit → List ℕ
+touched edits = map (λ (e : Edit). record_stamp e.entry) edits
+
+abbrev pub cells_of_record : AnyRecord → ℕ
+cells_of_record r = cells_for (length (record_spelling r))
+
+-- how many cells the records take that are added or changed
+abbrev pub cells_of_edit : Action → AnyRecord → ℕ
+cells_of_edit adds r = cells_of_record r
+cells_of_edit changes r = cells_of_record r
+cells_of_edit removes r = 0
+
+abbrev pub cells_written : List Edit → ℕ
+cells_written edits = sum_by (λ (e : Edit). cells_of_edit e.action e.entry) edits
+
+-- at most so many octets are written for the cells, each of which has 32
+abbrev pub octets_for_cells : ℕ → ℕ
+octets_for_cells cells = 32 * cells
+
+-- and for a commit: two for the count of the journal's entries and two for its gate, and for each touched record four in the journal and
+-- two in the directory
+abbrev pub octets_for_commit : ℕ → ℕ
+octets_for_commit count = 4 + 6 * count
+
+-- at most so many octets are written for edits that are committed at once
+abbrev pub octets_for : List Edit → ℕ
+octets_for edits = octets_for_cells (cells_written edits) + octets_for_commit (length (touched edits))
+
+-- a database has the record of this stamp; each has a counter
+abbrev pub has_record : Database → ℕ → Bool
+has_record db stamp = stamp == 0 || list_any (λ other. stamp == other) (stamps db)
+
+-- the stamps of some more records behind those of others, each once
+abbrev pub joined : List ℕ → List ℕ → List ℕ
+joined before more = before ++ filter (λ stamp. not (list_any (λ other. stamp == other) before)) more
+
+-- What a transaction has touched after further edits: those records that the committed or the working database still has.
+abbrev pub touched_after : Database → Database → List ℕ → List Edit → List ℕ
+touched_after committed working before edits =
+    filter (λ stamp. has_record committed stamp || has_record working stamp) (joined before (touched edits))

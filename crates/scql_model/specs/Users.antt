@@ -1,0 +1,44 @@
+-- Commands that make and delete users (ISO/IEC 7816-7, CREATE USER, DELETE USER): for each the edits that it makes, or the first refusal that
+-- applies.
+use Rattle.std.specs.Prelude.{ℕ, ◌==◌, not, ◌||◌, Bool, false, List, ◌∷◌, map, filter, Result, Ok}
+use Rattle.std.specs.List.{list_any}
+use Rattle.scql_base.specs.declared.words.Actor.{Actor}
+use Rattle.scql_base.specs.declared.words.Actor.TheVariants.{Public, User as a_user}
+use Rattle.scql_base.specs.declared.words.Profile.{Profile}
+use Rattle.scql_base.specs.declared.words.StatusWord.{StatusWord}
+use Rattle.scql_base.specs.declared.records.User.{User}
+use Rattle.scql_base.specs.declared.records.Object.{Object}
+use Rattle.scql_base.specs.declared.records.Grant.{Grant}
+use Rattle.scql_base.specs.Words.{security_not_satisfied, conditions_not_satisfied, not_found, already_exists}
+use Rattle.scql_model.specs.Database.{Database, is_db_o, user_named}
+use Rattle.scql_model.specs.Creating.{may_create, is_taken, new_user}
+use Rattle.scql_model.specs.Refusals.{◌>>=◌, or_refused, only_if}
+use Rattle.scql_model.specs.Edits.{Edit, of_user, of_grant, making, removing}
+
+-- CREATE USER
+unfoldable pub user_added : Database → Actor → List ℕ → Profile → List ℕ → Result (List Edit) StatusWord
+user_added db actor name profile secret = do
+  _ ← only_if (may_create actor profile) security_not_satisfied
+  _ ← only_if (not (is_taken db name)) already_exists
+  Ok (making db (of_user (new_user db actor name profile secret)))
+
+-- a user's owner is the user who made it; PUBLIC owns nobody
+abbrev pub owns_user : Actor → User → Bool
+owns_user Public u = false
+owns_user (a_user stamp profile) u = u.owner == stamp
+
+-- a user stays who is OWNER, or owns a user or an object
+abbrev pub is_needed : Database → User → Bool
+is_needed db u = is_db_o u || list_any (λ (v : User). v.owner == u.stamp) db.users || list_any (λ (o : Object). o.owner == u.stamp) db.objects
+
+-- the user goes, and the grants to it
+abbrev pub removing_user : Database → User → List Edit
+removing_user db u = removing (of_user u) ∷ map (λ (g : Grant). removing (of_grant g)) (filter (λ (g : Grant). g.grantee == u.stamp) db.grants)
+
+-- DELETE USER
+unfoldable pub user_deleted : Database → Actor → List ℕ → Result (List Edit) StatusWord
+user_deleted db actor name = do
+  u ← or_refused (user_named db.users name) not_found
+  _ ← only_if (owns_user actor u) security_not_satisfied
+  _ ← only_if (not (is_needed db u)) conditions_not_satisfied
+  Ok (removing_user db u)
