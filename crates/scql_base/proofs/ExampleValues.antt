@@ -1,5 +1,7 @@
 -- Names and parameters of known octets.
 use Rattle.std.proofs.Common.{◌≡◌, [], ◌∷◌, Some, None, true, false, refl}
+use Rattle.scql_base.specs.declared.words.StatusWord.{StatusWord}
+use Rattle.scql_base.specs.Words.{done, more_left, wrong_le}
 use Rattle.scql_base.specs.Name.{is_name}
 use Rattle.scql_base.specs.Strings.{pieces_of, params_of}
 
@@ -49,3 +51,16 @@ too_few = refl
 left_over : params_of (1 ∷ 0x41 ∷ 0x42 ∷ []) ≡ None
 unfolding pieces_of params_of
 left_over = refl
+
+-- the words of an answer, of what is left of it, and of a wrong Le
+word_done : done ≡ record { word = 0x9000 }
+word_done = refl
+
+words_more : more_left 252 ≡ record { word = 0x61FC }
+words_more = refl
+
+words_many : more_left 764 ≡ record { word = 0x6100 }
+words_many = refl
+
+words_wrong_le : wrong_le 3 ≡ record { word = 0x6C03 }
+words_wrong_le = refl

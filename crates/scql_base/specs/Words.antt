@@ -1,47 +1,20 @@
--- The status words that the card answers (ISO/IEC 7816-4, status bytes).
+-- The status words that the card answers (ISO/IEC 7816-4, status bytes): the code's constants, by these names.
+use Rattle.std.specs.Prelude.{ℕ, ◌+◌, nat_lt, if◌then◌else◌}
 use Rattle.scql_base.specs.declared.words.StatusWord.{StatusWord}
+pub use Rattle.scql_base.specs.declared.words.TheConstants.StatusWord.{DONE as done, END_REACHED as end_reached, MEMORY_FAILURE as memory_failure, WRONG_LENGTH as wrong_length, CHANNEL_NOT_SUPPORTED as channel_not_supported, SECURE_MESSAGING_NOT_SUPPORTED as secure_messaging_not_supported, CHAINING_NOT_SUPPORTED as chaining_not_supported, SECURITY_NOT_SATISFIED as security_not_satisfied, AUTHENTICATION_BLOCKED as authentication_blocked, CONDITIONS_NOT_SATISFIED as conditions_not_satisfied, WRONG_DATA as wrong_data, FUNCTION_NOT_SUPPORTED as function_not_supported, RECORD_NOT_FOUND as record_not_found, NO_SPACE as no_space, WRONG_PARAMETERS as wrong_parameters, NOT_FOUND as not_found, ALREADY_EXISTS as already_exists, INSTRUCTION_NOT_SUPPORTED as instruction_not_supported, CLASS_NOT_SUPPORTED as class_not_supported}
 
-abbrev pub done : StatusWord
-done = record { word = 0x9000 }
+-- 63CX: the secret was wrong, and so many tries are left
+abbrev pub tries_left : ℕ → StatusWord
+tries_left n = record { word = 0x63C0 + n }
 
-abbrev pub memory_failure : StatusWord
-memory_failure = record { word = 0x6581 }
+-- a number of octets in SW2, where 256 and more is 00
+abbrev pub in_sw2 : ℕ → ℕ
+in_sw2 n = if nat_lt n 256 then n else 0
 
-abbrev pub wrong_length : StatusWord
-wrong_length = record { word = 0x6700 }
+-- 61XX: so many octets are left of an answer
+abbrev pub more_left : ℕ → StatusWord
+more_left n = record { word = 0x6100 + in_sw2 n }
 
-abbrev pub channel_not_supported : StatusWord
-channel_not_supported = record { word = 0x6881 }
-
-abbrev pub secure_messaging_not_supported : StatusWord
-secure_messaging_not_supported = record { word = 0x6882 }
-
-abbrev pub chaining_not_supported : StatusWord
-chaining_not_supported = record { word = 0x6884 }
-
-abbrev pub security_not_satisfied : StatusWord
-security_not_satisfied = record { word = 0x6982 }
-
-abbrev pub conditions_not_satisfied : StatusWord
-conditions_not_satisfied = record { word = 0x6985 }
-
-abbrev pub wrong_data : StatusWord
-wrong_data = record { word = 0x6A80 }
-
-abbrev pub no_space : StatusWord
-no_space = record { word = 0x6A84 }
-
-abbrev pub wrong_parameters : StatusWord
-wrong_parameters = record { word = 0x6A86 }
-
-abbrev pub not_found : StatusWord
-not_found = record { word = 0x6A88 }
-
-abbrev pub already_exists : StatusWord
-already_exists = record { word = 0x6A89 }
-
-abbrev pub instruction_not_supported : StatusWord
-instruction_not_supported = record { word = 0x6D00 }
-
-abbrev pub class_not_supported : StatusWord
-class_not_supported = record { word = 0x6E00 }
+-- 6CXX: Le is wrong, the answer has so many octets
+abbrev pub wrong_le : ℕ → StatusWord
+wrong_le n = record { word = 0x6C00 + in_sw2 n }

@@ -43,6 +43,10 @@ pub struct StatusWord {
 impl StatusWord {
     pub const DONE: StatusWord = StatusWord { word: 0x9000 };
 
+    /// A cursor has come to its end.
+    pub const END_REACHED: StatusWord = StatusWord { word: 0x6282 };
+
+    /// The EEPROM failed.
     pub const MEMORY_FAILURE: StatusWord = StatusWord { word: 0x6581 };
 
     pub const WRONG_LENGTH: StatusWord = StatusWord { word: 0x6700 };
@@ -55,7 +59,17 @@ impl StatusWord {
 
     pub const SECURITY_NOT_SATISFIED: StatusWord = StatusWord { word: 0x6982 };
 
+    /// No tries are left for a secret.
+    pub const AUTHENTICATION_BLOCKED: StatusWord = StatusWord { word: 0x6983 };
+
+    pub const CONDITIONS_NOT_SATISFIED: StatusWord = StatusWord { word: 0x6985 };
+
     pub const WRONG_DATA: StatusWord = StatusWord { word: 0x6A80 };
+
+    pub const FUNCTION_NOT_SUPPORTED: StatusWord = StatusWord { word: 0x6A81 };
+
+    /// The row at a cursor's place is gone, or no longer meets its conditions.
+    pub const RECORD_NOT_FOUND: StatusWord = StatusWord { word: 0x6A83 };
 
     pub const NO_SPACE: StatusWord = StatusWord { word: 0x6A84 };
 
