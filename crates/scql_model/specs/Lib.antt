@@ -7,6 +7,8 @@ pub mod Heard
 pub mod Lines
 pub mod Machine
 pub mod Opens
+pub mod Operations
+pub mod Parameters
 pub mod Records
 pub mod Step
 pub mod Validity
