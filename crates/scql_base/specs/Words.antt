@@ -1,7 +1,64 @@
 -- The status words that the card answers (ISO/IEC 7816-4, status bytes): the code's constants, by these names.
 use Rattle.std.specs.Prelude.{ℕ, ◌+◌, nat_lt, if◌then◌else◌}
 use Rattle.scql_base.specs.declared.words.StatusWord.{StatusWord}
-pub use Rattle.scql_base.specs.declared.words.TheConstants.StatusWord.{DONE as done, END_REACHED as end_reached, MEMORY_FAILURE as memory_failure, WRONG_LENGTH as wrong_length, CHANNEL_NOT_SUPPORTED as channel_not_supported, SECURE_MESSAGING_NOT_SUPPORTED as secure_messaging_not_supported, CHAINING_NOT_SUPPORTED as chaining_not_supported, SECURITY_NOT_SATISFIED as security_not_satisfied, AUTHENTICATION_BLOCKED as authentication_blocked, CONDITIONS_NOT_SATISFIED as conditions_not_satisfied, WRONG_DATA as wrong_data, FUNCTION_NOT_SUPPORTED as function_not_supported, RECORD_NOT_FOUND as record_not_found, NO_SPACE as no_space, WRONG_PARAMETERS as wrong_parameters, NOT_FOUND as not_found, ALREADY_EXISTS as already_exists, INSTRUCTION_NOT_SUPPORTED as instruction_not_supported, CLASS_NOT_SUPPORTED as class_not_supported}
+use Rattle.scql_base.specs.declared.words.TheConstants.StatusWord.{DONE, END_REACHED, MEMORY_FAILURE, WRONG_LENGTH, CHANNEL_NOT_SUPPORTED, SECURE_MESSAGING_NOT_SUPPORTED, CHAINING_NOT_SUPPORTED, SECURITY_NOT_SATISFIED, AUTHENTICATION_BLOCKED, CONDITIONS_NOT_SATISFIED, WRONG_DATA, FUNCTION_NOT_SUPPORTED, RECORD_NOT_FOUND, NO_SPACE, WRONG_PARAMETERS, NOT_FOUND, ALREADY_EXISTS, INSTRUCTION_NOT_SUPPORTED, CLASS_NOT_SUPPORTED}
+
+abbrev pub done : StatusWord
+done = DONE
+
+abbrev pub end_reached : StatusWord
+end_reached = END_REACHED
+
+abbrev pub memory_failure : StatusWord
+memory_failure = MEMORY_FAILURE
+
+abbrev pub wrong_length : StatusWord
+wrong_length = WRONG_LENGTH
+
+abbrev pub channel_not_supported : StatusWord
+channel_not_supported = CHANNEL_NOT_SUPPORTED
+
+abbrev pub secure_messaging_not_supported : StatusWord
+secure_messaging_not_supported = SECURE_MESSAGING_NOT_SUPPORTED
+
+abbrev pub chaining_not_supported : StatusWord
+chaining_not_supported = CHAINING_NOT_SUPPORTED
+
+abbrev pub security_not_satisfied : StatusWord
+security_not_satisfied = SECURITY_NOT_SATISFIED
+
+abbrev pub authentication_blocked : StatusWord
+authentication_blocked = AUTHENTICATION_BLOCKED
+
+abbrev pub conditions_not_satisfied : StatusWord
+conditions_not_satisfied = CONDITIONS_NOT_SATISFIED
+
+abbrev pub wrong_data : StatusWord
+wrong_data = WRONG_DATA
+
+abbrev pub function_not_supported : StatusWord
+function_not_supported = FUNCTION_NOT_SUPPORTED
+
+abbrev pub record_not_found : StatusWord
+record_not_found = RECORD_NOT_FOUND
+
+abbrev pub no_space : StatusWord
+no_space = NO_SPACE
+
+abbrev pub wrong_parameters : StatusWord
+wrong_parameters = WRONG_PARAMETERS
+
+abbrev pub not_found : StatusWord
+not_found = NOT_FOUND
+
+abbrev pub already_exists : StatusWord
+already_exists = ALREADY_EXISTS
+
+abbrev pub instruction_not_supported : StatusWord
+instruction_not_supported = INSTRUCTION_NOT_SUPPORTED
+
+abbrev pub class_not_supported : StatusWord
+class_not_supported = CLASS_NOT_SUPPORTED
 
 -- 63CX: the secret was wrong, and so many tries are left
 abbrev pub tries_left : ℕ → StatusWord

@@ -1,55 +1,133 @@
 -- What is read of octets as a command is well-formed.
-use Rattle.std.proofs.Common.{◌≡◌, ℕ, ◌==◌, Bool, true, false, List, [], ◌∷◌, length, Option, Some, None, Result, Ok, Err, if◌then◌else◌, refl, ap, subst, ◌∙◌}
+use Rattle.std.proofs.Common.{◌≡◌, ◌≤◌, ◌<◌, ◌+◌, ◌%◌, ℕ, suc, ◌==◌, nat_le, not, ◌&&◌, ◌||◌, Bool, true, false, List, [], ◌∷◌, ◌++◌, length, take, drop, get_or, Option, Some, None, is_some, Result, Ok, Err, if◌then◌else◌, refl, ap, subst, sym, ◌∙◌, arith}
+use Rattle.std.specs.Prelude.{IfSome, unwrap_or, slice_get}
+use Rattle.std.specs.List.{list_all, find, concat}
 use Rattle.std.specs.Result.{result_ok}
 use Rattle.std.proofs.lemmas.Option.{none-some, same_Some}
-use Rattle.std.proofs.lemmas.Bool.{false≢true}
+use Rattle.std.proofs.lemmas.Bool.{false≢true, leb-true, le-leb}
 use Rattle.scql_base.specs.declared.words.StatusWord.{StatusWord}
 use Rattle.scql_base.specs.declared.words.Profile.{Profile}
 use Rattle.scql_base.specs.declared.words.Profile.TheVariants.{DbO, Dboo, Dbbu}
-use Rattle.scql_base.specs.Words.{wrong_data, wrong_length}
-use Rattle.scql_base.specs.Name.{is_name, name_of}
-use Rattle.scql_model.specs.Records.{is_secret}
+use Rattle.scql_base.specs.Words.{wrong_data, wrong_length, wrong_parameters, channel_not_supported, chaining_not_supported, instruction_not_supported}
+use Rattle.scql_base.specs.Name.{is_name}
+use Rattle.scql_base.specs.Row.{is_narrow, row_size}
 use Rattle.scql_base.specs.Strings.{params_of}
 use Rattle.scql_base.specs.declared.operation.Command.{Command}
 use Rattle.scql_base.specs.declared.operation.Operation.{Operation}
-use Rattle.scql_base.specs.declared.operation.Operation.TheVariants.{PresentUser, CreateUser}
-use Rattle.scql_model.specs.WellFormed.{IsWellFormed}
-use Rattle.scql_model.specs.Form.{◌>>=◌, or_refused, class_of, instruction_of, channel_of, Kind, presents_user, creates_user, kind_of, tail_of, presented_in, made_profile_of, secret_of, created_in, operation_in, form_of}
+use Rattle.scql_base.specs.declared.operation.Operation.TheVariants.{CreateTable, CreateView, CreateDictionary, DropTable, DropView, Grant, Revoke, DeclareCursor, OpenCursor, Next, Fetch, FetchNext, Insert, Update, Delete, Begin, Commit, Rollback, PresentUser, CreateUser, DeleteUser, Verify, OpenChannel, CloseChannel, GetResponse}
+use Rattle.scql_base.specs.declared.operation.OperationKind.{OperationKind}
+use Rattle.scql_base.specs.declared.operation.OperationKind.TheVariants as kind
+use Rattle.scql_model.specs.Records.{is_privileges, is_row, subject_of, is_one_to_fifteen}
+use Rattle.scql_model.specs.Machine.{Chain}
+use Rattle.scql_model.specs.Operations.{Takes, nothing, a_data_field, le_alone, Line, operations, built_operations, has_instruction, is_for_channel, line_of, comes_in_parts, kind_of}
+use Rattle.scql_model.specs.Parameters as parameters
+use Rattle.scql_model.specs.Parameters.{only_where, are_columns, are_chosen_columns, are_conditions, are_changes, Choice, conditions_in, choice_in, changes_in, create_table_in, create_view_in, create_dictionary_in, named_in, granted_in, declare_cursor_in, is_row_within, insert_in, update_in, made_profile_of, create_user_in, is_verified_secret, operation_in}
+use Rattle.scql_model.specs.WellFormed.{HasForm, wants_le, IsWellFormed}
+use Rattle.scql_model.specs.Refusals.{◌>>=◌, or_refused, only_if}
+use Rattle.scql_model.specs.Form.{class_of, is_chained, is_open, channel_of, Tail, le_of, data_of, tail_of, is_taken, is_case_3, parts_of, Form, a_command, formed_on, formed, part_in, command_in, form_of}
+use Rattle.scql_model.proofs.FieldLaws.{AreOctets}
 
-refused : {A P : Type 0} (word : StatusWord) (y : A) → Err word ≡ Ok y → P
-refused word y is = absurd (none-some y (ap result_ok is))
+both : (a b : Bool) → a && b ≡ true → (a ≡ true) × (b ≡ true)
+both true b is = (refl, is)
+both false b is = absurd (false≢true is)
 
-same_Ok : {A : Type 0} (x y : A) → (let o : Result A StatusWord = Ok x in o) ≡ Ok y → x ≡ y
-same_Ok x y is = same_Some x y (ap result_ok is)
+-- what passed a test
+passed : {A P : Type 0} (test : Bool) (x y : A) → only_where test x ≡ Some y → (test ≡ true → x ≡ y → P) → P
+passed true x y is then' = then' refl (same_Some x y is)
+passed false x y is then' = absurd (none-some y is)
 
 -- a value came of what went before
-bound : {A B P : Type 0} (r : Result A StatusWord) (f : A → Result B StatusWord) (y : B) → r >>= f ≡ Ok y → ((x : A) → r ≡ Ok x → f x ≡ Ok y → P) → P
-bound (Err word) f y is then' = refused word y is
-bound (Ok x) f y is then' = then' x refl is
+found : {A B P : Type 0} (o : Option A) (f : A → Option B) (y : B) → parameters.◌>>=◌ o f ≡ Some y → ((x : A) → o ≡ Some x → f x ≡ Some y → P) → P
+found None f y is then' = absurd (none-some y is)
+found (Some x) f y is then' = then' x refl is
 
-not_refused : {A : Type 0} (o : Option A) (word : StatusWord) (x : A) → or_refused o word ≡ Ok x → o ≡ Some x
-not_refused None word x is = refused word x is
-not_refused (Some y) word x is = ap Some (same_Ok y x is)
+-- an operation of a kind whose fields have their forms
+record IsRead (asked : OperationKind) (operation : Operation) : Type 0 where
+  form : HasForm operation
+  kind : kind_of operation ≡ asked
 
-named : (name n : List ℕ) → name_of name ≡ Some n → is_name n ≡ true
-named name n is = go (is_name name) refl is
-  where
-    go : (b : Bool) → is_name name ≡ b → (if b then Some name else None) ≡ Some n → is_name n ≡ true
-    go true right is = subst (λ (n : List ℕ). is_name n ≡ true) (same_Some name n is) right
-    go false right is = absurd (none-some n is)
+read-is : (operation operation' : Operation) → HasForm operation → operation ≡ operation' → IsRead (kind_of operation) operation'
+read-is operation operation' form is = subst (IsRead (kind_of operation)) is (record { form = form; kind = refl })
 
-presented-formed : (strings : List (List ℕ)) (operation : Operation) → presented_in strings ≡ Ok operation → IsWellFormed operation
-presented-formed [] operation is = refused wrong_data operation is
-presented-formed (name ∷ x ∷ rest) operation is = refused wrong_data operation is
-presented-formed (name ∷ []) operation is =
-    bound (or_refused (name_of name) wrong_data) (λ n. Ok (PresentUser n)) operation is (λ n at same.
-    subst IsWellFormed (same_Ok (PresentUser n) operation same) (named name n (not_refused (name_of name) wrong_data n at)))
+read-table : (strings : List (List ℕ)) (o : Operation) → create_table_in strings ≡ Some o → IsRead kind.CreateTable o
+read-table [] o is = absurd (none-some o is)
+read-table (name ∷ columns) o is = passed _ (CreateTable name columns) o is (λ test same. read-is (CreateTable name columns) o (both _ _ test) same)
+
+choice-formed : (strings : List (List ℕ)) (choice : Choice) → choice_in strings ≡ Some choice → (are_chosen_columns choice.columns ≡ true) × (are_conditions choice.conditions ≡ true)
+choice-formed [] choice is = absurd (none-some choice is)
+choice-formed ([] ∷ strings) choice is = absurd (none-some choice is)
+choice-formed ((a ∷ b ∷ rest) ∷ strings) choice is = absurd (none-some choice is)
+choice-formed ((count ∷ []) ∷ strings) choice is = found (conditions_in (drop count strings)) _ choice is (λ conditions at is.
+    passed _ (let c : Choice = record { columns = take count strings; conditions = conditions } in c) choice is (λ test same.
+    subst (λ (c : Choice). (are_chosen_columns c.columns ≡ true) × (are_conditions c.conditions ≡ true)) same
+    (let t = both _ _ test in ((both _ _ t.0).1, t.1))))
+
+read-view : (strings : List (List ℕ)) (o : Operation) → create_view_in strings ≡ Some o → IsRead kind.CreateView o
+read-view [] o is = absurd (none-some o is)
+read-view (name ∷ []) o is = absurd (none-some o is)
+read-view (name ∷ base ∷ strings) o is = found (choice_in strings) _ o is (λ choice at is.
+    passed _ (CreateView name base choice.columns choice.conditions) o is (λ test same.
+    let names = both _ _ test in
+    let chosen = choice-formed strings choice at in
+    read-is (CreateView name base choice.columns choice.conditions) o (names.0, names.1, chosen.0, chosen.1) same))
+
+read-dictionary : (strings : List (List ℕ)) (o : Operation) → create_dictionary_in strings ≡ Some o → IsRead kind.CreateDictionary o
+read-dictionary (name ∷ (code ∷ []) ∷ []) o is = found (subject_of code) _ o is (λ subject at is.
+    passed _ (CreateDictionary name subject) o is (λ test same. read-is (CreateDictionary name subject) o test same))
+read-dictionary [] o is = absurd (none-some o is)
+read-dictionary (name ∷ []) o is = absurd (none-some o is)
+read-dictionary (name ∷ [] ∷ rest) o is = absurd (none-some o is)
+read-dictionary (name ∷ (a ∷ b ∷ rest) ∷ strings) o is = absurd (none-some o is)
+read-dictionary (name ∷ (a ∷ []) ∷ string ∷ strings) o is = absurd (none-some o is)
+
+read-named : (operation : List ℕ → Operation) (asked : OperationKind) → ((name : List ℕ) → is_name name ≡ true → IsRead asked (operation name))
+    → (strings : List (List ℕ)) (o : Operation) → named_in operation strings ≡ Some o → IsRead asked o
+read-named operation asked formed [] o is = absurd (none-some o is)
+read-named operation asked formed (name ∷ string ∷ strings) o is = absurd (none-some o is)
+read-named operation asked formed (name ∷ []) o is = passed (is_name name) (operation name) o is (λ test same. subst (IsRead asked) same (formed name test))
+
+read-granted : (operation : ℕ → List ℕ → List ℕ → Operation) (asked : OperationKind)
+    → ((privileges : ℕ) (object grantee : List ℕ) → (is_privileges privileges ≡ true) × (is_name object ≡ true) × (is_name grantee ≡ true) → IsRead asked (operation privileges object grantee))
+    → (strings : List (List ℕ)) (o : Operation) → granted_in operation strings ≡ Some o → IsRead asked o
+read-granted operation asked formed ((privileges ∷ []) ∷ object ∷ grantee ∷ []) o is =
+    passed _ (operation privileges object grantee) o is (λ test same.
+    let ends = both (is_privileges privileges && is_name object) (is_name grantee) test in
+    let starts = both (is_privileges privileges) (is_name object) ends.0 in
+    subst (IsRead asked) same (formed privileges object grantee (starts.0, starts.1, ends.1)))
+read-granted operation asked formed [] o is = absurd (none-some o is)
+read-granted operation asked formed ([] ∷ strings) o is = absurd (none-some o is)
+read-granted operation asked formed ((a ∷ b ∷ rest) ∷ strings) o is = absurd (none-some o is)
+read-granted operation asked formed ((a ∷ []) ∷ []) o is = absurd (none-some o is)
+read-granted operation asked formed ((a ∷ []) ∷ b ∷ []) o is = absurd (none-some o is)
+read-granted operation asked formed ((a ∷ []) ∷ b ∷ c ∷ d ∷ strings) o is = absurd (none-some o is)
+
+read-cursor : (strings : List (List ℕ)) (o : Operation) → declare_cursor_in strings ≡ Some o → IsRead kind.DeclareCursor o
+read-cursor [] o is = absurd (none-some o is)
+read-cursor (object ∷ strings) o is = found (choice_in strings) _ o is (λ choice at is.
+    passed _ (DeclareCursor object choice.columns choice.conditions) o is (λ test same.
+    let chosen = choice-formed strings choice at in
+    read-is (DeclareCursor object choice.columns choice.conditions) o (test, chosen.0, chosen.1) same))
+
+-- a row within a card's limit is one within the largest limit
+row-within : (limit : ℕ) (values : List (List ℕ)) → limit ≤ 1020 → is_row_within limit values ≡ true → is_row values ≡ true
+row-within limit values least is =
+    let t = both (is_one_to_fifteen (length values) && list_all is_narrow values) (nat_le (row_size values) limit) is in
+    let fits : row_size values ≤ 1020 = omega (arith, leb-true (row_size values) limit t.1) in
+    rw (t.0) (le-leb (row_size values) 1020 fits)
+
+read-insert : (limit : ℕ) → limit ≤ 1020 → (strings : List (List ℕ)) (o : Operation) → insert_in limit strings ≡ Some o → IsRead kind.Insert o
+read-insert limit least [] o is = absurd (none-some o is)
+read-insert limit least (table ∷ values) o is = passed _ (Insert table values) o is (λ test same.
+    let t = both _ _ test in
+    read-is (Insert table values) o (t.0, row-within limit values least t.1) same)
+
+read-update : (strings : List (List ℕ)) (o : Operation) → update_in strings ≡ Some o → IsRead kind.Update o
+read-update strings o is = found (changes_in strings) _ o is (λ changes at is.
+    passed (are_changes changes) (Update changes) o is (λ test same. read-is (Update changes) o test same))
 
 -- OWNER's profile isn't asked for
-no_owner : (string : List ℕ) (profile : Profile) → made_profile_of string ≡ Some profile → profile ≡ DbO → ⊥
-no_owner [] profile is e = none-some profile is
-no_owner (code ∷ x ∷ rest) profile is e = none-some profile is
-no_owner (code ∷ []) profile is e = go (code == 0x02) (code == 0x03) (is ∙ ap Some e)
+no_owner : (code : ℕ) (profile : Profile) → made_profile_of code ≡ Some profile → profile ≡ DbO → ⊥
+no_owner code profile is e = go (code == 0x02) (code == 0x03) (is ∙ ap Some e)
   where
     other : Profile → Bool
     other DbO = true
@@ -60,45 +138,209 @@ no_owner (code ∷ []) profile is e = go (code == 0x02) (code == 0x03) (is ∙ a
     go false true is = false≢true (ap other (same_Some Dbbu DbO is))
     go false false is = none-some DbO is
 
-no_secret : (string secret : List ℕ) → secret_of string ≡ Some secret → is_secret secret ≡ true
-no_secret string secret is = go (length string == 0) refl is
+read-user : (strings : List (List ℕ)) (o : Operation) → create_user_in strings ≡ Some o → IsRead kind.CreateUser o
+read-user (name ∷ (code ∷ []) ∷ secret ∷ []) o is = found (made_profile_of code) _ o is (λ profile at is.
+    passed _ (CreateUser name profile secret) o is (λ test same.
+    let t = both _ _ test in
+    read-is (CreateUser name profile secret) o (t.0, (rw t.1 refl), no_owner code profile at) same))
+read-user [] o is = absurd (none-some o is)
+read-user (name ∷ []) o is = absurd (none-some o is)
+read-user (name ∷ [] ∷ rest) o is = absurd (none-some o is)
+read-user (name ∷ (a ∷ b ∷ rest) ∷ strings) o is = absurd (none-some o is)
+read-user (name ∷ (a ∷ []) ∷ []) o is = absurd (none-some o is)
+read-user (name ∷ (a ∷ []) ∷ secret ∷ string ∷ strings) o is = absurd (none-some o is)
+
+read-verify : (octets : List ℕ) (o : Operation) → only_where (is_verified_secret octets) (Verify octets) ≡ Some o → IsRead kind.Verify o
+read-verify octets o is = passed (is_verified_secret octets) (Verify octets) o is (λ test same. read-is (Verify octets) o test same)
+
+-- an operation without a data field
+read-alone : (operation operation' : Operation) → HasForm operation → Some operation ≡ Some operation' → IsRead (kind_of operation) operation'
+read-alone operation operation' form is = read-is operation operation' form (same_Some operation operation' is)
+
+-- the parameters of a data field
+listed : (octets : List ℕ) (f : List (List ℕ) → Option Operation) (asked : OperationKind) → ((strings : List (List ℕ)) (o : Operation) → f strings ≡ Some o → IsRead asked o)
+    → (o : Operation) → parameters.◌>>=◌ (params_of octets) f ≡ Some o → IsRead asked o
+listed octets f asked formed o is = found (params_of octets) f o is (λ strings at is. formed strings o is)
+
+-- a number of a channel, in the kinds that have one
+abbrev has_channel : OperationKind → Bool
+has_channel (kind.OpenChannel number) = nat_le number 3
+has_channel (kind.CloseChannel number) = nat_le number 3
+has_channel asked = true
+
+read-operation : (asked : OperationKind) (limit : ℕ) → limit ≤ 1020 → has_channel asked ≡ true → (octets : List ℕ) (o : Operation) → operation_in asked limit octets ≡ Some o → IsRead asked o
+read-operation kind.CreateTable limit least number octets o is = listed octets create_table_in kind.CreateTable read-table o is
+read-operation kind.CreateView limit least number octets o is = listed octets create_view_in kind.CreateView read-view o is
+read-operation kind.CreateDictionary limit least number octets o is = listed octets create_dictionary_in kind.CreateDictionary read-dictionary o is
+read-operation kind.DropTable limit least number octets o is = listed octets (named_in DropTable) kind.DropTable (read-named DropTable kind.DropTable (λ name test. record { form = test; kind = refl })) o is
+read-operation kind.DropView limit least number octets o is = listed octets (named_in DropView) kind.DropView (read-named DropView kind.DropView (λ name test. record { form = test; kind = refl })) o is
+read-operation kind.Grant limit least number octets o is = listed octets (granted_in Grant) kind.Grant (read-granted Grant kind.Grant (λ privileges object grantee form. record { form = form; kind = refl })) o is
+read-operation kind.Revoke limit least number octets o is = listed octets (granted_in Revoke) kind.Revoke (read-granted Revoke kind.Revoke (λ privileges object grantee form. record { form = form; kind = refl })) o is
+read-operation kind.DeclareCursor limit least number octets o is = listed octets declare_cursor_in kind.DeclareCursor read-cursor o is
+read-operation kind.OpenCursor limit least number octets o is = read-alone OpenCursor o tt is
+read-operation kind.Next limit least number octets o is = read-alone Next o tt is
+read-operation kind.Fetch limit least number octets o is = read-alone Fetch o tt is
+read-operation kind.FetchNext limit least number octets o is = read-alone FetchNext o tt is
+read-operation kind.Insert limit least number octets o is = listed octets (insert_in limit) kind.Insert (read-insert limit least) o is
+read-operation kind.Update limit least number octets o is = listed octets update_in kind.Update read-update o is
+read-operation kind.Delete limit least number octets o is = read-alone Delete o tt is
+read-operation kind.Begin limit least number octets o is = read-alone Begin o tt is
+read-operation kind.Commit limit least number octets o is = read-alone Commit o tt is
+read-operation kind.Rollback limit least number octets o is = read-alone Rollback o tt is
+read-operation kind.PresentUser limit least number octets o is = listed octets (named_in PresentUser) kind.PresentUser (read-named PresentUser kind.PresentUser (λ name test. record { form = test; kind = refl })) o is
+read-operation kind.CreateUser limit least number octets o is = listed octets create_user_in kind.CreateUser read-user o is
+read-operation kind.DeleteUser limit least number octets o is = listed octets (named_in DeleteUser) kind.DeleteUser (read-named DeleteUser kind.DeleteUser (λ name test. record { form = test; kind = refl })) o is
+read-operation kind.Verify limit least number octets o is = read-verify octets o is
+read-operation (kind.OpenChannel channel) limit least number octets o is = read-alone (OpenChannel channel) o (leb-true channel 3 number) is
+read-operation (kind.CloseChannel channel) limit least number octets o is = read-alone (CloseChannel channel) o (leb-true channel 3 number) is
+read-operation kind.GetResponse limit least number octets o is = read-alone GetResponse o tt is
+
+-- Le is 1 to 256 where it is read of an octet
+abbrev IsLe : Option ℕ → Type 0
+IsLe le = IfSome le (λ le. (1 ≤ le) × (le ≤ 256))
+
+le-read : (octet : ℕ) → octet < 256 → IsLe (Some (le_of octet))
+le-read octet within = go (octet == 0) refl
   where
-    go : (b : Bool) → (length string == 0) ≡ b → (if b then Some string else None) ≡ Some secret → is_secret secret ≡ true
-    go true none is = subst (λ (s : List ℕ). is_secret s ≡ true) (same_Some string secret is) (rw none refl)
-    go false none is = absurd (none-some secret is)
+    go : (none : Bool) → (octet == 0) ≡ none → IsLe (Some (if none then 256 else octet))
+    go true is = (omega arith, omega arith)
+    go false is = (grind (arith, is), omega (arith, within))
 
-created-formed : (strings : List (List ℕ)) (operation : Operation) → created_in strings ≡ Ok operation → IsWellFormed operation
-created-formed [] operation is = refused wrong_data operation is
-created-formed (a ∷ []) operation is = refused wrong_data operation is
-created-formed (a ∷ b ∷ []) operation is = refused wrong_data operation is
-created-formed (a ∷ b ∷ c ∷ d ∷ rest) operation is = refused wrong_data operation is
-created-formed (name ∷ profile ∷ secret ∷ []) operation is =
-    bound (or_refused (name_of name) wrong_data) _ operation is (λ n at-name is'.
-    bound (or_refused (made_profile_of profile) wrong_data) _ operation is' (λ p at-profile is''.
-    bound (or_refused (secret_of secret) wrong_data) (λ s. Ok (CreateUser n p s)) operation is'' (λ s at-secret same.
-    subst IsWellFormed (same_Ok (CreateUser n p s) operation same) (
-      named name n (not_refused (name_of name) wrong_data n at-name),
-      no_secret secret s (not_refused (secret_of secret) wrong_data s at-secret),
-      no_owner profile p (not_refused (made_profile_of profile) wrong_data p at-profile),
-    ))))
+data-read : (lc : ℕ) (rest : List ℕ) (tail : Tail) → AreOctets rest → data_of lc rest ≡ Some tail → IsLe tail.le
+data-read lc rest tail octets is = go (length rest == lc) (length rest == lc + 1) is
+  where
+    go : (alone with_le : Bool) → (if alone then Some (record { body = Some rest; le = None }) else if with_le then Some (record { body = Some (take lc rest); le = Some (le_of (get_or rest lc 0)) }) else None) ≡ Some tail → IsLe tail.le
+    go true with_le is = subst (λ (t : Tail). IsLe t.le) (same_Some _ tail is) tt
+    go false true is = subst (λ (t : Tail). IsLe t.le) (same_Some _ tail is) (le-read (get_or rest lc 0) (octets lc))
+    go false false is = absurd (none-some tail is)
 
-operation-formed : (kind : Kind) (strings : List (List ℕ)) (operation : Operation) → operation_in kind strings ≡ Ok operation → IsWellFormed operation
-operation-formed presents_user strings operation is = presented-formed strings operation is
-operation-formed creates_user strings operation is = created-formed strings operation is
+tail-read : (after : List ℕ) (tail : Tail) → AreOctets after → tail_of after ≡ Some tail → IsLe tail.le
+tail-read [] tail octets is = subst (λ (t : Tail). IsLe t.le) (same_Some _ tail is) tt
+tail-read (le ∷ []) tail octets is = subst (λ (t : Tail). IsLe t.le) (same_Some _ tail is) (le-read le (octets 0))
+tail-read (lc ∷ x ∷ rest) tail octets is = go (lc == 0) is
+  where
+    go : (none : Bool) → (if none then None else data_of lc (x ∷ rest)) ≡ Some tail → IsLe tail.le
+    go true is = absurd (none-some tail is)
+    go false is = data-read lc (x ∷ rest) tail (λ i. octets (suc i)) is
 
-pub IsWellFormed-form_of : (octets : List ℕ) (channels : List Bool) (c : Command) → form_of octets channels ≡ Ok c → IsWellFormed c.operation
+-- a line of a table as the operations have it
+abbrev is_le_alone : Takes → Bool
+is_le_alone nothing = false
+is_le_alone a_data_field = false
+is_le_alone le_alone = true
+
+abbrev pub is_sound : Line → Bool
+is_sound l = has_channel l.kind && (not (wants_le l.kind) || is_le_alone l.takes)
+
+le-wanted : (wants : Bool) (takes : Takes) (tail : Tail) → not wants || is_le_alone takes ≡ true → is_taken takes tail ≡ true → wants ≡ true → is_some tail.le ≡ true
+le-wanted false takes tail sound taken is = absurd (false≢true is)
+le-wanted true nothing tail sound taken is = absurd (false≢true sound)
+le-wanted true a_data_field tail sound taken is = absurd (false≢true sound)
+le-wanted true le_alone tail sound taken is = (both _ (is_some tail.le) taken).1
+
+-- what is found passes its test, and each test that all pass
+found-passes : {A : Type 0} (p q : A → Bool) (xs : List A) (x : A) → list_all q xs ≡ true → find p xs ≡ Some x → (p x ≡ true) × (q x ≡ true)
+found-passes p q [] x all is = absurd (none-some x is)
+found-passes p q (y ∷ ys) x all is = go (p y) refl is (found-passes p q ys x (both (q y) (list_all q ys) all).1)
+  where
+    go : (b : Bool) → p y ≡ b → (if b then Some y else find p ys) ≡ Some x → (find p ys ≡ Some x → (p x ≡ true) × (q x ≡ true)) → (p x ≡ true) × (q x ≡ true)
+    go true passes is later = subst (λ y. (p y ≡ true) × (q y ≡ true)) (same_Some y x is) (passes, (both (q y) (list_all q ys) all).0)
+    go false passes is later = later is
+
+refused-not : {A P : Type 0} (word : StatusWord) (y : A) → Err word ≡ Ok y → P
+refused-not word y is = absurd (none-some y (ap result_ok is))
+
+-- a value came of what went before
+bound : {A B P : Type 0} (r : Result A StatusWord) (f : A → Result B StatusWord) (y : B) → r >>= f ≡ Ok y → ((x : A) → r ≡ Ok x → f x ≡ Ok y → P) → P
+bound (Err word) f y is then' = refused-not word y is
+bound (Ok x) f y is then' = then' x refl is
+
+not_refused : {A : Type 0} (o : Option A) (word : StatusWord) (x : A) → or_refused o word ≡ Ok x → o ≡ Some x
+not_refused None word x is = refused-not word x is
+not_refused (Some y) word x is = ap result_ok is
+
+not_unless : (test : Bool) (word : StatusWord) (x : Unit {0}) → only_if test word ≡ Ok x → test ≡ true
+not_unless true word x is = refl
+not_unless false word x is = refused-not word x is
+
+channel-read : (cla : ℕ) (channels : List Bool) (channel : ℕ) → channel_of cla channels ≡ Ok channel → channel ≤ 3
+channel-read cla channels channel is = go (is_open (slice_get channels (cla % 4))) is
+  where
+    go : (is_it : Bool) → (if is_it then Ok (cla % 4) else Err channel_not_supported) ≡ Ok channel → channel ≤ 3
+    go true is = let same : cla % 4 ≡ channel = cc in omega (arith, same)
+    go false is = refused-not channel_not_supported channel is
+
+-- a command was read on a channel
+on_channel : {P : Type 0} (r : Result ℕ StatusWord) (f : ℕ → Result Form StatusWord) (c : Command) → formed r f ≡ a_command c
+    → ((channel : ℕ) → r ≡ Ok channel → f channel ≡ Ok (a_command c) → P) → P
+on_channel (Err word) f c is then' = absurd cc
+on_channel {P} (Ok channel) f c is then' = go (f channel) refl is
+  where
+    go : (form : Result Form StatusWord) → f channel ≡ form → formed_on channel form ≡ a_command c → P
+    go (Err word) same is = absurd cc
+    go (Ok form) same is = then' channel refl (same ∙ ap Ok is)
+
+no_part : {P : Type 0} (channel : ℕ) (asked : OperationKind) (parts : List (List ℕ)) (octets : List ℕ) (c : Command) → part_in channel asked parts octets ≡ Ok (a_command c) → P
+no_part channel asked parts octets c is =
+    bound (only_if (comes_in_parts asked) chaining_not_supported) _ (a_command c) is (λ _ _ is.
+    bound (only_if (not (length parts == 4)) wrong_length) _ (a_command c) is (λ _ _ is. absurd cc))
+
+command-read : (channel : ℕ) (asked : OperationKind) (limit : ℕ) (parts : List (List ℕ)) (octets : List ℕ) (le : Option ℕ) (c : Command)
+    → channel ≤ 3 → is_for_channel channel asked ≡ true → IsLe le → (wants_le asked ≡ true → is_some le ≡ true) → limit ≤ 1020 → has_channel asked ≡ true
+    → command_in channel asked limit parts octets le ≡ Ok (a_command c) → IsWellFormed c
+command-read channel asked limit parts octets le c near closed le_fits wanted least number is =
+    bound (or_refused (operation_in asked limit (concat parts ++ octets)) wrong_data) _ (a_command c) is (λ operation at same.
+    let read = read-operation asked limit least number (concat parts ++ octets) operation (not_refused (operation_in asked limit (concat parts ++ octets)) wrong_data operation at) in
+    let whole : Command = record { channel = channel; operation = operation; le = le } in
+    let is_whole : whole ≡ c = cc in
+    subst IsWellFormed is_whole (record {
+      channel = near;
+      closed = subst (λ (k : OperationKind). is_for_channel channel k ≡ true) (sym read.kind) closed;
+      le = le_fits;
+      wanted = subst (λ (k : OperationKind). wants_le k ≡ true → is_some le ≡ true) (sym read.kind) wanted;
+      form = read.form;
+    }))
+
+-- What is read as a command is well-formed, by a table whose lines are those of operations, and under a limit that a card may have.
+pub IsWellFormed-form_of : (table : List Line) (octets : List ℕ) (channels : List Bool) (chain : ℕ → Option Chain) (limit : ℕ) (c : Command)
+    → list_all is_sound table ≡ true → AreOctets octets → limit ≤ 1020 → form_of table octets channels chain limit ≡ a_command c → IsWellFormed c
 unfolding form_of
-IsWellFormed-form_of [] channels c is = refused wrong_length c is
-IsWellFormed-form_of (cla ∷ []) channels c is = refused wrong_length c is
-IsWellFormed-form_of (cla ∷ ins ∷ []) channels c is = refused wrong_length c is
-IsWellFormed-form_of (cla ∷ ins ∷ p1 ∷ []) channels c is = refused wrong_length c is
-IsWellFormed-form_of (cla ∷ ins ∷ p1 ∷ p2 ∷ after) channels c is =
-    bound (class_of cla) _ c is (λ _ _ is.
-    bound (instruction_of ins) _ c is (λ _ _ is.
-    bound (channel_of cla channels) _ c is (λ channel _ is.
-    bound (kind_of ins p1 p2) _ c is (λ kind _ is.
-    bound (or_refused (tail_of after) wrong_length) _ c is (λ tail _ is.
-    bound (or_refused tail.body wrong_length) _ c is (λ body _ is.
-    bound (or_refused (params_of body) wrong_data) _ c is (λ strings _ is.
-    bound (operation_in kind strings) (λ operation. Ok (record { channel = channel; operation = operation; le = tail.le })) c is (λ operation at same.
-    subst IsWellFormed (ap (λ (c : Command). c.operation) (same_Ok (let c' : Command = record { channel = channel; operation = operation; le = tail.le } in c') c same)) (operation-formed kind strings operation at)))))))))
+IsWellFormed-form_of table [] channels chain limit c sound are least is = absurd cc
+IsWellFormed-form_of table (cla ∷ []) channels chain limit c sound are least is = absurd cc
+IsWellFormed-form_of table (cla ∷ ins ∷ []) channels chain limit c sound are least is = absurd cc
+IsWellFormed-form_of table (cla ∷ ins ∷ p1 ∷ []) channels chain limit c sound are least is = absurd cc
+IsWellFormed-form_of table (cla ∷ ins ∷ p1 ∷ p2 ∷ after) channels chain limit c sound are least is =
+    on_channel _ _ c is (λ channel at is.
+    bound (class_of cla) _ channel at (λ _ _ at.
+    bound (only_if (has_instruction table ins) instruction_not_supported) _ channel at (λ _ _ at.
+    bound (or_refused (line_of table channel ins p1 p2) wrong_parameters) _ (a_command c) is (λ line at_line is.
+    bound (or_refused (tail_of after) wrong_length) _ (a_command c) is (λ tail at_tail is.
+    bound (only_if (is_taken line.takes tail && (not (is_chained cla) || is_case_3 tail)) wrong_length) _ (a_command c) is (λ taken at_taken is.
+    let passes = found-passes (λ (l : Line). l.ins == ins && l.p1 == p1 && l.p2 == p2 && is_for_channel channel l.kind) is_sound table line sound
+    (not_refused (line_of table channel ins p1 p2) wrong_parameters line at_line) in
+    let right = both (has_channel line.kind) (not (wants_le line.kind) || is_le_alone line.takes) passes.1 in
+    let takes = both (is_taken line.takes tail) (not (is_chained cla) || is_case_3 tail) (not_unless _ wrong_length taken at_taken) in
+    go (is_chained cla) channel line tail
+    (channel-read cla channels channel at)
+    (both (line.ins == ins && line.p1 == p1 && line.p2 == p2) (is_for_channel channel line.kind) passes.0).1
+    (tail-read after tail (λ i. are (suc (suc (suc (suc i))))) (not_refused (tail_of after) wrong_length tail at_tail))
+    (le-wanted (wants_le line.kind) line.takes tail right.1 takes.0)
+    right.0
+    is))))))
+  where
+    go : (more : Bool) (channel : ℕ) (line : Line) (tail : Tail) → channel ≤ 3 → is_for_channel channel line.kind ≡ true → IsLe tail.le
+        → (wants_le line.kind ≡ true → is_some tail.le ≡ true) → has_channel line.kind ≡ true
+        → (if more
+        then part_in channel line.kind (parts_of line.kind (chain channel)) (unwrap_or tail.body [])
+        else command_in channel line.kind limit (parts_of line.kind (chain channel)) (unwrap_or tail.body []) tail.le) ≡ Ok (a_command c)
+        → IsWellFormed c
+    go true channel line tail near closed le_fits wanted number is = no_part channel line.kind (parts_of line.kind (chain channel)) (unwrap_or tail.body []) c is
+    go false channel line tail near closed le_fits wanted number is =
+        command-read channel line.kind limit (parts_of line.kind (chain channel)) (unwrap_or tail.body []) tail.le c near closed le_fits wanted least number is
+
+-- the table of all operations, and that of those which are built
+pub sound-operations : list_all is_sound operations ≡ true
+sound-operations = refl
+
+pub sound-built_operations : list_all is_sound built_operations ≡ true
+sound-built_operations = refl

@@ -8,13 +8,14 @@ use Rattle.hex.specs.Hex.{encode_upper}
 use Rattle.scql_base.specs.declared.words.StatusWord.{StatusWord}
 use Rattle.scql_base.specs.declared.records.User.{User}
 use Rattle.scql_model.specs.Database.{Database, public_name, user_named}
-use Rattle.scql_model.specs.Machine.{Machine, open_channels, base, actor}
+use Rattle.scql_model.specs.Machine.{Machine, base, actor}
 use Rattle.scql_base.specs.declared.operation.Command.{Command}
 use Rattle.scql_base.specs.declared.operation.Operation.{Operation}
 use Rattle.scql_base.specs.declared.operation.Operation.TheVariants.{PresentUser, CreateUser}
 use Rattle.scql_model.specs.Creating.{created}
-use Rattle.scql_model.specs.Form.{form_of, ◌>>=◌}
-use Rattle.scql_model.specs.Step.{Answer, answered, changed, user_presented, operated, step}
+use Rattle.scql_model.specs.Refusals.{◌>>=◌}
+use Rattle.scql_model.specs.Form.{as_command}
+use Rattle.scql_model.specs.Step.{form_at, Answer, answered, changed, user_presented, operated, step}
 use Rattle.scql_model.specs.Lines.{Reading, too_long, nothing, resets, not_hexadecimal, command, reading_of, reading_text, reading_step, reading_commits, reply_octets, line_text, line_step, run_text, machine_after}
 use Rattle.scql_model.specs.Opens.{Opens, OpensToOneOf}
 use Rattle.scql_model.specs.Heard.{commits_of, commits_to, after_commits, heard, IsKept}
@@ -70,7 +71,7 @@ last-formed m (Err word) = tt
 
 last-step : (m : Machine) (octets : List ℕ) → IsLast m (step m octets)
 unfolding step
-last-step m octets = last-answered m (form_of octets (open_channels m) >>= λ (c : Command). operated m c.channel c.operation) (last-formed m (form_of octets (open_channels m)))
+last-step m octets = last-answered m (as_command (form_at m octets) >>= λ (c : Command). operated m c.channel c.operation) (last-formed m (as_command (form_at m octets)))
 
 -- so does a line
 pub last-reading : (m : Machine) (reading : Reading) → after_commits m.committed (reading_commits m reading) (length (reading_commits m reading)) ≡ (reading_step m reading).committed

@@ -19,4 +19,5 @@ pub mod SpellingLengths
 pub mod Spellings
 pub mod Validity
 mod WorkedCreating
+mod WorkedForms
 mod WorkedRows

@@ -5,13 +5,14 @@ use Rattle.scql_base.specs.declared.words.StatusWord.{StatusWord}
 use Rattle.scql_base.specs.Words.{done, conditions_not_satisfied}
 use Rattle.scql_base.specs.declared.records.User.{User}
 use Rattle.scql_model.specs.Database.{Database, public_name, user_named}
-use Rattle.scql_model.specs.Machine.{Machine, new_session, base, actor, open_channels}
+use Rattle.scql_model.specs.Machine.{Machine, new_session, base, actor}
 use Rattle.scql_model.specs.Creating.{created}
 use Rattle.scql_base.specs.declared.operation.Command.{Command}
 use Rattle.scql_base.specs.declared.operation.Operation.{Operation}
 use Rattle.scql_base.specs.declared.operation.Operation.TheVariants.{CreateTable, CreateView, CreateDictionary, DropTable, DropView, Grant, Revoke, DeclareCursor, OpenCursor, Next, Fetch, FetchNext, Insert, Update, Delete, Begin, Commit, Rollback, PresentUser, CreateUser, DeleteUser, Verify, OpenChannel, CloseChannel, GetResponse}
-use Rattle.scql_model.specs.Form.{form_of, ◌>>=◌}
-use Rattle.scql_model.specs.Step.{Answer, answered, done_with, with_session, user_presented, changed, operated, step}
+use Rattle.scql_model.specs.Refusals.{◌>>=◌}
+use Rattle.scql_model.specs.Form.{as_command}
+use Rattle.scql_model.specs.Step.{form_at, Answer, answered, done_with, with_session, user_presented, changed, operated, step}
 
 -- an answer that isn't a refusal says that the command is done
 abbrev SaysDone : Result Answer StatusWord → Type 0
@@ -68,7 +69,7 @@ answered-stays m (Err word) is not_done = (refl, refl)
 
 pub refused-stays : (m : Machine) (octets : List ℕ) → ((step m octets).reply.word ≡ done → ⊥) → ((step m octets).machine ≡ m) × ((step m octets).commits ≡ [])
 unfolding step
-refused-stays m octets not_done = answered-stays m (form_of octets (open_channels m) >>= λ (c : Command). operated m c.channel c.operation) (bound (form_of octets (open_channels m))) not_done
+refused-stays m octets not_done = answered-stays m (as_command (form_at m octets) >>= λ (c : Command). operated m c.channel c.operation) (bound (as_command (form_at m octets))) not_done
   where
     bound : (r : Result Command StatusWord) → SaysDone (r >>= λ (c : Command). operated m c.channel c.operation)
     bound (Ok c) = done-operated m c.channel c.operation

@@ -49,7 +49,7 @@ resets = refl
 
 -- each refusal of the reading, in its order, and the four cases
 refusals : run_text card (lines (codes "001400\n80140080\n04140080\n10140080\n00FF0080\n01140080\n0014008F\n00140080\n0014008000\n00140080000154\n0014008002054F\n001400800200\n0014008002014F\n001400800401410142\n") true)
-    ≡ codes "6700\n6E00\n6882\n6884\n6D00\n6881\n6A86\n6700\n6700\n6700\n6A80\n6700\n6A88\n6A80\n"
+    ≡ codes "6700\n6E00\n6882\n6700\n6D00\n6881\n6A86\n6700\n6700\n6700\n6A80\n6700\n6A88\n6A80\n"
 unfolding line_text line_step step form_of params_of pieces_of hex_on_literals
 refusals = refl
 

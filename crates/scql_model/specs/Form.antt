@@ -1,35 +1,26 @@
--- The reading of a command: which command octets are, or the first refusal that applies.
-use Rattle.std.specs.Prelude.{ℕ, ◌+◌, ◌/◌, ◌%◌, ◌==◌, not, ◌&&◌, Bool, false, List, [], ◌∷◌, length, take, Option, Some, None, Result, Ok, Err, slice_get, slice_index, if◌then◌else◌}
+-- The reading of a command (ISO/IEC 7816-4, command APDU): which command octets are, or a part of one, or the first refusal that applies.
+use Rattle.std.specs.Prelude.{ℕ, ◌+◌, ◌/◌, ◌%◌, ◌==◌, not, ◌&&◌, ◌||◌, Bool, false, List, [], ◌∷◌, ◌++◌, length, take, Option, Some, None, is_some, Result, Ok, Err, slice_get, slice_index, unwrap_or, if◌then◌else◌}
+use Rattle.std.specs.List.{concat}
+use Rattle.std.specs.Option.{is_none}
 use Rattle.scql_base.specs.declared.words.StatusWord.{StatusWord}
-use Rattle.scql_base.specs.declared.words.Profile.{Profile}
-use Rattle.scql_base.specs.declared.words.Profile.TheVariants.{Dboo, Dbbu}
-use Rattle.scql_base.specs.Name.{name_of}
-use Rattle.scql_base.specs.Strings.{params_of}
 use Rattle.scql_base.specs.declared.operation.Command.{Command}
-use Rattle.scql_base.specs.declared.operation.Operation.{Operation}
-use Rattle.scql_base.specs.declared.operation.Operation.TheVariants.{PresentUser, CreateUser}
+use Rattle.scql_base.specs.declared.operation.OperationKind.{OperationKind}
 use Rattle.scql_base.specs.Words.{wrong_length, class_not_supported, secure_messaging_not_supported, chaining_not_supported, instruction_not_supported, channel_not_supported, wrong_parameters, wrong_data}
+use Rattle.scql_model.specs.Refusals.{◌>>=◌, or_refused, only_if}
+use Rattle.scql_model.specs.Machine.{Chain}
+use Rattle.scql_model.specs.Operations.{Takes, nothing, a_data_field, le_alone, Line, has_instruction, line_of, goes_on, comes_in_parts}
+use Rattle.scql_model.specs.Parameters.{operation_in}
 
-infixl 10 ◌>>=◌
-abbrev pub ◌>>=◌ : {A B : Type 0} → Result A StatusWord → (A → Result B StatusWord) → Result B StatusWord
-(Ok x) >>= f = f x
-(Err word) >>= f = Err word
-
-abbrev pub or_refused : {A : Type 0} → Option A → StatusWord → Result A StatusWord
-or_refused None word = Err word
-or_refused (Some x) word = Ok x
-
--- The first interindustry class, without secure messaging and chaining: bits b8 b7 b6, then b4 b3, then b5 of CLA are 0.
+-- The first interindustry class, without secure messaging: bits b8 b7 b6, then b4 b3 of CLA are 0.
 abbrev pub class_of : ℕ → Result (Unit {0}) StatusWord
 class_of cla =
     if not (cla / 32 == 0) then Err class_not_supported
     else if not (cla / 4 % 4 == 0) then Err secure_messaging_not_supported
-    else if not (cla / 16 % 2 == 0) then Err chaining_not_supported
     else Ok tt
 
--- The instructions of which an operation is built: PERFORM USER OPERATION.
-abbrev pub instruction_of : ℕ → Result (Unit {0}) StatusWord
-instruction_of ins = if ins == 0x14 then Ok tt else Err instruction_not_supported
+-- Bit b5 of CLA: the command goes on in the next one (command chaining).
+abbrev pub is_chained : ℕ → Bool
+is_chained cla = cla / 16 % 2 == 1
 
 -- The logical channel is in bits b2 b1 of CLA, and is open.
 abbrev pub is_open : Option Bool → Bool
@@ -38,17 +29,6 @@ is_open (Some told) = told
 
 abbrev pub channel_of : ℕ → List Bool → Result ℕ StatusWord
 channel_of cla channels = if is_open (slice_get channels (cla % 4)) then Ok (cla % 4) else Err channel_not_supported
-
--- The operations that are built.
-pub data Kind : Type 0 where
-  presents_user : Kind
-  creates_user : Kind
-
-abbrev pub kind_of : ℕ → ℕ → ℕ → Result Kind StatusWord
-kind_of ins p1 p2 =
-    if ins == 0x14 && p1 == 0x00 && p2 == 0x80 then Ok presents_user
-    else if ins == 0x14 && p1 == 0x00 && p2 == 0x81 then Ok creates_user
-    else Err wrong_parameters
 
 -- The four cases of a command: nothing, Le, Lc and data, or Lc, data and Le. In one octet Le is 1 to 256, 256 being 00.
 pub record Tail : Type 0 where
@@ -70,43 +50,74 @@ tail_of [] = Some (record { body = None; le = None })
 tail_of (le ∷ []) = Some (record { body = None; le = Some (le_of le) })
 tail_of (lc ∷ x ∷ rest) = if lc == 0 then None else data_of lc (x ∷ rest)
 
--- PRESENT USER: one parameter, the user's name.
-abbrev pub presented_in : List (List ℕ) → Result Operation StatusWord
-presented_in (name ∷ []) = do
-  name ← or_refused (name_of name) wrong_data
-  Ok (PresentUser name)
-presented_in strings = Err wrong_data
+-- the cases that an operation takes
+abbrev pub is_taken : Takes → Tail → Bool
+is_taken nothing tail = is_none tail.body
+is_taken a_data_field tail = is_some tail.body
+is_taken le_alone tail = is_none tail.body && is_some tail.le
 
--- CREATE USER: the name, the profile in one octet, and the secret, which is empty until secrets are built.
-abbrev pub made_profile_of : List ℕ → Option Profile
-made_profile_of (code ∷ []) = if code == 0x02 then Some Dboo else if code == 0x03 then Some Dbbu else None
-made_profile_of string = None
+-- case 3: data without Le
+abbrev pub is_case_3 : Tail → Bool
+is_case_3 tail = is_some tail.body && is_none tail.le
 
-abbrev pub secret_of : List ℕ → Option (List ℕ)
-secret_of string = if length string == 0 then Some string else None
+-- the parts that a channel has of a command of this operation
+abbrev pub parts_of : OperationKind → Option Chain → List (List ℕ)
+parts_of kind None = []
+parts_of kind (Some chain) = if goes_on kind chain.operation then chain.parts else []
 
-abbrev pub created_in : List (List ℕ) → Result Operation StatusWord
-created_in (name ∷ profile ∷ secret ∷ []) = do
-  name ← or_refused (name_of name) wrong_data
-  profile ← or_refused (made_profile_of profile) wrong_data
-  secret ← or_refused (secret_of secret) wrong_data
-  Ok (CreateUser name profile secret)
-created_in strings = Err wrong_data
+-- What octets are: refused before it is known for which channel they are, refused on an open channel, a part of a command whose operation is
+-- this one, or a command.
+pub data Form : Type 0 where
+  refused : StatusWord → Form
+  refused_on : ℕ → StatusWord → Form
+  part_on : ℕ → OperationKind → List ℕ → Form
+  a_command : Command → Form
 
-abbrev pub operation_in : Kind → List (List ℕ) → Result Operation StatusWord
-operation_in presents_user strings = presented_in strings
-operation_in creates_user strings = created_in strings
+abbrev pub formed_on : ℕ → Result Form StatusWord → Form
+formed_on channel (Err word) = refused_on channel word
+formed_on channel (Ok form) = form
 
--- The command that octets are, where these channels are open.
-unfoldable pub form_of : List ℕ → List Bool → Result Command StatusWord
-form_of (cla ∷ ins ∷ p1 ∷ p2 ∷ after) channels = do
-  _ ← class_of cla
-  _ ← instruction_of ins
-  channel ← channel_of cla channels
-  kind ← kind_of ins p1 p2
-  tail ← or_refused (tail_of after) wrong_length
-  body ← or_refused tail.body wrong_length
-  strings ← or_refused (params_of body) wrong_data
-  operation ← operation_in kind strings
-  Ok (record { channel = channel; operation = operation; le = tail.le })
-form_of octets channels = Err wrong_length
+abbrev pub formed : Result ℕ StatusWord → (ℕ → Result Form StatusWord) → Form
+formed (Err word) on_channel = refused word
+formed (Ok channel) on_channel = formed_on channel (on_channel channel)
+
+-- A part: INSERT and UPDATE have at most four before the last.
+abbrev pub part_in : ℕ → OperationKind → List (List ℕ) → List ℕ → Result Form StatusWord
+part_in channel kind parts octets = do
+  _ ← only_if (comes_in_parts kind) chaining_not_supported
+  _ ← only_if (not (length parts == 4)) wrong_length
+  Ok (part_on channel kind octets)
+
+-- A command: its data field is that of the parts so far and its own, joined.
+abbrev pub command_in : ℕ → OperationKind → ℕ → List (List ℕ) → List ℕ → Option ℕ → Result Form StatusWord
+command_in channel kind limit parts octets le = do
+  operation ← or_refused (operation_in kind limit (concat parts ++ octets)) wrong_data
+  Ok (a_command (record { channel = channel; operation = operation; le = le }))
+
+-- What octets are, by a table of operations, where these channels are open, with the chain of each channel, and where a row has at most so many octets.
+unfoldable pub form_of : List Line → List ℕ → List Bool → (ℕ → Option Chain) → ℕ → Form
+form_of table (cla ∷ ins ∷ p1 ∷ p2 ∷ after) channels chain limit =
+    formed
+    (do
+      _ ← class_of cla
+      _ ← only_if (has_instruction table ins) instruction_not_supported
+      channel_of cla channels)
+    (λ channel. do
+      line ← or_refused (line_of table channel ins p1 p2) wrong_parameters
+      tail ← or_refused (tail_of after) wrong_length
+      _ ← only_if (is_taken line.takes tail && (not (is_chained cla) || is_case_3 tail)) wrong_length
+      if is_chained cla
+          then part_in channel line.kind (parts_of line.kind (chain channel)) (unwrap_or tail.body [])
+          else command_in channel line.kind limit (parts_of line.kind (chain channel)) (unwrap_or tail.body []) tail.le)
+form_of table octets channels chain limit = refused wrong_length
+
+-- no channel has a part of a command
+abbrev pub no_chain : ℕ → Option Chain
+no_chain channel = None
+
+-- what is read as one command: a part isn't, as where command chaining isn't supported
+abbrev pub as_command : Form → Result Command StatusWord
+as_command (refused word) = Err word
+as_command (refused_on channel word) = Err word
+as_command (part_on channel kind octets) = Err chaining_not_supported
+as_command (a_command c) = Ok c

@@ -16,6 +16,8 @@ pub mod Matching
 pub mod Moves
 pub mod Objects
 pub mod Opens
+pub mod Operations
+pub mod Parameters
 pub mod ReadingCommands
 pub mod Records
 pub mod Refusals

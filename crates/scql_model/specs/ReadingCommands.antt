@@ -6,7 +6,8 @@ use Rattle.scql_base.specs.declared.condition.Condition.{Condition}
 use Rattle.scql_base.specs.declared.operation.Operation.{Operation}
 use Rattle.scql_base.specs.declared.operation.Operation.TheVariants.{DeclareCursor, OpenCursor, Next, Fetch, FetchNext, GetResponse}
 use Rattle.scql_base.specs.Strings.{spelled}
-use Rattle.scql_base.specs.Words.{done, not_found}
+use Rattle.scql_base.specs.Words.{done, not_found, more_left, wrong_le}
+use Rattle.scql_model.specs.Refusals.{only_if}
 use Rattle.scql_model.specs.Commands.{Reply}
 use Rattle.scql_model.specs.Database.{are_among}
 use Rattle.scql_model.specs.Contents.{cut_to}
@@ -44,29 +45,6 @@ abbrev pub or_stays : {S : Type 0} → S → Result (Move S) StatusWord → Move
 or_stays before (Ok move) = move
 or_stays before (Err word) = record { reply = word_alone word; after = before }
 
--- what is asked holds, or the command is refused
-abbrev pub provided : Bool → StatusWord → Result (Unit {0}) StatusWord
-provided holds word = if holds then Ok tt else Err word
-
--- a cursor's end is reached; the record isn't found
-abbrev pub end_reached : StatusWord
-end_reached = record { word = 0x6282 }
-
-abbrev pub record_not_found : StatusWord
-record_not_found = record { word = 0x6A83 }
-
--- a number of octets in SW2, where 256 and more is 00
-abbrev pub in_sw2 : ℕ → ℕ
-in_sw2 n = if nat_lt n 256 then n else 0
-
--- 61XX: so many octets are left of an answer
-abbrev pub more_left : ℕ → StatusWord
-more_left n = record { word = 0x6100 + in_sw2 n }
-
--- 6CXX: Le is wrong, the answer has so many octets
-abbrev pub wrong_le : ℕ → StatusWord
-wrong_le n = record { word = 0x6C00 + in_sw2 n }
-
 -- an answer as far as Le allows, and what is left of it
 pub record Cut : Type 0 where
   pub reply : Reply
@@ -90,7 +68,7 @@ wanted_of columns (name ∷ names) = name ∷ names
 
 -- the named columns and those of the conditions are among an object's
 abbrev pub named_among : List (List ℕ) → List (List ℕ) → List Condition → Result (Unit {0}) StatusWord
-named_among columns named conditions = provided (are_among named columns && are_among (map (λ (c : Condition). c.column) conditions) columns) not_found
+named_among columns named conditions = only_if (are_among named columns && are_among (map (λ (c : Condition). c.column) conditions) columns) not_found
 
 -- a row in an answer: its values in the wanted columns, each as its length in one octet and its octets
 abbrev pub row_octets : List (List ℕ) → List (List ℕ) → List (List ℕ) → List ℕ

@@ -1,19 +1,21 @@
 -- A step of the table machine: the answer to a command, the next machine, and the databases that are committed in turn.
-use Rattle.std.specs.Prelude.{ℕ, ◌==◌, List, [], ◌∷◌, length, Option, Some, None, Result, Ok, Err, is_some, slice_set, if◌then◌else◌}
+use Rattle.std.specs.Prelude.{ℕ, ◌==◌, List, [], ◌∷◌, length, Option, Some, None, option_and_then, Result, Ok, Err, is_some, slice_set, if◌then◌else◌}
 use Rattle.scql_base.specs.declared.words.StatusWord.{StatusWord}
 use Rattle.scql_base.specs.declared.words.Profile.{Profile}
 use Rattle.scql_base.specs.Words.{done, conditions_not_satisfied, not_found, instruction_not_supported}
 use Rattle.scql_base.specs.declared.records.User.{User}
 use Rattle.scql_model.specs.Database.{Database, public_name, user_named}
 use Rattle.std.specs.Str.{bytes_eq}
-use Rattle.scql_model.specs.Machine.{Machine, Session, session_for, new_session, open_channels, base, actor}
+use Rattle.scql_model.specs.Machine.{Machine, Session, Chain, session_for, new_session, session_of, open_channels, base, actor}
 use Rattle.scql_model.specs.Creating.{created}
 use Rattle.scql_base.specs.declared.cursor.Presented.{Presented}
 use Rattle.scql_base.specs.declared.operation.Command.{Command}
 use Rattle.scql_base.specs.declared.operation.Operation.{Operation}
 use Rattle.scql_base.specs.declared.operation.Operation.TheVariants.{PresentUser, CreateUser}
 use Rattle.scql_model.specs.Commands.{Reply}
-use Rattle.scql_model.specs.Form.{form_of, ◌>>=◌}
+use Rattle.scql_model.specs.Operations.{built_operations}
+use Rattle.scql_model.specs.Refusals.{◌>>=◌}
+use Rattle.scql_model.specs.Form.{Form, form_of, as_command}
 
 pub record Answer : Type 0 where
   pub reply : Reply
@@ -72,5 +74,13 @@ operated m channel (PresentUser name) = user_of_session m channel name
 operated m channel (CreateUser name profile secret) = user_created m channel name profile secret
 operated m channel operation = Err instruction_not_supported
 
+-- the parts that a channel has of a command
+abbrev pub chain_of : Machine → ℕ → Option Chain
+chain_of m channel = option_and_then (λ (s : Session). s.chain) (session_of m channel)
+
+-- how a machine reads octets
+abbrev pub form_at : Machine → List ℕ → Form
+form_at m octets = form_of built_operations octets (open_channels m) (chain_of m) m.committed.limit
+
 unfoldable pub step : Machine → List ℕ → Answer
-step m octets = answered m (form_of octets (open_channels m) >>= λ (c : Command). operated m c.channel c.operation)
+step m octets = answered m (as_command (form_at m octets) >>= λ (c : Command). operated m c.channel c.operation)

@@ -9,13 +9,13 @@ use Rattle.scql_base.specs.declared.records.RowRecord.{RowRecord}
 use Rattle.scql_base.specs.declared.records.Object.{Object}
 use Rattle.scql_base.specs.declared.cursor.Cursor.{Cursor}
 use Rattle.scql_base.specs.declared.cursor.Place.{Place}
-use Rattle.scql_base.specs.declared.cursor.Place.TheVariants.{NotOpen, At}
+use Rattle.scql_base.specs.declared.cursor.Place.TheVariants.{NotOpen, At, End}
 use Rattle.scql_base.specs.Row.{row_size}
-use Rattle.scql_base.specs.Words.{conditions_not_satisfied, security_not_satisfied, not_found, wrong_data}
+use Rattle.scql_base.specs.Words.{conditions_not_satisfied, security_not_satisfied, record_not_found, not_found, wrong_data}
 use Rattle.scql_model.specs.Database.{Database, is_table, are_among, object_stamped}
 use Rattle.scql_model.specs.Objects.{StampedRow, columns_of}
-use Rattle.scql_model.specs.Matching.{matches}
 use Rattle.scql_model.specs.Contents.{Contents, contents_of}
+use Rattle.scql_model.specs.Moves.{opened, passes, row_at}
 use Rattle.scql_model.specs.Rights.{insert_privilege, update_privilege, delete_privilege, holds, seen_named, seen_stamped}
 use Rattle.scql_model.specs.Refusals.{◌>>=◌, or_refused, only_if}
 use Rattle.scql_model.specs.Edits.{Edit, of_row, making, changing, removing}
@@ -29,26 +29,11 @@ row_inserted db actor name values = do
   _ ← only_if (length values == length (columns_of o.kind)) wrong_data
   Ok (making db (of_row (record { stamp = db.next; table = o.stamp; row = values })))
 
--- the word for a row that is gone, or doesn't match
-abbrev pub record_not_found : StatusWord
-record_not_found = record { word = 0x6A83 }
-
--- a cursor that is there and was opened
-abbrev pub opened : Option Cursor → Result Cursor StatusWord
-opened None = Err conditions_not_satisfied
-opened (Some cursor) = if is_not_open cursor.place then Err conditions_not_satisfied else Ok cursor
-  where
-    is_not_open : Place → Bool
-    is_not_open NotOpen = true
-    is_not_open place = false
-
 -- the row at which a cursor stands: one of its object's rows, that meets its conditions
-abbrev pub row_at : Contents → Cursor → Option StampedRow
-row_at contents cursor = of_place cursor.place
-  where
-    of_place : Place → Option StampedRow
-    of_place (At stamp) = find (λ (r : StampedRow). r.stamp == stamp && matches contents.columns cursor.conditions r.values) contents.rows
-    of_place place = None
+abbrev pub row_at_place : Contents → Cursor → Place → Option StampedRow
+row_at_place contents cursor NotOpen = None
+row_at_place contents cursor (At stamp) = row_at stamp (passes contents cursor) contents.rows
+row_at_place contents cursor End = None
 
 -- through a cursor the rows of a table or a view are changed, where the actor holds the privilege on it
 abbrev pub written_through : Database → Actor → ℕ → Cursor → Result Object StatusWord
@@ -61,7 +46,7 @@ written_through db actor privilege cursor = do
 -- the table's record of the row at which the cursor stands
 abbrev pub record_at : Database → Cursor → Option RowRecord
 record_at db cursor =
-    option_and_then (λ (r : StampedRow). find (λ (s : RowRecord). s.stamp == r.stamp) db.rows) (row_at (contents_of db cursor.object) cursor)
+    option_and_then (λ (r : StampedRow). find (λ (s : RowRecord). s.stamp == r.stamp) db.rows) (row_at_place (contents_of db cursor.object) cursor cursor.place)
 
 -- the columns of the table of a row
 abbrev pub columns_of_row : Database → RowRecord → List (List ℕ)

@@ -1,0 +1,175 @@
+-- The data fields of commands: which operation the parameters of each ask for (ISO/IEC 7816-7).
+use Rattle.std.specs.Prelude.{ℕ, ◌==◌, nat_le, ◌&&◌, Bool, List, [], ◌∷◌, length, map, take, drop, Option, Some, None, option_map, option_and_then, if◌then◌else◌}
+use Rattle.std.specs.List.{list_all}
+use Rattle.scql_base.specs.declared.words.Profile.{Profile}
+use Rattle.scql_base.specs.declared.words.Profile.TheVariants.{Dboo, Dbbu}
+use Rattle.scql_base.specs.declared.condition.Condition.{Condition}
+use Rattle.scql_base.specs.Name.{is_name}
+use Rattle.scql_base.specs.Row.{is_narrow, row_size}
+use Rattle.scql_base.specs.Strings.{params_of}
+use Rattle.scql_base.specs.declared.operation.Operation.{Operation}
+use Rattle.scql_base.specs.declared.operation.Operation.TheVariants.{CreateTable, CreateView, CreateDictionary, DropTable, DropView, Grant, Revoke, DeclareCursor, OpenCursor, Next, Fetch, FetchNext, Insert, Update, Delete, Begin, Commit, Rollback, PresentUser, CreateUser, DeleteUser, Verify, OpenChannel, CloseChannel, GetResponse}
+use Rattle.scql_base.specs.declared.operation.OperationKind.{OperationKind}
+use Rattle.scql_base.specs.declared.operation.OperationKind.TheVariants as kind
+use Rattle.scql_model.specs.Records.{subject_of, comparison_of, is_privileges, is_one_to_fifteen, is_at_most_eight}
+use Rattle.scql_model.specs.Database.{are_different}
+
+infixl 10 ◌>>=◌
+abbrev pub ◌>>=◌ : {A B : Type 0} → Option A → (A → Option B) → Option B
+None >>= f = None
+(Some x) >>= f = f x
+
+-- a value, where a test is passed
+abbrev pub only_where : {A : Type 0} → Bool → A → Option A
+only_where test x = if test then Some x else None
+
+-- different names
+abbrev pub are_different_names : List (List ℕ) → Bool
+are_different_names names = list_all is_name names && are_different names
+
+-- 1 to 15 different names of columns
+abbrev pub are_columns : List (List ℕ) → Bool
+are_columns names = is_one_to_fifteen (length names) && are_different_names names
+
+-- at most 15 different names of columns; none of them stands for all columns of an object
+abbrev pub are_chosen_columns : List (List ℕ) → Bool
+are_chosen_columns names = nat_le (length names) 15 && are_different_names names
+
+-- the columns and the conditions of a view or a cursor
+pub record Choice : Type 0 where
+  pub columns : List (List ℕ)
+  pub conditions : List Condition
+
+-- a condition is three parameters: a name, one octet for the comparison, and a value
+abbrev pub are_conditions : List Condition → Bool
+are_conditions conditions =
+    is_at_most_eight (length conditions)
+    && list_all (λ (c : Condition). is_name c.column && is_narrow c.value) conditions
+
+abbrev pub conditions_in : List (List ℕ) → Option (List Condition)
+conditions_in [] = Some []
+conditions_in (column ∷ (code ∷ []) ∷ value ∷ strings) =
+    option_and_then
+    (λ comparison. option_map (λ conditions. record { column = column; comparison = comparison; value = value } ∷ conditions) (conditions_in strings))
+    (comparison_of code)
+conditions_in strings = None
+
+-- the number of columns in one octet, so many names, and conditions to the end
+abbrev pub choice_in : List (List ℕ) → Option Choice
+choice_in ((count ∷ []) ∷ strings) = do
+  conditions ← conditions_in (drop count strings)
+  only_where
+      (nat_le count (length strings) && are_chosen_columns (take count strings) && are_conditions conditions)
+      (record { columns = take count strings; conditions = conditions })
+choice_in strings = None
+
+-- a change is two parameters: a name and a value
+abbrev pub changes_in : List (List ℕ) → Option (List (List ℕ × List ℕ))
+changes_in [] = Some []
+changes_in (column ∷ value ∷ strings) = option_map (λ changes. (column, value) ∷ changes) (changes_in strings)
+changes_in (column ∷ []) = None
+
+-- 1 to 15 changes of different columns
+abbrev pub are_changes : List (List ℕ × List ℕ) → Bool
+are_changes changes =
+    are_columns (map (λ (change : List ℕ × List ℕ). change.0) changes)
+    && list_all (λ (change : List ℕ × List ℕ). is_narrow change.1) changes
+
+-- 1 to 15 values that are a row of at most so many octets
+abbrev pub is_row_within : ℕ → List (List ℕ) → Bool
+is_row_within limit values = is_one_to_fifteen (length values) && list_all is_narrow values && nat_le (row_size values) limit
+
+-- CREATE TABLE: a name and its columns
+abbrev pub create_table_in : List (List ℕ) → Option Operation
+create_table_in (name ∷ columns) = only_where (is_name name && are_columns columns) (CreateTable name columns)
+create_table_in strings = None
+
+-- CREATE VIEW: a name, the base's name, columns and conditions
+abbrev pub create_view_in : List (List ℕ) → Option Operation
+create_view_in (name ∷ base ∷ strings) = do
+  choice ← choice_in strings
+  only_where (is_name name && is_name base) (CreateView name base choice.columns choice.conditions)
+create_view_in strings = None
+
+-- CREATE DICTIONARY: a name and one octet for what it tells of
+abbrev pub create_dictionary_in : List (List ℕ) → Option Operation
+create_dictionary_in (name ∷ (code ∷ []) ∷ []) = do
+  subject ← subject_of code
+  only_where (is_name name) (CreateDictionary name subject)
+create_dictionary_in strings = None
+
+-- DROP TABLE, DROP VIEW, PRESENT USER, DELETE USER: a name
+abbrev pub named_in : (List ℕ → Operation) → List (List ℕ) → Option Operation
+named_in operation (name ∷ []) = only_where (is_name name) (operation name)
+named_in operation strings = None
+
+-- GRANT, REVOKE: privileges in one octet, the object's name and the user's
+abbrev pub granted_in : (ℕ → List ℕ → List ℕ → Operation) → List (List ℕ) → Option Operation
+granted_in operation ((privileges ∷ []) ∷ object ∷ grantee ∷ []) =
+    only_where (is_privileges privileges && is_name object && is_name grantee) (operation privileges object grantee)
+granted_in operation strings = None
+
+-- DECLARE CURSOR: the object's name, columns and conditions
+abbrev pub declare_cursor_in : List (List ℕ) → Option Operation
+declare_cursor_in (object ∷ strings) = do
+  choice ← choice_in strings
+  only_where (is_name object) (DeclareCursor object choice.columns choice.conditions)
+declare_cursor_in strings = None
+
+-- INSERT: the table's name and a row
+abbrev pub insert_in : ℕ → List (List ℕ) → Option Operation
+insert_in limit (table ∷ values) = only_where (is_name table && is_row_within limit values) (Insert table values)
+insert_in limit strings = None
+
+-- UPDATE: changes
+abbrev pub update_in : List (List ℕ) → Option Operation
+update_in strings = do
+  changes ← changes_in strings
+  only_where (are_changes changes) (Update changes)
+
+-- nobody is made with the profile of OWNER
+abbrev pub made_profile_of : ℕ → Option Profile
+made_profile_of code = if code == 0x02 then Some Dboo else if code == 0x03 then Some Dbbu else None
+
+-- Until secrets are built a new user's secret is empty; then this will be `is_secret`.
+abbrev pub is_new_secret : List ℕ → Bool
+is_new_secret secret = length secret == 0
+
+-- CREATE USER: a name, one octet for the profile, and a secret
+abbrev pub create_user_in : List (List ℕ) → Option Operation
+create_user_in (name ∷ (code ∷ []) ∷ secret ∷ []) = do
+  profile ← made_profile_of code
+  only_where (is_name name && is_new_secret secret) (CreateUser name profile secret)
+create_user_in strings = None
+
+-- VERIFY: the bare secret, 1 to 255 octets
+abbrev pub is_verified_secret : List ℕ → Bool
+is_verified_secret octets = nat_le 1 (length octets) && nat_le (length octets) 255
+
+-- The operation of a kind that a data field asks for, where a row has at most so many octets. The field of VERIFY is the bare secret; each other one is a list of parameters.
+abbrev pub operation_in : OperationKind → ℕ → List ℕ → Option Operation
+operation_in kind.CreateTable limit octets = params_of octets >>= create_table_in
+operation_in kind.CreateView limit octets = params_of octets >>= create_view_in
+operation_in kind.CreateDictionary limit octets = params_of octets >>= create_dictionary_in
+operation_in kind.DropTable limit octets = params_of octets >>= named_in DropTable
+operation_in kind.DropView limit octets = params_of octets >>= named_in DropView
+operation_in kind.Grant limit octets = params_of octets >>= granted_in Grant
+operation_in kind.Revoke limit octets = params_of octets >>= granted_in Revoke
+operation_in kind.DeclareCursor limit octets = params_of octets >>= declare_cursor_in
+operation_in kind.OpenCursor limit octets = Some OpenCursor
+operation_in kind.Next limit octets = Some Next
+operation_in kind.Fetch limit octets = Some Fetch
+operation_in kind.FetchNext limit octets = Some FetchNext
+operation_in kind.Insert limit octets = params_of octets >>= insert_in limit
+operation_in kind.Update limit octets = params_of octets >>= update_in
+operation_in kind.Delete limit octets = Some Delete
+operation_in kind.Begin limit octets = Some Begin
+operation_in kind.Commit limit octets = Some Commit
+operation_in kind.Rollback limit octets = Some Rollback
+operation_in kind.PresentUser limit octets = params_of octets >>= named_in PresentUser
+operation_in kind.CreateUser limit octets = params_of octets >>= create_user_in
+operation_in kind.DeleteUser limit octets = params_of octets >>= named_in DeleteUser
+operation_in kind.Verify limit octets = only_where (is_verified_secret octets) (Verify octets)
+operation_in (kind.OpenChannel number) limit octets = Some (OpenChannel number)
+operation_in (kind.CloseChannel number) limit octets = Some (CloseChannel number)
+operation_in kind.GetResponse limit octets = Some GetResponse
