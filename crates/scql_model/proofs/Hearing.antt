@@ -15,7 +15,8 @@ use Rattle.scql_base.specs.declared.operation.Operation.TheVariants.{PresentUser
 use Rattle.scql_model.specs.Creating.{created}
 use Rattle.scql_model.specs.Refusals.{◌>>=◌}
 use Rattle.scql_model.specs.Form.{as_command}
-use Rattle.scql_model.specs.Step.{form_at, Answer, answered, changed, user_presented, operated, step}
+use Rattle.scql_model.specs.Step.{step}
+use Rattle.scql_model.proofs.LastCommits.{last-step}
 use Rattle.scql_model.specs.Lines.{Reading, too_long, nothing, resets, not_hexadecimal, command, reading_of, reading_text, reading_step, reading_commits, reply_octets, line_text, line_step, run_text, machine_after}
 use Rattle.scql_model.specs.Opens.{Opens, OpensToOneOf}
 use Rattle.scql_model.specs.Heard.{commits_of, commits_to, after_commits, heard, IsKept}
@@ -34,44 +35,6 @@ after_commits-behind db [] ys k =
 after_commits-behind db (x ∷ xs) ys k =
     let next : suc (length xs) + k ≡ suc (length xs + k) = omega arith in
     ap (after_commits db (x ∷ (xs ++ ys))) next ∙ after_commits-behind x xs ys k
-
--- A step ends at the last database that it commits.
-abbrev IsLast : Machine → Answer → Type 0
-IsLast m answer = after_commits m.committed answer.commits (length answer.commits) ≡ answer.machine.committed
-
-last-answered : (m : Machine) (result : Result Answer StatusWord) → IfOk result (IsLast m) → IsLast m (answered m result)
-last-answered m (Ok answer) last = last
-last-answered m (Err word) last = refl
-
-last-changed : (m : Machine) (result : Result Database StatusWord) → IfOk (changed m result) (IsLast m)
-last-changed m (Ok db) = refl
-last-changed m (Err word) = tt
-
-last-presented : (m : Machine) (channel : ℕ) (user : Option User) → IfOk (user_presented m channel user) (IsLast m)
-last-presented m channel None = tt
-last-presented m channel (Some u) = refl
-
-last-operated : (m : Machine) (channel : ℕ) (operation : Operation) → IfOk (operated m channel operation) (IsLast m)
-last-operated m channel (PresentUser name) = elim (cases_Bool (is_some m.transaction)) [
-  | inl t ↦ rw t tt
-  | inr f ↦ rw f (elim (cases_Bool (bytes_eq name public_name)) [
-    | inl p ↦ rw p refl
-    | inr q ↦ rw q (last-presented m channel (user_named (base m channel).users name))
-  ])
-]
-last-operated m channel (CreateUser name profile secret) = elim (cases_Bool (is_some m.transaction)) [
-  | inl t ↦ rw t tt
-  | inr f ↦ rw f (last-changed m (created (base m channel) (actor m channel) name profile secret))
-]
-last-operated m channel operation = tt
-
-last-formed : (m : Machine) (form : Result Command StatusWord) → IfOk (form >>= λ (c : Command). operated m c.channel c.operation) (IsLast m)
-last-formed m (Ok c) = last-operated m c.channel c.operation
-last-formed m (Err word) = tt
-
-last-step : (m : Machine) (octets : List ℕ) → IsLast m (step m octets)
-unfolding step
-last-step m octets = last-answered m (as_command (form_at m octets) >>= λ (c : Command). operated m c.channel c.operation) (last-formed m (as_command (form_at m octets)))
 
 -- so does a line
 pub last-reading : (m : Machine) (reading : Reading) → after_commits m.committed (reading_commits m reading) (length (reading_commits m reading)) ≡ (reading_step m reading).committed

@@ -1,6 +1,7 @@
 pub mod Acting
 pub mod AddedUser
 pub mod ChangeLaws
+pub mod ChangingSessions
 pub mod CounterSlot
 pub mod Creating
 pub mod CreatingSlots
@@ -10,6 +11,7 @@ pub mod FieldLaws
 pub mod FormedCommands
 pub mod FreshCard
 pub mod Hearing
+pub mod LastCommits
 pub mod LongerLists
 pub mod Naming
 pub mod RecordLaws

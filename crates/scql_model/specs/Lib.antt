@@ -22,7 +22,9 @@ pub mod ReadingCommands
 pub mod Records
 pub mod Refusals
 pub mod Rights
+pub mod Sessions
 pub mod Step
+pub mod Transactions
 pub mod Users
 pub mod Validity
 pub mod WellFormed

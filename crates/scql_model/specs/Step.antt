@@ -1,21 +1,26 @@
 -- A step of the table machine: the answer to a command, the next machine, and the databases that are committed in turn.
-use Rattle.std.specs.Prelude.{ℕ, ◌==◌, List, [], ◌∷◌, length, Option, Some, None, option_and_then, Result, Ok, Err, is_some, slice_set, if◌then◌else◌}
-use Rattle.scql_base.specs.declared.words.StatusWord.{StatusWord}
-use Rattle.scql_base.specs.declared.words.Profile.{Profile}
-use Rattle.scql_base.specs.Words.{done, conditions_not_satisfied, not_found, instruction_not_supported}
-use Rattle.scql_base.specs.declared.records.User.{User}
-use Rattle.scql_model.specs.Database.{Database, public_name, user_named}
+use Rattle.std.specs.Prelude.{ℕ, zero, suc, ◌-◌, ◌==◌, not, List, [], ◌∷◌, Option, Some, None, is_some, Result, Ok, Err, if◌then◌else◌}
+use Rattle.std.specs.Option.{option_map_or}
 use Rattle.std.specs.Str.{bytes_eq}
-use Rattle.scql_model.specs.Machine.{Machine, Session, Chain, session_for, new_session, session_of, open_channels, base, actor}
-use Rattle.scql_model.specs.Creating.{created}
+use Rattle.scql_base.specs.declared.words.StatusWord.{StatusWord}
 use Rattle.scql_base.specs.declared.cursor.Presented.{Presented}
 use Rattle.scql_base.specs.declared.operation.Command.{Command}
 use Rattle.scql_base.specs.declared.operation.Operation.{Operation}
-use Rattle.scql_base.specs.declared.operation.Operation.TheVariants.{PresentUser, CreateUser}
+use Rattle.scql_base.specs.declared.operation.Operation.TheVariants.{DeleteUser, Begin, Commit, Rollback, PresentUser, Verify, OpenChannel, CloseChannel}
+use Rattle.scql_base.specs.declared.records.User.{User}
+use Rattle.scql_base.specs.Words.{done, channel_not_supported, authentication_blocked, conditions_not_satisfied, function_not_supported, not_found, tries_left}
 use Rattle.scql_model.specs.Commands.{Reply}
-use Rattle.scql_model.specs.Operations.{built_operations}
-use Rattle.scql_model.specs.Refusals.{◌>>=◌}
-use Rattle.scql_model.specs.Form.{Form, form_of, as_command}
+use Rattle.scql_model.specs.Refusals.{◌>>=◌, or_refused, only_if}
+use Rattle.scql_model.specs.Database.{Database, public_name, user_named, user_stamped}
+use Rattle.scql_model.specs.Machine.{Machine, Session, Transaction, new_session, session_for, session_of, open_channels, base, actor}
+use Rattle.scql_model.specs.Sessions.{with_session, changing_session, chain_of, without_chain, with_part, reading_of, cursor_of, reading_so, without_pending, without_cursor, user_of, presented, proving, without_user, is_open, least_closed}
+use Rattle.scql_model.specs.Transactions.{own_transaction, waits, is_kept_waiting}
+use Rattle.scql_model.specs.Operations.{Line, built_operations, kind_of}
+use Rattle.scql_model.specs.Form.{Form, refused, refused_on, part_on, a_command, form_of}
+use Rattle.scql_model.specs.ReadingCommands.{ReadingCommand, reading_command}
+use Rattle.scql_model.specs.Moves.{move_of}
+use Rattle.scql_model.specs.Edits.{Edit, of_user, changing, applied, touched_after}
+use Rattle.scql_model.specs.Changing.{edits_of, with_edits}
 
 pub record Answer : Type 0 where
   pub reply : Reply
@@ -31,56 +36,139 @@ abbrev pub answered : Machine → Result Answer StatusWord → Answer
 answered m (Ok answer) = answer
 answered m (Err word) = record { reply = said word; machine = m; commits = [] }
 
--- done, and nothing is committed
-abbrev pub done_with : Machine → Answer
-done_with m = record { reply = said done; machine = m; commits = [] }
+-- a command of a channel is done, and these databases are committed; nothing is pending on the channel any more
+abbrev pub done_with : Machine → ℕ → List Database → Answer
+done_with m channel commits = record { reply = said done; machine = changing_session without_pending m channel; commits = commits }
 
-abbrev pub with_session : Machine → ℕ → Session → Machine
-with_session m channel session = record m { sessions = slice_set m.sessions channel (Some session) }
+-- A reading command moves over what its channel reads, for whom it acts.
+abbrev pub has_read : Machine → ℕ → ReadingCommand → Answer
+has_read m channel command =
+    let move = move_of (base m channel) (actor m channel) (reading_of m channel) command in
+    record { reply = move.reply; machine = changing_session (reading_so move.after) m channel; commits = [] }
 
--- a user is presented, proved where the secret is empty
-abbrev pub presented : User → Presented
-presented u = record { stamp = u.stamp; proved = length u.secret == 0 }
+-- A change is one of the working database where there is a transaction, and is committed at once where there is none.
+abbrev pub changed_to : Machine → ℕ → List Edit → Database → Option Transaction → Answer
+changed_to m channel edits db None = done_with (record m { committed = db }) channel (db ∷ [])
+changed_to m channel edits db (Some t) =
+    done_with (record m { transaction = Some (record t { working = db; touched = touched_after m.committed db t.touched edits }) }) channel []
 
-abbrev pub user_presented : Machine → ℕ → Option User → Result Answer StatusWord
-user_presented m channel None = Err not_found
-user_presented m channel (Some u) = Ok (done_with (with_session m channel (session_for (Some (presented u)))))
+abbrev pub changed : Machine → ℕ → Operation → Result Answer StatusWord
+changed m channel operation = do
+  edits ← edits_of (base m channel) (actor m channel) (cursor_of m channel) operation
+  db ← with_edits (base m channel) edits
+  Ok (changed_to m channel edits db (own_transaction m.transaction channel))
 
--- PRESENT USER: the session's user is the named one, or nobody where the name is PUBLIC; its cursor is dropped
-abbrev pub user_of_session : Machine → ℕ → List ℕ → Result Answer StatusWord
-user_of_session m channel name =
-    if is_some m.transaction then Err conditions_not_satisfied
-    else if bytes_eq name public_name then Ok (done_with (with_session m channel new_session))
-    else user_presented m channel (user_named (base m channel).users name)
+-- DELETE USER: besides, each session that presented the user has neither user nor cursor any more
+abbrev pub user_deleted : Machine → ℕ → List ℕ → Result Answer StatusWord
+user_deleted m channel name = do
+  answer ← changed m channel (DeleteUser name)
+  u ← or_refused (user_named (base m channel).users name) not_found
+  Ok (record answer { machine = without_user answer.machine u.stamp })
 
--- done, and this database is committed
-abbrev pub committed_with : Machine → Database → Answer
-committed_with m db = record { reply = said done; machine = record m { committed = db }; commits = db ∷ [] }
+-- BEGIN: the working database begins as the committed one
+abbrev pub begun : Machine → ℕ → Result Answer StatusWord
+begun m channel = do
+  _ ← only_if (not (is_some m.transaction)) conditions_not_satisfied
+  Ok (done_with (record m { transaction = Some (record { channel = channel; working = m.committed; touched = [] }) }) channel [])
 
--- a change outside of a transaction is committed at once
-abbrev pub changed : Machine → Result Database StatusWord → Result Answer StatusWord
-changed m (Err word) = Err word
-changed m (Ok db) = Ok (committed_with m db)
+-- COMMIT: the working database is committed
+abbrev pub committed : Machine → ℕ → Result Answer StatusWord
+committed m channel = do
+  t ← or_refused (own_transaction m.transaction channel) conditions_not_satisfied
+  Ok (done_with (record m { committed = t.working; transaction = None }) channel (t.working ∷ []))
 
--- CREATE USER: the database with the new user is committed
-abbrev pub user_created : Machine → ℕ → List ℕ → Profile → List ℕ → Result Answer StatusWord
-user_created m channel name profile secret =
-    if is_some m.transaction then Err conditions_not_satisfied
-    else changed m (created (base m channel) (actor m channel) name profile secret)
+-- ROLLBACK: the working database is dropped, and so is the channel's cursor
+abbrev pub rolled_back : Machine → ℕ → Result Answer StatusWord
+rolled_back m channel = do
+  _ ← or_refused (own_transaction m.transaction channel) conditions_not_satisfied
+  Ok (done_with (changing_session without_cursor (record m { transaction = None }) channel) channel [])
 
--- what isn't built is refused before it comes here
+-- PRESENT USER: the session is a new one of the named user, or of nobody where the name is PUBLIC
+abbrev pub session_named : Database → List ℕ → Result Session StatusWord
+session_named db name =
+    if bytes_eq name public_name then Ok new_session
+    else (do
+      u ← or_refused (user_named db.users name) not_found
+      Ok (session_for (Some (presented u))))
+
+abbrev pub user_presented : Machine → ℕ → List ℕ → Result Answer StatusWord
+user_presented m channel name = do
+  session ← session_named (base m channel) name
+  Ok (done_with (with_session m channel (Some session)) channel [])
+
+-- VERIFY: one try less is committed before the secret is compared; the right one gives all tries back, and proves the user.
+abbrev pub with_tries : Database → User → ℕ → Database
+with_tries db u tries = applied db (changing (of_user (record u { tries = tries })) ∷ [])
+
+-- a wrong secret leaves one try less
+abbrev pub secret_wrong : Machine → User → Answer
+secret_wrong m u =
+    let lowered = with_tries m.committed u (u.tries - 1) in
+    record { reply = said (tries_left (u.tries - 1)); machine = record m { committed = lowered }; commits = lowered ∷ [] }
+
+abbrev pub secret_right : Machine → ℕ → User → Answer
+secret_right m channel u =
+    let restored = with_tries m.committed u 3 in
+    done_with (changing_session proving (record m { committed = restored }) channel) channel (with_tries m.committed u (u.tries - 1) ∷ restored ∷ [])
+
+abbrev pub compared : Machine → ℕ → List ℕ → User → Answer
+compared m channel secret u = if bytes_eq secret u.secret then secret_right m channel u else secret_wrong m u
+
+abbrev pub verified : Machine → ℕ → List ℕ → Result Answer StatusWord
+verified m channel secret = do
+  p ← or_refused (user_of m channel) conditions_not_satisfied
+  _ ← only_if (not p.proved) conditions_not_satisfied
+  u ← or_refused (user_stamped m.committed.users p.stamp) conditions_not_satisfied
+  _ ← only_if (not (u.tries == 0)) authentication_blocked
+  Ok (compared m channel secret u)
+
+-- MANAGE CHANNEL (ISO/IEC 7816-4): a channel is opened, the one that is named or the least that is closed, whose number is answered
+abbrev pub channel_opened : Machine → ℕ → ℕ → Result Answer StatusWord
+channel_opened m channel zero = do
+  number ← or_refused (least_closed m) function_not_supported
+  Ok (record (done_with (with_session m number (Some new_session)) channel []) { reply = record { body = number ∷ []; word = done } })
+channel_opened m channel (suc n) = do
+  _ ← only_if (not (is_open m (suc n))) conditions_not_satisfied
+  Ok (done_with (with_session m (suc n) (Some new_session)) channel [])
+
+-- a channel is closed, unless it has the open transaction
+abbrev pub channel_closed : Machine → ℕ → ℕ → Result Answer StatusWord
+channel_closed m channel number = do
+  _ ← only_if (is_open m number) channel_not_supported
+  _ ← only_if (not (is_some (own_transaction m.transaction number))) conditions_not_satisfied
+  Ok (done_with (with_session m number None) channel [])
+
+-- what an operation does that doesn't read
 abbrev pub operated : Machine → ℕ → Operation → Result Answer StatusWord
-operated m channel (PresentUser name) = user_of_session m channel name
-operated m channel (CreateUser name profile secret) = user_created m channel name profile secret
-operated m channel operation = Err instruction_not_supported
+operated m channel Begin = begun m channel
+operated m channel Commit = committed m channel
+operated m channel Rollback = rolled_back m channel
+operated m channel (PresentUser name) = user_presented m channel name
+operated m channel (DeleteUser name) = user_deleted m channel name
+operated m channel (Verify secret) = verified m channel secret
+operated m channel (OpenChannel number) = channel_opened m channel number
+operated m channel (CloseChannel number) = channel_closed m channel (if number == 0 then channel else number)
+operated m channel operation = changed m channel operation
 
--- the parts that a channel has of a command
-abbrev pub chain_of : Machine → ℕ → Option Chain
-chain_of m channel = option_and_then (λ (s : Session). s.chain) (session_of m channel)
+-- A command: an open transaction may stand against it; else it reads, or does what its operation does.
+abbrev pub carried_out : Machine → Command → Result Answer StatusWord
+carried_out m c = do
+  _ ← only_if (not (is_kept_waiting (waits (kind_of c.operation)) m.transaction c.channel)) conditions_not_satisfied
+  option_map_or (λ command. Ok (has_read m c.channel command)) (reading_command c.operation c.le) (operated m c.channel c.operation)
 
--- how a machine reads octets
-abbrev pub form_at : Machine → List ℕ → Form
-form_at m octets = form_of built_operations octets (open_channels m) (chain_of m) m.committed.limit
+-- Every command but a part leaves its channel without a chain, and so does each refusal that comes after the channel is known.
+abbrev pub stepped : Machine → Form → Answer
+stepped m (refused word) = answered m (Err word)
+stepped m (refused_on channel word) = answered (changing_session without_chain m channel) (Err word)
+stepped m (part_on channel kind octets) = done_with (changing_session (with_part kind octets) m channel) channel []
+stepped m (a_command c) =
+    let ended = changing_session without_chain m c.channel in
+    answered ended (carried_out ended c)
 
+-- the step to octets, by a table of operations
+unfoldable pub step_by : List Line → Machine → List ℕ → Answer
+step_by table m octets = stepped m (form_of table octets (open_channels m) (chain_of m) m.committed.limit)
+
+-- the step of today's card
 unfoldable pub step : Machine → List ℕ → Answer
-step m octets = answered m (as_command (form_at m octets) >>= λ (c : Command). operated m c.channel c.operation)
+step m octets = step_by built_operations m octets
