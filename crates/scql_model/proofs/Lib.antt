@@ -15,6 +15,7 @@ pub mod Refusing
 pub mod Room
 pub mod SpellingLengths
 pub mod Spellings
+pub mod Stored
 pub mod Validity
 mod WorkedCreating
 mod WorkedRows

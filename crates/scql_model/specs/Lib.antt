@@ -8,6 +8,8 @@ pub mod Lines
 pub mod Machine
 pub mod Opens
 pub mod Records
+pub mod Rules
 pub mod Step
+pub mod Stored
 pub mod Validity
 pub mod WellFormed
