@@ -1,5 +1,5 @@
 -- Users that stand in a map at their stamps: in the map's order they rise, and a look-up finds the user of a stamp.
-use Rattle.std.proofs.Common.{◌≡◌, ℕ, ◌≤◌, Bool, true, false, cond, ltb, eqb, List, [], ◌∷◌, map, Option, Some, None, option_map, refl, sym, ap, ◌∙◌, inl, inr, arith}
+use Rattle.std.proofs.Common.{◌≡◌, ℕ, ◌≤◌, Bool, true, false, cond, ltb, eqb, List, [], ◌∷◌, Option, Some, None, refl, sym, ap, ◌∙◌, inl, inr, arith}
 use Rattle.std.specs.List.{find, count_by}
 use Rattle.std.specs.Map.{lookup, values_of}
 use Rattle.std.specs.BTreeMap.{insert_entry, is_at}
@@ -10,22 +10,20 @@ use Rattle.std.proofs.lemmas.Bool.{cases_Bool, eqb-true, eqb-false, eq-eqb, ne_e
 use Rattle.std.proofs.lemmas.Option.{none-some}
 use Rattle.eeprom.specs.Slots.{has, place}
 use Rattle.eeprom.proofs.InOrder.{counts, counts_not}
-use Rattle.scql_model.specs.Records as records
 use Rattle.scql_model.specs.Database.{is_maker, is_made_by_maker}
-use Rattle.card.specs.declared.coding.User.{User}
+use Rattle.scql_base.specs.declared.records.User.{User}
 use Rattle.card.specs.Opening.{AreByStamp}
-use Rattle.card.specs.Users.{user_of}
 
-abbrev pub stamp_of : records.User → ℕ
+abbrev pub stamp_of : User → ℕ
 stamp_of u = u.stamp
 
 -- the users of entries, in their order
-abbrev pub in_entries : List (ℕ × User) → List records.User
-in_entries entries = map user_of (values_of entries)
+abbrev pub in_entries : List (ℕ × User) → List User
+in_entries entries = values_of entries
 
 -- a user of a new stamp goes to its place
 pub entries-placed : (entries : List (ℕ × User)) (u : User) → AreByStamp entries → lookup (is_at (nat_cmp u.stamp)) entries ≡ None
-    → in_entries (insert_entry nat_cmp entries u.stamp u) ≡ place stamp_of (user_of u) (in_entries entries)
+    → in_entries (insert_entry nat_cmp entries u.stamp u) ≡ place stamp_of u (in_entries entries)
 entries-placed [] u by none = refl
 entries-placed (e ∷ entries) u by none =
     let same : e.0 ≡ e.1.stamp = by.0 in
@@ -33,7 +31,7 @@ entries-placed (e ∷ entries) u by none =
       | inl t ↦ rw (same, t) refl
       | inr f ↦ elim (cases_Bool (eqb u.stamp e.1.stamp)) [
         | inl q ↦ absurd (none-some e.1 (sym (rw (same, f, q) at none)))
-        | inr g ↦ rw (same, f, g) (ap (λ rest. user_of e.1 ∷ rest) (entries-placed entries u by.1 (rw (same, f, g) at none)))
+        | inr g ↦ rw (same, f, g) (ap (λ rest. e.1 ∷ rest) (entries-placed entries u by.1 (rw (same, f, g) at none)))
       ]
     ]
 
@@ -59,12 +57,12 @@ tested k s = unsigned_tied k s ∙ turned k s
           | inr f ↦ f ∙ sym (ne_eqb s k (λ e. eqb-false k s f (sym e)))
         ]
 
-chosen : (a b : Bool) → a ≡ b → (u : User) (o : Option User) (found : Option records.User) → option_map user_of o ≡ found
-    → option_map user_of (cond a (Some u) o) ≡ cond b (Some (user_of u)) found
+chosen : (a b : Bool) → a ≡ b → (u : User) (o : Option User) (found : Option User) → o ≡ found
+    → cond a (Some u) o ≡ cond b (Some u) found
 chosen a true same u o found is = rw same refl
 chosen a false same u o found is = rw same is
 
-pub entries-lookup : (entries : List (ℕ × User)) (k : ℕ) → AreByStamp entries → option_map user_of (lookup (is_at (nat_cmp k)) entries) ≡ find (has stamp_of k) (in_entries entries)
+pub entries-lookup : (entries : List (ℕ × User)) (k : ℕ) → AreByStamp entries → lookup (is_at (nat_cmp k)) entries ≡ find (has stamp_of k) (in_entries entries)
 entries-lookup [] k by = refl
 entries-lookup (e ∷ entries) k by =
     chosen (is_eq (nat_cmp k e.0)) (eqb e.1.stamp k) (tested k e.0 ∙ ap (λ s. eqb s k) by.0) e.1 (lookup (is_at (nat_cmp k)) entries) (find (has stamp_of k) (in_entries entries))
@@ -87,13 +85,13 @@ some-counted p (y ∷ xs) x found =
     ]
 
 pub entries-none : (entries : List (ℕ × User)) (k : ℕ) → AreByStamp entries → lookup (is_at (nat_cmp k)) entries ≡ None → count_by (has stamp_of k) (in_entries entries) ≡ 0
-entries-none entries k by none = none-counted (has stamp_of k) (in_entries entries) (sym (entries-lookup entries k by) ∙ ap (option_map user_of) none)
+entries-none entries k by none = none-counted (has stamp_of k) (in_entries entries) (sym (entries-lookup entries k by) ∙ none)
 
 pub entries-some : (entries : List (ℕ × User)) (k : ℕ) (u : User) → AreByStamp entries → lookup (is_at (nat_cmp k)) entries ≡ Some u → 1 ≤ count_by (has stamp_of k) (in_entries entries)
-entries-some entries k u by found = some-counted (has stamp_of k) (in_entries entries) (user_of u) (sym (entries-lookup entries k by) ∙ ap (option_map user_of) found)
+entries-some entries k u by found = some-counted (has stamp_of k) (in_entries entries) u (sym (entries-lookup entries k by) ∙ found)
 
 -- whether the user of a stamp makes users, from what the map has at the stamp
 pub made-lookup : (entries : List (ℕ × User)) (stamp : ℕ) (o : Option User) → AreByStamp entries → o ≡ lookup (is_at (nat_cmp stamp)) entries
-    → option_map_or (λ (u : records.User). is_maker u.profile) (option_map user_of o) false ≡ is_made_by_maker (in_entries entries) stamp
+    → option_map_or (λ (u : User). is_maker u.profile) o false ≡ is_made_by_maker (in_entries entries) stamp
 made-lookup entries stamp o by is =
-    ap (λ (found : Option records.User). option_map_or (λ (u : records.User). is_maker u.profile) found false) (ap (option_map user_of) is ∙ entries-lookup entries stamp by)
+    ap (λ (found : Option User). option_map_or (λ (u : User). is_maker u.profile) found false) (is ∙ entries-lookup entries stamp by)

@@ -2,9 +2,9 @@ mod Added
 mod ByStamp
 mod Gathering
 mod GatheringSlots
-mod TwoRecords
 pub mod Leaving
 mod NamesApart
+mod NotBuilt
 mod OpenedDatabase
 mod OwnerSearch
 mod Performing
@@ -15,3 +15,4 @@ mod SlotCount
 mod SlotSearch
 mod Starting
 pub mod Told
+mod TwoRecords

@@ -11,11 +11,9 @@ use Rattle.std.specs.BTreeMap.{is_at}
 use Rattle.std.proofs.lemmas.Bool.{cases_Bool, false≢true, not-true}
 use Rattle.std.proofs.lemmas.Map.Text.{is_eq-slice_cmp}
 use Rattle.std.proofs.lemmas.Slice.Eq.{bytes_eq-Decides}
-use Rattle.scql_model.specs.Records as records
 use Rattle.scql_model.specs.Database.{are_different}
 use Rattle.scql_model.proofs.LongerLists.{not_equal-sym}
-use Rattle.card.specs.declared.coding.User.{User}
-use Rattle.card.specs.Users.{user_of}
+use Rattle.scql_base.specs.declared.records.User.{User}
 
 -- names that are different and none of those before
 abbrev pub are_new : List (List ℕ) → List (List ℕ) → Bool
@@ -108,7 +106,7 @@ new-again before x names there = rw there refl
 
 -- the names of users
 abbrev pub names_in : List User → List (List ℕ)
-names_in users = map (λ (u : records.User). u.name) (map user_of users)
+names_in users = map (λ (u : User). u.name) users
 
 -- the set has the next user's name
 pub names-refused : (keys : List (Bor (List ℕ))) (key : Bor (List ℕ)) (users rest : List User) (u : User) (all added : Bool) → all ≡ are_new (names_of keys) (names_in users) → users ≡ u ∷ rest → key.now ≡ u.name

@@ -26,6 +26,7 @@ use Rattle.card.proofs.SlotCount.{length-committed}
 holds-gathered : (slots : Slots) (cells next : ℕ) (users : List User) → length slots ≡ cells → Gathers slots (next ∷ []) users → Holds slots (of_users cells next users)
 holds-gathered slots cells next users counted g = record {
   cells = counted;
+  limit = refl;
   spelled = g.spelled;
   counter = ap (in_order counter_stamp) g.counters;
   users = g.users;

@@ -21,16 +21,16 @@ use Rattle.scql_base.specs.Words.{done, no_space}
 use Rattle.scql_base.specs.declared.records.User.{User}
 use Rattle.scql_model.specs.Records.{counter_record, user_record, user_in}
 use Rattle.scql_model.specs.Database.{Database, user_stamped}
-use Rattle.scql_model.specs.Machine.{Machine, Session, Presented, actor, actor_of, base, session_of, open_channels}
+use Rattle.scql_base.specs.declared.cursor.Presented.{Presented}
+use Rattle.scql_base.specs.declared.operation.Operation.TheVariants.{CreateUser}
+use Rattle.scql_model.specs.Machine.{Machine, Session, actor, actor_of, base, session_of, open_channels}
 use Rattle.scql_model.specs.Opens.{OpensToOneOf}
 use Rattle.scql_model.specs.Creating.{IsAsked, IsActorOf, created, new_user, with_user}
-use Rattle.scql_model.specs.Commands.{create_user}
 use Rattle.scql_model.specs.Form.{form_of}
 use Rattle.scql_model.specs.Step.{Answer, said, answered, step, changed, user_created}
 use Rattle.scql_model.specs.WellFormed.{IsWellFormed}
 use Rattle.scql_model.proofs.Acting.{IsActorOf-actor}
 use Rattle.scql_model.proofs.Naming.{user_stamped-slots}
-use Rattle.card.specs.Users.{user_of}
 use Rattle.card.specs.Sessions.{proved_stamp, proved_user}
 use Rattle.card.specs.Adding.{IsAdded, AddedTo, LeavesAdded, IsWritten, HasNoRoom, IfCommitted}
 use Rattle.card.specs.Card.{Kept, IsReady, IsAt, committed_slots}
@@ -128,7 +128,7 @@ created-as card chip m channel who name profile secret at is = outside ∙ ap (�
 
 -- what is asked
 pub asked-at : (card : Kept) (chip : Chip) (m : Machine) (channel : ℕ) (who : Actor) (name : List ℕ) (profile : Profile) (secret : List ℕ) → IsAt card chip m → who ≡ actor m channel
-    → IsWellFormed (create_user name profile secret) → IsAsked m.committed who name profile secret
+    → IsWellFormed (CreateUser name profile secret) → IsAsked m.committed who name profile secret
 asked-at card chip m channel who name profile secret at is formed = record {
   acts = subst (λ (who : Actor). IsActorOf m.committed who) (sym is) (subst (λ (db : Database). IsActorOf db (actor m channel)) (committed-base m channel at.transaction) (IsActorOf-actor m channel));
   named = formed.0;
@@ -143,7 +143,7 @@ module _ (card : Kept) (old : Chip) (m : Machine) (at : IsAt card old m) (ready 
   the_user = new_user m.committed who name profile secret
 
   abbrev user_octets : List ℕ
-  user_octets = user_record.spell (user_of addition.user)
+  user_octets = user_record.spell addition.user
 
   abbrev counter_octets : List ℕ
   counter_octets = counter_record.spell (addition.user.stamp + 1)
@@ -284,10 +284,10 @@ module _ (card : Kept) (old : Chip) (m : Machine) (at : IsAt card old m) (ready 
 pub Performs-added : (card : Kept) (store : Held) (old new : Chip) (m : Machine) (at : IsAt card old m) (who : Actor) (name : List ℕ) (profile : Profile) (secret : List ℕ) (addition : Addition) (result : Result (Unit {0}) StoreRefusal)
     → IsReady card old → IsAddition m.committed who name profile secret at.slots addition → addition.counter_slot < card.store.cells
     → OnOk result (is_some new.image ≡ is_some old.image)
-    → OnOk result (Becomes (IsWritten card.store store (user_record.spell (user_of addition.user)) addition.counter_slot (counter_record.spell (addition.user.stamp + 1))) old.image new.image)
-    → (IsErrOf result Full → IfCommitted card.store old.image (HasNoRoom card.store.cells (user_record.spell (user_of addition.user))))
+    → OnOk result (Becomes (IsWritten card.store store (user_record.spell addition.user) addition.counter_slot (counter_record.spell (addition.user.stamp + 1))) old.image new.image)
+    → (IsErrOf result Full → IfCommitted card.store old.image (HasNoRoom card.store.cells (user_record.spell addition.user)))
     → (IsErrOf result Full → IfCommitted card.store old.image (λ slots. (new ≡ old) × ((image : List ℕ) → contents store Committed image ≡ contents card.store Committed image)))
-    → LeavesAdded card.store (user_record.spell (user_of addition.user)) addition.counter_slot (counter_record.spell (addition.user.stamp + 1)) old new
+    → LeavesAdded card.store (user_record.spell addition.user) addition.counter_slot (counter_record.spell (addition.user.stamp + 1)) old new
     → Performs m (answered m (changed m (created m.committed who name profile secret))) (answer_to result) (record card { store = store }) old new
 Performs-added card store old new m at who name profile secret addition (Ok x) ready is there told written full unchanged moments = record {
   step = done_now card old m at ready who name profile secret addition is there store new told written;

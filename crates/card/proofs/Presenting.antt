@@ -12,9 +12,9 @@ use Rattle.scql_base.specs.Words.{done, not_found}
 use Rattle.scql_base.specs.declared.records.User.{User}
 use Rattle.scql_model.specs.Records.{user_in}
 use Rattle.scql_model.specs.Database.{public_name, is_named, user_named}
-use Rattle.scql_model.specs.Machine.{Machine, Session, open_channels}
+use Rattle.scql_model.specs.Machine.{Machine, Session, session_for, open_channels}
 use Rattle.scql_model.specs.Step.{Answer, said, answered, done_with, step, operated, user_of_session, presented}
-use Rattle.scql_model.specs.Commands.{Command}
+use Rattle.scql_base.specs.declared.operation.Command.{Command}
 use Rattle.scql_model.specs.Form.{form_of}
 use Rattle.scql_model.proofs.Naming.{user_named-slots}
 use Rattle.card.specs.Card.{Kept, IsAt, committed_slots}
@@ -54,10 +54,10 @@ unknown_presented card chip m channel name at user none =
 
 pub user_presented : (card : Kept) (chip : Chip) (m : Machine) (channel : ℕ) (name : List ℕ) (at : IsAt card chip m) (u : User) → bytes_eq name public_name ≡ false
     → find (is_named name) (filter_map (in_slot user_in) at.slots) ≡ Some u
-    → Answers (answered m (user_of_session m channel name)) (said done) (with_session card channel (record { user = Some (presented u); cursor = None })) chip
+    → Answers (answered m (user_of_session m channel name)) (said done) (with_session card channel (session_for (Some (presented u)))) chip
 user_presented card chip m channel name at u user found =
     let same : user_named m.committed.users name ≡ Some u = user_named-slots at.slots m.committed name at.holds at.valid ∙ found in
-    let session : Session = record { user = Some (presented u); cursor = None } in
+    let session : Session = session_for (Some (presented u)) in
     let is : user_of_session m channel name ≡ Ok (done_with (record m { sessions = slice_set m.sessions channel (Some session) })) = rw (at.transaction, user, same) refl in
     gives_session card chip m channel session (user_of_session m channel name) at is
 
@@ -71,12 +71,12 @@ unknown_answers card store old new channel name same stays user none m at =
 
 pub user_answers : (card after : Kept) (store : Held) (old new : Chip) (channel : ℕ) (name : List ℕ) (u : User) → store ≡ card.store → new ≡ old → bytes_eq name public_name ≡ false
     → IfSome (committed_slots store old.image) (λ slots. Some u ≡ find (is_named name) (filter_map (in_slot user_in) slots))
-    → after ≡ with_session card channel (record { user = Some (presented u); cursor = None })
+    → after ≡ with_session card channel (session_for (Some (presented u)))
     → (m : Machine) → IsAt card old m → Answers (answered m (user_of_session m channel name)) (said done) after new
 user_answers card after store old new channel name u same stays user some is m at =
     let here = if_some-at (λ (slots : Slots). Some u ≡ find (is_named name) (filter_map (in_slot user_in) slots)) (committed_slots store old.image) at.slots (ap (λ (s : Held). committed_slots s old.image) same ∙ at.committed) some in
     subst (λ (kept : Kept). Answers (answered m (user_of_session m channel name)) (said done) kept new) (sym is)
-    (subst (λ (chip : Chip). Answers (answered m (user_of_session m channel name)) (said done) (with_session card channel (record { user = Some (presented u); cursor = None })) chip) (sym stays)
+    (subst (λ (chip : Chip). Answers (answered m (user_of_session m channel name)) (said done) (with_session card channel (session_for (Some (presented u)))) chip) (sym stays)
     (user_presented card old m channel name at u user (sym here)))
 
 -- The step of a command, where card and EEPROM are at the machine.

@@ -7,7 +7,7 @@ use Rattle.scql_model.specs.Machine as machine
 use Rattle.card.specs.Card.{Kept}
 use Rattle.card.specs.Sessions.{session_of, sessions_of}
 use Rattle.card.specs.Answering.{with_user}
-use Rattle.card.specs.declared.session.Presented.{Presented}
+use Rattle.scql_base.specs.declared.cursor.Presented.{Presented}
 use Rattle.card.specs.declared.session.Session.{Session}
 
 pub sessions_of-set : (store : Held) (live : Bool) (sessions : List (Option Session)) (channel : ℕ) (user : Option Presented) → (card : Kept)

@@ -1,5 +1,5 @@
 -- What an answer leaves.
-use Rattle.std.specs.Prelude.{◌≡◌, ℕ, List, [], ◌∷◌, Option, Some, None, Result, Ok, Err, IfOk, OnOk, option_map, slice_set}
+use Rattle.std.specs.Prelude.{◌≡◌, ℕ, List, [], ◌∷◌, Option, Some, Result, Ok, Err, IfOk, OnOk, slice_set}
 use Rattle.eeprom.specs.Chip.{Chip, Leaves}
 use Rattle.scql_model.specs.Database.{Database}
 use Rattle.scql_model.specs.Opens.{OpensToOneOf}
@@ -9,11 +9,10 @@ use Rattle.record_store.specs.declared.refusal.StoreRefusal.{StoreRefusal}
 use Rattle.record_store.specs.declared.refusal.StoreRefusal.TheVariants.{Full, Fault}
 use Rattle.scql_base.specs.Words.{done, no_space}
 use Rattle.scql_model.specs.Commands as model
-use Rattle.scql_model.specs.Machine.{Machine}
+use Rattle.scql_model.specs.Machine.{Machine, session_for}
 use Rattle.scql_model.specs.Step.{Answer, said}
 use Rattle.card.specs.Card.{Kept, IsAt}
-use Rattle.card.specs.Sessions.{presented_of}
-use Rattle.card.specs.declared.session.Presented.{Presented}
+use Rattle.scql_base.specs.declared.cursor.Presented.{Presented}
 use Rattle.card.specs.declared.reply.Reply.{Reply}
 
 -- the machine's answer is this reply, and card and EEPROM are at its machine
@@ -44,4 +43,4 @@ reply_of reply = record { body = reply.body.items; word = reply.word }
 -- a new session of a channel, for this user
 abbrev pub with_user : Kept → ℕ → Option Presented → Kept
 with_user card channel user =
-    record card { sessions = slice_set card.sessions channel (Some (record { user = option_map presented_of user; cursor = None })) }
+    record card { sessions = slice_set card.sessions channel (Some (session_for user)) }

@@ -7,7 +7,6 @@ use Rattle.scql_base.specs.declared.words.Profile.{Profile}
 use Rattle.scql_model.specs.Records.{counter_in}
 use Rattle.scql_model.specs.Database.{Database}
 use Rattle.scql_model.specs.Creating.{IsAsked, may_create, is_taken, stamps_end, new_user, created}
-use Rattle.card.specs.Users.{user_of}
 use Rattle.card.specs.declared.creating.Addition.{Addition}
 use Rattle.card.specs.declared.creating.Prepared.{Prepared}
 use Rattle.card.specs.declared.creating.Prepared.TheVariants.{Ready, Refused}
@@ -22,7 +21,7 @@ pub record IsAddition (db : Database) (actor : Actor) (name : List ℕ) (profile
   pub may : may_create actor profile ≡ true
   pub free : is_taken db name ≡ false
   pub left : (db.next == stamps_end) ≡ false
-  pub user : user_of addition.user ≡ new_user db actor name profile secret
+  pub user : addition.user ≡ new_user db actor name profile secret
   pub counts : in_slot counter_in (slice_index_or slots addition.counter_slot None) ≡ Some db.next
 
 -- it is ready to be added, or the command is refused

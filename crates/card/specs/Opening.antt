@@ -1,22 +1,21 @@
 -- What the slots of a card hold, as far as they were read.
-use Rattle.std.specs.Prelude.{◌≡◌, ℕ, ◌+◌, ◌*◌, true, List, [], ◌∷◌, map, Option, Some, None}
+use Rattle.std.specs.Prelude.{◌≡◌, ℕ, ◌+◌, ◌*◌, true, List, [], ◌∷◌, Option, Some, None}
 use Rattle.std.specs.List.{list_all, filter_map, AllByRecursion}
 use Rattle.std.specs.BTreeMap.{BTreeMap, values}
 use Rattle.eeprom.specs.Chip.{RisesBy}
 use Rattle.eeprom.specs.StoreOf.{Slots}
 use Rattle.eeprom.specs.Slots.{AreApart, in_order, in_slot}
 use Rattle.record_store.specs.Opening.{front_octets}
-use Rattle.scql_model.specs.Records as records
 use Rattle.scql_model.specs.Records.{counter_record, user_record, counter_in, user_in}
 use Rattle.scql_model.specs.Database.{Database, IsValid, weight}
 use Rattle.scql_model.specs.Opens.{Holds, is_spelled}
 use Rattle.card.specs.declared.coding.Counter.{Counter}
-use Rattle.card.specs.declared.coding.User.{User}
-use Rattle.card.specs.Users.{next_of, user_of}
+use Rattle.scql_base.specs.declared.records.User.{User}
+use Rattle.card.specs.Users.{next_of}
 
 -- the users of a map, in its order
-abbrev pub users_of : BTreeMap ℕ User → List records.User
-users_of m = map user_of (values m)
+abbrev pub users_of : BTreeMap ℕ User → List User
+users_of m = (values m)
 
 -- each user stands at its stamp
 abbrev pub AreByStamp : List (ℕ × User) → Type 0
@@ -28,11 +27,11 @@ counters_of None = []
 counters_of (Some counter) = next_of counter ∷ []
 
 -- The records in these slots are these counters and these users, which rise; each is within its limits, and no two users have one stamp.
-pub record Gathers (slots : Slots) (found_counters : List ℕ) (found_users : List records.User) : Type 0 where
+pub record Gathers (slots : Slots) (found_counters : List ℕ) (found_users : List User) : Type 0 where
   pub spelled : list_all is_spelled slots ≡ true
   pub counters : filter_map (in_slot counter_in) slots ≡ found_counters
-  pub users : in_order (λ (u : records.User). u.stamp) (filter_map (in_slot user_in) slots) ≡ found_users
-  pub apart : AreApart (λ (u : records.User). u.stamp) (filter_map (in_slot user_in) slots)
+  pub users : in_order (λ (u : User). u.stamp) (filter_map (in_slot user_in) slots) ≡ found_users
+  pub apart : AreApart (λ (u : User). u.stamp) (filter_map (in_slot user_in) slots)
   pub counter_limits : list_all counter_record.fits found_counters ≡ true
   pub user_limits : list_all user_record.fits found_users ≡ true
 

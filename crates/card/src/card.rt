@@ -12,13 +12,12 @@ ghost use Rattle.scql_base.specs.Words.{done, memory_failure};
 ghost use Rattle.scql_model.specs.Database.{Database, fresh};
 ghost use Rattle.eeprom.specs.Image.{overwrite};
 ghost use Rattle.card.specs.Card.{Kept, IsReady, IsAt, committed_slots, fresh_card};
-ghost use Rattle.card.specs.Commands.{operation_of};
 ghost use Rattle.card.specs.Answering.{Answers, LeavesOneOf, Performs, answer_to, reply_of, with_user};
 ghost use Rattle.card.specs.Creating.{IsAddition, IsCounter};
 ghost use Rattle.card.specs.Making.{LeavesMade};
 ghost use Rattle.card.specs.Opening.{ReadsCard};
 ghost use Rattle.card.specs.Sessions.{proved_user, sessions_of};
-ghost use Rattle.scql_model.specs.Commands as model;
+ghost use Rattle.scql_base.specs.declared.operation.Operation.TheVariants as operation;
 ghost use Rattle.scql_model.specs.Creating.{created};
 ghost use Rattle.scql_model.specs.WellFormed.{IsWellFormed};
 ghost use Rattle.scql_base.specs.declared.words.Actor.{Actor};
@@ -26,17 +25,17 @@ ghost use Rattle.scql_base.specs.declared.words.Profile.{Profile};
 ghost use Rattle.std.specs.Option.{option_flatten};
 
 use crate::adding::add_and_change;
-use crate::coding::{Counter, User};
-use crate::command::{Command, Operation};
+use crate::coding::{Counter, encode_user, owner};
+use crate::command::CommandApdu;
 use crate::creating::{Addition, PUBLIC, Prepared, prepare_user};
 use crate::opening::{Opened, open_records};
 use crate::reply::{Outcome, Reply};
-use crate::session::{Presented, Session};
+use crate::session::Session;
 use crate::users::{Wanted, find_user};
 use crate::validity::are_valid;
 use eeprom::{Eeprom, EepromFault};
 use record_store::{FormatRefusal, OpenRefusal, RecordOctets, Store, StoreRefusal};
-use scql_base::{Actor, Name, Octets, Profile, StatusWord};
+use scql_base::{Actor, Command, Name, Octets, Operation, Presented, Profile, StatusWord};
 use std::alloc::Global;
 use std::marker::Model;
 
@@ -77,9 +76,9 @@ impl Card {
     {
         let mut counter = RecordOctets::new();
         Counter { next: 2 }.encode(&mut counter);
-        let mut owner = RecordOctets::new();
-        User::owner().encode(&mut owner);
-        Store::format(bench, n, &counter, &owner)
+        let mut user = RecordOctets::new();
+        encode_user(&owner(), &mut user);
+        Store::format(bench, n, &counter, &user)
     }
 
     /// Opens the card of an EEPROM, where its image opens to a database. Channel 0 is open, without a user.
@@ -193,9 +192,9 @@ impl Card {
     ) -> Result<StatusWord, EepromFault>
         requires ready { IsReady self.old (B.chip bench.old) }
         requires channel { channel < 4 }
-        requires formed { IsWellFormed (operation_of operation) }
+        requires formed { IsWellFormed operation }
         ensures performs { (m : machine.Machine) → IsAt self.old (B.chip bench.old) m
-            → Performs m (stepping.answered m (stepping.operated m channel (operation_of operation))) result self.new (B.chip bench.old) (B.chip bench.new) }
+            → Performs m (stepping.answered m (stepping.operated m channel operation)) result self.new (B.chip bench.old) (B.chip bench.new) }
         ensures ready { OnOk result (IsReady self.new (B.chip bench.new)) }
         ensures cause { Counts (B.faults bench.old) (B.faults bench.new) result }
         ensures still { (B.chip bench.new).still ≡ (B.chip bench.old).still }
@@ -207,6 +206,7 @@ impl Card {
                 profile,
                 secret,
             } => self.create_user(bench, channel, &name, profile, &secret),
+            _ => Ok(StatusWord::INSTRUCTION_NOT_SUPPORTED),
         }
     }
 
@@ -264,7 +264,7 @@ impl Card {
     ) -> Result<StatusWord, EepromFault>
         requires ready { IsReady self.old (B.chip bench.old) }
         requires channel { channel < 4 }
-        requires formed { IsWellFormed (model.create_user name.now profile secret.now) }
+        requires formed { IsWellFormed (operation.CreateUser name.now profile secret.now) }
         ensures performs { (m : machine.Machine) → IsAt self.old (B.chip bench.old) m
             → Performs m (stepping.answered m (stepping.user_created m channel name.now profile secret.now)) result self.new (B.chip bench.old) (B.chip bench.new) }
         ensures ready { OnOk result (IsReady self.new (B.chip bench.new)) }
@@ -296,7 +296,7 @@ impl Card {
         ensures still { (B.chip bench.new).still ≡ (B.chip bench.old).still }
     {
         let mut user = RecordOctets::new();
-        addition.user.encode(&mut user);
+        encode_user(&addition.user, &mut user);
         let mut counter = RecordOctets::new();
         let next = addition.user.stamp + 1;
         Counter { next }.encode(&mut counter);

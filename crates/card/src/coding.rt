@@ -1,30 +1,20 @@
 // The records of a card in octets: the counter of stamps and the users.
 ghost use Rattle.std.specs.Prelude.{◌≡◌, ℕ, ◌≤◌, ◌+◌, ◌++◌, ◌∷◌, Some, true, IfSome, length, option_map};
 ghost use Rattle.arrayvec.specs.ArrayVec.{array_vec_len};
+ghost use Rattle.scql_base.specs.declared.records.User.{User};
 ghost use Rattle.scql_model.specs.Fields as fields;
 ghost use Rattle.scql_model.specs.Records as records;
 ghost use Rattle.scql_model.specs.Database as database;
 ghost use Rattle.scql_base.specs.Name.{is_name};
-ghost use Rattle.card.specs.Users.{next_of, user_of};
+ghost use Rattle.card.specs.Users.{next_of};
 
 use record_store::RecordOctets;
-use scql_base::{Name, Octets, Profile};
+use scql_base::{Name, Octets, Profile, User};
 
 /// The record of the stamp that the next record takes.
 #[derive(Clone, Copy)]
 pub(crate) struct Counter {
     pub next: u32,
-}
-
-/// A user's record.
-#[derive(Drop)]
-pub(crate) struct User {
-    pub stamp: u32,
-    pub name: Name,
-    pub profile: Profile,
-    pub owner: u32,
-    pub secret: Octets<8>,
-    pub tries: u8,
 }
 
 impl Counter {
@@ -48,44 +38,43 @@ impl Counter {
     }
 }
 
-impl User {
-    /// The user with whom a card is made.
-    pub fn owner() -> User
-        ensures { user_of result ≡ database.owner }
-    {
-        User {
-            stamp: 1,
-            name: Name::read(b"OWNER").unwrap(),
-            profile: Profile::DbO,
-            owner: 1,
-            secret: Octets::of(b"").unwrap(),
-            tries: 3,
-        }
+/// The user with whom a card is made.
+pub(crate) fn owner() -> User
+    ensures { result ≡ database.owner }
+{
+    User {
+        stamp: 1,
+        name: Name::read(b"OWNER").unwrap(),
+        profile: Profile::DbO,
+        owner: 1,
+        secret: Octets::of(b"").unwrap(),
+        tries: 3,
     }
+}
 
-    pub fn encode(&self, out: &mut RecordOctets)
-        ensures { out.new.items ≡ records.user_record.spell (user_of self.now) }
-    {
-        out.clear();
-        out.push(0x01);
-        put(out, &self.stamp.to_be_bytes());
-        put(out, &self.owner.to_be_bytes());
-        out.push(profile_code(self.profile));
-        out.push(self.tries);
-        put_text(out, self.name.octets());
-        put_text(out, self.secret.as_slice());
-    }
+/// Writes the record of a user.
+pub(crate) fn encode_user(user: &User, out: &mut RecordOctets)
+    ensures { out.new.items ≡ records.user_record.spell user.now }
+{
+    out.clear();
+    out.push(0x01);
+    put(out, &user.stamp.to_be_bytes());
+    put(out, &user.owner.to_be_bytes());
+    out.push(profile_code(user.profile));
+    out.push(user.tries);
+    put_text(out, user.name.octets());
+    put_text(out, user.secret.as_slice());
+}
 
-    /// The user whose record these octets are.
-    pub fn decode(octets: &[u8]) -> Option<User>
-        ensures found { IfSome result (λ user.
-            (records.user_record.fits (user_of user) ≡ true) × (octets.now ≡ records.user_record.spell (user_of user))) }
-        ensures only { (user : records.User) → records.user_record.fits user ≡ true → octets.now ≡ records.user_record.spell user
-            → option_map user_of result ≡ Some user }
-        ensures exact { option_map user_of result ≡ records.user_in octets.now }
-    {
-        user_in(octets)
-    }
+/// The user whose record these octets are.
+pub(crate) fn decode_user(octets: &[u8]) -> Option<User>
+    ensures found { IfSome result (λ user.
+        (records.user_record.fits user ≡ true) × (octets.now ≡ records.user_record.spell user)) }
+    ensures only { (user : User) → records.user_record.fits user ≡ true → octets.now ≡ records.user_record.spell user
+        → result ≡ Some user }
+    ensures exact { result ≡ records.user_in octets.now }
+{
+    user_in(octets)
 }
 
 fn counter_in(octets: &[u8]) -> Option<Counter>
@@ -103,7 +92,7 @@ fn counter_in(octets: &[u8]) -> Option<Counter>
 }
 
 fn user_in(octets: &[u8]) -> Option<User>
-    ensures { option_map user_of result ≡ records.user_in octets.now }
+    ensures { result ≡ records.user_in octets.now }
 {
     let [0x01, octets @ ..] = octets else {
         return None;

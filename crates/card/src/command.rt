@@ -3,29 +3,14 @@ ghost use Rattle.std.specs.Prelude.{◌≡◌, ◌∷◌, [], true, Some, Err, I
 ghost use Rattle.scql_model.specs.Form as form;
 ghost use Rattle.scql_model.specs.WellFormed.{IsWellFormed};
 ghost use Rattle.scql_base.specs.Words.{wrong_data};
-ghost use Rattle.card.specs.Commands.{command_of, operation_of, kind_view, tail_view, seen, strings_read};
+ghost use Rattle.card.specs.Commands.{kind_view, tail_view, seen, strings_read};
 
-use scql_base::{Name, Octets, Params, Profile, StatusWord};
+use scql_base::{Command, Name, Octets, Operation, Params, Profile, StatusWord};
 
-/// What a command asks for.
-#[derive(Drop)]
-pub enum Operation {
-    PresentUser {
-        name: Name,
-    },
-    CreateUser {
-        name: Name,
-        profile: Profile,
-        secret: Octets<8>,
-    },
-}
-
-/// A command on a logical channel, 0 to 3. Le is the greatest number of octets wanted, 1 to 256.
-#[derive(Drop)]
-pub struct Command {
-    pub channel: u8,
-    pub operation: Operation,
-    pub le: Option<u16>,
+/// Commands in octets.
+pub trait CommandApdu: Sized {
+    /// The command that octets are, where these channels are open, or the status word of the first refusal.
+    fn read(octets: &[u8], channels: [bool; 4]) -> Result<Self, StatusWord>;
 }
 
 /// The operations, before their data are read.
@@ -42,12 +27,11 @@ pub(crate) struct Tail<'a> {
     pub le: Option<u16>,
 }
 
-impl Command {
-    /// The command that octets are, where these channels are open, or the status word of the first refusal.
+impl CommandApdu for Command {
     #[tactic(auto, unfolding(scql_model::specs::Form::form_of))]
-    pub fn read(octets: &[u8], channels: [bool; 4]) -> Result<Command, StatusWord>
-        ensures command { seen command_of result ≡ form.form_of octets.now channels }
-        ensures formed { IfOk result (λ command. IsWellFormed (operation_of command.operation)) }
+    fn read(octets: &[u8], channels: [bool; 4]) -> Result<Command, StatusWord>
+        ensures command { result ≡ form.form_of octets.now channels }
+        ensures formed { IfOk result (λ command. IsWellFormed command.operation) }
         ensures on_open { IfOk result (λ command. slice_get channels command.channel ≡ Some true) }
     {
         let [cla, ins, p1, p2, after @ ..] = octets else {
@@ -160,7 +144,7 @@ fn le_of(octet: u8) -> u16
 }
 
 fn operation_in(kind: Kind, body: &[u8]) -> Result<Operation, StatusWord>
-    ensures { seen operation_of result ≡ strings_read kind body.now }
+    ensures { result ≡ strings_read kind body.now }
 {
     let params = Params::read(body).ok_or(StatusWord::WRONG_DATA)?;
     match kind {
@@ -170,7 +154,7 @@ fn operation_in(kind: Kind, body: &[u8]) -> Result<Operation, StatusWord>
 }
 
 fn presented_in(params: Params<'_>) -> Result<Operation, StatusWord>
-    ensures { seen operation_of result ≡ form.presented_in params.entry }
+    ensures { result ≡ form.presented_in params.entry }
 {
     let Some((name, rest)) = params.split_first() else {
         return Err(StatusWord::WRONG_DATA);
@@ -183,7 +167,7 @@ fn presented_in(params: Params<'_>) -> Result<Operation, StatusWord>
 }
 
 fn created_in(params: Params<'_>) -> Result<Operation, StatusWord>
-    ensures { seen operation_of result ≡ form.created_in params.entry }
+    ensures { result ≡ form.created_in params.entry }
 {
     let Some((name, profile, secret)) = three_of(params) else {
         return Err(StatusWord::WRONG_DATA);

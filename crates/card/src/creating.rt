@@ -12,12 +12,11 @@ ghost use Rattle.scql_model.specs.Creating.{IsAsked, may_create, actor_stamp};
 ghost use Rattle.card.specs.Card.{committed_slots};
 ghost use Rattle.card.specs.Creating.{Prepares, IfReady, IsCounter};
 
-use crate::coding::User;
 use crate::counter::find_counter;
 use crate::users::{Wanted, find_user};
 use eeprom::{Eeprom, EepromFault};
 use record_store::Store;
-use scql_base::{Actor, Name, Octets, Profile, StatusWord};
+use scql_base::{Actor, Name, Octets, Profile, StatusWord, User};
 
 /// The name of everybody.
 pub(crate) const PUBLIC: &[u8] = b"PUBLIC";

@@ -14,6 +14,6 @@ mod users;
 mod validity;
 
 pub use card::Card;
-pub use command::{Command, Operation};
+pub use command::CommandApdu;
 pub use record_store::{FormatRefusal, OpenRefusal};
 pub use reply::{Outcome, Reply};

@@ -8,13 +8,14 @@ ghost use Rattle.record_store.specs.CountsFaults.{CountsFaults};
 ghost use Rattle.record_store.specs.Held.{StandsFor, contents};
 ghost use Rattle.record_store.specs.Opening.{ReadsStore, most_octets, slot_with};
 ghost use Rattle.record_store.specs.declared.side.Side.TheVariants.{Committed};
+ghost use Rattle.scql_base.specs.declared.records.User.{User};
 ghost use Rattle.scql_model.specs.Records as records;
 ghost use Rattle.card.specs.Opening.{AreByStamp, Gathers, HoldNone, counters_of, users_of};
-ghost use Rattle.card.specs.Users.{user_of};
 
-use crate::coding::{Counter, User};
+use crate::coding::{Counter, decode_user};
 use eeprom::Eeprom;
 use record_store::{OpenRefusal, Opening, RecordOctets, Store};
+use scql_base::User;
 use std::alloc::Global;
 use std::collections::BTreeMap;
 
@@ -108,7 +109,7 @@ impl Found {
         if let Some(counter) = Counter::decode(octets) {
             return self.set_counter(counter);
         }
-        match User::decode(octets) {
+        match decode_user(octets) {
             Some(user) => add_user(&mut self.users, user),
             None => Err(OpenRefusal::NotACard),
         }
@@ -133,9 +134,9 @@ impl Found {
 fn add_user(users: &mut BTreeMap<u32, User>, user: User) -> Result<(), OpenRefusal>
     requires by_stamp { AreByStamp users.old.entries }
     ensures by_stamp { OnOk result (AreByStamp users.new.entries) }
-    ensures placed { OnOk result (users_of users.new ≡ place (λ (u : records.User). u.stamp) (user_of user) (users_of users.old)) }
-    ensures first { OnOk result (count_by (has (λ (u : records.User). u.stamp) user.stamp) (users_of users.old) ≡ 0) }
-    ensures second { IsErrOf result OpenRefusal.NotACard → 1 ≤ count_by (has (λ (u : records.User). u.stamp) user.stamp) (users_of users.old) }
+    ensures placed { OnOk result (users_of users.new ≡ place (λ (u : User). u.stamp) user (users_of users.old)) }
+    ensures first { OnOk result (count_by (has (λ (u : User). u.stamp) user.stamp) (users_of users.old) ≡ 0) }
+    ensures second { IsErrOf result OpenRefusal.NotACard → 1 ≤ count_by (has (λ (u : User). u.stamp) user.stamp) (users_of users.old) }
     ensures no_fault { ¬ (IsErrOf result OpenRefusal.Fault) }
 {
     match users.insert(user.stamp, user)? {

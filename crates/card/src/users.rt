@@ -5,13 +5,13 @@ ghost use Rattle.eeprom.specs.Fault.{Counts};
 ghost use Rattle.eeprom.specs.Slots.{in_slot};
 ghost use Rattle.record_store.specs.Held.{StandsFor};
 ghost use Rattle.scql_model.specs.Records as records;
-ghost use Rattle.card.specs.Users.{user_of, is_wanted};
+ghost use Rattle.card.specs.Users.{is_wanted};
 ghost use Rattle.card.specs.Card.{committed_slots};
 
-use crate::coding::User;
+use crate::coding::decode_user;
 use eeprom::{Eeprom, EepromFault};
 use record_store::{RecordOctets, Side, Store};
-use scql_base::Name;
+use scql_base::{Name, User};
 
 /// Which user is looked for.
 #[derive(Clone, Copy)]
@@ -29,7 +29,7 @@ pub(crate) fn find_user<B: Eeprom>(
     requires stands { IfSome (B.chip bench.old).image (StandsFor store.now) }
     requires room { 70 * store.now.cells + 34 ≤ (B.chip bench.old).still.size }
     ensures user { IfOk result (λ user. IfSome (committed_slots store.now (B.chip bench.old).image)
-        (λ slots. option_map user_of user ≡ find (is_wanted wanted.entry) (filter_map (in_slot records.user_in) slots))) }
+        (λ slots. user ≡ find (is_wanted wanted.entry) (filter_map (in_slot records.user_in) slots))) }
     ensures same { B.chip bench.new ≡ B.chip bench.old }
     ensures cause { Counts (B.faults bench.old) (B.faults bench.new) result }
 {
@@ -56,19 +56,19 @@ fn user_in<B: Eeprom>(
     requires room { 70 * store.now.cells + 34 ≤ (B.chip bench.old).still.size }
     requires slot { slot < store.now.cells }
     ensures user { IfOk result (λ user. IfSome (committed_slots store.now (B.chip bench.old).image)
-        (λ slots. option_map user_of user ≡ in_slot records.user_in (slice_index_or slots slot None))) }
+        (λ slots. user ≡ in_slot records.user_in (slice_index_or slots slot None))) }
     ensures same { B.chip bench.new ≡ B.chip bench.old }
     ensures cause { Counts (B.faults bench.old) (B.faults bench.new) result }
 {
     if store.get(bench, Side::Committed, slot, octets)? {
-        Ok(User::decode(octets))
+        Ok(decode_user(octets))
     } else {
         Ok(None)
     }
 }
 
 fn is_found(user: &User, wanted: Wanted<'_>) -> bool
-    ensures { result ≡ is_wanted wanted.entry (user_of user.now) }
+    ensures { result ≡ is_wanted wanted.entry user.now }
 {
     match wanted {
         Wanted::Named(name) => name.octets() == user.name.octets(),

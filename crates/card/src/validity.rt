@@ -2,15 +2,14 @@
 ghost use Rattle.std.specs.Prelude.{◌≡◌, IfOk, filter, map};
 ghost use Rattle.std.specs.List.{list_all};
 ghost use Rattle.scql_model.specs.Database as database;
+ghost use Rattle.scql_base.specs.declared.records.User.{User};
 ghost use Rattle.scql_model.specs.Records as records;
 ghost use Rattle.scql_model.specs.Validity as validity;
 ghost use Rattle.card.specs.Opening.{AreByStamp, users_of};
-ghost use Rattle.card.specs.Users.{user_of};
 
-use crate::coding::User;
 use crate::creating::PUBLIC;
 use crate::opening::Records;
-use scql_base::Profile;
+use scql_base::{Profile, User};
 use std::alloc::{AllocError, Global};
 use std::collections::{BTreeMap, BTreeSet};
 
@@ -45,7 +44,7 @@ fn has_owner_alone(users: &BTreeMap<u32, User>) -> bool
 }
 
 fn is_db_o(user: &User) -> bool
-    ensures { result ≡ database.is_db_o (user_of user.now) }
+    ensures { result ≡ database.is_db_o user.now }
 {
     match user.profile {
         Profile::DbO => true,
@@ -55,7 +54,7 @@ fn is_db_o(user: &User) -> bool
 
 // Whether a user is OWNER as a card is made with it.
 fn is_owner(user: &User) -> bool
-    ensures { result ≡ validity.is_owner (user_of user.now) }
+    ensures { result ≡ validity.is_owner user.now }
 {
     user.stamp == 1
         && user.name.octets() == OWNER
@@ -79,7 +78,7 @@ fn is_each_valid(records: &Records) -> bool
 
 fn is_valid(records: &Records, user: &User) -> bool
     requires by_stamp { AreByStamp records.now.users.entries }
-    ensures { result ≡ validity.is_valid_user records.now.next (users_of records.now.users) (user_of user.now) }
+    ensures { result ≡ validity.is_valid_user records.now.next (users_of records.now.users) user.now }
 {
     user.stamp >= 1
         && user.stamp < records.next
@@ -91,7 +90,7 @@ fn is_valid(records: &Records, user: &User) -> bool
 // Whether the user's owner may have made it.
 fn has_maker(users: &BTreeMap<u32, User>, user: &User) -> bool
     requires by_stamp { AreByStamp users.now.entries }
-    ensures { result ≡ database.has_maker (users_of users.now) (user_of user.now) }
+    ensures { result ≡ database.has_maker (users_of users.now) user.now }
 {
     match user.profile {
         Profile::DbO => true,
@@ -120,14 +119,14 @@ fn is_maker(user: &User) -> bool
 }
 
 fn has_all_tries(user: &User) -> bool
-    ensures { result ≡ database.has_all_tries (user_of user.now) }
+    ensures { result ≡ database.has_all_tries user.now }
 {
     !user.secret.as_slice().is_empty() || user.tries == 3
 }
 
 // Whether no two users have one name.
 fn have_different_names(alloc: Global, users: &BTreeMap<u32, User>) -> Result<bool, AllocError>
-    ensures { IfOk result (λ different. different ≡ database.are_different (map (λ (u : records.User). u.name) (users_of users.now))) }
+    ensures { IfOk result (λ different. different ≡ database.are_different (map (λ (u : User). u.name) (users_of users.now))) }
 {
     let mut names = BTreeSet::new(alloc);
     for user in users.values() {

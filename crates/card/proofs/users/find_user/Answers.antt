@@ -1,9 +1,10 @@
 -- The search of the whole is that of what is left, slot by slot.
 use Rattle.std.proofs.Common.{◌≡◌, ◌<◌, false, Option, refl, sym, ◌∙◌, arith}
-use Rattle.std.specs.Prelude.{IfSome, option_map}
+use Rattle.std.specs.Prelude.{IfSome}
 use Rattle.eeprom.specs.StoreOf.{Slots}
-use Rattle.card.specs.Users.{user_of, is_wanted}
+use Rattle.card.specs.Users.{is_wanted}
 use Rattle.eeprom.specs.Slots.{in_slot}
+use Rattle.scql_base.specs.declared.records.User.{User}
 use Rattle.scql_model.specs.Records as records
 use Rattle.card.specs.Card.{committed_slots}
 use Rattle.card.proofs.SlotCount.{length-committed_slots}
@@ -25,7 +26,7 @@ returns-then-is_found-clause-user g c =
     let slots : Option Slots = committed_slots c.args.store.now (g.B.Eeprom.chip c.args.bench.now).image in
     let within : c.loop-slot.slot < c.args.store.now.cells = omega (arith, c.loop-slot.invariant.bound, c.loop-slot-test.true) in
     let here = rw c.loop-slot.invariant.same at c.in_ok-user.ensures.user in
-    found_here (is_wanted c.args.wanted) (in_slot records.user_in) slots c.args.store.now.cells c.loop-slot.slot (user_of c.in-Some.user)
+    found_here (is_wanted c.args.wanted) (in_slot records.user_in) slots c.args.store.now.cells c.loop-slot.slot c.in-Some.user
     c.loop-slot.invariant.count within (rw c.in-Some.is at here) (sym c.is_found.ensures ∙ c.if-is_found.true) c.loop-slot.invariant.left
 
 pub loop-slot-preserved : goal.loop-slot-preserved
@@ -33,7 +34,7 @@ loop-slot-preserved g c =
     let slots : Option Slots = committed_slots c.args.store.now (g.B.Eeprom.chip c.args.bench.now).image in
     let within : c.loop-slot.slot < c.args.store.now.cells = omega (arith, c.loop-slot.invariant.bound, c.loop-slot-test.true) in
     let here = rw c.loop-slot.invariant.same at c.in_ok-user.ensures.user in
-    let passed : IfSome (option_map user_of c.in_ok-user.field-0) (λ (u : records.User). is_wanted c.args.wanted u ≡ false) =
+    let passed : IfSome c.in_ok-user.field-0 (λ (u : User). is_wanted c.args.wanted u ≡ false) =
     elim c.match-branch-2.branch [
       | in-Some+else-is_found w ↦ rw w.in-Some.is (sym w.is_found.ensures ∙ w.if-is_found.false)
       | in_default w ↦ rw w.in_default.is tt
@@ -43,7 +44,7 @@ loop-slot-preserved g c =
       faults = c.in_ok-user.ensures.cause.1 ∙ c.loop-slot.invariant.faults;
       bound = c.loop-slot.invariant.bound;
       count = c.loop-slot.invariant.count;
-      left = passed_here (is_wanted c.args.wanted) (in_slot records.user_in) slots c.args.store.now.cells c.loop-slot.slot (option_map user_of c.in_ok-user.field-0)
+      left = passed_here (is_wanted c.args.wanted) (in_slot records.user_in) slots c.args.store.now.cells c.loop-slot.slot c.in_ok-user.field-0
           c.loop-slot.invariant.count within here passed c.loop-slot.invariant.left;
     }
 

@@ -1,6 +1,6 @@
 -- A name that is put into the set is none of those before.
 use Rattle.std.proofs.Common.{◌≡◌, List, ◌∷◌, map, sym, ◌∙◌, rules}
-use Rattle.card.specs.declared.coding.User.{User}
+use Rattle.scql_base.specs.declared.records.User.{User}
 use Rattle.card.proofs.NamesApart.{names_in, new-first, names-refused, names-added}
 use Rattle.card.proofs.validity.have_different_names.Goals as goal
 

@@ -7,7 +7,6 @@ use Rattle.scql_base.specs.declared.StatusWord.{StatusWord}
 use Rattle.scql_model.specs.Records.{counter_record, user_record}
 use Rattle.scql_model.specs.Creating.{created}
 use Rattle.scql_model.specs.Step.{answered, changed}
-use Rattle.card.specs.Users.{user_of}
 use Rattle.card.specs.Adding.{IsAsLong, IfCommitted}
 use Rattle.card.specs.Creating.{IsCounter}
 use Rattle.card.specs.Answering.{Performs}
@@ -18,8 +17,8 @@ use Rattle.card.proofs.card.Card.add_user.Goals as goal
 
 pub add_and_change-added-requires-clause-may_add : goal.add_and_change-added-requires-clause-may_add
 add_and_change-added-requires-clause-may_add g c =
-    let counter : c.deref-2.result.now ≡ counter_record.spell (c.args.addition.now.user.stamp + 1) = c.deref-2.ensures.0 ∙ c.encode-2.ensures in
-    let user : c.deref.result.now ≡ user_record.spell (user_of c.args.addition.now.user) = c.deref.ensures.0 ∙ c.encode.ensures in
+    let counter : c.deref-2.result.now ≡ counter_record.spell (c.args.addition.now.user.stamp + 1) = c.deref-2.ensures.0 ∙ c.encode.ensures in
+    let user : c.deref.result.now ≡ user_record.spell c.args.addition.now.user = c.deref.ensures.0 ∙ c.encode_user.ensures in
     let store = ap (λ (kept : Kept). kept.store) c.self.view_is in
     record {
       room = search rules;
@@ -35,8 +34,8 @@ add_and_change-added-requires-clause-may_add g c =
 pub returns-clause-performs : goal.returns-clause-performs
 returns-clause-performs g c = λ m actor name profile secret at is.
     let store = ap (λ (kept : Kept). kept.store) c.self.view_is in
-    let user : c.deref.result.now ≡ user_record.spell (user_of c.args.addition.now.user) = c.deref.ensures.0 ∙ c.encode.ensures in
-    let counter : c.deref-2.result.now ≡ counter_record.spell (c.args.addition.now.user.stamp + 1) = c.deref-2.ensures.0 ∙ c.encode-2.ensures in
+    let user : c.deref.result.now ≡ user_record.spell c.args.addition.now.user = c.deref.ensures.0 ∙ c.encode_user.ensures in
+    let counter : c.deref-2.result.now ≡ counter_record.spell (c.args.addition.now.user.stamp + 1) = c.deref-2.ensures.0 ∙ c.encode.ensures in
     let outcome = answered m (changed m (created m.committed actor name profile secret)) in
     let new = g.B.Eeprom.chip c.add_and_change-added.new.bench in
     subst (λ (kept : Kept). Performs m outcome c.answer_to.result (record kept { store = c.add_and_change-added.new.store }) (g.B.Eeprom.chip c.args.bench.now) new) (sym c.self.view_is)

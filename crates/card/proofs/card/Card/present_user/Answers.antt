@@ -3,7 +3,6 @@ use Rattle.std.proofs.Common.{◌≡◌, false, ap, sym, ◌∙◌}
 use Rattle.std.specs.Str.{bytes_eq}
 use Rattle.scql_model.specs.Database.{public_name}
 use Rattle.card.specs.Card.{Kept}
-use Rattle.card.specs.Users.{user_of}
 use Rattle.card.proofs.Presenting.{unknown_answers, user_answers}
 use Rattle.card.proofs.card.Card.present_user.Goals as goal
 
@@ -16,6 +15,6 @@ returns-in_default-clause-step g c =
 pub returns-clause-step : goal.returns-clause-step
 returns-clause-step g c =
     let user : bytes_eq c.args.name.now public_name ≡ false = rw c.octets.ensures.octets at (sym c.eq.ensures ∙ c.if-eq.false) in
-    user_answers c.args.self.now c.set_user-2.new.self c.self.inside.store (g.B.Eeprom.chip c.args.bench.now) (g.B.Eeprom.chip c.find_user.new.bench) c.args.channel c.args.name.now (user_of c.in-Some.user)
+    user_answers c.args.self.now c.set_user-2.new.self c.self.inside.store (g.B.Eeprom.chip c.args.bench.now) (g.B.Eeprom.chip c.find_user.new.bench) c.args.channel c.args.name.now c.in-Some.user
     (ap (λ (kept : Kept). kept.store) c.self.view_is) c.in_ok-user.ensures.same user (rw c.in-Some.is at c.in_ok-user.ensures.user)
     (cc)

@@ -2,7 +2,6 @@
 use Rattle.std.proofs.Common.{Ok, Err, refl, sym, subst}
 use Rattle.scql_model.specs.Step.{Answer}
 use Rattle.card.specs.Answering.{Performs}
-use Rattle.card.specs.Commands.{command_of}
 use Rattle.card.proofs.Presenting.{step-operated}
 use Rattle.card.proofs.Performing.{Performs-refused, step-refused}
 use Rattle.card.proofs.card.Card.word_of.Goals as goal
@@ -16,5 +15,5 @@ returns-in-Err-clause-performs g c = λ m at.
 pub returns-in-Ok-clause-performs : goal.returns-in-Ok-clause-performs
 returns-in-Ok-clause-performs g c = λ m at.
     subst (λ (answer : Answer). Performs m answer c.operate.result c.operate.new.self (g.B.Eeprom.chip c.args.bench.now) (g.B.Eeprom.chip c.operate.new.bench))
-    (sym (step-operated c.args.self.now (g.B.Eeprom.chip c.args.bench.now) m c.args.command.now c.open_channels.result (command_of c.in-Ok.field-0) at c.open_channels.ensures c.in-Ok.ensures.command))
+    (sym (step-operated c.args.self.now (g.B.Eeprom.chip c.args.bench.now) m c.args.command.now c.open_channels.result c.in-Ok.field-0 at c.open_channels.ensures c.in-Ok.ensures.command))
     (c.operate.ensures.performs m at)
