@@ -11,6 +11,7 @@ pub mod Hearing
 pub mod LongerLists
 pub mod Naming
 pub mod RecordLaws
+pub mod RecordsOf
 pub mod Refusing
 pub mod Room
 pub mod SpellingLengths
@@ -19,3 +20,4 @@ pub mod Stored
 pub mod Validity
 mod WorkedCreating
 mod WorkedRows
+mod WorkedValidity

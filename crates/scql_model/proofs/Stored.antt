@@ -1,9 +1,10 @@
 -- Records of any kind stay stored where one is added, changed or removed.
 use Rattle.std.proofs.Common.{◌≡◌, ℕ, ◌≤◌, ◌+◌, Bool, true, cond, List, [], ◌∷◌, ◌++◌, map, filter, eqb, refl, sym, ap, subst, ◌∙◌, inl, inr, arith}
-use Rattle.std.specs.Prelude.{nat_le, nat_lt, ◌&&◌, if◌then◌else◌}
+use Rattle.std.specs.Prelude.{not, nat_le, nat_lt, ◌&&◌, if◌then◌else◌}
 use Rattle.std.specs.List.{list_all, sum_by, count_by}
 use Rattle.std.proofs.lemmas.Bool.{cases_Bool, and_parts, and_from, ltb-true, lt-ltb, le-leb, eqb-true, ne_eqb}
 use Rattle.std.proofs.lemmas.List.Folds.{list_all-append, list_all-map}
+use Rattle.std.proofs.lemmas.List.Filters.{sum_by-filter_both}
 use Rattle.std.proofs.lemmas.List.Sums.{sum_by-cons, sum_by-append}
 use Rattle.eeprom.specs.Slots.{AreApart, has, replaced}
 use Rattle.eeprom.proofs.InOrder.{counts_not}
@@ -178,12 +179,7 @@ list_all-filter p q (x ∷ xs) all =
     elim (cases_Bool (p x)) [ inl t ↦ rw (t, parts.0) rest | inr e ↦ rw e rest ]
 
 sum_by-filter : {X : Type 0} (p : X → Bool) (c : X → ℕ) (xs : List X) → sum_by c (filter p xs) ≤ sum_by c xs
-sum_by-filter p c [] = omega arith
-sum_by-filter p c (x ∷ xs) =
-    let rest = sum_by-filter p c xs in
-    let a = sum_by-cons c x xs in
-    let b = sum_by-cons c x (filter p xs) in
-    elim (cases_Bool (p x)) [ inl t ↦ rw t (omega arith) | inr e ↦ rw e (omega arith) ]
+sum_by-filter p c xs = let both = sum_by-filter_both p (λ x. not (p x)) (λ x. refl) c xs in omega arith
 
 sum_by-fewer : {X : Type 0} (p : X → Bool) (c : StoredRecord → ℕ) (f : X → StoredRecord) (front back : List StoredRecord) (xs : List X)
     → sum_by c (front ++ (map f (filter p xs) ++ back)) ≤ sum_by c (front ++ (map f xs ++ back))
