@@ -13,8 +13,10 @@ pub mod Moves
 pub mod Objects
 pub mod Opens
 pub mod ReadingCommands
+pub mod Reads
 pub mod Records
 pub mod Rights
+pub mod Shown
 pub mod Step
 pub mod Validity
 pub mod WellFormed
