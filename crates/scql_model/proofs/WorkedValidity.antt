@@ -14,8 +14,9 @@ use Rattle.scql_base.specs.declared.records.Object.{Object}
 use Rattle.scql_base.specs.declared.records.ObjectKind.TheVariants.{Table, View, Dictionary}
 use Rattle.scql_base.specs.declared.records.Grant.{Grant}
 use Rattle.scql_base.specs.declared.records.RowRecord.{RowRecord}
+use Rattle.scql_model.specs.Objects.{depth_of}
 use Rattle.scql_model.specs.Stored.{StoredRecord, is_storable}
-use Rattle.scql_model.specs.Rules.{AreRows, owner, has_depth, is_founded}
+use Rattle.scql_model.specs.Rules.{AreRows, owner, is_founded}
 use Rattle.scql_model.specs.Database.{Database, IsValid, records_of, stored_row, weight}
 
 -- OWNER has a table, a view of it, a view of the view, and a dictionary; ANN may read the last view, and everybody the table; the table has a row.
@@ -77,7 +78,7 @@ abbrev stamp_of : StoredRecord → ℕ
 stamp_of r = r.stamp
 
 shop-valid : IsValid shop
-unfolding has_depth
+unfolding depth_of
 shop-valid = record {
   cells = (omega arith, omega arith);
   limit = refl;
@@ -108,31 +109,31 @@ object_of_reader valid = false≢true valid.objects.makers
 
 -- a base that is later than its view, and one that isn't there
 base_later : IsValid (record shop { objects = item ∷ record stock { kind = View 5 (codes "NAME" ∷ []) [] } ∷ record names { kind = Table (codes "NAME" ∷ []) } ∷ all ∷ [] }) → ⊥
-unfolding has_depth
+unfolding depth_of
 base_later valid = false≢true valid.objects.founded
 
 no_base : IsValid (record shop { objects = item ∷ record stock { kind = View 2 (codes "NAME" ∷ []) [] } ∷ all ∷ []; grants = to_public ∷ [] }) → ⊥
-unfolding has_depth
+unfolding depth_of
 no_base valid = false≢true valid.objects.founded
 
 -- a view of a dictionary
 base_dictionary : IsValid (record shop { objects = item ∷ record all { stamp = 4 } ∷ record names { kind = View 4 (codes "NAME" ∷ []) [] } ∷ [] }) → ⊥
-unfolding has_depth
+unfolding depth_of
 base_dictionary valid = false≢true valid.objects.founded
 
 -- a view on another owner's table
 
 base_of_another : IsValid (record shop { users = owner ∷ record ann { profile = Dboo } ∷ []; objects = item ∷ record stock { owner = 2 } ∷ record names { owner = 2 } ∷ all ∷ [] }) → ⊥
-unfolding has_depth
+unfolding depth_of
 base_of_another valid = false≢true valid.objects.founded
 
 -- a view shows a column that its base hides, or has a condition on one
 column_hidden : IsValid (record shop { objects = item ∷ stock ∷ names ∷ record all { kind = View 5 (codes "QTY" ∷ []) [] } ∷ [] }) → ⊥
-unfolding has_depth
+unfolding depth_of
 column_hidden valid = false≢true valid.objects.founded
 
 condition_hidden : IsValid (record shop { objects = item ∷ stock ∷ names ∷ record all { kind = View 5 (codes "NAME" ∷ []) (of_quantity (codes "0000") ∷ []) } ∷ [] }) → ⊥
-unfolding has_depth
+unfolding depth_of
 condition_hidden valid = false≢true valid.objects.founded
 
 -- a view of more than 512 octets
@@ -147,11 +148,11 @@ abbrev four_views : List Object
 four_views = item ∷ view 4 3 (codes "A") ∷ view 5 4 (codes "B") ∷ view 6 5 (codes "C") ∷ view 7 6 (codes "D") ∷ []
 
 depth_four : list_all (is_founded four_views) four_views ≡ true
-unfolding has_depth
+unfolding depth_of
 depth_four = refl
 
 depth_five : list_all (is_founded (four_views ++ view 8 7 (codes "E") ∷ [])) (four_views ++ view 8 7 (codes "E") ∷ []) ≡ false
-unfolding has_depth
+unfolding depth_of
 depth_five = refl
 
 -- a grant to a user that isn't there, and a second one of a pair

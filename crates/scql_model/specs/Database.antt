@@ -7,7 +7,7 @@ use Rattle.scql_base.specs.declared.records.RowRecord.{RowRecord}
 use Rattle.scql_model.specs.Records.{counter_record, user_record, grant_record, row_record, object_spelling}
 use Rattle.scql_model.specs.Stored.{StoredRecord, IsStored, record_cells, cells_of_records}
 use Rattle.scql_model.specs.Rules.{AreUsers, AreObjects, AreGrants, AreRows}
-pub use Rattle.scql_model.specs.Rules.{are_different, are_among, owner_name, owner, public_name, user_stamped, is_named, user_named, is_maker, is_db_o, is_made_by_maker, has_maker, has_all_tries, object_stamped}
+pub use Rattle.scql_model.specs.Rules.{are_different, are_among, owner_name, owner, public_name, user_stamped, is_named, user_named, is_maker, is_db_o, is_made_by_maker, has_maker, has_all_tries, object_stamped, is_table}
 
 -- the number of cells of its card, the most octets that a row may have, the stamp that the next record takes, and the records in rising
 -- order of their stamps
@@ -39,6 +39,9 @@ stored_row r = record { stamp = r.stamp; octets = row_record.spell r }
 -- all records but the counter
 abbrev pub records_of : Database → List StoredRecord
 records_of db = map stored_user db.users ++ (map stored_object db.objects ++ (map stored_grant db.grants ++ map stored_row db.rows))
+
+abbrev pub stamps : Database → List ℕ
+stamps db = map (λ (r : StoredRecord). r.stamp) (records_of db)
 
 -- how many cells the counter takes, and how many all records with it
 abbrev pub counter_cells : Database → ℕ

@@ -1,5 +1,5 @@
 -- The rules of a valid database for the records of each kind: users, objects, grants and rows.
-use Rattle.std.specs.Prelude.{◌≡◌, ℕ, zero, suc, ◌==◌, nat_le, nat_lt, not, ◌&&◌, ◌||◌, Bool, true, false, List, [], ◌∷◌, length, map, filter, Option}
+use Rattle.std.specs.Prelude.{◌≡◌, ℕ, ◌==◌, nat_le, nat_lt, not, ◌&&◌, ◌||◌, Bool, true, false, List, [], ◌∷◌, length, map, filter, Option}
 use Rattle.std.specs.List.{list_all, list_any, find}
 use Rattle.std.specs.Option.{option_map_or}
 use Rattle.std.specs.Str.{bytes_eq}
@@ -14,6 +14,7 @@ use Rattle.scql_base.specs.declared.records.ObjectKind.{ObjectKind}
 use Rattle.scql_base.specs.declared.records.ObjectKind.TheVariants.{Table, View, Dictionary}
 use Rattle.scql_base.specs.declared.records.Grant.{Grant}
 use Rattle.scql_base.specs.declared.records.RowRecord.{RowRecord}
+use Rattle.scql_model.specs.Objects.{columns_of, depth_of}
 use Rattle.scql_model.specs.Records.{user_record, grant_record, row_record, object_spelling, object_fits}
 
 -- whether texts are different, and whether each of them is among others
@@ -92,35 +93,28 @@ pub record AreUsers (users : List User) : Type 0 where
 abbrev pub object_stamped : List Object → ℕ → Option Object
 object_stamped objects stamp = find (λ (o : Object). o.stamp == stamp) objects
 
--- the columns that a view may name of its base: a table's, or those of a view
-abbrev pub columns_of_base : ObjectKind → List (List ℕ)
-columns_of_base (Table columns) = columns
-columns_of_base (View base columns conditions) = columns
-columns_of_base (Dictionary subject) = []
+abbrev pub is_table : ObjectKind → Bool
+is_table (Table columns) = true
+is_table kind = false
 
--- a table, or a view that rests on one through at most so many views, itself among them
-unfoldable pub has_depth : ℕ → List Object → ObjectKind → Bool
-has_depth most objects (Table columns) = true
-has_depth zero objects (View base columns conditions) = false
-has_depth (suc most) objects (View base columns conditions) =
-    option_map_or (λ (o : Object). has_depth most objects o.kind) (object_stamped objects base) false
-has_depth most objects (Dictionary subject) = false
+-- an object on which a view may rest: it stands at a depth below 4
+abbrev pub may_have_view : List Object → Object → Bool
+may_have_view objects base = option_map_or (λ depth. nat_lt depth 4) (depth_of objects base.stamp) false
 
--- the base is older and has the same owner; the view's columns are the base's, and so are its conditions' columns
-abbrev pub may_rest_on : Object → List (List ℕ) → List Condition → Object → Bool
-may_rest_on o columns conditions base =
-    nat_lt base.stamp o.stamp && (base.owner == o.owner)
-    && are_among columns (columns_of_base base.kind) && are_among (map (λ (c : Condition). c.column) conditions) (columns_of_base base.kind)
+-- the base is older, has the same owner, and may have a view; the view's columns are the base's, and so are its conditions' columns
+abbrev pub rests_on : List Object → Object → List (List ℕ) → List Condition → Object → Bool
+rests_on objects o columns conditions base =
+    nat_lt base.stamp o.stamp && (base.owner == o.owner) && may_have_view objects base
+    && are_among columns (columns_of base.kind) && are_among (map (λ (c : Condition). c.column) conditions) (columns_of base.kind)
 
--- a table's columns are different; so are a view's, which rests on a base, and is of depth four at most
+-- a table's columns are different; so are those of a view, which rests on a base
 abbrev pub is_founded : List Object → Object → Bool
 is_founded objects o = is_right o.kind
   where
     is_right : ObjectKind → Bool
     is_right (Table columns) = are_different columns
     is_right (View base columns conditions) =
-        are_different columns && has_depth 4 objects o.kind
-        && option_map_or (may_rest_on o columns conditions) (object_stamped objects base) false
+        are_different columns && option_map_or (rests_on objects o columns conditions) (object_stamped objects base) false
     is_right (Dictionary subject) = true
 
 -- a record that is no row's has at most 512 octets; only a view's could have more
@@ -162,11 +156,7 @@ pub record AreGrants (users : List User) (objects : List Object) (grants : List 
 
 -- the table is older than the row, and has as many columns as the row has values
 abbrev pub fits_table : RowRecord → Object → Bool
-fits_table r o = is_right o.kind
-  where
-    is_right : ObjectKind → Bool
-    is_right (Table columns) = nat_lt o.stamp r.stamp && (length columns == length r.row)
-    is_right kind = false
+fits_table r o = is_table o.kind && nat_lt o.stamp r.stamp && (length (columns_of o.kind) == length r.row)
 
 abbrev pub has_table : List Object → RowRecord → Bool
 has_table objects r = option_map_or (fits_table r) (object_stamped objects r.table) false

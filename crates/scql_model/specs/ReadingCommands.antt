@@ -1,0 +1,97 @@
+-- The commands that read, and what is asked and answered by each of them alike (ISO/IEC 7816-7; for Le, 61XX and 6CXX ISO/IEC 7816-4).
+use Rattle.std.specs.Prelude.{ℕ, ◌+◌, ◌==◌, nat_le, nat_lt, ◌&&◌, ◌||◌, Bool, List, [], ◌∷◌, length, map, take, drop, Option, Some, None, option_map, Result, Ok, Err, if◌then◌else◌}
+use Rattle.std.specs.List.{flat_map}
+use Rattle.scql_base.specs.declared.words.StatusWord.{StatusWord}
+use Rattle.scql_base.specs.declared.condition.Condition.{Condition}
+use Rattle.scql_base.specs.declared.operation.Operation.{Operation}
+use Rattle.scql_base.specs.declared.operation.Operation.TheVariants.{DeclareCursor, OpenCursor, Next, Fetch, FetchNext, GetResponse}
+use Rattle.scql_base.specs.Strings.{spelled}
+use Rattle.scql_base.specs.Words.{done, not_found}
+use Rattle.scql_model.specs.Commands.{Reply}
+use Rattle.scql_model.specs.Database.{are_among}
+use Rattle.scql_model.specs.Contents.{cut_to}
+
+-- the reading commands; Le is the greatest number of octets wanted, 1 to 256
+pub data ReadingCommand : Type 0 where
+  declare : (object : List ℕ) → (columns : List (List ℕ)) → (conditions : List Condition) → ReadingCommand
+  open_cursor : ReadingCommand
+  next : ReadingCommand
+  fetch : (le : ℕ) → ReadingCommand
+  fetch_next : (le : ℕ) → ReadingCommand
+  get_response : (le : ℕ) → ReadingCommand
+
+-- the reading command that an operation is with this Le, if it is one
+abbrev pub reading_command : Operation → Option ℕ → Option ReadingCommand
+reading_command (DeclareCursor object columns conditions) le = Some (declare object columns conditions)
+reading_command OpenCursor le = Some open_cursor
+reading_command Next le = Some next
+reading_command Fetch le = option_map fetch le
+reading_command FetchNext le = option_map fetch_next le
+reading_command GetResponse le = option_map get_response le
+reading_command operation le = None
+
+-- the answer to a command, and what there is after it
+pub record Move (S : Type 0) : Type 0 where
+  pub reply : Reply
+  pub after : S
+
+-- an answer without data
+abbrev pub word_alone : StatusWord → Reply
+word_alone word = record { body = []; word = word }
+
+-- a refusal leaves all as it was
+abbrev pub or_stays : {S : Type 0} → S → Result (Move S) StatusWord → Move S
+or_stays before (Ok move) = move
+or_stays before (Err word) = record { reply = word_alone word; after = before }
+
+-- what is asked holds, or the command is refused
+abbrev pub provided : Bool → StatusWord → Result (Unit {0}) StatusWord
+provided holds word = if holds then Ok tt else Err word
+
+-- a cursor's end is reached; the record isn't found
+abbrev pub end_reached : StatusWord
+end_reached = record { word = 0x6282 }
+
+abbrev pub record_not_found : StatusWord
+record_not_found = record { word = 0x6A83 }
+
+-- a number of octets in SW2, where 256 and more is 00
+abbrev pub in_sw2 : ℕ → ℕ
+in_sw2 n = if nat_lt n 256 then n else 0
+
+-- 61XX: so many octets are left of an answer
+abbrev pub more_left : ℕ → StatusWord
+more_left n = record { word = 0x6100 + in_sw2 n }
+
+-- 6CXX: Le is wrong, the answer has so many octets
+abbrev pub wrong_le : ℕ → StatusWord
+wrong_le n = record { word = 0x6C00 + in_sw2 n }
+
+-- an answer as far as Le allows, and what is left of it
+pub record Cut : Type 0 where
+  pub reply : Reply
+  pub rest : List ℕ
+
+abbrev pub rest_word : List ℕ → StatusWord
+rest_word [] = done
+rest_word (octet ∷ octets) = more_left (length (octet ∷ octets))
+
+abbrev pub cut : List ℕ → ℕ → Cut
+cut octets le = record { reply = record { body = take le octets; word = rest_word (drop le octets) }; rest = drop le octets }
+
+-- octets that Le allows as a whole; with Le 256 an answer may be longer, and is given in parts
+abbrev pub fitting : ℕ → List ℕ → Result (List ℕ) StatusWord
+fitting le octets = if nat_le (length octets) le || le == 256 then Ok octets else Err (wrong_le (length octets))
+
+-- the named columns, or all where none is named
+abbrev pub wanted_of : List (List ℕ) → List (List ℕ) → List (List ℕ)
+wanted_of columns [] = columns
+wanted_of columns (name ∷ names) = name ∷ names
+
+-- the named columns and those of the conditions are among an object's
+abbrev pub named_among : List (List ℕ) → List (List ℕ) → List Condition → Result (Unit {0}) StatusWord
+named_among columns named conditions = provided (are_among named columns && are_among (map (λ (c : Condition). c.column) conditions) columns) not_found
+
+-- a row in an answer: its values in the wanted columns, each as its length in one octet and its octets
+abbrev pub row_octets : List (List ℕ) → List (List ℕ) → List (List ℕ) → List ℕ
+row_octets columns wanted values = flat_map spelled (cut_to columns wanted values)
