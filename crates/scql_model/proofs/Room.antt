@@ -8,21 +8,24 @@ use Rattle.eeprom.specs.StoreOf.{Slots, cells_for, cells_of}
 use Rattle.eeprom.specs.Slots.{in_slot}
 use Rattle.eeprom.proofs.InOrder.{sum_by-in_order}
 use Rattle.scql_base.specs.declared.records.User.{User}
-use Rattle.scql_model.specs.Records.{counter_record, user_record, counter_in, user_in}
-use Rattle.scql_model.specs.Stored.{record_cells}
-use Rattle.scql_model.specs.Database.{Database, weight, stored_user}
+use Rattle.scql_base.specs.declared.records.Object.{Object}
+use Rattle.scql_base.specs.declared.records.Grant.{Grant}
+use Rattle.scql_base.specs.declared.records.RowRecord.{RowRecord}
+use Rattle.scql_model.specs.Records.{counter_record, user_record, object_spelling, grant_record, row_record, counter_in, user_in}
+use Rattle.scql_model.specs.Stored.{cells_for_octets}
+use Rattle.scql_model.specs.Database.{Database, weight}
 use Rattle.scql_model.specs.Opens.{Holds, is_spelled, counter_stamp}
 use Rattle.scql_model.specs.Creating.{with_user, is_overfull}
 use Rattle.scql_model.proofs.SpellingLengths.{length-counter_in, length-user_in}
 use Rattle.scql_model.proofs.CreatingSlots.{no_user-counter}
 use Rattle.scql_model.proofs.CreatingWeight.{weight-with_user}
-use Rattle.scql_model.proofs.Stored.{cells_of_records-around}
+use Rattle.scql_model.proofs.RecordsOf.{weight-of_kinds}
 
 abbrev cells_of_counter : ℕ → ℕ
-cells_of_counter next = record_cells (counter_record.spell next)
+cells_of_counter next = cells_for_octets (counter_record.spell next)
 
 abbrev user_cells : User → ℕ
-user_cells u = record_cells (user_record.spell u)
+user_cells u = cells_for_octets (user_record.spell u)
 
 abbrev option_cells : {X : Type 0} → (X → ℕ) → Option X → ℕ
 option_cells f None = 0
@@ -37,7 +40,7 @@ cells-slot : (v : Option (List ℕ)) → is_spelled v ≡ true → cells_of v �
 cells-slot None spelled = refl
 cells-slot (Some octets) spelled = go (counter_in octets) (user_in octets) refl refl spelled
   where
-    go : (c : Option ℕ) (o : Option User) → counter_in octets ≡ c → user_in octets ≡ o → is_some c || is_some o ≡ true → record_cells octets ≡ option_cells cells_of_counter c + option_cells user_cells o
+    go : (c : Option ℕ) (o : Option User) → counter_in octets ≡ c → user_in octets ≡ o → is_some c || is_some o ≡ true → cells_for_octets octets ≡ option_cells cells_of_counter c + option_cells user_cells o
     go None None counts holds some = absurd (false≢true some)
     go None (Some u) counts holds some = ap cells_for (length-user_in octets u holds) ∙ omega arith
     go (Some next) None counts holds some = ap cells_for (length-counter_in octets next counts) ∙ omega arith
@@ -58,8 +61,11 @@ cells-kinds (v ∷ slots) spelled =
 -- the weight of a database of users alone
 weight-users : (db : Database) → db.objects ≡ [] → db.grants ≡ [] → db.rows ≡ [] → weight db ≡ cells_of_counter db.next + sum_by user_cells db.users
 weight-users db objects grants rows =
-    let only = cells_of_records-around stored_user [] [] db.users in
-    rw (objects, grants, rows) (omega arith)
+    let kinds = weight-of_kinds db in
+    let a = ap (sum_by (λ (o : Object). cells_for_octets (object_spelling o))) objects in
+    let b = ap (sum_by (λ (g : Grant). cells_for_octets (grant_record.spell g))) grants in
+    let c = ap (sum_by (λ (r : RowRecord). cells_for_octets (row_record.spell r))) rows in
+    omega arith
 
 -- The cells of the filled slots are the weight of the database that they hold.
 pub cells-filled : (slots : Slots) (db : Database) → Holds slots db → sum_by cells_of slots ≡ weight db
@@ -79,7 +85,7 @@ one_each (None ∷ slots) filled = absurd (false≢true filled)
 one_each (Some octets ∷ slots) filled =
     let rest = one_each slots filled in
     let a = sum_by-cons cells_of (Some octets) slots in
-    let b : 1 ≤ record_cells octets = omega arith in
+    let b : 1 ≤ cells_for_octets octets = omega arith in
     omega arith
 
 -- where no slot is empty, no user has room
@@ -89,6 +95,6 @@ overfull-filled slots db u holds filled =
     let a = one_each slots filled in
     let b = cells-filled slots db holds in
     let c = weight-with_user db u in
-    let d : 1 ≤ record_cells (user_record.spell u) = omega arith in
+    let d : 1 ≤ cells_for_octets (user_record.spell u) = omega arith in
     let e = holds.cells in
     lt-ltb db.cells (weight (with_user db u)) (omega arith)

@@ -8,14 +8,18 @@ use Rattle.std.proofs.lemmas.List.Filters.{sum_by-filter_both}
 use Rattle.std.proofs.lemmas.List.Sums.{sum_by-cons, sum_by-append}
 use Rattle.eeprom.specs.Slots.{AreApart, has, replaced}
 use Rattle.eeprom.proofs.InOrder.{counts_not}
-use Rattle.scql_model.specs.Stored.{StoredRecord, IsStored, record_cells, cells_of_records, is_storable, is_given_out}
+use Rattle.scql_model.specs.Stored.{StoredRecord, IsStored, cells_for_octets, cells_of_records, is_storable, is_given_out}
 use Rattle.scql_model.proofs.LongerLists.{all-weaker, all-added}
 
 abbrev stamp_of : StoredRecord → ℕ
 stamp_of r = r.stamp
 
 abbrev cells_taken : StoredRecord → ℕ
-cells_taken r = record_cells r.octets
+cells_taken r = cells_for_octets r.octets
+
+sum_by-map : {X Y : Type 0} (f : Y → ℕ) (g : X → Y) (xs : List X) → sum_by f (map g xs) ≡ sum_by (λ x. f (g x)) xs
+sum_by-map f g [] = refl
+sum_by-map f g (x ∷ xs) = sum_by-cons f (g x) (map g xs) ∙ ap (λ n. f (g x) + n) (sum_by-map f g xs) ∙ sym (sum_by-cons (λ x. f (g x)) x xs)
 
 -- a sum over records of which some are of one kind
 sum_by-around : {X : Type 0} (c : StoredRecord → ℕ) (f : X → StoredRecord) (front back : List StoredRecord) (xs : List X)
@@ -25,14 +29,13 @@ sum_by-around c f front back xs =
     let b = sum_by-append c (map f xs) back in
     let d = sum_by-map c f xs in
     omega arith
-  where
-    sum_by-map : {X Y : Type 0} (f : Y → ℕ) (g : X → Y) (xs : List X) → sum_by f (map g xs) ≡ sum_by (λ x. f (g x)) xs
-    sum_by-map f g [] = refl
-    sum_by-map f g (x ∷ xs) = sum_by-cons f (g x) (map g xs) ∙ ap (λ n. f (g x) + n) (sum_by-map f g xs) ∙ sym (sum_by-cons (λ x. f (g x)) x xs)
 
 pub cells_of_records-around : {X : Type 0} (f : X → StoredRecord) (front back : List StoredRecord) (xs : List X)
-    → cells_of_records (front ++ (map f xs ++ back)) ≡ cells_of_records front + (sum_by (λ x. record_cells (f x).octets) xs + cells_of_records back)
+    → cells_of_records (front ++ (map f xs ++ back)) ≡ cells_of_records front + (sum_by (λ x. cells_for_octets (f x).octets) xs + cells_of_records back)
 cells_of_records-around f front back xs = sum_by-around cells_taken f front back xs
+
+pub cells_of_records-kind : {X : Type 0} (f : X → StoredRecord) (xs : List X) → cells_of_records (map f xs) ≡ sum_by (λ x. cells_for_octets (f x).octets) xs
+cells_of_records-kind f xs = sum_by-map cells_taken f xs
 
 -- records of one kind alone are apart where what they are made of is
 pub AreApart-of_kind : {X : Type 0} (f : X → StoredRecord) (xs : List X) → AreApart (λ x. (f x).stamp) xs → AreApart stamp_of (map f xs ++ [])
@@ -85,7 +88,7 @@ sum_by-added c f front back xs x =
 
 -- a record that is added takes its own cells
 pub cells_of_records-added : {X : Type 0} (f : X → StoredRecord) (front back : List StoredRecord) (xs : List X) (x : X)
-    → cells_of_records (front ++ (map f (xs ++ x ∷ []) ++ back)) ≡ cells_of_records (front ++ (map f xs ++ back)) + record_cells (f x).octets
+    → cells_of_records (front ++ (map f (xs ++ x ∷ []) ++ back)) ≡ cells_of_records (front ++ (map f xs ++ back)) + cells_for_octets (f x).octets
 cells_of_records-added f front back xs x = sum_by-added cells_taken f front back xs x
 
 -- A record of a kind is added behind the others of its kind, and takes the next stamp, where there is room.

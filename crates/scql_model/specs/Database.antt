@@ -5,7 +5,7 @@ use Rattle.scql_base.specs.declared.records.Object.{Object}
 use Rattle.scql_base.specs.declared.records.Grant.{Grant}
 use Rattle.scql_base.specs.declared.records.RowRecord.{RowRecord}
 use Rattle.scql_model.specs.Records.{counter_record, user_record, grant_record, row_record, object_spelling}
-use Rattle.scql_model.specs.Stored.{StoredRecord, IsStored, record_cells, cells_of_records}
+use Rattle.scql_model.specs.Stored.{StoredRecord, IsStored, cells_for_octets, cells_of_records}
 use Rattle.scql_model.specs.Rules.{AreUsers, AreObjects, AreGrants, AreRows}
 pub use Rattle.scql_model.specs.Rules.{are_different, are_among, owner_name, owner, public_name, user_stamped, is_named, user_named, is_maker, is_db_o, is_made_by_maker, has_maker, has_all_tries, object_stamped, is_table}
 
@@ -45,7 +45,7 @@ stamps db = map (λ (r : StoredRecord). r.stamp) (records_of db)
 
 -- how many cells the counter takes, and how many all records with it
 abbrev pub counter_cells : Database → ℕ
-counter_cells db = record_cells (counter_record.spell db.next)
+counter_cells db = cells_for_octets (counter_record.spell db.next)
 
 abbrev pub weight : Database → ℕ
 weight db = counter_cells db + cells_of_records (records_of db)

@@ -10,11 +10,11 @@ pub record StoredRecord : Type 0 where
   pub octets : List ℕ
 
 -- how many cells octets take, and how many all of some records
-abbrev pub record_cells : List ℕ → ℕ
-record_cells octets = cells_for (length octets)
+abbrev pub cells_for_octets : List ℕ → ℕ
+cells_for_octets octets = cells_for (length octets)
 
 abbrev pub cells_of_records : List StoredRecord → ℕ
-cells_of_records records = sum_by (λ (r : StoredRecord). record_cells r.octets) records
+cells_of_records records = sum_by (λ (r : StoredRecord). cells_for_octets r.octets) records
 
 -- a record has 1 to 1,029 octets
 abbrev pub is_storable : StoredRecord → Bool
