@@ -120,7 +120,7 @@ none-second_user slots counters users octets u more g is twice = λ db holds val
     let b = ap (count_by same) g.users in
     let c = count_by-in_order stamp_of same whole in
     let d = ap (count_by same) holds.users in
-    let few = AreApart-rising stamp_of db.users valid.users_rise u.stamp in
+    let few = AreApart-rising stamp_of db.users valid.users.rises u.stamp in
     omega arith
 
 -- the counter is added, where it is the first

@@ -6,7 +6,7 @@ use Rattle.std.specs.Option.{option_map_or}
 use Rattle.std.specs.Result.{result_ok}
 use Rattle.std.specs.Char.{is_ascii_uppercase}
 use Rattle.std.specs.Str.{bytes_eq}
-use Rattle.std.proofs.lemmas.Bool.{cases_Bool, and_parts, or_parts, false≢true, ltb-true, ltb-false, lt-ltb, le-leb, leb-true, eqb-true, eqb-false}
+use Rattle.std.proofs.lemmas.Bool.{cases_Bool, and_parts, and_from, or_parts, false≢true, ltb-true, ltb-false, lt-ltb, le-leb, leb-true, eqb-true, eqb-false}
 use Rattle.std.proofs.lemmas.List.{length-append}
 use Rattle.std.proofs.lemmas.Option.{none-some, same_Some}
 use Rattle.scql_base.specs.declared.words.Actor.{Actor}
@@ -16,8 +16,10 @@ use Rattle.scql_base.specs.declared.words.Profile.TheVariants.{DbO, Dboo, Dbbu}
 use Rattle.scql_base.specs.Words.{security_not_satisfied, no_space, already_exists}
 use Rattle.scql_base.specs.Name.{is_name, is_name_octet}
 use Rattle.scql_base.specs.declared.records.User.{User}
-use Rattle.scql_model.specs.Records.{is_secret, is_tries, user_record, object_fits, grant_record, row_record}
-use Rattle.scql_model.specs.Database.{Database, IsValid, owner, public_name, weight, is_db_o, is_maker, user_stamped, is_made_by_maker, has_maker, has_all_tries, is_named}
+use Rattle.scql_model.specs.Records.{is_secret, is_tries, user_record}
+use Rattle.scql_model.specs.Stored.{is_storable}
+use Rattle.scql_model.specs.Rules.{owner, public_name, is_db_o, is_maker, user_stamped, is_made_by_maker, has_maker, has_all_tries, is_named}
+use Rattle.scql_model.specs.Database.{Database, IsValid, weight, stored_user}
 use Rattle.scql_model.specs.Creating.{IsAsked, may_create, actor_stamp, IsActorOf, is_taken, new_user, with_user, stamps_end, is_overfull, created}
 use Rattle.scql_model.proofs.LongerLists.{not_equal-sym, find-passes, find-all, all-filtered, any-map}
 use Rattle.scql_model.proofs.AddedUser.{IsAddable, IsValid-with_user, kept_maker}
@@ -70,27 +72,23 @@ secret-size secret right = go (length secret) right
 pub user-size : (u : User) → length (user_record.spell u) ≡ 13 + (length u.name + length u.secret)
 user-size u = let a = length-append {A = ℕ} u.name (length u.secret ∷ u.secret) in omega arith
 
-user-short : (u : User) → is_name u.name ≡ true → is_secret u.secret ≡ true → nat_le (length (user_record.spell u)) 512 ≡ true
+pub user-short : (u : User) → is_name u.name ≡ true → is_secret u.secret ≡ true → is_storable (stored_user u) ≡ true
 user-short u name secret =
     let a = name-size u.name name in
     let b = secret-size u.secret secret in
     let c = user-size u in
-    le-leb (length (user_record.spell u)) 512 (omega arith)
+    and_from (nat_le 1 (length (user_record.spell u))) (nat_le (length (user_record.spell u)) 1029)
+    (le-leb 1 (length (user_record.spell u)) (omega arith)) (le-leb (length (user_record.spell u)) 1029 (omega arith))
 
 -- the stamp of who acts is a number
 actor_fits : (db : Database) (stamp : ℕ) (profile : Profile) → IsValid db → IsActorOf db (a_user stamp profile) → nat_lt stamp (2 ^ 32) ≡ true
 actor_fits db stamp profile valid acts = go (user_stamped db.users stamp) refl acts
   where
-    users_fit : list_all user_record.fits db.users ≡ true
-    users_fit = (and_parts (list_all user_record.fits db.users) (list_all object_fits db.objects)
-        (and_parts (list_all user_record.fits db.users && list_all object_fits db.objects) (list_all grant_record.fits db.grants)
-        (and_parts (list_all user_record.fits db.users && list_all object_fits db.objects && list_all grant_record.fits db.grants) (list_all row_record.fits db.rows) valid.limits).0).0).0
-
     go : (o : Option User) → user_stamped db.users stamp ≡ o → option_map (λ (u : User). u.profile) o ≡ Some profile → nat_lt stamp (2 ^ 32) ≡ true
     go None found acts = absurd (none-some profile acts)
     go (Some u) found acts =
         let same = eqb-true u.stamp stamp (find-passes (λ (u : User). u.stamp == stamp) db.users u found) in
-        let fits = find-all user_record.fits (λ (u : User). u.stamp == stamp) db.users u users_fit found in
+        let fits = find-all user_record.fits (λ (u : User). u.stamp == stamp) db.users u valid.users.limits found in
         subst (λ n. nat_lt n (2 ^ 32) ≡ true) same (and_parts (nat_lt u.stamp (2 ^ 32)) _ fits).0
 
 user-fits : (u : User) → nat_lt u.stamp (2 ^ 32) ≡ true → nat_lt u.owner (2 ^ 32) ≡ true → is_tries u.tries ≡ true → is_name u.name ≡ true → is_secret u.secret ≡ true → user_record.fits u ≡ true
@@ -126,7 +124,7 @@ new_maker : (db : Database) (actor : Actor) (name : List ℕ) (profile : Profile
     → has_maker (db.users ++ more) (new_user db actor name profile secret) ≡ true
 new_maker db Public name profile secret more valid acts may = absurd (false≢true may)
 new_maker db (a_user stamp DbO) name DbO secret more valid acts may = refl
-new_maker db (a_user stamp DbO) name Dboo secret more valid acts may = db_o-stamp db.users stamp valid.owner acts
+new_maker db (a_user stamp DbO) name Dboo secret more valid acts may = db_o-stamp db.users stamp valid.users.owner acts
 new_maker db (a_user stamp DbO) name Dbbu secret more valid acts may = kept_maker db.users more stamp (maker-profile db.users stamp DbO refl acts)
 new_maker db (a_user stamp Dboo) name DbO secret more valid acts may = refl
 new_maker db (a_user stamp Dboo) name Dboo secret more valid acts may = absurd (false≢true may)

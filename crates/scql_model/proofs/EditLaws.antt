@@ -13,6 +13,7 @@ use Rattle.scql_base.specs.declared.records.Grant.{Grant}
 use Rattle.scql_base.specs.declared.records.RowRecord.{RowRecord}
 use Rattle.scql_model.specs.Records.{counter_record, user_record, object_spelling, grant_record, row_record}
 use Rattle.scql_model.specs.Database.{Database, weight}
+use Rattle.scql_model.proofs.RecordsOf.{weight-of_kinds}
 use Rattle.scql_model.specs.Edits.{AnyRecord, of_counter, of_user, of_object, of_grant, of_row, Action, adds, changes, removes, Edit, list_after, edited, applied, cells_of_record, making}
 
 -- The card's cells and its row limit stay.
@@ -115,20 +116,7 @@ abbrev pub rows_weight : List RowRecord → ℕ
 rows_weight rows = sum_by (λ r. cells_of_record (of_row r)) rows
 
 pub weight-kinds : (db : Database) → weight db ≡ cells_of_record (of_counter db.next) + (users_weight db.users + (objects_weight db.objects + (grants_weight db.grants + rows_weight db.rows)))
-weight-kinds db =
-    let users = map user_record.spell db.users in
-    let objects = map object_spelling db.objects in
-    let grants = map grant_record.spell db.grants in
-    let rows = map row_record.spell db.rows in
-    let a = sum_by-cons octets_cells (counter_record.spell db.next) (users ++ (objects ++ (grants ++ rows))) in
-    let b = sum_by-append octets_cells users (objects ++ (grants ++ rows)) in
-    let c = sum_by-append octets_cells objects (grants ++ rows) in
-    let d = sum_by-append octets_cells grants rows in
-    let u = sum_by-map octets_cells user_record.spell db.users in
-    let o = sum_by-map octets_cells object_spelling db.objects in
-    let g = sum_by-map octets_cells grant_record.spell db.grants in
-    let r = sum_by-map octets_cells row_record.spell db.rows in
-    omega arith
+weight-kinds db = weight-of_kinds db
 
 -- the cells that a record takes beside the counter's, which are there in every database
 abbrev pub own_cells : AnyRecord → ℕ

@@ -4,37 +4,25 @@ use Rattle.std.proofs.lemmas.List.{length-replicate}
 use Rattle.eeprom.specs.StoreOf.{store_of, fresh_slots}
 use Rattle.scql_base.specs.declared.records.User.{User}
 use Rattle.scql_model.specs.Records.{counter_record, user_record, counter_in, user_in}
-use Rattle.scql_model.specs.Database.{IsValid, fresh, owner}
+use Rattle.scql_model.specs.Stored.{StoredRecord}
+use Rattle.scql_model.specs.Rules.{owner}
+use Rattle.scql_model.specs.Database.{IsValid, fresh, stored_user}
 use Rattle.scql_model.specs.Opens.{Holds, Opens, is_spelled, counter_stamp}
 use Rattle.std.specs.List.{filter_map, list_all}
 use Rattle.eeprom.specs.Slots.{in_slot, in_order}
+use Rattle.eeprom.proofs.InOrder.{AreApart-rising}
 
 pub IsValid-fresh : (n : ℕ) → 16 ≤ n → n ≤ 2048 → IsValid (fresh n)
 IsValid-fresh n few many = record {
   cells = (few, many);
-  room = omega arith;
   limit = refl;
-  counter = refl;
-  limits = refl;
-  lengths = refl;
   next = omega arith;
-  stamped = refl;
-  apart = refl;
-  users_rise = (tt, tt);
-  objects_rise = tt;
-  grants_rise = tt;
-  rows_rise = tt;
-  owner = refl;
-  user_names = refl;
-  none_public = refl;
-  makers = refl;
-  tries = refl;
-  object_names = refl;
-  object_makers = refl;
-  founded = refl;
-  grants = refl;
-  pairs = refl;
-  rows = refl;
+  counter = refl;
+  stored = record { room = omega arith; lengths = refl; stamped = refl; apart = AreApart-rising (λ (r : StoredRecord). r.stamp) (stored_user owner ∷ []) (tt, tt) };
+  users = record { rises = (tt, tt); limits = refl; owner = refl; names = refl; none_public = refl; makers = refl; tries = refl };
+  objects = record { rises = tt; limits = refl; lengths = refl; names = refl; makers = refl; founded = refl };
+  grants = record { rises = tt; limits = refl; parties = refl; pairs = refl };
+  rows = record { rises = tt; limits = refl; lengths = refl; tables = refl };
 }
 
 -- empty slots hold no record

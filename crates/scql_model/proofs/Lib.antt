@@ -15,11 +15,14 @@ pub mod LastCommits
 pub mod LongerLists
 pub mod Naming
 pub mod RecordLaws
+pub mod RecordsOf
 pub mod Refusing
 pub mod Room
 pub mod SpellingLengths
 pub mod Spellings
+pub mod Stored
 pub mod Validity
 mod WorkedCreating
 mod WorkedForms
 mod WorkedRows
+mod WorkedValidity

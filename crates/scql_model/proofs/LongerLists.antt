@@ -1,12 +1,11 @@
 -- What holds of a list holds of it with one element more.
-use Rattle.std.proofs.Common.{◌≡◌, ℕ, ◌<◌, Bool, true, false, List, [], ◌∷◌, ◌++◌, map, Some, not, ◌||◌, ltb, eqb, refl, sym, subst, ap, ◌∙◌, arith, inl, inr}
+use Rattle.std.proofs.Common.{◌≡◌, ℕ, ◌<◌, Bool, true, false, List, [], ◌∷◌, ◌++◌, map, Some, not, ◌||◌, refl, sym, subst, ap, ◌∙◌, inl, inr}
 use Rattle.std.specs.List.{list_all, list_any, find, filter, AllByRecursion}
 use Rattle.std.specs.Str.{bytes_eq}
-use Rattle.std.proofs.lemmas.Bool.{cases_Bool, and_parts, and_from, not-true, false≢true, ltb-true, ne_eqb}
+use Rattle.std.proofs.lemmas.Bool.{cases_Bool, and_parts, and_from, not-true, false≢true}
 use Rattle.std.proofs.lemmas.List.Folds.{list_all-append, list_any-append}
 use Rattle.std.proofs.lemmas.Option.{none-some, same_Some}
 use Rattle.std.proofs.lemmas.Slice.Eq.{bytes_eq-Decides}
-use Rattle.eeprom.specs.StoreOf.{is_distinct}
 use Rattle.eeprom.specs.Slots.{Rises}
 use Rattle.scql_model.specs.Database.{are_different}
 
@@ -16,32 +15,6 @@ all-weaker p q (x ∷ xs) more all = let parts = and_parts (p x) (list_all p xs)
 
 pub all-added : {X : Type 0} (p : X → Bool) (xs : List X) (x : X) → list_all p xs ≡ true → p x ≡ true → list_all p (xs ++ x ∷ []) ≡ true
 all-added p xs x all one = rw (list_all-append, all, one) refl
-
-pub all-inserted : {X : Type 0} (p : X → Bool) (xs ys : List X) (x : X) → list_all p (xs ++ ys) ≡ true → p x ≡ true → list_all p ((xs ++ x ∷ []) ++ ys) ≡ true
-all-inserted p [] ys x all one = rw one all
-all-inserted p (z ∷ xs) ys x all one = let parts = and_parts (p z) (list_all p (xs ++ ys)) all in rw parts.0 (all-inserted p xs ys x parts.1 one)
-
--- a number above all others is none of them
-none-equal : (n : ℕ) (xs : List ℕ) → list_all (λ k. ltb k n) xs ≡ true → list_any (λ k. eqb n k) xs ≡ false
-none-equal n [] below = refl
-none-equal n (x ∷ xs) below =
-    let parts = and_parts (ltb x n) (list_all (λ k. ltb k n) xs) below in
-    let less = ltb-true x n parts.0 in
-    rw (ne_eqb n x (λ (e : n ≡ x). omega arith)) (none-equal n xs parts.1)
-
-pub any-inserted : {X : Type 0} (p : X → Bool) (xs ys : List X) (x : X) → list_any p (xs ++ ys) ≡ false → p x ≡ false → list_any p ((xs ++ x ∷ []) ++ ys) ≡ false
-any-inserted p [] ys x none one = rw one none
-any-inserted p (z ∷ xs) ys x none one =
-    elim (cases_Bool (p z)) [ inl t ↦ absurd (false≢true (sym (rw t at none))) | inr f ↦ rw f (any-inserted p xs ys x (rw f at none) one) ]
-
-pub distinct-inserted : (xs ys : List ℕ) (n : ℕ) → is_distinct (xs ++ ys) ≡ true → list_all (λ k. ltb k n) (xs ++ ys) ≡ true → is_distinct ((xs ++ n ∷ []) ++ ys) ≡ true
-distinct-inserted [] ys n apart below = rw (none-equal n ys below) apart
-distinct-inserted (x ∷ xs) ys n apart below =
-    let parts = and_parts (not (list_any (λ k. eqb x k) (xs ++ ys))) (is_distinct (xs ++ ys)) apart in
-    let lower = and_parts (ltb x n) (list_all (λ k. ltb k n) (xs ++ ys)) below in
-    let less = ltb-true x n lower.0 in
-    let other = ne_eqb x n (λ (e : x ≡ n). omega arith) in
-    rw (any-inserted (λ k. eqb x k) xs ys n (not-true (list_any (λ k. eqb x k) (xs ++ ys)) parts.0) other) (distinct-inserted xs ys n parts.1 lower.1)
 
 pub rises-added : {X : Type 0} (key : X → ℕ) (xs : List X) (x : X) → Rises key xs → AllByRecursion (λ y. key y < key x) xs → Rises key (xs ++ x ∷ [])
 rises-added key [] x rises below = (tt, tt)

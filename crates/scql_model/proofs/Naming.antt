@@ -53,10 +53,10 @@ found-slots slots db p holds one =
 -- Among slots that hold a valid database, the user of a name is the database's.
 pub user_named-slots : (slots : Slots) (db : Database) (name : List ℕ) → Holds slots db → IsValid db
     → user_named db.users name ≡ find (is_named name) (filter_map (in_slot user_in) slots)
-user_named-slots slots db name holds valid = found-slots slots db (is_named name) holds (one_named name db.users valid.user_names)
+user_named-slots slots db name holds valid = found-slots slots db (is_named name) holds (one_named name db.users valid.users.names)
 
 -- And so is the user of a stamp.
 pub user_stamped-slots : (slots : Slots) (db : Database) (stamp : ℕ) → Holds slots db → IsValid db
     → user_stamped db.users stamp ≡ find (λ (u : User). u.stamp == stamp) (filter_map (in_slot user_in) slots)
 user_stamped-slots slots db stamp holds valid =
-    found-slots slots db (λ (u : User). u.stamp == stamp) holds (AreApart-rising stamp_of db.users valid.users_rise stamp)
+    found-slots slots db (λ (u : User). u.stamp == stamp) holds (AreApart-rising stamp_of db.users valid.users.rises stamp)

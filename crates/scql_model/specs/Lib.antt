@@ -19,11 +19,15 @@ pub mod Opens
 pub mod Operations
 pub mod Parameters
 pub mod ReadingCommands
+pub mod Reads
 pub mod Records
 pub mod Refusals
 pub mod Rights
+pub mod Rules
 pub mod Sessions
+pub mod Shown
 pub mod Step
+pub mod Stored
 pub mod Transactions
 pub mod Users
 pub mod Validity

@@ -53,10 +53,6 @@ row_behind End test rows = None
 abbrev pub row_at : ℕ → (List (List ℕ) → Bool) → List StampedRow → Option StampedRow
 row_at stamp test rows = find (λ (r : StampedRow). r.stamp == stamp && test r.values) rows
 
--- a new cursor isn't open, and nothing is pending
-abbrev pub declared : Cursor → Move Reading
-declared c = record { reply = word_alone done; after = record { cursor = Some c; pending = [] } }
-
 -- the cursor stands at a place, and nothing is pending
 abbrev pub moved_to : Place → Cursor → StatusWord → Move Reading
 moved_to place c word = record { reply = word_alone word; after = record { cursor = Some (record c { place = place }); pending = [] } }
@@ -97,7 +93,7 @@ moved db actor reading (declare object columns conditions) = do
   o ← or_refused (seen_named db actor object) not_found
   contents ← selected db actor o
   _ ← named_among contents.columns columns conditions
-  Ok (declared (record { object = o.stamp; columns = wanted_of contents.columns columns; conditions = conditions; place = NotOpen }))
+  Ok (moved_to NotOpen (record { object = o.stamp; columns = wanted_of contents.columns columns; conditions = conditions; place = NotOpen }) done)
 moved db actor reading open_cursor = do
   c ← or_refused reading.cursor conditions_not_satisfied
   o ← or_refused (seen_stamped db actor c.object) not_found
