@@ -24,5 +24,6 @@ pub mod Stored
 pub mod Validity
 mod WorkedCreating
 mod WorkedForms
+mod WorkedMachine
 mod WorkedRows
 mod WorkedValidity
