@@ -27,7 +27,7 @@ abbrev IsLast : Database → Answer → Type 0
 IsLast db answer = after_commits db answer.commits (length answer.commits) ≡ answer.machine.committed
 
 -- what comes of a value, whatever it is, comes of an outcome
-of_outcome : {A B : Type 0} (P : B → Type 0) (r : Result A StatusWord) (f : A → Result B StatusWord) → ((x : A) → IfOk (f x) P) → IfOk (r >>= f) P
+pub of_outcome : {A B : Type 0} (P : B → Type 0) (r : Result A StatusWord) (f : A → Result B StatusWord) → ((x : A) → IfOk (f x) P) → IfOk (r >>= f) P
 of_outcome P (Ok x) f each = each x
 of_outcome P (Err word) f each = tt
 

@@ -1,76 +1,201 @@
--- A command that isn't done is refused: the machine stays, and nothing is committed.
-use Rattle.std.proofs.Common.{◌≡◌, ℕ, Bool, true, false, List, [], Option, Some, None, is_some, Result, Ok, Err, if◌then◌else◌, refl}
+-- A command that isn't accepted leaves the machine, but for the parts of a command, and commits nothing.
+use Rattle.std.proofs.Common.{◌≡◌, ◌⊎◌, ℕ, zero, suc, ◌-◌, ◌==◌, Bool, true, false, List, [], ◌∷◌, length, drop, Option, Some, None, option_map, Result, Ok, Err, not, is_some, if◌then◌else◌, refl, inl, inr, ap}
+use Rattle.std.specs.Prelude.{IfOk}
+use Rattle.std.specs.Option.{option_map_or}
 use Rattle.std.specs.Str.{bytes_eq}
 use Rattle.scql_base.specs.declared.words.StatusWord.{StatusWord}
-use Rattle.scql_base.specs.Words.{done, conditions_not_satisfied}
+use Rattle.scql_base.specs.declared.words.Actor.{Actor}
+use Rattle.scql_base.specs.declared.cursor.Cursor.{Cursor}
+use Rattle.scql_base.specs.declared.cursor.Place.{Place}
+use Rattle.scql_base.specs.declared.cursor.Place.TheVariants.{NotOpen, At, End}
 use Rattle.scql_base.specs.declared.records.User.{User}
-use Rattle.scql_model.specs.Database.{Database, public_name, user_named}
-use Rattle.scql_model.specs.Machine.{Machine, new_session, base, actor}
-use Rattle.scql_model.specs.Creating.{created}
 use Rattle.scql_base.specs.declared.operation.Command.{Command}
 use Rattle.scql_base.specs.declared.operation.Operation.{Operation}
-use Rattle.scql_base.specs.declared.operation.Operation.TheVariants.{CreateTable, CreateView, CreateDictionary, DropTable, DropView, Grant, Revoke, DeclareCursor, OpenCursor, Next, Fetch, FetchNext, Insert, Update, Delete, Begin, Commit, Rollback, PresentUser, CreateUser, DeleteUser, Verify, OpenChannel, CloseChannel, GetResponse}
-use Rattle.scql_model.specs.Refusals.{◌>>=◌}
-use Rattle.scql_model.specs.Form.{as_command}
-use Rattle.scql_model.specs.Step.{form_at, Answer, answered, done_with, with_session, user_presented, changed, operated, step}
+use Rattle.scql_base.specs.declared.operation.Operation.TheVariants.{DeleteUser, Begin, Commit, Rollback, PresentUser, Verify, OpenChannel, CloseChannel}
+use Rattle.scql_base.specs.Words.{authentication_blocked, channel_not_supported, conditions_not_satisfied, function_not_supported, not_found, record_not_found}
+use Rattle.scql_model.specs.Refusals.{◌>>=◌, or_refused, only_if}
+use Rattle.scql_model.specs.Database.{Database}
+use Rattle.scql_model.specs.Rules.{user_named, user_stamped}
+use Rattle.scql_model.specs.Machine.{Machine, Session, Reading, Transaction, open_channels, base, actor, session_of, no_reading}
+use Rattle.scql_model.specs.Sessions.{changing_session, chain_of, cursor_of, reading_of, reading_so, without_chain, user_of, is_open, least_closed, without_user}
+use Rattle.scql_model.specs.Transactions.{own_transaction, waits, is_kept_waiting}
+use Rattle.scql_model.specs.Operations.{Line, kind_of, built_operations}
+use Rattle.scql_model.specs.Form.{Form, refused, refused_on, part_on, a_command, form_of}
+use Rattle.scql_model.specs.Objects.{StampedRow}
+use Rattle.scql_model.specs.Contents.{Contents}
+use Rattle.scql_model.specs.ReadingCommands.{ReadingCommand, declare, open_cursor, next, fetch, fetch_next, get_response, reading_command, Move, or_stays, rest_word, fitting, row_octets, named_among}
+use Rattle.scql_model.specs.Moves.{selected, opened, row_behind, row_at, passes, went_to, gave_next, gave, gave_more, moved, move_of}
+use Rattle.scql_model.specs.Rights.{seen_named, seen_stamped}
+use Rattle.scql_model.specs.Edits.{Edit}
+use Rattle.scql_model.specs.Changing.{edits_of, with_edits}
+use Rattle.scql_model.specs.Accepting.{Accepts, is_done, at_its_end, has_more, costs_a_try, IsAsBefore}
+use Rattle.scql_model.specs.Step.{Answer, answered, has_read, changed_to, changed, user_deleted, begun, committed, rolled_back, session_named, user_presented, secret_right, secret_wrong, compared, verified, channel_opened, channel_closed, operated, carried_out, stepped, step_by, step}
+use Rattle.scql_model.proofs.ChangingSessions.{changing_session-same}
+use Rattle.scql_model.proofs.LastCommits.{of_outcome}
 
--- an answer that isn't a refusal says that the command is done
-abbrev SaysDone : Result Answer StatusWord → Type 0
-SaysDone (Ok answer) = answer.reply.word ≡ done
-SaysDone (Err word) = Unit {0}
+-- Reading commands that aren't refused.
+abbrev Moves : Move Reading → Type 0
+Moves move = Accepts move.reply.word
 
-done-if : (b : Bool) (x y : Result Answer StatusWord) → SaysDone x → SaysDone y → SaysDone (if b then x else y)
-done-if true x y first second = first
-done-if false x y first second = second
+accepts-rest : (rest : List ℕ) → Accepts (rest_word rest)
+accepts-rest [] = is_done
+accepts-rest (octet ∷ octets) = has_more (length (octet ∷ octets))
 
-done-presented : (m : Machine) (channel : ℕ) (o : Option User) → SaysDone (user_presented m channel o)
-done-presented m channel None = tt
-done-presented m channel (Some u) = refl
+moves-went_to : (c : Cursor) (found : Option StampedRow) → Moves (went_to c found)
+moves-went_to c None = at_its_end
+moves-went_to c (Some r) = is_done
 
-done-changed : (m : Machine) (outcome : Result Database StatusWord) → SaysDone (changed m outcome)
-done-changed m (Ok db) = refl
-done-changed m (Err word) = tt
+moves-gave_next : (contents : Contents) (c : Cursor) (le : ℕ) (found : Option StampedRow) → IfOk (gave_next contents c le found) Moves
+moves-gave_next contents c le None = at_its_end
+moves-gave_next contents c le (Some r) =
+    of_outcome Moves (fitting le (row_octets contents.columns c.columns r.values)) _ (λ octets. accepts-rest (drop le octets))
 
-done-operated : (m : Machine) (channel : ℕ) (operation : Operation) → SaysDone (operated m channel operation)
-done-operated m channel (PresentUser name) =
-    done-if (is_some m.transaction) (Err conditions_not_satisfied) _ tt (
-    done-if (bytes_eq name public_name) (Ok (done_with (with_session m channel new_session))) _ refl
-    (done-presented m channel (user_named (base m channel).users name)))
-done-operated m channel (CreateUser name profile secret) =
-    done-if (is_some m.transaction) (Err conditions_not_satisfied) _ tt (done-changed m (created (base m channel) (actor m channel) name profile secret))
-done-operated m channel (CreateTable name columns) = tt
-done-operated m channel (CreateView name base columns conditions) = tt
-done-operated m channel (CreateDictionary name subject) = tt
-done-operated m channel (DropTable name) = tt
-done-operated m channel (DropView name) = tt
-done-operated m channel (Grant privileges object grantee) = tt
-done-operated m channel (Revoke privileges object grantee) = tt
-done-operated m channel (DeclareCursor object columns conditions) = tt
-done-operated m channel OpenCursor = tt
-done-operated m channel Next = tt
-done-operated m channel Fetch = tt
-done-operated m channel FetchNext = tt
-done-operated m channel (Insert table values) = tt
-done-operated m channel (Update changes) = tt
-done-operated m channel Delete = tt
-done-operated m channel Begin = tt
-done-operated m channel Commit = tt
-done-operated m channel Rollback = tt
-done-operated m channel (DeleteUser name) = tt
-done-operated m channel (Verify secret) = tt
-done-operated m channel (OpenChannel number) = tt
-done-operated m channel (CloseChannel number) = tt
-done-operated m channel GetResponse = tt
+moves-gave : (contents : Contents) (c : Cursor) (le : ℕ) (place : Place) → IfOk (gave contents c le place) Moves
+moves-gave contents c le NotOpen = tt
+moves-gave contents c le End = at_its_end
+moves-gave contents c le (At stamp) =
+    of_outcome Moves (or_refused (row_at stamp (passes contents c) contents.rows) record_not_found) _ (λ r.
+    of_outcome Moves (fitting le (row_octets contents.columns c.columns r.values)) _ (λ octets. accepts-rest (drop le octets)))
 
-answered-stays : (m : Machine) (outcome : Result Answer StatusWord) → SaysDone outcome → ((answered m outcome).reply.word ≡ done → ⊥)
-    → ((answered m outcome).machine ≡ m) × ((answered m outcome).commits ≡ [])
-answered-stays m (Ok answer) is not_done = absurd (not_done is)
-answered-stays m (Err word) is not_done = (refl, refl)
+moves-gave_more : (c : Cursor) (le : ℕ) (pending : List ℕ) → IfOk (gave_more c le pending) Moves
+moves-gave_more c le [] = tt
+moves-gave_more c le (octet ∷ octets) = accepts-rest (drop le (octet ∷ octets))
 
-pub refused-stays : (m : Machine) (octets : List ℕ) → ((step m octets).reply.word ≡ done → ⊥) → ((step m octets).machine ≡ m) × ((step m octets).commits ≡ [])
-unfolding step
-refused-stays m octets not_done = answered-stays m (as_command (form_at m octets) >>= λ (c : Command). operated m c.channel c.operation) (bound (as_command (form_at m octets))) not_done
+moves-moved : (db : Database) (actor : Actor) (reading : Reading) (command : ReadingCommand) → IfOk (moved db actor reading command) Moves
+moves-moved db actor reading (declare object columns conditions) =
+    of_outcome Moves (or_refused (seen_named db actor object) not_found) _ (λ o.
+    of_outcome Moves (selected db actor o) _ (λ contents.
+    of_outcome Moves (named_among contents.columns columns conditions) _ (λ _. is_done)))
+moves-moved db actor reading open_cursor =
+    of_outcome Moves (or_refused reading.cursor conditions_not_satisfied) _ (λ c.
+    of_outcome Moves (or_refused (seen_stamped db actor c.object) not_found) _ (λ o.
+    of_outcome Moves (selected db actor o) _ (λ contents. moves-went_to c _)))
+moves-moved db actor reading next =
+    of_outcome Moves (opened reading.cursor) _ (λ c.
+    of_outcome Moves (or_refused (seen_stamped db actor c.object) not_found) _ (λ o.
+    of_outcome Moves (selected db actor o) _ (λ contents. moves-went_to c _)))
+moves-moved db actor reading (fetch le) =
+    of_outcome Moves (opened reading.cursor) _ (λ c.
+    of_outcome Moves (or_refused (seen_stamped db actor c.object) not_found) _ (λ o.
+    of_outcome Moves (selected db actor o) _ (λ contents. moves-gave contents c le c.place)))
+moves-moved db actor reading (fetch_next le) =
+    of_outcome Moves (opened reading.cursor) _ (λ c.
+    of_outcome Moves (or_refused (seen_stamped db actor c.object) not_found) _ (λ o.
+    of_outcome Moves (selected db actor o) _ (λ contents. moves-gave_next contents c le _)))
+moves-moved db actor reading (get_response le) =
+    of_outcome Moves (or_refused reading.cursor conditions_not_satisfied) _ (λ c.
+    of_outcome Moves (or_refused (seen_stamped db actor c.object) not_found) _ (λ o.
+    of_outcome Moves (selected db actor o) _ (λ contents. moves-gave_more c le reading.pending)))
+
+-- An answer accepts the command, or leaves the machine.
+abbrev AcceptsOrStays : Machine → Answer → Type 0
+AcceptsOrStays m answer = Accepts answer.reply.word ⊎ ((answer.commits ≡ []) × (answer.machine ≡ m))
+
+-- what a channel reads is what its session has
+same_reading : (session : Option Session) → option_map (reading_so (option_map_or (λ (s : Session). s.reading) session no_reading)) session ≡ session
+same_reading None = refl
+same_reading (Some s) = refl
+
+stays-has_read : (m : Machine) (channel : ℕ) (command : ReadingCommand) → AcceptsOrStays m (has_read m channel command)
+unfolding move_of
+stays-has_read m channel command = go (moved (base m channel) (actor m channel) (reading_of m channel) command) (moves-moved (base m channel) (actor m channel) (reading_of m channel) command)
   where
-    bound : (r : Result Command StatusWord) → SaysDone (r >>= λ (c : Command). operated m c.channel c.operation)
-    bound (Ok c) = done-operated m c.channel c.operation
-    bound (Err word) = tt
+    go : (move : Result (Move Reading) StatusWord) → IfOk move Moves
+        → AcceptsOrStays m (record {
+            reply = (or_stays (reading_of m channel) move).reply;
+            machine = changing_session (reading_so (or_stays (reading_of m channel) move).after) m channel;
+            commits = [];
+        })
+    go (Ok move) moves = inl moves
+    go (Err word) moves = inr (refl, changing_session-same (reading_so (reading_of m channel)) m channel (same_reading (session_of m channel)))
+
+-- Each other operation accepts, or is refused before it changes anything.
+abbrev Accepted : Answer → Type 0
+Accepted answer = Accepts answer.reply.word
+
+accepted-changed_to : (m : Machine) (channel : ℕ) (edits : List Edit) (db : Database) (t : Option Transaction) → Accepted (changed_to m channel edits db t)
+accepted-changed_to m channel edits db None = is_done
+accepted-changed_to m channel edits db (Some t) = is_done
+
+accepted-changed : (m : Machine) (channel : ℕ) (operation : Operation) → IfOk (changed m channel operation) Accepted
+accepted-changed m channel operation =
+    of_outcome Accepted (edits_of (base m channel) (actor m channel) (cursor_of m channel) operation) _ (λ edits.
+    of_outcome Accepted (with_edits (base m channel) edits) _ (λ db. accepted-changed_to m channel edits db (own_transaction m.transaction channel)))
+
+accepted-deleted : (m : Machine) (channel : ℕ) (name : List ℕ) → IfOk (user_deleted m channel name) Accepted
+accepted-deleted m channel name = go (changed m channel (DeleteUser name)) (accepted-changed m channel (DeleteUser name))
+  where
+    go : (r : Result Answer StatusWord) → IfOk r Accepted
+        → IfOk (r >>= λ (answer : Answer). or_refused (user_named (base m channel).users name) not_found >>= λ (u : User). Ok (record answer { machine = without_user answer.machine u.stamp })) Accepted
+    go (Err word) accepted = tt
+    go (Ok answer) accepted = of_outcome Accepted (or_refused (user_named (base m channel).users name) not_found) _ (λ u. accepted)
+
+accepted-if : (b : Bool) (x y : Answer) → Accepted x → Accepted y → Accepted (if b then x else y)
+accepted-if true x y first second = first
+accepted-if false x y first second = second
+
+accepted-verified : (m : Machine) (channel : ℕ) (secret : List ℕ) → IfOk (verified m channel secret) Accepted
+accepted-verified m channel secret =
+    of_outcome Accepted (or_refused (user_of m channel) conditions_not_satisfied) _ (λ p.
+    of_outcome Accepted (only_if (not p.proved) conditions_not_satisfied) _ (λ _.
+    of_outcome Accepted (or_refused (user_stamped m.committed.users p.stamp) conditions_not_satisfied) _ (λ u.
+    of_outcome Accepted (only_if (not (u.tries == 0)) authentication_blocked) _ (λ _.
+    accepted-if (bytes_eq secret u.secret) (secret_right m channel u) (secret_wrong m u) is_done (costs_a_try (u.tries - 1))))))
+
+accepted-opened : (m : Machine) (channel number : ℕ) → IfOk (channel_opened m channel number) Accepted
+accepted-opened m channel zero = of_outcome Accepted (or_refused (least_closed m) function_not_supported) _ (λ number. is_done)
+accepted-opened m channel (suc n) = of_outcome Accepted (only_if (not (is_open m (suc n))) conditions_not_satisfied) _ (λ _. is_done)
+
+accepted-closed : (m : Machine) (channel number : ℕ) → IfOk (channel_closed m channel number) Accepted
+accepted-closed m channel number =
+    of_outcome Accepted (only_if (is_open m number) channel_not_supported) _ (λ _.
+    of_outcome Accepted (only_if (not (is_some (own_transaction m.transaction number))) conditions_not_satisfied) _ (λ _. is_done))
+
+accepted-operated : (m : Machine) (channel : ℕ) (operation : Operation) → IfOk (operated m channel operation) Accepted
+accepted-operated m channel Begin = of_outcome Accepted (only_if (not (is_some m.transaction)) conditions_not_satisfied) _ (λ _. is_done)
+accepted-operated m channel Commit = of_outcome Accepted (or_refused (own_transaction m.transaction channel) conditions_not_satisfied) _ (λ t. is_done)
+accepted-operated m channel Rollback = of_outcome Accepted (or_refused (own_transaction m.transaction channel) conditions_not_satisfied) _ (λ t. is_done)
+accepted-operated m channel (PresentUser name) = of_outcome Accepted (session_named (base m channel) name) _ (λ session. is_done)
+accepted-operated m channel (DeleteUser name) = accepted-deleted m channel name
+accepted-operated m channel (Verify secret) = accepted-verified m channel secret
+accepted-operated m channel (OpenChannel number) = accepted-opened m channel number
+accepted-operated m channel (CloseChannel number) = accepted-closed m channel (if number == 0 then channel else number)
+accepted-operated m channel operation = accepted-changed m channel operation
+
+-- what an outcome makes of a machine
+stays-answered : (m : Machine) (outcome : Result Answer StatusWord) → IfOk outcome (AcceptsOrStays m) → AcceptsOrStays m (answered m outcome)
+stays-answered m (Ok answer) accepts = accepts
+stays-answered m (Err word) accepts = inr (refl, refl)
+
+or_stays-accepted : (m : Machine) (outcome : Result Answer StatusWord) → IfOk outcome Accepted → IfOk outcome (AcceptsOrStays m)
+or_stays-accepted m (Ok answer) accepted = inl accepted
+or_stays-accepted m (Err word) accepted = tt
+
+stays-carried_out : (m : Machine) (c : Command) → IfOk (carried_out m c) (AcceptsOrStays m)
+stays-carried_out m c =
+    of_outcome (AcceptsOrStays m) (only_if (not (is_kept_waiting (waits (kind_of c.operation)) m.transaction c.channel)) conditions_not_satisfied) _
+    (λ _. either (reading_command c.operation c.le))
+  where
+    either : (command : Option ReadingCommand) → IfOk (option_map_or (λ command. Ok (has_read m c.channel command)) command (operated m c.channel c.operation)) (AcceptsOrStays m)
+    either None = or_stays-accepted m (operated m c.channel c.operation) (accepted-operated m c.channel c.operation)
+    either (Some command) = stays-has_read m c.channel command
+
+-- A step accepts, or leaves the machine but for the parts of a command.
+abbrev Steps : Machine → Answer → Type 0
+Steps m answer = Accepts answer.reply.word ⊎ ((answer.commits ≡ []) × IsAsBefore m answer.machine)
+
+steps-ended : (m : Machine) (channel : ℕ) (answer : Answer) → AcceptsOrStays (changing_session without_chain m channel) answer → Steps m answer
+steps-ended m channel answer (inl accepts) = inl accepts
+steps-ended m channel answer (inr stays) = inr (stays.0, inr (channel, stays.1))
+
+steps-stepped : (m : Machine) (form : Form) → Steps m (stepped m form)
+steps-stepped m (refused word) = inr (refl, inl refl)
+steps-stepped m (refused_on channel word) = inr (refl, inr (channel, refl))
+steps-stepped m (part_on channel kind octets) = inl is_done
+steps-stepped m (a_command c) =
+    let ended : Machine = changing_session without_chain m c.channel in
+    steps-ended m c.channel (answered ended (carried_out ended c)) (stays-answered ended (carried_out ended c) (stays-carried_out ended c))
+
+pub step-accepts_or_stays : (m : Machine) (octets : List ℕ) → Steps m (step m octets)
+unfolding step step_by
+step-accepts_or_stays m octets = steps-stepped m (form_of built_operations octets (open_channels m) (chain_of m) m.committed.limit)

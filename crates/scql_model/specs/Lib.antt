@@ -1,3 +1,4 @@
+pub mod Accepting
 pub mod Changing
 pub mod Commands
 pub mod Contents
