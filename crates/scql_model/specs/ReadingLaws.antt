@@ -1,0 +1,30 @@
+-- What ties the answers of reading commands to what is shown.
+use Rattle.std.specs.Prelude.{◌≡◌, true, List, [], ◌∷◌, map}
+use Rattle.eeprom.specs.Slots.{Rises}
+use Rattle.scql_base.specs.declared.words.Actor.{Actor}
+use Rattle.scql_base.specs.declared.records.User.{User}
+use Rattle.scql_base.specs.declared.records.Object.{Object}
+use Rattle.scql_base.specs.declared.records.Grant.{Grant}
+use Rattle.scql_base.specs.declared.records.RowRecord.{RowRecord}
+use Rattle.scql_model.specs.Commands.{Reply}
+use Rattle.scql_model.specs.Database.{Database, are_different}
+use Rattle.scql_model.specs.Machine.{Reading}
+use Rattle.scql_model.specs.ReadingCommands.{ReadingCommand}
+use Rattle.scql_model.specs.Moves.{move_of}
+
+-- what reading needs of a database: objects have different names, and each list stands in rising order of its stamps
+pub record IsReadable (db : Database) : Type 0 where
+  pub names : are_different (map (λ (o : Object). o.name) db.objects) ≡ true
+  pub objects : Rises (λ (o : Object). o.stamp) db.objects
+  pub users : Rises (λ (u : User). u.stamp) db.users
+  pub grants : Rises (λ (g : Grant). g.stamp) db.grants
+  pub rows : Rises (λ (r : RowRecord). r.stamp) db.rows
+
+-- the answers to reading commands in turn, and the cursor and pending octets after them
+abbrev pub replies_to : Database → Actor → Reading → List ReadingCommand → List Reply
+replies_to db actor reading [] = []
+replies_to db actor reading (command ∷ commands) = (move_of db actor reading command).reply ∷ replies_to db actor (move_of db actor reading command).after commands
+
+abbrev pub reading_after : Database → Actor → Reading → List ReadingCommand → Reading
+reading_after db actor reading [] = reading
+reading_after db actor reading (command ∷ commands) = reading_after db actor (move_of db actor reading command).after commands
