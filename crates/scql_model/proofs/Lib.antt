@@ -13,6 +13,7 @@ pub mod Hearing
 pub mod LongerLists
 pub mod Naming
 pub mod Positions
+pub mod ReadingIsShown
 pub mod RecordLaws
 pub mod Refusing
 pub mod Room
