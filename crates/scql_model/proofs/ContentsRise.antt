@@ -1,5 +1,5 @@
 -- The rows of each object stand in rising order of their stamps.
-use Rattle.std.proofs.Common.{◌≡◌, ℕ, zero, suc, ◌<◌, ◌==◌, Bool, true, false, List, [], ◌∷◌, map, filter, Option, Some, None, inl, inr, refl}
+use Rattle.std.proofs.Common.{ℕ, zero, suc, ◌<◌, ◌==◌, Bool, List, [], ◌∷◌, map, filter, Option, Some, None, inl, inr}
 use Rattle.std.specs.List.{AllByRecursion}
 use Rattle.std.proofs.lemmas.Bool.{cases_Bool}
 use Rattle.eeprom.specs.Slots.{Rises}

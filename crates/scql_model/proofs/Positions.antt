@@ -1,14 +1,14 @@
 -- Rows found by their stamps are those found by their positions, where stamps rise.
-use Rattle.std.proofs.Common.{◌≡◌, ℕ, zero, suc, ◌+◌, ◌<◌, ◌≤◌, ◌==◌, nat_lt, nat_le, Bool, true, false, ◌&&◌, List, [], ◌∷◌, map, Option, Some, None, option_map, slice_get, if◌then◌else◌, refl, sym, ◌∙◌, ap, subst, inl, inr, arith, one-add}
-use Rattle.std.specs.List.{find, list_any, count_by, AllByRecursion}
-use Rattle.std.proofs.lemmas.Bool.{cases_Bool, ltb-true, ltb-false, lt-ltb, le-ltb, leb-true, leb-false, le-leb, lt-leb, eqb-true, eqb-false, eq-eqb, ne_eqb, or_right}
+use Rattle.std.proofs.Common.{◌≡◌, ℕ, suc, ◌+◌, ◌<◌, ◌≤◌, ◌==◌, nat_lt, nat_le, Bool, true, false, ◌&&◌, List, [], ◌∷◌, map, Some, None, option_map, refl, sym, ◌∙◌, ap, subst, inl, inr, arith, one-add}
+use Rattle.std.specs.List.{find, AllByRecursion}
+use Rattle.std.proofs.lemmas.Bool.{cases_Bool, ltb-true, ltb-false, lt-ltb, le-ltb, leb-true, leb-false, eqb-true, eqb-false, eq-eqb, ne_eqb, or_right}
 use Rattle.std.proofs.lemmas.Option.{none-some, same_Some}
 use Rattle.eeprom.specs.Slots.{Rises}
 use Rattle.eeprom.proofs.InOrder.{counts, counts_not}
 use Rattle.scql_model.specs.Objects.{StampedRow}
 use Rattle.scql_model.specs.Moves.{first_from, row_at}
 use Rattle.scql_model.specs.Shown.{rows_before, is_there}
-use Rattle.scql_model.specs.Reads.{PositionedRow, one_further, least_from, position_behind, if_passes, row_on}
+use Rattle.scql_model.specs.Reads.{PositionedRow, one_further, least_from, position_behind, row_on}
 
 abbrev pub stamp_of : StampedRow → ℕ
 stamp_of r = r.stamp

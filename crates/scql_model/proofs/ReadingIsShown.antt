@@ -1,6 +1,5 @@
 -- What a reading command answers, and what is shown after it, are what follows from what is shown before it.
-use Rattle.std.proofs.Common.{◌≡◌, ℕ, ◌+◌, ◌==◌, nat_le, Bool, true, false, ◌&&◌, List, [], ◌∷◌, Option, Some, None, option_map, option_and_then, Result, Ok, Err, slice_get, if◌then◌else◌, refl, sym, ◌∙◌, ap, subst, inl, inr}
-use Rattle.std.specs.List.{find}
+use Rattle.std.proofs.Common.{◌≡◌, ℕ, ◌+◌, nat_le, Bool, true, false, ◌&&◌, List, [], ◌∷◌, Option, Some, None, option_map, option_and_then, Result, Ok, Err, refl, sym, ◌∙◌, ap, inl, inr}
 use Rattle.std.proofs.lemmas.Bool.{cases_Bool}
 use Rattle.std.proofs.lemmas.Option.{none-some}
 use Rattle.scql_base.specs.declared.words.Actor.{Actor}
@@ -11,18 +10,18 @@ use Rattle.scql_base.specs.declared.cursor.Place.{Place}
 use Rattle.scql_base.specs.declared.cursor.Place.TheVariants.{NotOpen, At, End}
 use Rattle.scql_base.specs.declared.records.Object.{Object}
 use Rattle.scql_base.specs.Words.{done, security_not_satisfied, conditions_not_satisfied, not_found}
-use Rattle.scql_model.specs.Database.{Database}
+use Rattle.scql_model.specs.Database.{Database, IsValid}
 use Rattle.scql_model.specs.Machine.{Reading}
 use Rattle.scql_model.specs.Form.{◌>>=◌, or_refused}
 use Rattle.scql_model.specs.Rights.{select_privilege, holds, seen_named, seen_stamped}
 use Rattle.scql_model.specs.Objects.{StampedRow}
 use Rattle.scql_model.specs.Contents.{Contents, contents_of}
-use Rattle.scql_model.specs.ReadingCommands.{ReadingCommand, declare, open_cursor, next, fetch, fetch_next, get_response, Move, or_stays, provided, end_reached, record_not_found, cut, fitting, wanted_of, named_among, row_octets}
+use Rattle.scql_model.specs.ReadingCommands.{ReadingCommand, declare, open_cursor, next, fetch, fetch_next, get_response, Move, or_stays, provided, end_reached, record_not_found, fitting, wanted_of, named_among, row_octets}
 use Rattle.scql_model.specs.Moves.{selected, is_opened, opened, passes, first_from, row_behind, row_at, moved_to, giving, went_to, gave_next, gave, gave_more, moved, move_of}
-use Rattle.scql_model.specs.Shown.{ShownTable, ShownObject, ShownPlace, not_open, hidden, on, at_end, ShownCursor, Shown, open_contents, without_stamps, object_shown, objects_shown, rows_before, is_there, place_shown, cursor_over, cursor_shown, shown}
-use Rattle.scql_model.specs.Reads.{is_called, table_called, table_under, is_opened_place, opened_cursor, meets_cursor, PositionedRow, least_from, least_behind, row_on, stands_at, gives_at, goes_to, gives_next, gives_row, gives_more, read, read_move}
-use Rattle.scql_model.specs.ReadingLaws.{IsReadable}
-use Rattle.scql_model.proofs.Positions.{stamp_of, values_of, at_position, before_zero, before_next, first_is_least, at_is_on, there-find}
+use Rattle.scql_model.specs.Shown.{ShownTable, ShownObject, ShownPlace, not_open, on, ShownCursor, Shown, open_contents, without_stamps, object_shown, rows_before, is_there, place_shown, cursor_shown, shown}
+use Rattle.scql_model.specs.Reads.{table_under, is_opened_place, opened_cursor, meets_cursor, least_from, least_behind, stands_at, gives_at, goes_to, gives_next, gives_row, gives_more, read, read_move, read_reply, read_next}
+use Rattle.scql_model.specs.ReadingLaws.{IsReadable, replies_to, reading_after, read_replies, shown_after}
+use Rattle.scql_model.proofs.Positions.{values_of, at_position, before_zero, before_next, first_is_least, at_is_on, there-find}
 use Rattle.scql_model.proofs.FoundAgain.{seen_stamped-named, seen_named-stamped, name-seen_named, find-objects_shown}
 use Rattle.scql_model.proofs.ContentsRise.{Rises-contents_of}
 
@@ -243,3 +242,37 @@ module _ (db : Database) (actor : Actor) (reading : Reading) where
   pub move_shown-move_of : IsReadable db → (command : ReadingCommand) → move_shown db actor (move_of db actor reading command) ≡ read_move (shown db actor reading) command
   unfolding move_of read_move
   move_shown-move_of readable command = told-or_stays (moved db actor reading command) ∙ ap (or_stays (shown db actor reading)) (told-moved readable command)
+
+-- its two parts
+pub reply-move_of : (db : Database) (actor : Actor) (reading : Reading) (command : ReadingCommand) → IsReadable db → (move_of db actor reading command).reply ≡ read_reply (shown db actor reading) command
+reply-move_of db actor reading command readable = ap (λ (move : Move Shown). move.reply) (move_shown-move_of db actor reading readable command)
+
+pub shown-move_of : (db : Database) (actor : Actor) (reading : Reading) (command : ReadingCommand) → IsReadable db → shown db actor (move_of db actor reading command).after ≡ read_next (shown db actor reading) command
+shown-move_of db actor reading command readable = ap (λ (move : Move Shown). move.after) (move_shown-move_of db actor reading readable command)
+
+-- the same for commands in turn
+pub replies_to-shown : (db : Database) (actor : Actor) (reading : Reading) (commands : List ReadingCommand) → IsReadable db → replies_to db actor reading commands ≡ read_replies (shown db actor reading) commands
+replies_to-shown db actor reading [] readable = refl
+replies_to-shown db actor reading (command ∷ commands) readable =
+    let rest = replies_to-shown db actor (move_of db actor reading command).after commands readable in
+    rw (reply-move_of db actor reading command readable, rest, shown-move_of db actor reading command readable) refl
+
+pub shown-reading_after : (db : Database) (actor : Actor) (reading : Reading) (commands : List ReadingCommand) → IsReadable db → shown db actor (reading_after db actor reading commands) ≡ shown_after (shown db actor reading) commands
+shown-reading_after db actor reading [] readable = refl
+shown-reading_after db actor reading (command ∷ commands) readable =
+    shown-reading_after db actor (move_of db actor reading command).after commands readable ∙ ap (λ (s : Shown). shown_after s commands) (shown-move_of db actor reading command readable)
+
+-- where the same is shown on two cards, the same commands have the same answers, and the same is shown after them
+pub same-replies : (db other : Database) (actor another : Actor) (reading further : Reading) (commands : List ReadingCommand) → IsReadable db → IsReadable other
+    → shown db actor reading ≡ shown other another further → replies_to db actor reading commands ≡ replies_to other another further commands
+same-replies db other actor another reading further commands readable readable_too same =
+    replies_to-shown db actor reading commands readable ∙ ap (λ (s : Shown). read_replies s commands) same ∙ sym (replies_to-shown other another further commands readable_too)
+
+pub same-shown_after : (db other : Database) (actor another : Actor) (reading further : Reading) (commands : List ReadingCommand) → IsReadable db → IsReadable other
+    → shown db actor reading ≡ shown other another further → shown db actor (reading_after db actor reading commands) ≡ shown other another (reading_after other another further commands)
+same-shown_after db other actor another reading further commands readable readable_too same =
+    shown-reading_after db actor reading commands readable ∙ ap (λ (s : Shown). shown_after s commands) same ∙ sym (shown-reading_after other another further commands readable_too)
+
+-- a valid database is readable
+pub IsReadable-valid : (db : Database) → IsValid db → IsReadable db
+IsReadable-valid db valid = record { names = valid.object_names; objects = valid.objects_rise; users = valid.users_rise; grants = valid.grants_rise; rows = valid.rows_rise }

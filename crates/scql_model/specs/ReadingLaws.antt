@@ -11,6 +11,8 @@ use Rattle.scql_model.specs.Database.{Database, are_different}
 use Rattle.scql_model.specs.Machine.{Reading}
 use Rattle.scql_model.specs.ReadingCommands.{ReadingCommand}
 use Rattle.scql_model.specs.Moves.{move_of}
+use Rattle.scql_model.specs.Shown.{Shown}
+use Rattle.scql_model.specs.Reads.{read_reply, read_next}
 
 -- what reading needs of a database: objects have different names, and each list stands in rising order of its stamps
 pub record IsReadable (db : Database) : Type 0 where
@@ -28,3 +30,12 @@ replies_to db actor reading (command ∷ commands) = (move_of db actor reading c
 abbrev pub reading_after : Database → Actor → Reading → List ReadingCommand → Reading
 reading_after db actor reading [] = reading
 reading_after db actor reading (command ∷ commands) = reading_after db actor (move_of db actor reading command).after commands
+
+-- the same from what is shown alone
+abbrev pub read_replies : Shown → List ReadingCommand → List Reply
+read_replies s [] = []
+read_replies s (command ∷ commands) = read_reply s command ∷ read_replies (read_next s command) commands
+
+abbrev pub shown_after : Shown → List ReadingCommand → Shown
+shown_after s [] = s
+shown_after s (command ∷ commands) = shown_after (read_next s command) commands
