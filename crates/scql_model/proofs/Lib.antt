@@ -21,4 +21,5 @@ pub mod SpellingLengths
 pub mod Spellings
 pub mod Validity
 mod WorkedCreating
+mod WorkedReading
 mod WorkedRows
