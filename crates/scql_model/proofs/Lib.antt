@@ -2,6 +2,7 @@ pub mod Acting
 pub mod AddedUser
 pub mod ChangeLaws
 pub mod ChangingSessions
+pub mod ContentsRise
 pub mod CounterSlot
 pub mod Creating
 pub mod CreatingSlots
@@ -9,11 +10,14 @@ pub mod CreatingWeight
 pub mod EditLaws
 pub mod FieldLaws
 pub mod FormedCommands
+pub mod FoundAgain
 pub mod FreshCard
 pub mod Hearing
 pub mod LastCommits
 pub mod LongerLists
 pub mod Naming
+pub mod Positions
+pub mod ReadingIsShown
 pub mod RecordLaws
 pub mod RecordsOf
 pub mod Refusing
@@ -25,5 +29,6 @@ pub mod Validity
 mod WorkedCreating
 mod WorkedForms
 mod WorkedMachine
+mod WorkedReading
 mod WorkedRows
 mod WorkedValidity

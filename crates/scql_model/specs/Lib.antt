@@ -20,6 +20,7 @@ pub mod Opens
 pub mod Operations
 pub mod Parameters
 pub mod ReadingCommands
+pub mod ReadingLaws
 pub mod Reads
 pub mod Records
 pub mod Refusals

@@ -32,9 +32,9 @@ is_opened_place hidden = true
 is_opened_place (on before there) = true
 is_opened_place at_end = true
 
-abbrev pub opened_cursor : Shown → Result ShownCursor StatusWord
-opened_cursor s = do
-  c ← or_refused s.cursor conditions_not_satisfied
+abbrev pub opened_cursor : Option ShownCursor → Result ShownCursor StatusWord
+opened_cursor cursor = do
+  c ← or_refused cursor conditions_not_satisfied
   _ ← only_if (is_opened_place c.place) conditions_not_satisfied
   Ok c
 
@@ -123,15 +123,15 @@ read s open_cursor = do
   t ← table_under s c
   Ok (goes_to s c (least_from 0 (meets_cursor t c) t.rows))
 read s next = do
-  c ← opened_cursor s
+  c ← opened_cursor s.cursor
   t ← table_under s c
   Ok (goes_to s c (least_behind c.place (meets_cursor t c) t.rows))
 read s (fetch le) = do
-  c ← opened_cursor s
+  c ← opened_cursor s.cursor
   t ← table_under s c
   gives_row s t c le c.place
 read s (fetch_next le) = do
-  c ← opened_cursor s
+  c ← opened_cursor s.cursor
   t ← table_under s c
   gives_next s t c le (least_behind c.place (meets_cursor t c) t.rows)
 read s (get_response le) = do

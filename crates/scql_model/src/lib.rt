@@ -1,2 +1,6 @@
 //! The model: the definitions of databases, of the table machine and of what it answers, which the clauses of the other crates cite.
 #![tactic(auto)]
+
+mod laws;
+
+pub use laws::{equal_shown_gives_equal_replies, reading_is_of_what_is_shown};
