@@ -1,9 +1,8 @@
 -- What changes of sessions leave as it was.
-use Rattle.std.proofs.Common.{◌≡◌, ℕ, zero, suc, List, [], ◌∷◌, Option, Some, None, option_map, refl, sym, ap, ◌∙◌, subst}
+use Rattle.std.proofs.Common.{◌≡◌, ℕ, zero, suc, List, [], ◌∷◌, Option, Some, None, option_map, refl, sym, ap, ◌∙◌}
 use Rattle.std.specs.Prelude.{slice_get, slice_set, IfSome}
 use Rattle.std.specs.Option.{option_flatten}
 use Rattle.std.specs.List.{AllByRecursion}
-use Rattle.std.proofs.lemmas.Option.{none-some, same_Some}
 use Rattle.scql_base.specs.declared.cursor.Presented.{Presented}
 use Rattle.scql_model.specs.Machine.{Machine, Session, session_for, session_of}
 use Rattle.scql_model.specs.Sessions.{with_session, changing_session}

@@ -3,7 +3,7 @@ use Rattle.std.proofs.Common.{◌≡◌, ℕ, ◌+◌, ◌≤◌, false, eqb, Li
 use Rattle.std.specs.List.{list_any, sum_by, count_by, find}
 use Rattle.std.proofs.lemmas.Bool.{cases_Bool, eqb-true}
 use Rattle.std.proofs.lemmas.Option.{none-some, same_Some}
-use Rattle.std.proofs.lemmas.List.Sums.{sum_by-cons, sum_by-append, sum_by_push}
+use Rattle.std.proofs.lemmas.List.Sums.{sum_by-cons, sum_by_push}
 use Rattle.eeprom.specs.StoreOf.{cells_for}
 use Rattle.eeprom.specs.Slots.{has, replaced, without}
 use Rattle.eeprom.proofs.InOrder.{counts, counts_not, without-none, replaced-none}
@@ -11,7 +11,6 @@ use Rattle.scql_base.specs.declared.records.User.{User}
 use Rattle.scql_base.specs.declared.records.Object.{Object}
 use Rattle.scql_base.specs.declared.records.Grant.{Grant}
 use Rattle.scql_base.specs.declared.records.RowRecord.{RowRecord}
-use Rattle.scql_model.specs.Records.{counter_record, user_record, object_spelling, grant_record, row_record}
 use Rattle.scql_model.specs.Database.{Database, weight}
 use Rattle.scql_model.proofs.RecordsOf.{weight-of_kinds}
 use Rattle.scql_model.specs.Edits.{AnyRecord, of_counter, of_user, of_object, of_grant, of_row, Action, adds, changes, removes, Edit, list_after, edited, applied, cells_of_record, making}

@@ -1,20 +1,11 @@
 -- What a power loss leaves of a run, line by line.
-use Rattle.std.proofs.Common.{◌≡◌, inl, inr, ℕ, zero, suc, ◌+◌, ◌-◌, ◌≤◌, List, [], ◌∷◌, ◌++◌, length, take, Option, Some, None, is_some, Result, Ok, Err, refl, sym, ap, subst, ◌∙◌, arith, length-append}
-use Rattle.std.proofs.lemmas.Bool.{cases_Bool, le-leb}
+use Rattle.std.proofs.Common.{◌≡◌, inl, inr, ℕ, zero, suc, ◌+◌, ◌-◌, ◌≤◌, List, [], ◌∷◌, ◌++◌, length, take, refl, sym, ap, subst, ◌∙◌, arith, length-append}
+use Rattle.std.proofs.lemmas.Bool.{le-leb}
 use Rattle.std.proofs.lemmas.Bool.Decides.{leb_tells}
-use Rattle.std.specs.Prelude.{IfOk, codes}
-use Rattle.std.specs.Str.{bytes_eq}
+use Rattle.std.specs.Prelude.{codes}
 use Rattle.hex.specs.Hex.{encode_upper}
-use Rattle.scql_base.specs.declared.words.StatusWord.{StatusWord}
-use Rattle.scql_base.specs.declared.records.User.{User}
-use Rattle.scql_model.specs.Database.{Database, public_name, user_named}
-use Rattle.scql_model.specs.Machine.{Machine, base, actor}
-use Rattle.scql_base.specs.declared.operation.Command.{Command}
-use Rattle.scql_base.specs.declared.operation.Operation.{Operation}
-use Rattle.scql_base.specs.declared.operation.Operation.TheVariants.{PresentUser, CreateUser}
-use Rattle.scql_model.specs.Creating.{created}
-use Rattle.scql_model.specs.Refusals.{◌>>=◌}
-use Rattle.scql_model.specs.Form.{as_command}
+use Rattle.scql_model.specs.Database.{Database}
+use Rattle.scql_model.specs.Machine.{Machine}
 use Rattle.scql_model.specs.Step.{step}
 use Rattle.scql_model.proofs.LastCommits.{last-step}
 use Rattle.scql_model.specs.Lines.{Reading, too_long, nothing, resets, not_hexadecimal, command, reading_of, reading_text, reading_step, reading_commits, reply_octets, line_text, line_step, run_text, machine_after}

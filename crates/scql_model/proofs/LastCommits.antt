@@ -1,10 +1,9 @@
 -- A step ends at the last database that it commits, and where it commits none at the one with which it began.
-use Rattle.std.proofs.Common.{◌≡◌, ℕ, zero, suc, ◌-◌, ◌==◌, Bool, true, false, List, [], ◌∷◌, length, Option, Some, None, Result, Ok, Err, not, is_some, if◌then◌else◌, refl}
+use Rattle.std.proofs.Common.{◌≡◌, ℕ, zero, suc, ◌==◌, Bool, true, false, List, length, Option, Some, None, Result, Ok, Err, not, is_some, if◌then◌else◌, refl}
 use Rattle.std.specs.Prelude.{IfOk}
 use Rattle.std.specs.Option.{option_map_or}
 use Rattle.std.specs.Str.{bytes_eq}
 use Rattle.scql_base.specs.declared.words.StatusWord.{StatusWord}
-use Rattle.scql_base.specs.declared.cursor.Presented.{Presented}
 use Rattle.scql_base.specs.declared.records.User.{User}
 use Rattle.scql_base.specs.declared.operation.Command.{Command}
 use Rattle.scql_base.specs.declared.operation.Operation.{Operation}
@@ -12,7 +11,7 @@ use Rattle.scql_base.specs.declared.operation.Operation.TheVariants.{DeleteUser,
 use Rattle.scql_base.specs.Words.{authentication_blocked, channel_not_supported, conditions_not_satisfied, function_not_supported, not_found}
 use Rattle.scql_model.specs.Refusals.{◌>>=◌, or_refused, only_if}
 use Rattle.scql_model.specs.Database.{Database, user_named, user_stamped}
-use Rattle.scql_model.specs.Machine.{Machine, Session, Transaction, open_channels, base, actor}
+use Rattle.scql_model.specs.Machine.{Machine, Transaction, open_channels, base, actor}
 use Rattle.scql_model.specs.Sessions.{changing_session, chain_of, cursor_of, without_chain, user_of, is_open, least_closed}
 use Rattle.scql_model.specs.Transactions.{own_transaction, waits, is_kept_waiting}
 use Rattle.scql_model.specs.Operations.{Line, kind_of, built_operations}
@@ -21,9 +20,9 @@ use Rattle.scql_model.specs.ReadingCommands.{ReadingCommand, reading_command}
 use Rattle.scql_model.specs.Edits.{Edit}
 use Rattle.scql_model.specs.Changing.{edits_of, with_edits}
 use Rattle.scql_model.specs.Heard.{after_commits}
-use Rattle.scql_model.specs.Step.{Answer, answered, has_read, changed_to, changed, user_deleted, begun, committed, rolled_back, session_named, user_presented, secret_right, secret_wrong, compared, verified, channel_opened, channel_closed, operated, carried_out, stepped, step_by, step}
+use Rattle.scql_model.specs.Step.{Answer, answered, has_read, changed_to, changed, user_deleted, session_named, secret_right, secret_wrong, compared, verified, channel_opened, channel_closed, operated, carried_out, stepped, step_by, step}
 
-abbrev IsLast : Database → Answer → Type 0
+abbrev pub IsLast : Database → Answer → Type 0
 IsLast db answer = after_commits db answer.commits (length answer.commits) ≡ answer.machine.committed
 
 -- what comes of a value, whatever it is, comes of an outcome
@@ -106,6 +105,10 @@ last-stepped m (a_command c) =
     let ended : Machine = changing_session without_chain m c.channel in
     last-answered ended (carried_out ended c) (last-carried_out ended c)
 
+pub last-step_by : (table : List Line) (m : Machine) (octets : List ℕ) → IsLast m.committed (step_by table m octets)
+unfolding step_by
+last-step_by table m octets = last-stepped m (form_of table octets (open_channels m) (chain_of m) m.committed.limit)
+
 pub last-step : (m : Machine) (octets : List ℕ) → after_commits m.committed (step m octets).commits (length (step m octets).commits) ≡ (step m octets).machine.committed
-unfolding step step_by
-last-step m octets = last-stepped m (form_of built_operations octets (open_channels m) (chain_of m) m.committed.limit)
+unfolding step
+last-step m octets = last-step_by built_operations m octets

@@ -18,6 +18,7 @@ pub mod LongerLists
 pub mod Naming
 pub mod Positions
 pub mod ReadingIsShown
+pub mod ReadingSteps
 pub mod RecordLaws
 pub mod RecordsOf
 pub mod Refusing

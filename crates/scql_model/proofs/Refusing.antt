@@ -1,5 +1,5 @@
 -- A command that isn't accepted leaves the machine, but for the parts of a command, and commits nothing.
-use Rattle.std.proofs.Common.{◌≡◌, ◌⊎◌, ℕ, zero, suc, ◌-◌, ◌==◌, Bool, true, false, List, [], ◌∷◌, length, drop, Option, Some, None, option_map, Result, Ok, Err, not, is_some, if◌then◌else◌, refl, inl, inr, ap}
+use Rattle.std.proofs.Common.{◌≡◌, ◌⊎◌, ℕ, zero, suc, ◌-◌, ◌==◌, Bool, true, false, List, [], ◌∷◌, length, drop, Option, Some, None, option_map, Result, Ok, Err, not, is_some, if◌then◌else◌, refl, inl, inr}
 use Rattle.std.specs.Prelude.{IfOk}
 use Rattle.std.specs.Option.{option_map_or}
 use Rattle.std.specs.Str.{bytes_eq}
@@ -19,17 +19,17 @@ use Rattle.scql_model.specs.Rules.{user_named, user_stamped}
 use Rattle.scql_model.specs.Machine.{Machine, Session, Reading, Transaction, open_channels, base, actor, session_of, no_reading}
 use Rattle.scql_model.specs.Sessions.{changing_session, chain_of, cursor_of, reading_of, reading_so, without_chain, user_of, is_open, least_closed, without_user}
 use Rattle.scql_model.specs.Transactions.{own_transaction, waits, is_kept_waiting}
-use Rattle.scql_model.specs.Operations.{Line, kind_of, built_operations}
+use Rattle.scql_model.specs.Operations.{Line, kind_of}
 use Rattle.scql_model.specs.Form.{Form, refused, refused_on, part_on, a_command, form_of}
 use Rattle.scql_model.specs.Objects.{StampedRow}
 use Rattle.scql_model.specs.Contents.{Contents}
 use Rattle.scql_model.specs.ReadingCommands.{ReadingCommand, declare, open_cursor, next, fetch, fetch_next, get_response, reading_command, Move, or_stays, rest_word, fitting, row_octets, named_among}
-use Rattle.scql_model.specs.Moves.{selected, opened, row_behind, row_at, passes, went_to, gave_next, gave, gave_more, moved, move_of}
+use Rattle.scql_model.specs.Moves.{selected, opened, row_at, passes, went_to, gave_next, gave, gave_more, moved, move_of}
 use Rattle.scql_model.specs.Rights.{seen_named, seen_stamped}
 use Rattle.scql_model.specs.Edits.{Edit}
 use Rattle.scql_model.specs.Changing.{edits_of, with_edits}
-use Rattle.scql_model.specs.Accepting.{Accepts, is_done, at_its_end, has_more, costs_a_try, IsAsBefore}
-use Rattle.scql_model.specs.Step.{Answer, answered, has_read, changed_to, changed, user_deleted, begun, committed, rolled_back, session_named, user_presented, secret_right, secret_wrong, compared, verified, channel_opened, channel_closed, operated, carried_out, stepped, step_by, step}
+use Rattle.scql_model.specs.Accepting.{Accepts, is_done, at_its_end, has_more, costs_a_try, AcceptsOrLeaves}
+use Rattle.scql_model.specs.Step.{Answer, answered, has_read, changed_to, changed, user_deleted, session_named, secret_right, secret_wrong, verified, channel_opened, channel_closed, operated, carried_out, stepped, step_by}
 use Rattle.scql_model.proofs.ChangingSessions.{changing_session-same}
 use Rattle.scql_model.proofs.LastCommits.{of_outcome}
 
@@ -102,9 +102,9 @@ stays-has_read m channel command = go (moved (base m channel) (actor m channel) 
   where
     go : (move : Result (Move Reading) StatusWord) → IfOk move Moves
         → AcceptsOrStays m (record {
-            reply = (or_stays (reading_of m channel) move).reply;
-            machine = changing_session (reading_so (or_stays (reading_of m channel) move).after) m channel;
-            commits = [];
+          reply = (or_stays (reading_of m channel) move).reply;
+          machine = changing_session (reading_so (or_stays (reading_of m channel) move).after) m channel;
+          commits = [];
         })
     go (Ok move) moves = inl moves
     go (Err word) moves = inr (refl, changing_session-same (reading_so (reading_of m channel)) m channel (same_reading (session_of m channel)))
@@ -181,21 +181,18 @@ stays-carried_out m c =
     either (Some command) = stays-has_read m c.channel command
 
 -- A step accepts, or leaves the machine but for the parts of a command.
-abbrev Steps : Machine → Answer → Type 0
-Steps m answer = Accepts answer.reply.word ⊎ ((answer.commits ≡ []) × IsAsBefore m answer.machine)
+leaves-ended : (m : Machine) (channel : ℕ) (answer : Answer) → AcceptsOrStays (changing_session without_chain m channel) answer → AcceptsOrLeaves m answer
+leaves-ended m channel answer (inl accepts) = inl accepts
+leaves-ended m channel answer (inr stays) = inr (stays.0, inr (channel, stays.1))
 
-steps-ended : (m : Machine) (channel : ℕ) (answer : Answer) → AcceptsOrStays (changing_session without_chain m channel) answer → Steps m answer
-steps-ended m channel answer (inl accepts) = inl accepts
-steps-ended m channel answer (inr stays) = inr (stays.0, inr (channel, stays.1))
-
-steps-stepped : (m : Machine) (form : Form) → Steps m (stepped m form)
-steps-stepped m (refused word) = inr (refl, inl refl)
-steps-stepped m (refused_on channel word) = inr (refl, inr (channel, refl))
-steps-stepped m (part_on channel kind octets) = inl is_done
-steps-stepped m (a_command c) =
+leaves-stepped : (m : Machine) (form : Form) → AcceptsOrLeaves m (stepped m form)
+leaves-stepped m (refused word) = inr (refl, inl refl)
+leaves-stepped m (refused_on channel word) = inr (refl, inr (channel, refl))
+leaves-stepped m (part_on channel kind octets) = inl is_done
+leaves-stepped m (a_command c) =
     let ended : Machine = changing_session without_chain m c.channel in
-    steps-ended m c.channel (answered ended (carried_out ended c)) (stays-answered ended (carried_out ended c) (stays-carried_out ended c))
+    leaves-ended m c.channel (answered ended (carried_out ended c)) (stays-answered ended (carried_out ended c) (stays-carried_out ended c))
 
-pub step-accepts_or_stays : (m : Machine) (octets : List ℕ) → Steps m (step m octets)
-unfolding step step_by
-step-accepts_or_stays m octets = steps-stepped m (form_of built_operations octets (open_channels m) (chain_of m) m.committed.limit)
+pub step-accepts_or_leaves : (table : List Line) (m : Machine) (octets : List ℕ) → AcceptsOrLeaves m (step_by table m octets)
+unfolding step_by
+step-accepts_or_leaves table m octets = leaves-stepped m (form_of table octets (open_channels m) (chain_of m) m.committed.limit)

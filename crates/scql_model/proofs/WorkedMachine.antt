@@ -1,5 +1,5 @@
 -- Worked lines over the whole machine, with all operations: the definitions compute each answer.
-use Rattle.std.proofs.Common.{◌≡◌, ℕ, ◌*◌, List, [], ◌∷◌, ◌++◌, length, take, drop, replicate, Result, Ok, Err, refl}
+use Rattle.std.proofs.Common.{◌≡◌, ℕ, ◌*◌, List, [], ◌∷◌, ◌++◌, take, drop, replicate, Result, Ok, Err, refl}
 use Rattle.std.specs.Prelude.{codes}
 use Rattle.hex.specs.Hex.{decode_of, encode_upper}
 use Rattle.hex.proofs.OnLiterals.{hex_on_literals}

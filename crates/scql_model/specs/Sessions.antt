@@ -6,7 +6,7 @@ use Rattle.scql_base.specs.declared.cursor.Cursor.{Cursor}
 use Rattle.scql_base.specs.declared.cursor.Presented.{Presented}
 use Rattle.scql_base.specs.declared.operation.OperationKind.{OperationKind}
 use Rattle.scql_base.specs.declared.records.User.{User}
-use Rattle.scql_model.specs.Machine.{Machine, Reading, Session, Chain, no_reading, new_session, session_for, session_of}
+use Rattle.scql_model.specs.Machine.{Machine, Reading, Session, Chain, no_reading, session_of}
 use Rattle.scql_model.specs.Form.{parts_of}
 
 -- a channel has this session, or none where it is closed

@@ -10,7 +10,8 @@ use Rattle.scql_base.specs.declared.cursor.Place.{Place}
 use Rattle.scql_base.specs.declared.cursor.Place.TheVariants.{NotOpen, At, End}
 use Rattle.scql_base.specs.declared.records.Object.{Object}
 use Rattle.scql_model.specs.Database.{Database}
-use Rattle.scql_model.specs.Machine.{Reading}
+use Rattle.scql_model.specs.Machine.{Machine, Reading, base, actor}
+use Rattle.scql_model.specs.Sessions.{reading_of}
 use Rattle.scql_model.specs.Rights.{select_privilege, holds, appears, seen_stamped}
 use Rattle.scql_model.specs.Objects.{StampedRow}
 use Rattle.scql_model.specs.Contents.{Contents, contents_of}
@@ -100,3 +101,7 @@ cursor_shown db actor pending c =
 -- what is shown to an actor who reads a database with this cursor and these pending octets
 unfoldable pub shown : Database → Actor → Reading → Shown
 shown db actor reading = record { objects = objects_shown db actor; cursor = option_map (cursor_shown db actor reading.pending) reading.cursor }
+
+-- what is shown on a channel of the machine
+unfoldable pub shown_on : Machine → ℕ → Shown
+shown_on m channel = shown (base m channel) (actor m channel) (reading_of m channel)

@@ -3,7 +3,6 @@ use Rattle.std.specs.Prelude.{ℕ, zero, suc, ◌-◌, ◌==◌, not, List, [], 
 use Rattle.std.specs.Option.{option_map_or}
 use Rattle.std.specs.Str.{bytes_eq}
 use Rattle.scql_base.specs.declared.words.StatusWord.{StatusWord}
-use Rattle.scql_base.specs.declared.cursor.Presented.{Presented}
 use Rattle.scql_base.specs.declared.operation.Command.{Command}
 use Rattle.scql_base.specs.declared.operation.Operation.{Operation}
 use Rattle.scql_base.specs.declared.operation.Operation.TheVariants.{DeleteUser, Begin, Commit, Rollback, PresentUser, Verify, OpenChannel, CloseChannel}
@@ -12,7 +11,7 @@ use Rattle.scql_base.specs.Words.{done, channel_not_supported, authentication_bl
 use Rattle.scql_model.specs.Commands.{Reply}
 use Rattle.scql_model.specs.Refusals.{◌>>=◌, or_refused, only_if}
 use Rattle.scql_model.specs.Database.{Database, public_name, user_named, user_stamped}
-use Rattle.scql_model.specs.Machine.{Machine, Session, Transaction, new_session, session_for, session_of, open_channels, base, actor}
+use Rattle.scql_model.specs.Machine.{Machine, Session, Transaction, new_session, session_for, open_channels, base, actor}
 use Rattle.scql_model.specs.Sessions.{with_session, changing_session, chain_of, without_chain, with_part, reading_of, cursor_of, reading_so, without_pending, without_cursor, user_of, presented, proving, without_user, is_open, least_closed}
 use Rattle.scql_model.specs.Transactions.{own_transaction, waits, is_kept_waiting}
 use Rattle.scql_model.specs.Operations.{Line, built_operations, kind_of}

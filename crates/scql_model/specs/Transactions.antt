@@ -2,7 +2,7 @@
 use Rattle.std.specs.Prelude.{ℕ, ◌==◌, not, Bool, true, false, Option, Some, None, if◌then◌else◌}
 use Rattle.scql_base.specs.declared.operation.OperationKind.{OperationKind}
 use Rattle.scql_base.specs.declared.operation.OperationKind.TheVariants.{DeclareCursor, OpenCursor, Next, Fetch, FetchNext, PresentUser, DeleteUser, Verify, OpenChannel, CloseChannel, GetResponse}
-use Rattle.scql_model.specs.Machine.{Machine, Transaction}
+use Rattle.scql_model.specs.Machine.{Transaction}
 
 -- the transaction that is a channel's own
 abbrev pub own_transaction : Option Transaction → ℕ → Option Transaction

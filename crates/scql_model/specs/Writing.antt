@@ -2,7 +2,7 @@
 use Rattle.std.specs.Option.{option_map_or}
 use Rattle.std.specs.List.{find}
 use Rattle.std.specs.Str.{bytes_eq}
-use Rattle.std.specs.Prelude.{Bool, ◌&&◌, [], ◌∷◌, map, nat_le, if◌then◌else◌, true, false, Option, Some, None, Err, option_and_then, ℕ, ◌==◌, List, length, Result, Ok}
+use Rattle.std.specs.Prelude.{[], ◌∷◌, map, nat_le, Option, None, option_and_then, ℕ, ◌==◌, List, length, Result, Ok}
 use Rattle.scql_base.specs.declared.words.Actor.{Actor}
 use Rattle.scql_base.specs.declared.words.StatusWord.{StatusWord}
 use Rattle.scql_base.specs.declared.records.RowRecord.{RowRecord}

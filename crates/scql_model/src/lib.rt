@@ -3,4 +3,7 @@
 
 mod laws;
 
-pub use laws::{equal_shown_gives_equal_replies, reading_is_of_what_is_shown};
+pub use laws::{
+    a_step_accepts_or_leaves_the_machine, a_step_reads_what_is_shown,
+    equal_shown_gives_equal_replies, reading_is_of_what_is_shown,
+};
