@@ -11,6 +11,7 @@ pub mod Hearing
 pub mod LongerLists
 pub mod Naming
 pub mod RecordLaws
+pub mod RecordLengths
 pub mod RecordsOf
 pub mod Refusing
 pub mod Room
