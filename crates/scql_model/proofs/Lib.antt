@@ -1,5 +1,6 @@
 pub mod Acting
 pub mod AddedUser
+pub mod ChangedLists
 pub mod CounterSlot
 pub mod Creating
 pub mod CreatingSlots
