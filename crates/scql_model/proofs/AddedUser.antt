@@ -1,10 +1,9 @@
 -- A user is added to a valid database, which stays valid.
 use Rattle.std.proofs.Common.{◌≡◌, ℕ, ◌<◌, ◌≤◌, ◌+◌, Bool, true, false, List, [], ◌∷◌, ◌++◌, map, filter, ◌||◌, eqb, Option, Some, None, refl, sym, subst, arith}
-use Rattle.std.specs.Prelude.{nat_le, nat_lt}
 use Rattle.std.specs.List.{list_all, list_any, AllByRecursion}
 use Rattle.std.specs.Option.{option_map_or, option_or}
 use Rattle.std.specs.Str.{bytes_eq}
-use Rattle.std.proofs.lemmas.Bool.{and_parts, and_from, false≢true, ltb-true}
+use Rattle.std.proofs.lemmas.Bool.{and_parts, and_from, false≢true}
 use Rattle.std.proofs.lemmas.List.{map-append}
 use Rattle.std.proofs.lemmas.List.Folds.{list_any-append, find-append}
 use Rattle.std.proofs.lemmas.List.Elements.{filter-append}
@@ -14,12 +13,12 @@ use Rattle.scql_base.specs.declared.records.User.{User}
 use Rattle.scql_base.specs.declared.records.Object.{Object}
 use Rattle.scql_base.specs.declared.records.Grant.{Grant}
 use Rattle.scql_model.specs.Records.{counter_record, user_record}
-use Rattle.scql_model.specs.Stored.{StoredRecord, is_storable, is_given_out}
+use Rattle.scql_model.specs.Stored.{StoredRecord, is_storable}
 use Rattle.scql_model.specs.Rules.{AreUsers, AreObjects, AreGrants, owner, public_name, are_different, is_db_o, is_maker, user_stamped, is_made_by_maker, has_maker, has_all_tries, has_object_and_grantee}
 use Rattle.scql_model.specs.Database.{Database, IsValid, weight, stored_user, stored_object, stored_grant, stored_row}
 use Rattle.scql_model.specs.Creating.{with_user}
 use Rattle.scql_model.proofs.LongerLists.{all-weaker, all-added, rises-added, names_different-added}
-use Rattle.scql_model.proofs.Stored.{IsStored-added}
+use Rattle.scql_model.proofs.Stored.{IsStored-added, below-of_kind}
 
 -- who was a maker among some users is one among more
 pub kept_maker : (users more : List User) (stamp : ℕ) → is_made_by_maker users stamp ≡ true → is_made_by_maker (users ++ more) stamp ≡ true
@@ -54,14 +53,7 @@ others db = map stored_object db.objects ++ (map stored_grant db.grants ++ map s
 
 -- in a valid database the next stamp is above those of all users
 pub users_below : (db : Database) → IsValid db → AllByRecursion (λ (u : User). u.stamp < db.next) db.users
-users_below db valid = below db.next db.users (others db) valid.stored.stamped
-  where
-    below : (next : ℕ) (users : List User) (rest : List StoredRecord) → list_all (is_given_out next) (map stored_user users ++ rest) ≡ true
-        → AllByRecursion (λ (u : User). u.stamp < next) users
-    below next [] rest given = tt
-    below next (u ∷ users) rest given =
-        let parts = and_parts (is_given_out next (stored_user u)) (list_all (is_given_out next) (map stored_user users ++ rest)) given in
-        (ltb-true u.stamp next (and_parts (nat_le 1 u.stamp) (nat_lt u.stamp next) parts.0).1, below next users rest parts.1)
+users_below db valid = below-of_kind stored_user [] (others db) db.users refl valid.stored
 
 -- the users' own rules, with one user more
 AreUsers-added : (db : Database) (u : User) → AreUsers db.users → IsAddable db u → AllByRecursion (λ (v : User). v.stamp < db.next) db.users → AreUsers (db.users ++ u ∷ [])

@@ -1,6 +1,7 @@
 pub mod Acting
 pub mod AddedUser
 pub mod ChangeLaws
+pub mod ChangedLists
 pub mod ChangingSessions
 pub mod ContentsRise
 pub mod CounterSlot
@@ -20,6 +21,7 @@ pub mod Positions
 pub mod ReadingIsShown
 pub mod ReadingSteps
 pub mod RecordLaws
+pub mod RecordLengths
 pub mod RecordsOf
 pub mod Refusing
 pub mod Room

@@ -1,15 +1,15 @@
 -- Records of any kind stay stored where one is added, changed or removed.
-use Rattle.std.proofs.Common.{◌≡◌, ℕ, ◌≤◌, ◌+◌, Bool, true, cond, List, [], ◌∷◌, ◌++◌, map, filter, eqb, refl, sym, ap, subst, ◌∙◌, inl, inr, arith}
-use Rattle.std.specs.Prelude.{not, nat_le, nat_lt, ◌&&◌, if◌then◌else◌}
-use Rattle.std.specs.List.{list_all, sum_by, count_by}
+use Rattle.std.proofs.Common.{◌≡◌, ℕ, ◌<◌, ◌≤◌, ◌+◌, Bool, true, cond, List, [], ◌∷◌, ◌++◌, map, filter, eqb, refl, sym, ap, subst, ◌∙◌, inl, inr, arith}
+use Rattle.std.specs.Prelude.{nat_le, nat_lt, ◌&&◌}
+use Rattle.std.specs.List.{list_all, sum_by, count_by, AllByRecursion}
 use Rattle.std.proofs.lemmas.Bool.{cases_Bool, and_parts, and_from, ltb-true, lt-ltb, le-leb, eqb-true, ne_eqb}
 use Rattle.std.proofs.lemmas.List.Folds.{list_all-append, list_all-map}
-use Rattle.std.proofs.lemmas.List.Filters.{sum_by-filter_both}
 use Rattle.std.proofs.lemmas.List.Sums.{sum_by-cons, sum_by-append}
 use Rattle.eeprom.specs.Slots.{AreApart, has, replaced}
 use Rattle.eeprom.proofs.InOrder.{counts_not}
 use Rattle.scql_model.specs.Stored.{StoredRecord, IsStored, cells_for_octets, cells_of_records, is_storable, is_given_out}
 use Rattle.scql_model.proofs.LongerLists.{all-weaker, all-added}
+use Rattle.scql_model.proofs.ChangedLists.{list_all-replaced, all_keys-replaced, sum_of_keys-replaced, list_all-filter, sum_by-filter}
 
 abbrev stamp_of : StoredRecord → ℕ
 stamp_of r = r.stamp
@@ -66,6 +66,24 @@ none_stamped next (r ∷ records) given =
     let below = ltb-true r.stamp next (and_parts (nat_le 1 r.stamp) (nat_lt r.stamp next) parts.0).1 in
     counts_not (has stamp_of next) r records (ne_eqb r.stamp next (λ (e : r.stamp ≡ next). omega arith)) ∙ none_stamped next records parts.1
 
+-- each stamp of a kind is below the next
+pub below-of_kind : {X : Type 0} (f : X → StoredRecord) (front back : List StoredRecord) (xs : List X) {cells counter_cells next : ℕ} {records : List StoredRecord}
+    → records ≡ front ++ (map f xs ++ back) → IsStored cells counter_cells next records → AllByRecursion (λ x. (f x).stamp < next) xs
+below-of_kind {X} f front back xs {cells} {counter_cells} {next} was stored =
+    below f next xs (given (subst (λ (rs : List StoredRecord). list_all (is_given_out next) rs ≡ true) was stored.stamped))
+  where
+    given : list_all (is_given_out next) (front ++ (map f xs ++ back)) ≡ true → list_all (λ x. is_given_out next (f x)) xs ≡ true
+    given all =
+        (and_parts (list_all (λ x. is_given_out next (f x)) xs) (list_all (is_given_out next) back)
+        (and_parts (list_all (is_given_out next) front) (list_all (λ x. is_given_out next (f x)) xs && list_all (is_given_out next) back)
+        (sym (all-around (is_given_out next) f front back xs) ∙ all)).1).0
+
+    below : {X : Type 0} (f : X → StoredRecord) (next : ℕ) (xs : List X) → list_all (λ x. is_given_out next (f x)) xs ≡ true → AllByRecursion (λ x. (f x).stamp < next) xs
+    below f next [] given = tt
+    below f next (x ∷ xs) given =
+        let parts = and_parts (is_given_out next (f x)) (list_all (λ x. is_given_out next (f x)) xs) given in
+        (ltb-true (f x).stamp next (and_parts (nat_le 1 (f x).stamp) (nat_lt (f x).stamp next) parts.0).1, below f next xs parts.1)
+
 -- what was given out before is given out still
 given-later : (next : ℕ) (records : List StoredRecord) → list_all (is_given_out next) records ≡ true → list_all (is_given_out (next + 1)) records ≡ true
 given-later next records given = all-weaker (is_given_out next) (is_given_out (next + 1)) records (one next) given
@@ -120,70 +138,29 @@ IsStored-added f front back xs x {cells} {counter_cells} {next} {old} {new} was 
           ]);
     }
 
--- the records of a kind with this one in the place of that of its stamp
-abbrev changed_to : {X : Type 0} → (X → StoredRecord) → X → List X → List X
-changed_to f x xs = replaced (λ y. (f y).stamp) x xs
-
--- what stands in a place then has the stamp of what stood there
-stamp-changed : {X : Type 0} (f : X → StoredRecord) (x y : X) → (f (if eqb (f y).stamp (f x).stamp then x else y)).stamp ≡ (f y).stamp
-stamp-changed f x y = elim (cases_Bool (eqb (f y).stamp (f x).stamp)) [ inl t ↦ rw t (sym (eqb-true (f y).stamp (f x).stamp t)) | inr e ↦ rw e refl ]
-
--- so sums and tests of stamps stay
-sum_by-changed : {X : Type 0} (c : ℕ → ℕ) (f : X → StoredRecord) (x : X) (xs : List X) → sum_by (λ y. c (f y).stamp) (changed_to f x xs) ≡ sum_by (λ y. c (f y).stamp) xs
-sum_by-changed c f x [] = refl
-sum_by-changed c f x (y ∷ ys) =
-    let a = sum_by-cons (λ y. c (f y).stamp) (if eqb (f y).stamp (f x).stamp then x else y) (changed_to f x ys) in
-    let b = sum_by-cons (λ y. c (f y).stamp) y ys in
-    let d = ap c (stamp-changed f x y) in
-    let rest = sum_by-changed c f x ys in
-    omega arith
-
-all_stamps-changed : {X : Type 0} (p : ℕ → Bool) (f : X → StoredRecord) (x : X) (xs : List X) → list_all (λ y. p (f y).stamp) xs ≡ true → list_all (λ y. p (f y).stamp) (changed_to f x xs) ≡ true
-all_stamps-changed p f x [] all = refl
-all_stamps-changed p f x (y ∷ ys) all =
-    let parts = and_parts (p (f y).stamp) (list_all (λ y. p (f y).stamp) ys) all in
-    and_from (p (f (if eqb (f y).stamp (f x).stamp then x else y)).stamp) (list_all (λ y. p (f y).stamp) (changed_to f x ys)) (ap p (stamp-changed f x y) ∙ parts.0) (all_stamps-changed p f x ys parts.1)
-
--- and tests that the new one passes
-all-changed : {X : Type 0} (p : X → Bool) (f : X → StoredRecord) (x : X) (xs : List X) → p x ≡ true → list_all p xs ≡ true → list_all p (changed_to f x xs) ≡ true
-all-changed p f x [] one all = refl
-all-changed p f x (y ∷ ys) one all =
-    let parts = and_parts (p y) (list_all p ys) all in
-    let rest = all-changed p f x ys one parts.1 in
-    elim (cases_Bool (eqb (f y).stamp (f x).stamp)) [ inl t ↦ rw (t, one) rest | inr e ↦ rw (e, parts.0) rest ]
-
 -- A record of a kind takes the place of that of its stamp, where there is room.
 pub IsStored-changed : {X : Type 0} (f : X → StoredRecord) (front back : List StoredRecord) (xs : List X) (x : X) {cells counter_cells next : ℕ} {old new : List StoredRecord}
     → old ≡ front ++ (map f xs ++ back) → new ≡ front ++ (map f (replaced (λ y. (f y).stamp) x xs) ++ back) → IsStored cells counter_cells next old → is_storable (f x) ≡ true
     → counter_cells + cells_of_records new ≤ cells → IsStored cells counter_cells next new
 IsStored-changed f front back xs x {cells} {counter_cells} {next} {old} {new} was is stored size room =
     let before = subst (IsStored cells counter_cells next) was stored in
+    let changed = replaced (λ y. (f y).stamp) x xs in
     record {
       room = room;
       lengths = subst (λ (rs : List StoredRecord). list_all is_storable rs ≡ true) (sym is)
-          (all-exchanged is_storable f front back xs (changed_to f x xs) (all-changed (λ y. is_storable (f y)) f x xs size) before.lengths);
+          (all-exchanged is_storable f front back xs changed (list_all-replaced (λ y. is_storable (f y)) (λ y. (f y).stamp) x xs size) before.lengths);
       stamped = subst (λ (rs : List StoredRecord). list_all (is_given_out next) rs ≡ true) (sym is)
-          (all-exchanged (is_given_out next) f front back xs (changed_to f x xs) (all_stamps-changed (λ stamp. nat_le 1 stamp && nat_lt stamp next) f x xs) before.stamped);
+          (all-exchanged (is_given_out next) f front back xs changed (all_keys-replaced (λ stamp. nat_le 1 stamp && nat_lt stamp next) (λ y. (f y).stamp) x xs) before.stamped);
       apart = subst (AreApart stamp_of) (sym is) (λ k.
           let c = λ (r : StoredRecord). cond (has stamp_of k r) 1 0 in
           let few : count_by (has stamp_of k) (front ++ (map f xs ++ back)) ≤ 1 = before.apart k in
           let a = sum_by-around c f front back xs in
-          let b = sum_by-around c f front back (changed_to f x xs) in
-          let d = sum_by-changed (λ stamp. cond (eqb stamp k) 1 0) f x xs in
+          let b = sum_by-around c f front back changed in
+          let d = sum_of_keys-replaced (λ stamp. cond (eqb stamp k) 1 0) (λ y. (f y).stamp) x xs in
           omega arith);
     }
 
--- Fewer records of a kind.
-list_all-filter : {X : Type 0} (p q : X → Bool) (xs : List X) → list_all q xs ≡ true → list_all q (filter p xs) ≡ true
-list_all-filter p q [] all = refl
-list_all-filter p q (x ∷ xs) all =
-    let parts = and_parts (q x) (list_all q xs) all in
-    let rest = list_all-filter p q xs parts.1 in
-    elim (cases_Bool (p x)) [ inl t ↦ rw (t, parts.0) rest | inr e ↦ rw e rest ]
-
-sum_by-filter : {X : Type 0} (p : X → Bool) (c : X → ℕ) (xs : List X) → sum_by c (filter p xs) ≤ sum_by c xs
-sum_by-filter p c xs = let both = sum_by-filter_both p (λ x. not (p x)) (λ x. refl) c xs in omega arith
-
+-- fewer of a kind make less of a sum over all
 sum_by-fewer : {X : Type 0} (p : X → Bool) (c : StoredRecord → ℕ) (f : X → StoredRecord) (front back : List StoredRecord) (xs : List X)
     → sum_by c (front ++ (map f (filter p xs) ++ back)) ≤ sum_by c (front ++ (map f xs ++ back))
 sum_by-fewer p c f front back xs =
