@@ -18,5 +18,6 @@ pub mod Room
 pub mod SpellingLengths
 pub mod Spellings
 pub mod Validity
+mod WorkedChanges
 mod WorkedCreating
 mod WorkedRows

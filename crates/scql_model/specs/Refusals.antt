@@ -1,18 +1,3 @@
--- Refusals: an outcome is a value, or the status word of the first refusal that applies.
-use Rattle.std.specs.Prelude.{Bool, true, false, Option, Some, None, Result, Ok, Err}
-use Rattle.scql_base.specs.declared.words.StatusWord.{StatusWord}
-
-infixl 10 ◌>>=◌
-abbrev pub ◌>>=◌ : {A B : Type 0} → Result A StatusWord → (A → Result B StatusWord) → Result B StatusWord
-(Ok x) >>= f = f x
-(Err word) >>= f = Err word
-
--- the value, or where there is none a refusal
-abbrev pub or_refused : {A : Type 0} → Option A → StatusWord → Result A StatusWord
-or_refused None word = Err word
-or_refused (Some x) word = Ok x
-
--- nothing where a test passes, and else a refusal
-abbrev pub only_if : Bool → StatusWord → Result (Unit {0}) StatusWord
-only_if true word = Ok tt
-only_if false word = Err word
+-- Refusals: an outcome is a value, or the status word of the first refusal that applies. The words that commands share for this.
+pub use Rattle.scql_model.specs.Form.{◌>>=◌, or_refused}
+pub use Rattle.scql_model.specs.ReadingCommands.{provided}
