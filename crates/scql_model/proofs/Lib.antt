@@ -17,6 +17,7 @@ pub mod Refusing
 pub mod Room
 pub mod SpellingLengths
 pub mod Spellings
+pub mod Touching
 pub mod Validity
 mod WorkedChanges
 mod WorkedCreating
