@@ -13,7 +13,7 @@ use Rattle.scql_base.specs.declared.records.Grant.{Grant}
 use Rattle.scql_base.specs.declared.records.RowRecord.{RowRecord}
 use Rattle.scql_model.specs.Database.{Database, weight}
 use Rattle.scql_model.proofs.RecordsOf.{weight-of_kinds}
-use Rattle.scql_model.specs.Edits.{AnyRecord, of_counter, of_user, of_object, of_grant, of_row, Action, adds, changes, removes, Edit, list_after, edited, applied, cells_of_record, making}
+use Rattle.scql_model.specs.Edits.{AnyRecord, of_counter, of_user, of_object, of_grant, of_row, Action, to_add, to_change, to_remove, Edit, list_after, edited, applied, cells_of_record, making}
 
 -- The card's cells and its row limit stay.
 edited-cells : (action : Action) (r : AnyRecord) (db : Database) → (edited action r db).cells ≡ db.cells
@@ -44,13 +44,13 @@ applied-append db [] then = refl
 applied-append db (e ∷ first) then = applied-append (edited e.action e.entry db) first then
 
 -- A removed record is no longer there.
-pub removed-gone : {X : Type 0} (key : X → ℕ) (x : X) (xs : List X) → list_any (has key (key x)) (list_after removes key x xs) ≡ false
+pub removed-gone : {X : Type 0} (key : X → ℕ) (x : X) (xs : List X) → list_any (has key (key x)) (list_after to_remove key x xs) ≡ false
 removed-gone key x [] = refl
 removed-gone key x (y ∷ ys) =
     elim (cases_Bool (eqb (key y) (key x))) [ inl t ↦ rw t (removed-gone key x ys) | inr f ↦ rw (f, f) (removed-gone key x ys) ]
 
 -- A changed record keeps its place, and the others theirs.
-pub changed-keys : {X : Type 0} (key : X → ℕ) (x : X) (xs : List X) → map key (list_after changes key x xs) ≡ map key xs
+pub changed-keys : {X : Type 0} (key : X → ℕ) (x : X) (xs : List X) → map key (list_after to_change key x xs) ≡ map key xs
 changed-keys key x [] = refl
 changed-keys key x (y ∷ ys) =
     elim (cases_Bool (eqb (key y) (key x))) [
@@ -130,26 +130,26 @@ pub weight-next : (db : Database) (next : ℕ) → weight (record db { next = ne
 weight-next db next = let a = weight-kinds db in let b = weight-kinds (record db { next = next }) in omega arith
 
 -- A record that is added weighs what its cells are.
-pub weight-adding : (db : Database) (r : AnyRecord) → weight (edited adds r db) ≡ weight db + own_cells r
+pub weight-adding : (db : Database) (r : AnyRecord) → weight (edited to_add r db) ≡ weight db + own_cells r
 weight-adding db (of_counter next) = let a = weight-next db next in omega arith
 weight-adding db (of_user u) =
     let a = weight-kinds db in
-    let b = weight-kinds (edited adds (of_user u) db) in
+    let b = weight-kinds (edited to_add (of_user u) db) in
     let c = sum_by_push (λ u. cells_of_record (of_user u)) db.users u in
     omega arith
 weight-adding db (of_object o) =
     let a = weight-kinds db in
-    let b = weight-kinds (edited adds (of_object o) db) in
+    let b = weight-kinds (edited to_add (of_object o) db) in
     let c = sum_by_push (λ o. cells_of_record (of_object o)) db.objects o in
     omega arith
 weight-adding db (of_grant g) =
     let a = weight-kinds db in
-    let b = weight-kinds (edited adds (of_grant g) db) in
+    let b = weight-kinds (edited to_add (of_grant g) db) in
     let c = sum_by_push (λ g. cells_of_record (of_grant g)) db.grants g in
     omega arith
 weight-adding db (of_row r) =
     let a = weight-kinds db in
-    let b = weight-kinds (edited adds (of_row r) db) in
+    let b = weight-kinds (edited to_add (of_row r) db) in
     let c = sum_by_push (λ r. cells_of_record (of_row r)) db.rows r in
     omega arith
 
@@ -169,42 +169,42 @@ HasRecord db (of_grant g) = IsAmong (λ (h : Grant). h.stamp) g db.grants
 HasRecord db (of_row r) = IsAmong (λ (s : RowRecord). s.stamp) r db.rows
 
 -- A record that is removed takes its cells with it.
-pub weight-removing : (db : Database) (r : AnyRecord) → HasRecord db r → weight (edited removes r db) + own_cells r ≡ weight db
+pub weight-removing : (db : Database) (r : AnyRecord) → HasRecord db r → weight (edited to_remove r db) + own_cells r ≡ weight db
 weight-removing db (of_counter next) there = let a = weight-next db next in omega arith
 weight-removing db (of_user u) there =
     let a = weight-kinds db in
-    let b = weight-kinds (edited removes (of_user u) db) in
+    let b = weight-kinds (edited to_remove (of_user u) db) in
     let c = sum-removed (λ (v : User). v.stamp) (λ u. cells_of_record (of_user u)) u db.users there.0 there.1 in
     omega arith
 weight-removing db (of_object o) there =
     let a = weight-kinds db in
-    let b = weight-kinds (edited removes (of_object o) db) in
+    let b = weight-kinds (edited to_remove (of_object o) db) in
     let c = sum-removed (λ (p : Object). p.stamp) (λ o. cells_of_record (of_object o)) o db.objects there.0 there.1 in
     omega arith
 weight-removing db (of_grant g) there =
     let a = weight-kinds db in
-    let b = weight-kinds (edited removes (of_grant g) db) in
+    let b = weight-kinds (edited to_remove (of_grant g) db) in
     let c = sum-removed (λ (h : Grant). h.stamp) (λ g. cells_of_record (of_grant g)) g db.grants there.0 there.1 in
     omega arith
 weight-removing db (of_row r) there =
     let a = weight-kinds db in
-    let b = weight-kinds (edited removes (of_row r) db) in
+    let b = weight-kinds (edited to_remove (of_row r) db) in
     let c = sum-removed (λ (s : RowRecord). s.stamp) (λ r. cells_of_record (of_row r)) r db.rows there.0 there.1 in
     omega arith
 
 -- A grant or a row that takes the place of another weighs its own cells for the other's.
 pub weight-grant : (db : Database) (old new : Grant) → new.stamp ≡ old.stamp → HasRecord db (of_grant old)
-    → weight (edited changes (of_grant new) db) + cells_of_record (of_grant old) ≡ weight db + cells_of_record (of_grant new)
+    → weight (edited to_change (of_grant new) db) + cells_of_record (of_grant old) ≡ weight db + cells_of_record (of_grant new)
 weight-grant db old new same there =
     let a = weight-kinds db in
-    let b = weight-kinds (edited changes (of_grant new) db) in
+    let b = weight-kinds (edited to_change (of_grant new) db) in
     let c = sum-replaced (λ (h : Grant). h.stamp) (λ g. cells_of_record (of_grant g)) new old db.grants same there.0 there.1 in
     omega arith
 
 pub weight-row : (db : Database) (old new : RowRecord) → new.stamp ≡ old.stamp → HasRecord db (of_row old)
-    → weight (edited changes (of_row new) db) + cells_of_record (of_row old) ≡ weight db + cells_of_record (of_row new)
+    → weight (edited to_change (of_row new) db) + cells_of_record (of_row old) ≡ weight db + cells_of_record (of_row new)
 weight-row db old new same there =
     let a = weight-kinds db in
-    let b = weight-kinds (edited changes (of_row new) db) in
+    let b = weight-kinds (edited to_change (of_row new) db) in
     let c = sum-replaced (λ (s : RowRecord). s.stamp) (λ r. cells_of_record (of_row r)) new old db.rows same there.0 there.1 in
     omega arith

@@ -23,7 +23,7 @@ use Rattle.scql_model.specs.Operations.{Takes, nothing, a_data_field, le_alone, 
 use Rattle.scql_model.specs.Parameters as parameters
 use Rattle.scql_model.specs.Parameters.{only_where, are_columns, are_chosen_columns, are_conditions, are_changes, Choice, conditions_in, choice_in, changes_in, create_table_in, create_view_in, create_dictionary_in, named_in, granted_in, declare_cursor_in, is_row_within, insert_in, update_in, made_profile_of, create_user_in, is_verified_secret, operation_in}
 use Rattle.scql_model.specs.WellFormed.{HasForm, wants_le, IsWellFormed}
-use Rattle.scql_model.specs.Refusals.{◌>>=◌, or_refused, only_if}
+use Rattle.scql_model.specs.Refusals.{◌>>=◌, or_refused, provided}
 use Rattle.scql_model.specs.Form.{class_of, is_chained, is_open, channel_of, Tail, le_of, data_of, tail_of, is_taken, is_case_3, parts_of, Form, a_command, formed_on, formed, part_in, command_in, form_of}
 use Rattle.scql_model.proofs.FieldLaws.{AreOctets}
 
@@ -259,7 +259,7 @@ not_refused : {A : Type 0} (o : Option A) (word : StatusWord) (x : A) → or_ref
 not_refused None word x is = refused-not word x is
 not_refused (Some y) word x is = ap result_ok is
 
-not_unless : (test : Bool) (word : StatusWord) (x : Unit {0}) → only_if test word ≡ Ok x → test ≡ true
+not_unless : (test : Bool) (word : StatusWord) (x : Unit {0}) → provided test word ≡ Ok x → test ≡ true
 not_unless true word x is = refl
 not_unless false word x is = refused-not word x is
 
@@ -282,8 +282,8 @@ on_channel {P} (Ok channel) f c is then' = go (f channel) refl is
 
 no_part : {P : Type 0} (channel : ℕ) (asked : OperationKind) (parts : List (List ℕ)) (octets : List ℕ) (c : Command) → part_in channel asked parts octets ≡ Ok (a_command c) → P
 no_part channel asked parts octets c is =
-    bound (only_if (comes_in_parts asked) chaining_not_supported) _ (a_command c) is (λ _ _ is.
-    bound (only_if (not (length parts == 4)) wrong_length) _ (a_command c) is (λ _ _ is. absurd cc))
+    bound (provided (comes_in_parts asked) chaining_not_supported) _ (a_command c) is (λ _ _ is.
+    bound (provided (not (length parts == 4)) wrong_length) _ (a_command c) is (λ _ _ is. absurd cc))
 
 command-read : (channel : ℕ) (asked : OperationKind) (limit : ℕ) (parts : List (List ℕ)) (octets : List ℕ) (le : Option ℕ) (c : Command)
     → channel ≤ 3 → is_for_channel channel asked ≡ true → IsLe le → (wants_le asked ≡ true → is_some le ≡ true) → limit ≤ 1020 → has_channel asked ≡ true
@@ -312,10 +312,10 @@ IsWellFormed-form_of table (cla ∷ ins ∷ p1 ∷ []) channels chain limit c so
 IsWellFormed-form_of table (cla ∷ ins ∷ p1 ∷ p2 ∷ after) channels chain limit c sound are least is =
     on_channel _ _ c is (λ channel at is.
     bound (class_of cla) _ channel at (λ _ _ at.
-    bound (only_if (has_instruction table ins) instruction_not_supported) _ channel at (λ _ _ at.
+    bound (provided (has_instruction table ins) instruction_not_supported) _ channel at (λ _ _ at.
     bound (or_refused (line_of table channel ins p1 p2) wrong_parameters) _ (a_command c) is (λ line at_line is.
     bound (or_refused (tail_of after) wrong_length) _ (a_command c) is (λ tail at_tail is.
-    bound (only_if (is_taken line.takes tail && (not (is_chained cla) || is_case_3 tail)) wrong_length) _ (a_command c) is (λ taken at_taken is.
+    bound (provided (is_taken line.takes tail && (not (is_chained cla) || is_case_3 tail)) wrong_length) _ (a_command c) is (λ taken at_taken is.
     let passes = found-passes (λ (l : Line). l.ins == ins && l.p1 == p1 && l.p2 == p2 && is_for_channel channel l.kind) is_sound table line sound
     (not_refused (line_of table channel ins p1 p2) wrong_parameters line at_line) in
     let right = both (has_channel line.kind) (not (wants_le line.kind) || is_le_alone line.takes) passes.1 in

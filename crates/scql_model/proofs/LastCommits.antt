@@ -9,7 +9,7 @@ use Rattle.scql_base.specs.declared.operation.Command.{Command}
 use Rattle.scql_base.specs.declared.operation.Operation.{Operation}
 use Rattle.scql_base.specs.declared.operation.Operation.TheVariants.{DeleteUser, Begin, Commit, Rollback, PresentUser, Verify, OpenChannel, CloseChannel}
 use Rattle.scql_base.specs.Words.{authentication_blocked, channel_not_supported, conditions_not_satisfied, function_not_supported, not_found}
-use Rattle.scql_model.specs.Refusals.{◌>>=◌, or_refused, only_if}
+use Rattle.scql_model.specs.Refusals.{◌>>=◌, or_refused, provided}
 use Rattle.scql_model.specs.Database.{Database, user_named, user_stamped}
 use Rattle.scql_model.specs.Machine.{Machine, Transaction, open_channels, base, actor}
 use Rattle.scql_model.specs.Sessions.{changing_session, chain_of, cursor_of, without_chain, user_of, is_open, least_closed}
@@ -60,21 +60,21 @@ last-compared m channel secret u = last-if m.committed (bytes_eq secret u.secret
 last-verified : (m : Machine) (channel : ℕ) (secret : List ℕ) → IfOk (verified m channel secret) (IsLast m.committed)
 last-verified m channel secret =
     of_outcome (IsLast m.committed) (or_refused (user_of m channel) conditions_not_satisfied) _ (λ p.
-    of_outcome (IsLast m.committed) (only_if (not p.proved) conditions_not_satisfied) _ (λ _.
+    of_outcome (IsLast m.committed) (provided (not p.proved) conditions_not_satisfied) _ (λ _.
     of_outcome (IsLast m.committed) (or_refused (user_stamped m.committed.users p.stamp) conditions_not_satisfied) _ (λ u.
-    of_outcome (IsLast m.committed) (only_if (not (u.tries == 0)) authentication_blocked) _ (λ _. last-compared m channel secret u))))
+    of_outcome (IsLast m.committed) (provided (not (u.tries == 0)) authentication_blocked) _ (λ _. last-compared m channel secret u))))
 
 last-opened : (m : Machine) (channel number : ℕ) → IfOk (channel_opened m channel number) (IsLast m.committed)
 last-opened m channel zero = of_outcome (IsLast m.committed) (or_refused (least_closed m) function_not_supported) _ (λ number. refl)
-last-opened m channel (suc n) = of_outcome (IsLast m.committed) (only_if (not (is_open m (suc n))) conditions_not_satisfied) _ (λ _. refl)
+last-opened m channel (suc n) = of_outcome (IsLast m.committed) (provided (not (is_open m (suc n))) conditions_not_satisfied) _ (λ _. refl)
 
 last-closed : (m : Machine) (channel number : ℕ) → IfOk (channel_closed m channel number) (IsLast m.committed)
 last-closed m channel number =
-    of_outcome (IsLast m.committed) (only_if (is_open m number) channel_not_supported) _ (λ _.
-    of_outcome (IsLast m.committed) (only_if (not (is_some (own_transaction m.transaction number))) conditions_not_satisfied) _ (λ _. refl))
+    of_outcome (IsLast m.committed) (provided (is_open m number) channel_not_supported) _ (λ _.
+    of_outcome (IsLast m.committed) (provided (not (is_some (own_transaction m.transaction number))) conditions_not_satisfied) _ (λ _. refl))
 
 last-operated : (m : Machine) (channel : ℕ) (operation : Operation) → IfOk (operated m channel operation) (IsLast m.committed)
-last-operated m channel Begin = of_outcome (IsLast m.committed) (only_if (not (is_some m.transaction)) conditions_not_satisfied) _ (λ _. refl)
+last-operated m channel Begin = of_outcome (IsLast m.committed) (provided (not (is_some m.transaction)) conditions_not_satisfied) _ (λ _. refl)
 last-operated m channel Commit = of_outcome (IsLast m.committed) (or_refused (own_transaction m.transaction channel) conditions_not_satisfied) _ (λ t. refl)
 last-operated m channel Rollback = of_outcome (IsLast m.committed) (or_refused (own_transaction m.transaction channel) conditions_not_satisfied) _ (λ t. refl)
 last-operated m channel (PresentUser name) = of_outcome (IsLast m.committed) (session_named (base m channel) name) _ (λ session. refl)
@@ -86,7 +86,7 @@ last-operated m channel operation = last-changed m channel operation
 
 last-carried_out : (m : Machine) (c : Command) → IfOk (carried_out m c) (IsLast m.committed)
 last-carried_out m c =
-    of_outcome (IsLast m.committed) (only_if (not (is_kept_waiting (waits (kind_of c.operation)) m.transaction c.channel)) conditions_not_satisfied) _
+    of_outcome (IsLast m.committed) (provided (not (is_kept_waiting (waits (kind_of c.operation)) m.transaction c.channel)) conditions_not_satisfied) _
     (λ _. either (reading_command c.operation c.le))
   where
     either : (command : Option ReadingCommand) → IfOk (option_map_or (λ command. Ok (has_read m c.channel command)) command (operated m c.channel c.operation)) (IsLast m.committed)

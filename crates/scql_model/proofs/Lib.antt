@@ -24,11 +24,14 @@ pub mod RecordLaws
 pub mod RecordLengths
 pub mod RecordsOf
 pub mod Refusing
+pub mod RightEdits
 pub mod Room
 pub mod SpellingLengths
 pub mod Spellings
 pub mod Stored
+pub mod Touching
 pub mod Validity
+mod WorkedChanges
 mod WorkedCreating
 mod WorkedForms
 mod WorkedMachine

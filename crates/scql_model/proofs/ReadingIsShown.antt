@@ -12,7 +12,7 @@ use Rattle.scql_base.specs.declared.records.Object.{Object}
 use Rattle.scql_base.specs.Words.{done, security_not_satisfied, conditions_not_satisfied, not_found, end_reached, record_not_found}
 use Rattle.scql_model.specs.Database.{Database, IsValid}
 use Rattle.scql_model.specs.Machine.{Reading}
-use Rattle.scql_model.specs.Refusals.{◌>>=◌, or_refused, only_if}
+use Rattle.scql_model.specs.Refusals.{◌>>=◌, or_refused, provided}
 use Rattle.scql_model.specs.Rights.{select_privilege, holds, seen_named, seen_stamped}
 use Rattle.scql_model.specs.Objects.{StampedRow}
 use Rattle.scql_model.specs.Contents.{Contents, contents_of}
@@ -96,7 +96,7 @@ module _ (db : Database) (actor : Actor) (reading : Reading) where
   told-opened continue read_on same = go reading.cursor
     where
       when : (c : Cursor) (open_now shown_open : Bool) → shown_open ≡ open_now
-          → told db actor ((only_if open_now conditions_not_satisfied >>= λ _. Ok c) >>= continue) ≡ ((only_if shown_open conditions_not_satisfied >>= λ _. Ok (cursor_shown db actor reading.pending c)) >>= read_on)
+          → told db actor ((provided open_now conditions_not_satisfied >>= λ _. Ok c) >>= continue) ≡ ((provided shown_open conditions_not_satisfied >>= λ _. Ok (cursor_shown db actor reading.pending c)) >>= read_on)
       when c true shown_open is = rw is (same c)
       when c false shown_open is = rw is refl
 

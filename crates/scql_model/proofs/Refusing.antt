@@ -13,7 +13,7 @@ use Rattle.scql_base.specs.declared.operation.Command.{Command}
 use Rattle.scql_base.specs.declared.operation.Operation.{Operation}
 use Rattle.scql_base.specs.declared.operation.Operation.TheVariants.{DeleteUser, Begin, Commit, Rollback, PresentUser, Verify, OpenChannel, CloseChannel}
 use Rattle.scql_base.specs.Words.{authentication_blocked, channel_not_supported, conditions_not_satisfied, function_not_supported, not_found, record_not_found}
-use Rattle.scql_model.specs.Refusals.{◌>>=◌, or_refused, only_if}
+use Rattle.scql_model.specs.Refusals.{◌>>=◌, or_refused, provided}
 use Rattle.scql_model.specs.Database.{Database}
 use Rattle.scql_model.specs.Rules.{user_named, user_stamped}
 use Rattle.scql_model.specs.Machine.{Machine, Session, Reading, Transaction, open_channels, base, actor, session_of, no_reading}
@@ -137,22 +137,22 @@ accepted-if false x y first second = second
 accepted-verified : (m : Machine) (channel : ℕ) (secret : List ℕ) → IfOk (verified m channel secret) Accepted
 accepted-verified m channel secret =
     of_outcome Accepted (or_refused (user_of m channel) conditions_not_satisfied) _ (λ p.
-    of_outcome Accepted (only_if (not p.proved) conditions_not_satisfied) _ (λ _.
+    of_outcome Accepted (provided (not p.proved) conditions_not_satisfied) _ (λ _.
     of_outcome Accepted (or_refused (user_stamped m.committed.users p.stamp) conditions_not_satisfied) _ (λ u.
-    of_outcome Accepted (only_if (not (u.tries == 0)) authentication_blocked) _ (λ _.
+    of_outcome Accepted (provided (not (u.tries == 0)) authentication_blocked) _ (λ _.
     accepted-if (bytes_eq secret u.secret) (secret_right m channel u) (secret_wrong m u) is_done (costs_a_try (u.tries - 1))))))
 
 accepted-opened : (m : Machine) (channel number : ℕ) → IfOk (channel_opened m channel number) Accepted
 accepted-opened m channel zero = of_outcome Accepted (or_refused (least_closed m) function_not_supported) _ (λ number. is_done)
-accepted-opened m channel (suc n) = of_outcome Accepted (only_if (not (is_open m (suc n))) conditions_not_satisfied) _ (λ _. is_done)
+accepted-opened m channel (suc n) = of_outcome Accepted (provided (not (is_open m (suc n))) conditions_not_satisfied) _ (λ _. is_done)
 
 accepted-closed : (m : Machine) (channel number : ℕ) → IfOk (channel_closed m channel number) Accepted
 accepted-closed m channel number =
-    of_outcome Accepted (only_if (is_open m number) channel_not_supported) _ (λ _.
-    of_outcome Accepted (only_if (not (is_some (own_transaction m.transaction number))) conditions_not_satisfied) _ (λ _. is_done))
+    of_outcome Accepted (provided (is_open m number) channel_not_supported) _ (λ _.
+    of_outcome Accepted (provided (not (is_some (own_transaction m.transaction number))) conditions_not_satisfied) _ (λ _. is_done))
 
 accepted-operated : (m : Machine) (channel : ℕ) (operation : Operation) → IfOk (operated m channel operation) Accepted
-accepted-operated m channel Begin = of_outcome Accepted (only_if (not (is_some m.transaction)) conditions_not_satisfied) _ (λ _. is_done)
+accepted-operated m channel Begin = of_outcome Accepted (provided (not (is_some m.transaction)) conditions_not_satisfied) _ (λ _. is_done)
 accepted-operated m channel Commit = of_outcome Accepted (or_refused (own_transaction m.transaction channel) conditions_not_satisfied) _ (λ t. is_done)
 accepted-operated m channel Rollback = of_outcome Accepted (or_refused (own_transaction m.transaction channel) conditions_not_satisfied) _ (λ t. is_done)
 accepted-operated m channel (PresentUser name) = of_outcome Accepted (session_named (base m channel) name) _ (λ session. is_done)
@@ -173,7 +173,7 @@ or_stays-accepted m (Err word) accepted = tt
 
 stays-carried_out : (m : Machine) (c : Command) → IfOk (carried_out m c) (AcceptsOrStays m)
 stays-carried_out m c =
-    of_outcome (AcceptsOrStays m) (only_if (not (is_kept_waiting (waits (kind_of c.operation)) m.transaction c.channel)) conditions_not_satisfied) _
+    of_outcome (AcceptsOrStays m) (provided (not (is_kept_waiting (waits (kind_of c.operation)) m.transaction c.channel)) conditions_not_satisfied) _
     (λ _. either (reading_command c.operation c.le))
   where
     either : (command : Option ReadingCommand) → IfOk (option_map_or (λ command. Ok (has_read m c.channel command)) command (operated m c.channel c.operation)) (AcceptsOrStays m)

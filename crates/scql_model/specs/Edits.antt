@@ -35,22 +35,22 @@ record_spelling (of_row r) = row_record.spell r
 
 -- A record is added behind all others of its kind, it takes the place of the one that has its stamp, or it is removed.
 pub data Action : Type 0 where
-  adds : Action
-  changes : Action
-  removes : Action
+  to_add : Action
+  to_change : Action
+  to_remove : Action
 
 pub record Edit : Type 0 where
   pub action : Action
   pub entry : AnyRecord
 
 abbrev pub adding : AnyRecord → Edit
-adding r = record { action = adds; entry = r }
+adding r = record { action = to_add; entry = r }
 
 abbrev pub changing : AnyRecord → Edit
-changing r = record { action = changes; entry = r }
+changing r = record { action = to_change; entry = r }
 
 abbrev pub removing : AnyRecord → Edit
-removing r = record { action = removes; entry = r }
+removing r = record { action = to_remove; entry = r }
 
 -- a record is made: it takes the next stamp, and the counter has given that out
 abbrev pub making : Database → AnyRecord → List Edit
@@ -58,9 +58,9 @@ making db r = changing (of_counter (db.next + 1)) ∷ adding r ∷ []
 
 -- the records of one kind after an edit of one of them; the key of a record is its stamp
 abbrev pub list_after : {X : Type 0} → Action → (X → ℕ) → X → List X → List X
-list_after adds key x xs = xs ++ x ∷ []
-list_after changes key x xs = replaced key x xs
-list_after removes key x xs = without key (key x) xs
+list_after to_add key x xs = xs ++ x ∷ []
+list_after to_change key x xs = replaced key x xs
+list_after to_remove key x xs = without key (key x) xs
 
 -- the database after an edit of this record; there is one counter, whose every edit sets the next stamp
 abbrev pub edited : Action → AnyRecord → Database → Database
@@ -84,9 +84,9 @@ cells_of_record r = cells_for (length (record_spelling r))
 
 -- how many cells the records take that are added or changed
 abbrev pub cells_of_edit : Action → AnyRecord → ℕ
-cells_of_edit adds r = cells_of_record r
-cells_of_edit changes r = cells_of_record r
-cells_of_edit removes r = 0
+cells_of_edit to_add r = cells_of_record r
+cells_of_edit to_change r = cells_of_record r
+cells_of_edit to_remove r = 0
 
 abbrev pub cells_written : List Edit → ℕ
 cells_written edits = sum_by (λ (e : Edit). cells_of_edit e.action e.entry) edits

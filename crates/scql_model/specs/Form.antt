@@ -6,7 +6,7 @@ use Rattle.scql_base.specs.declared.words.StatusWord.{StatusWord}
 use Rattle.scql_base.specs.declared.operation.Command.{Command}
 use Rattle.scql_base.specs.declared.operation.OperationKind.{OperationKind}
 use Rattle.scql_base.specs.Words.{wrong_length, class_not_supported, secure_messaging_not_supported, chaining_not_supported, instruction_not_supported, channel_not_supported, wrong_parameters, wrong_data}
-use Rattle.scql_model.specs.Refusals.{◌>>=◌, or_refused, only_if}
+use Rattle.scql_model.specs.Refusals.{◌>>=◌, or_refused, provided}
 use Rattle.scql_model.specs.Machine.{Chain}
 use Rattle.scql_model.specs.Operations.{Takes, nothing, a_data_field, le_alone, Line, has_instruction, line_of, goes_on, comes_in_parts}
 use Rattle.scql_model.specs.Parameters.{operation_in}
@@ -84,8 +84,8 @@ formed (Ok channel) on_channel = formed_on channel (on_channel channel)
 -- A part: INSERT and UPDATE have at most four before the last.
 abbrev pub part_in : ℕ → OperationKind → List (List ℕ) → List ℕ → Result Form StatusWord
 part_in channel kind parts octets = do
-  _ ← only_if (comes_in_parts kind) chaining_not_supported
-  _ ← only_if (not (length parts == 4)) wrong_length
+  _ ← provided (comes_in_parts kind) chaining_not_supported
+  _ ← provided (not (length parts == 4)) wrong_length
   Ok (part_on channel kind octets)
 
 -- A command: its data field is that of the parts so far and its own, joined.
@@ -100,12 +100,12 @@ form_of table (cla ∷ ins ∷ p1 ∷ p2 ∷ after) channels chain limit =
     formed
     (do
       _ ← class_of cla
-      _ ← only_if (has_instruction table ins) instruction_not_supported
+      _ ← provided (has_instruction table ins) instruction_not_supported
       channel_of cla channels)
     (λ channel. do
       line ← or_refused (line_of table channel ins p1 p2) wrong_parameters
       tail ← or_refused (tail_of after) wrong_length
-      _ ← only_if (is_taken line.takes tail && (not (is_chained cla) || is_case_3 tail)) wrong_length
+      _ ← provided (is_taken line.takes tail && (not (is_chained cla) || is_case_3 tail)) wrong_length
       if is_chained cla
           then part_in channel line.kind (parts_of line.kind (chain channel)) (unwrap_or tail.body [])
           else command_in channel line.kind limit (parts_of line.kind (chain channel)) (unwrap_or tail.body []) tail.le)

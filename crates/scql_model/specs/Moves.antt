@@ -10,7 +10,7 @@ use Rattle.scql_base.specs.declared.records.Object.{Object}
 use Rattle.scql_base.specs.Words.{done, end_reached, security_not_satisfied, conditions_not_satisfied, record_not_found, not_found}
 use Rattle.scql_model.specs.Database.{Database}
 use Rattle.scql_model.specs.Machine.{Reading}
-use Rattle.scql_model.specs.Refusals.{◌>>=◌, or_refused, only_if}
+use Rattle.scql_model.specs.Refusals.{◌>>=◌, or_refused, provided}
 use Rattle.scql_model.specs.Rights.{select_privilege, holds, seen_named, seen_stamped}
 use Rattle.scql_model.specs.Matching.{matches}
 use Rattle.scql_model.specs.Objects.{StampedRow}
@@ -20,7 +20,7 @@ use Rattle.scql_model.specs.ReadingCommands.{ReadingCommand, declare, open_curso
 -- the contents of an object from which the actor may select
 abbrev pub selected : Database → Actor → Object → Result Contents StatusWord
 selected db actor o = do
-  _ ← only_if (holds db actor o select_privilege) security_not_satisfied
+  _ ← provided (holds db actor o select_privilege) security_not_satisfied
   Ok (contents_of db o.stamp)
 
 -- a cursor that was opened
@@ -32,7 +32,7 @@ is_opened End = true
 abbrev pub opened : Option Cursor → Result Cursor StatusWord
 opened cursor = do
   c ← or_refused cursor conditions_not_satisfied
-  _ ← only_if (is_opened c.place) conditions_not_satisfied
+  _ ← provided (is_opened c.place) conditions_not_satisfied
   Ok c
 
 -- whether a row of the cursor's object meets the cursor's conditions

@@ -7,7 +7,7 @@ use Rattle.scql_base.specs.declared.operation.Operation.{Operation}
 use Rattle.scql_base.specs.declared.operation.Operation.TheVariants.{DeclareCursor, OpenCursor, Next, Fetch, FetchNext, GetResponse}
 use Rattle.scql_base.specs.Strings.{spelled}
 use Rattle.scql_base.specs.Words.{done, not_found, more_left, wrong_le}
-use Rattle.scql_model.specs.Refusals.{only_if}
+use Rattle.scql_model.specs.Refusals.{provided}
 use Rattle.scql_model.specs.Commands.{Reply}
 use Rattle.scql_model.specs.Database.{are_among}
 use Rattle.scql_model.specs.Contents.{cut_to}
@@ -68,7 +68,7 @@ wanted_of columns (name ∷ names) = name ∷ names
 
 -- the named columns and those of the conditions are among an object's
 abbrev pub named_among : List (List ℕ) → List (List ℕ) → List Condition → Result (Unit {0}) StatusWord
-named_among columns named conditions = only_if (are_among named columns && are_among (map (λ (c : Condition). c.column) conditions) columns) not_found
+named_among columns named conditions = provided (are_among named columns && are_among (map (λ (c : Condition). c.column) conditions) columns) not_found
 
 -- a row in an answer: its values in the wanted columns, each as its length in one octet and its octets
 abbrev pub row_octets : List (List ℕ) → List (List ℕ) → List (List ℕ) → List ℕ

@@ -5,7 +5,7 @@ use Rattle.std.specs.Str.{bytes_eq}
 use Rattle.scql_base.specs.declared.words.StatusWord.{StatusWord}
 use Rattle.scql_base.specs.Words.{done, security_not_satisfied, conditions_not_satisfied, not_found, end_reached, record_not_found}
 use Rattle.scql_model.specs.Commands.{Reply}
-use Rattle.scql_model.specs.Refusals.{◌>>=◌, or_refused, only_if}
+use Rattle.scql_model.specs.Refusals.{◌>>=◌, or_refused, provided}
 use Rattle.scql_model.specs.Matching.{matches}
 use Rattle.scql_model.specs.ReadingCommands.{ReadingCommand, declare, open_cursor, next, fetch, fetch_next, get_response, Move, word_alone, or_stays, cut, fitting, wanted_of, named_among, row_octets}
 use Rattle.scql_model.specs.Shown.{ShownTable, ShownObject, ShownPlace, not_open, hidden, on, at_end, ShownCursor, Shown}
@@ -35,7 +35,7 @@ is_opened_place at_end = true
 abbrev pub opened_cursor : Option ShownCursor → Result ShownCursor StatusWord
 opened_cursor cursor = do
   c ← or_refused cursor conditions_not_satisfied
-  _ ← only_if (is_opened_place c.place) conditions_not_satisfied
+  _ ← provided (is_opened_place c.place) conditions_not_satisfied
   Ok c
 
 -- whether a row of the cursor's object meets the cursor's conditions

@@ -12,7 +12,7 @@ abbrev pub or_refused : {A : Type 0} → Option A → StatusWord → Result A St
 or_refused None word = Err word
 or_refused (Some x) word = Ok x
 
--- nothing where a test passes, and else a refusal
-abbrev pub only_if : Bool → StatusWord → Result (Unit {0}) StatusWord
-only_if true word = Ok tt
-only_if false word = Err word
+-- what is asked holds, or the command is refused
+abbrev pub provided : Bool → StatusWord → Result (Unit {0}) StatusWord
+provided true word = Ok tt
+provided false word = Err word

@@ -9,7 +9,7 @@ use Rattle.scql_base.specs.declared.operation.Operation.TheVariants.{DeleteUser,
 use Rattle.scql_base.specs.declared.records.User.{User}
 use Rattle.scql_base.specs.Words.{done, channel_not_supported, authentication_blocked, conditions_not_satisfied, function_not_supported, not_found, tries_left}
 use Rattle.scql_model.specs.Commands.{Reply}
-use Rattle.scql_model.specs.Refusals.{◌>>=◌, or_refused, only_if}
+use Rattle.scql_model.specs.Refusals.{◌>>=◌, or_refused, provided}
 use Rattle.scql_model.specs.Database.{Database, public_name, user_named, user_stamped}
 use Rattle.scql_model.specs.Machine.{Machine, Session, Transaction, new_session, session_for, open_channels, base, actor}
 use Rattle.scql_model.specs.Sessions.{with_session, changing_session, chain_of, without_chain, with_part, reading_of, cursor_of, reading_so, without_pending, without_cursor, user_of, presented, proving, without_user, is_open, least_closed}
@@ -67,7 +67,7 @@ user_deleted m channel name = do
 -- BEGIN: the working database begins as the committed one
 abbrev pub begun : Machine → ℕ → Result Answer StatusWord
 begun m channel = do
-  _ ← only_if (not (is_some m.transaction)) conditions_not_satisfied
+  _ ← provided (not (is_some m.transaction)) conditions_not_satisfied
   Ok (done_with (record m { transaction = Some (record { channel = channel; working = m.committed; touched = [] }) }) channel [])
 
 -- COMMIT: the working database is committed
@@ -116,9 +116,9 @@ compared m channel secret u = if bytes_eq secret u.secret then secret_right m ch
 abbrev pub verified : Machine → ℕ → List ℕ → Result Answer StatusWord
 verified m channel secret = do
   p ← or_refused (user_of m channel) conditions_not_satisfied
-  _ ← only_if (not p.proved) conditions_not_satisfied
+  _ ← provided (not p.proved) conditions_not_satisfied
   u ← or_refused (user_stamped m.committed.users p.stamp) conditions_not_satisfied
-  _ ← only_if (not (u.tries == 0)) authentication_blocked
+  _ ← provided (not (u.tries == 0)) authentication_blocked
   Ok (compared m channel secret u)
 
 -- MANAGE CHANNEL (ISO/IEC 7816-4): a channel is opened, the one that is named or the least that is closed, whose number is answered
@@ -127,14 +127,14 @@ channel_opened m channel zero = do
   number ← or_refused (least_closed m) function_not_supported
   Ok (record (done_with (with_session m number (Some new_session)) channel []) { reply = record { body = number ∷ []; word = done } })
 channel_opened m channel (suc n) = do
-  _ ← only_if (not (is_open m (suc n))) conditions_not_satisfied
+  _ ← provided (not (is_open m (suc n))) conditions_not_satisfied
   Ok (done_with (with_session m (suc n) (Some new_session)) channel [])
 
 -- a channel is closed, unless it has the open transaction
 abbrev pub channel_closed : Machine → ℕ → ℕ → Result Answer StatusWord
 channel_closed m channel number = do
-  _ ← only_if (is_open m number) channel_not_supported
-  _ ← only_if (not (is_some (own_transaction m.transaction number))) conditions_not_satisfied
+  _ ← provided (is_open m number) channel_not_supported
+  _ ← provided (not (is_some (own_transaction m.transaction number))) conditions_not_satisfied
   Ok (done_with (with_session m number None) channel [])
 
 -- what an operation does that doesn't read
@@ -152,7 +152,7 @@ operated m channel operation = changed m channel operation
 -- A command: an open transaction may stand against it; else it reads, or does what its operation does.
 abbrev pub carried_out : Machine → Command → Result Answer StatusWord
 carried_out m c = do
-  _ ← only_if (not (is_kept_waiting (waits (kind_of c.operation)) m.transaction c.channel)) conditions_not_satisfied
+  _ ← provided (not (is_kept_waiting (waits (kind_of c.operation)) m.transaction c.channel)) conditions_not_satisfied
   option_map_or (λ command. Ok (has_read m c.channel command)) (reading_command c.operation c.le) (operated m c.channel c.operation)
 
 -- Every command but a part leaves its channel without a chain, and so does each refusal that comes after the channel is known.

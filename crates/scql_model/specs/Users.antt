@@ -12,14 +12,14 @@ use Rattle.scql_base.specs.declared.records.Grant.{Grant}
 use Rattle.scql_base.specs.Words.{security_not_satisfied, conditions_not_satisfied, not_found, already_exists}
 use Rattle.scql_model.specs.Database.{Database, is_db_o, user_named}
 use Rattle.scql_model.specs.Creating.{may_create, is_taken, new_user}
-use Rattle.scql_model.specs.Refusals.{◌>>=◌, or_refused, only_if}
+use Rattle.scql_model.specs.Refusals.{◌>>=◌, or_refused, provided}
 use Rattle.scql_model.specs.Edits.{Edit, of_user, of_grant, making, removing}
 
 -- CREATE USER
 unfoldable pub user_added : Database → Actor → List ℕ → Profile → List ℕ → Result (List Edit) StatusWord
 user_added db actor name profile secret = do
-  _ ← only_if (may_create actor profile) security_not_satisfied
-  _ ← only_if (not (is_taken db name)) already_exists
+  _ ← provided (may_create actor profile) security_not_satisfied
+  _ ← provided (not (is_taken db name)) already_exists
   Ok (making db (of_user (new_user db actor name profile secret)))
 
 -- a user's owner is the user who made it; PUBLIC owns nobody
@@ -39,6 +39,6 @@ removing_user db u = removing (of_user u) ∷ map (λ (g : Grant). removing (of_
 unfoldable pub user_deleted : Database → Actor → List ℕ → Result (List Edit) StatusWord
 user_deleted db actor name = do
   u ← or_refused (user_named db.users name) not_found
-  _ ← only_if (owns_user actor u) security_not_satisfied
-  _ ← only_if (not (is_needed db u)) conditions_not_satisfied
+  _ ← provided (owns_user actor u) security_not_satisfied
+  _ ← provided (not (is_needed db u)) conditions_not_satisfied
   Ok (removing_user db u)

@@ -1,23 +1,24 @@
 -- Commands that write rows (ISO/IEC 7816-7, INSERT, UPDATE, DELETE): for each the edits that it makes, or the first refusal that applies.
-use Rattle.std.specs.Option.{option_map_or}
+use Rattle.std.specs.Prelude.{ℕ, ◌==◌, nat_le, List, [], ◌∷◌, length, map, Option, None, option_and_then, Result, Ok}
 use Rattle.std.specs.List.{find}
+use Rattle.std.specs.Option.{option_map_or}
 use Rattle.std.specs.Str.{bytes_eq}
-use Rattle.std.specs.Prelude.{[], ◌∷◌, map, nat_le, Option, None, option_and_then, ℕ, ◌==◌, List, length, Result, Ok}
 use Rattle.scql_base.specs.declared.words.Actor.{Actor}
 use Rattle.scql_base.specs.declared.words.StatusWord.{StatusWord}
 use Rattle.scql_base.specs.declared.records.RowRecord.{RowRecord}
 use Rattle.scql_base.specs.declared.records.Object.{Object}
 use Rattle.scql_base.specs.declared.cursor.Cursor.{Cursor}
 use Rattle.scql_base.specs.declared.cursor.Place.{Place}
-use Rattle.scql_base.specs.declared.cursor.Place.TheVariants.{NotOpen, At, End}
+use Rattle.scql_base.specs.declared.cursor.Place.TheVariants.{At}
 use Rattle.scql_base.specs.Row.{row_size}
-use Rattle.scql_base.specs.Words.{conditions_not_satisfied, security_not_satisfied, record_not_found, not_found, wrong_data}
+use Rattle.scql_base.specs.Words.{conditions_not_satisfied, security_not_satisfied, not_found, wrong_data, record_not_found}
 use Rattle.scql_model.specs.Database.{Database, is_table, are_among, object_stamped}
 use Rattle.scql_model.specs.Objects.{StampedRow, columns_of}
 use Rattle.scql_model.specs.Contents.{Contents, contents_of}
-use Rattle.scql_model.specs.Moves.{opened, passes, row_at}
 use Rattle.scql_model.specs.Rights.{insert_privilege, update_privilege, delete_privilege, holds, seen_named, seen_stamped}
-use Rattle.scql_model.specs.Refusals.{◌>>=◌, or_refused, only_if}
+use Rattle.scql_model.specs.ReadingCommands.{}
+use Rattle.scql_model.specs.Moves.{opened, passes, row_at}
+use Rattle.scql_model.specs.Refusals.{◌>>=◌, or_refused, provided}
 use Rattle.scql_model.specs.Edits.{Edit, of_row, making, changing, removing}
 use Rattle.scql_model.specs.Defining.{of_kind, is_table_or_view}
 
@@ -25,25 +26,24 @@ use Rattle.scql_model.specs.Defining.{of_kind, is_table_or_view}
 unfoldable pub row_inserted : Database → Actor → List ℕ → List (List ℕ) → Result (List Edit) StatusWord
 row_inserted db actor name values = do
   o ← or_refused (of_kind is_table (seen_named db actor name)) not_found
-  _ ← only_if (holds db actor o insert_privilege) security_not_satisfied
-  _ ← only_if (length values == length (columns_of o.kind)) wrong_data
+  _ ← provided (holds db actor o insert_privilege) security_not_satisfied
+  _ ← provided (length values == length (columns_of o.kind)) wrong_data
   Ok (making db (of_row (record { stamp = db.next; table = o.stamp; row = values })))
 
--- the row at which a cursor stands: one of its object's rows, that meets its conditions
-abbrev pub row_at_place : Contents → Cursor → Place → Option StampedRow
-row_at_place contents cursor NotOpen = None
-row_at_place contents cursor (At stamp) = row_at stamp (passes contents cursor) contents.rows
-row_at_place contents cursor End = None
-
--- through a cursor the rows of a table or a view are changed, where the actor holds the privilege on it
+-- the object whose rows may be changed through a cursor: a table or a view, on which the actor holds the privilege
 abbrev pub written_through : Database → Actor → ℕ → Cursor → Result Object StatusWord
 written_through db actor privilege cursor = do
   o ← or_refused (seen_stamped db actor cursor.object) not_found
-  _ ← only_if (is_table_or_view o.kind) conditions_not_satisfied
-  _ ← only_if (holds db actor o privilege) security_not_satisfied
+  _ ← provided (is_table_or_view o.kind) conditions_not_satisfied
+  _ ← provided (holds db actor o privilege) security_not_satisfied
   Ok o
 
--- the table's record of the row at which the cursor stands
+-- the row at which a cursor stands, if it is among its object's rows and meets its conditions
+abbrev pub row_at_place : Contents → Cursor → Place → Option StampedRow
+row_at_place contents cursor (At stamp) = row_at stamp (passes contents cursor) contents.rows
+row_at_place contents cursor place = None
+
+-- the record of that row, which is a row of a table
 abbrev pub record_at : Database → Cursor → Option RowRecord
 record_at db cursor =
     option_and_then (λ (r : StampedRow). find (λ (s : RowRecord). s.stamp == r.stamp) db.rows) (row_at_place (contents_of db cursor.object) cursor cursor.place)
@@ -59,6 +59,7 @@ with_changes changes (column ∷ columns) (value ∷ values) =
     ∷ with_changes changes columns values
 with_changes changes columns values = values
 
+-- the row with those changes; its stamp and its table stay
 abbrev pub row_with : Database → List (List ℕ × List ℕ) → RowRecord → RowRecord
 row_with db changes r = record r { row = with_changes changes (columns_of_row db r) r.row }
 
@@ -67,9 +68,9 @@ unfoldable pub row_updated : Database → Actor → Option Cursor → List (List
 row_updated db actor cursor changes = do
   cursor ← opened cursor
   o ← written_through db actor update_privilege cursor
-  _ ← only_if (are_among (map (λ (change : List ℕ × List ℕ). change.0) changes) (columns_of o.kind)) not_found
+  _ ← provided (are_among (map (λ (change : List ℕ × List ℕ). change.0) changes) (columns_of o.kind)) not_found
   r ← or_refused (record_at db cursor) record_not_found
-  _ ← only_if (nat_le (row_size (row_with db changes r).row) db.limit) wrong_data
+  _ ← provided (nat_le (row_size (row_with db changes r).row) db.limit) wrong_data
   Ok (changing (of_row (row_with db changes r)) ∷ [])
 
 -- DELETE
