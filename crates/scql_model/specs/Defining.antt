@@ -1,8 +1,7 @@
 -- Commands that make and drop objects (ISO/IEC 7816-7, CREATE TABLE, CREATE VIEW, CREATE DICTIONARY, DROP TABLE, DROP VIEW): for each the
 -- edits that it makes, or the first refusal that applies.
-use Rattle.std.specs.Prelude.{ℕ, ◌==◌, nat_lt, not, Bool, true, false, List, ◌∷◌, ◌++◌, map, filter, Option, Some, None, Result, Ok, if◌then◌else◌}
+use Rattle.std.specs.Prelude.{ℕ, ◌==◌, not, Bool, true, false, List, ◌∷◌, ◌++◌, map, filter, Option, Some, None, Result, Ok, if◌then◌else◌}
 use Rattle.std.specs.List.{list_any}
-use Rattle.std.specs.Option.{option_map_or}
 use Rattle.std.specs.Str.{bytes_eq}
 use Rattle.scql_base.specs.declared.words.Actor.{Actor}
 use Rattle.scql_base.specs.declared.words.Actor.TheVariants.{Public, User as a_user}
@@ -16,7 +15,8 @@ use Rattle.scql_base.specs.declared.records.RowRecord.{RowRecord}
 use Rattle.scql_base.specs.Words.{security_not_satisfied, conditions_not_satisfied, not_found, already_exists}
 use Rattle.scql_model.specs.Database.{Database, is_maker, is_table}
 use Rattle.scql_model.specs.Creating.{actor_stamp}
-use Rattle.scql_model.specs.Objects.{columns_of, depth_of}
+use Rattle.scql_model.specs.Rules.{may_have_view}
+use Rattle.scql_model.specs.Objects.{columns_of}
 use Rattle.scql_model.specs.Rights.{owns, seen_named}
 use Rattle.scql_model.specs.ReadingCommands.{wanted_of, named_among}
 use Rattle.scql_model.specs.Refusals.{◌>>=◌, or_refused, provided}
@@ -59,10 +59,6 @@ object_created db actor name kind = do
 abbrev pub is_table_or_view : ObjectKind → Bool
 is_table_or_view (Dictionary subject) = false
 is_table_or_view kind = true
-
--- an object on which a view may rest: it stands at a depth below 4
-abbrev pub may_have_view : List Object → Object → Bool
-may_have_view objects base = option_map_or (λ depth. nat_lt depth 4) (depth_of objects base.stamp) false
 
 -- CREATE VIEW; an empty list of columns becomes all columns
 unfoldable pub view_created : Database → Actor → List ℕ → List ℕ → List (List ℕ) → List Condition → Result (List Edit) StatusWord

@@ -3,10 +3,10 @@ use Rattle.std.specs.Prelude.{ℕ, zero, suc, ◌+◌, Bool, true, false, List, 
 use Rattle.std.specs.List.{find}
 use Rattle.std.specs.Str.{bytes_eq}
 use Rattle.scql_base.specs.declared.words.StatusWord.{StatusWord}
-use Rattle.scql_base.specs.Words.{done, security_not_satisfied, conditions_not_satisfied, not_found, end_reached, record_not_found}
+use Rattle.scql_base.specs.Words.{done, security_not_satisfied, conditions_not_satisfied, not_found, end_reached, record_not_found, end_reached, record_not_found}
 use Rattle.scql_model.specs.Commands.{Reply}
 use Rattle.scql_model.specs.Refusals.{◌>>=◌, or_refused, provided}
-use Rattle.scql_model.specs.Matching.{matches}
+use Rattle.scql_model.specs.Matching.{Values, matches}
 use Rattle.scql_model.specs.ReadingCommands.{ReadingCommand, declare, open_cursor, next, fetch, fetch_next, get_response, Move, word_alone, or_stays, cut, fitting, wanted_of, named_among, row_octets}
 use Rattle.scql_model.specs.Shown.{ShownTable, ShownObject, ShownPlace, not_open, hidden, on, at_end, ShownCursor, Shown}
 
@@ -39,19 +39,19 @@ opened_cursor cursor = do
   Ok c
 
 -- whether a row of the cursor's object meets the cursor's conditions
-abbrev pub meets_cursor : ShownTable → ShownCursor → List (List ℕ) → Bool
+abbrev pub meets_cursor : ShownTable → ShownCursor → Values → Bool
 meets_cursor t c values = matches t.columns c.conditions values
 
 -- a row at a position, counted from 0
 pub record PositionedRow : Type 0 where
   pub position : ℕ
-  pub values : List (List ℕ)
+  pub values : Values
 
 abbrev pub one_further : PositionedRow → PositionedRow
 one_further r = record r { position = suc r.position }
 
 -- the row at the least position from one on that passes
-abbrev pub least_from : ℕ → (List (List ℕ) → Bool) → List (List (List ℕ)) → Option PositionedRow
+abbrev pub least_from : ℕ → (Values → Bool) → List Values → Option PositionedRow
 least_from from test [] = None
 least_from zero test (values ∷ rows) = if test values then Some (record { position = 0; values = values }) else option_map one_further (least_from zero test rows)
 least_from (suc from) test (values ∷ rows) = option_map one_further (least_from from test rows)
@@ -61,19 +61,19 @@ abbrev pub position_behind : ℕ → Bool → ℕ
 position_behind before there = if there then before + 1 else before
 
 -- the next row behind a place that passes; behind the end there is none
-abbrev pub least_behind : ShownPlace → (List (List ℕ) → Bool) → List (List (List ℕ)) → Option PositionedRow
+abbrev pub least_behind : ShownPlace → (Values → Bool) → List Values → Option PositionedRow
 least_behind not_open test rows = None
 least_behind hidden test rows = None
 least_behind (on before there) test rows = least_from (position_behind before there) test rows
 least_behind at_end test rows = None
 
 -- values, if they pass
-abbrev pub if_passes : (List (List ℕ) → Bool) → Option (List (List ℕ)) → Option (List (List ℕ))
+abbrev pub if_passes : (Values → Bool) → Option Values → Option Values
 if_passes test None = None
 if_passes test (Some values) = if test values then Some values else None
 
 -- the row at a position, if there is one and it passes
-abbrev pub row_on : ℕ → Bool → (List (List ℕ) → Bool) → List (List (List ℕ)) → Option (List (List ℕ))
+abbrev pub row_on : ℕ → Bool → (Values → Bool) → List Values → Option Values
 row_on before there test rows = if there then if_passes test (slice_get rows before) else None
 
 -- the cursor stands at a place, and nothing is pending
