@@ -28,7 +28,7 @@ use Rattle.scql_model.specs.Opens.{OpensToOneOf}
 use Rattle.scql_model.specs.Creating.{IsAsked, IsActorOf, created, new_user, with_user}
 use Rattle.scql_model.specs.Form.{form_of}
 use Rattle.scql_model.specs.Step.{Answer, said, answered, step, changed, user_created}
-use Rattle.scql_model.specs.WellFormed.{IsWellFormed}
+use Rattle.scql_model.specs.WellFormed.{HasForm}
 use Rattle.scql_model.proofs.Acting.{IsActorOf-actor}
 use Rattle.scql_model.proofs.Naming.{user_stamped-slots}
 use Rattle.card.specs.Sessions.{proved_stamp, proved_user}
@@ -128,7 +128,7 @@ created-as card chip m channel who name profile secret at is = outside ∙ ap (�
 
 -- what is asked
 pub asked-at : (card : Kept) (chip : Chip) (m : Machine) (channel : ℕ) (who : Actor) (name : List ℕ) (profile : Profile) (secret : List ℕ) → IsAt card chip m → who ≡ actor m channel
-    → IsWellFormed (CreateUser name profile secret) → IsAsked m.committed who name profile secret
+    → HasForm (CreateUser name profile secret) → IsAsked m.committed who name profile secret
 asked-at card chip m channel who name profile secret at is formed = record {
   acts = subst (λ (who : Actor). IsActorOf m.committed who) (sym is) (subst (λ (db : Database). IsActorOf db (actor m channel)) (committed-base m channel at.transaction) (IsActorOf-actor m channel));
   named = formed.0;

@@ -1,26 +1,27 @@
--- The program's commands, as the model's.
-use Rattle.std.specs.Prelude.{ℕ, List, Result, Ok, Err, option_map}
-use Rattle.scql_base.specs.Strings.{params_of}
-use Rattle.scql_base.specs.Words.{wrong_data}
-use Rattle.scql_base.specs.declared.operation.Operation.{Operation}
+-- The program's table of operations, as the model's.
+use Rattle.std.specs.Prelude.{Bool, true, false, option_map}
+use Rattle.scql_base.specs.declared.operation.OperationKind.{OperationKind}
+use Rattle.scql_base.specs.declared.operation.OperationKind.TheVariants.{PresentUser, CreateUser}
+use Rattle.scql_model.specs.Operations as model
 use Rattle.scql_model.specs.Form as form
-use Rattle.scql_base.specs.declared.words.StatusWord.{StatusWord}
-use Rattle.card.specs.declared.command.Kind.{Kind}
-use Rattle.card.specs.declared.command.Kind.TheVariants.{PresentUser as KindPresentUser, CreateUser as KindCreateUser}
+use Rattle.card.specs.declared.command.Takes.{Takes}
+use Rattle.card.specs.declared.command.Takes.TheVariants.{Nothing, DataField, LeAlone}
+use Rattle.card.specs.declared.command.Line.{Line}
 use Rattle.card.specs.declared.command.Tail.{Tail}
 
--- a result, as what is seen of its value
-abbrev pub seen : {A B : Type 0} → (A → B) → Result A StatusWord → Result B StatusWord
-seen view (Ok x) = Ok (view x)
-seen view (Err word) = Err word
+abbrev pub takes_view : Takes → model.Takes
+takes_view Nothing = model.nothing
+takes_view DataField = model.a_data_field
+takes_view LeAlone = model.le_alone
 
-abbrev pub kind_view : Kind → form.Kind
-kind_view KindPresentUser = form.presents_user
-kind_view KindCreateUser = form.creates_user
+abbrev pub line_view : Line → model.Line
+line_view l = record { ins = l.ins; p1 = l.p1; p2 = l.p2; kind = l.kind; takes = takes_view l.takes; is_built = l.is_built }
 
 abbrev pub tail_view : Tail → form.Tail
 tail_view t = record { body = option_map (λ slice. slice.now) t.body; le = t.le }
 
--- the operation in a data field
-abbrev pub strings_read : Kind → List ℕ → Result Operation StatusWord
-strings_read kind body = form.◌>>=◌ (form.or_refused (params_of body) wrong_data) (form.operation_in (kind_view kind))
+-- the operations whose data fields are read
+abbrev pub is_built : OperationKind → Bool
+is_built PresentUser = true
+is_built CreateUser = true
+is_built kind = false
