@@ -1,5 +1,8 @@
 -- The program's table of operations, as the model's.
-use Rattle.std.specs.Prelude.{Bool, true, false, option_map}
+use Rattle.std.specs.Prelude.{ℕ, List, [], ◌∷◌, Option, Some, None, option_map}
+use Rattle.scql_base.specs.declared.words.Profile.{Profile}
+use Rattle.scql_base.specs.declared.operation.Operation.{Operation}
+use Rattle.scql_model.specs.Parameters.{operation_in, made_profile_of}
 use Rattle.scql_base.specs.declared.operation.OperationKind.{OperationKind}
 use Rattle.scql_base.specs.declared.operation.OperationKind.TheVariants.{PresentUser, CreateUser}
 use Rattle.scql_model.specs.Operations as model
@@ -20,8 +23,13 @@ line_view l = record { ins = l.ins; p1 = l.p1; p2 = l.p2; kind = l.kind; takes =
 abbrev pub tail_view : Tail → form.Tail
 tail_view t = record { body = option_map (λ slice. slice.now) t.body; le = t.le }
 
--- the operations whose data fields are read
-abbrev pub is_built : OperationKind → Bool
-is_built PresentUser = true
-is_built CreateUser = true
-is_built kind = false
+-- the operation that a data field asks for, of the kinds that are built, whatever a row's limit
+abbrev pub built_operation_in : OperationKind → List ℕ → Option Operation
+built_operation_in PresentUser octets = operation_in PresentUser 0 octets
+built_operation_in CreateUser octets = operation_in CreateUser 0 octets
+built_operation_in kind octets = None
+
+-- the profile that one octet stands for
+abbrev pub made_profile_in : List ℕ → Option Profile
+made_profile_in (code ∷ []) = made_profile_of code
+made_profile_in string = None

@@ -7,7 +7,7 @@ ghost use Rattle.scql_model.specs.Operations as table;
 ghost use Rattle.scql_model.specs.Parameters as parameters;
 ghost use Rattle.scql_model.specs.WellFormed.{IsWellFormed};
 ghost use Rattle.scql_base.specs.declared.operation.Operation.TheVariants as operation;
-ghost use Rattle.card.specs.Commands.{is_built, line_view, tail_view, takes_view};
+ghost use Rattle.card.specs.Commands.{built_operation_in, line_view, made_profile_in, tail_view, takes_view};
 
 use scql_base::{Command, Name, Octets, Operation, OperationKind, Params, Profile, StatusWord};
 
@@ -87,6 +87,66 @@ const OPERATIONS: [Line; 31] = [
     line!(planned 0xC0 0x00 0x00 GetResponse, LeAlone),
 ];
 
+/// What stands behind P2: a data field, where there is one, and Le, where there is one.
+#[derive(Drop)]
+pub(crate) struct Tail<'a> {
+    pub body: Option<&'a [u8]>,
+    pub le: Option<u16>,
+}
+
+impl CommandApdu for Command {
+    #[tactic(auto, unfolding(scql_model::specs::Form::form_of))]
+    fn read(octets: &[u8], channels: [bool; 4], limit: u16) -> Result<Command, StatusWord>
+        ensures command { result ≡ form.as_command (form.form_of table.built_operations octets.now channels form.no_chain limit) }
+        ensures formed { limit ≤ 1020 → IfOk result IsWellFormed }
+        ensures on_open { IfOk result (λ command. slice_get channels command.channel ≡ Some true) }
+    {
+        let [cla, ins, p1, p2, after @ ..] = octets else {
+            return Err(StatusWord::WRONG_LENGTH);
+        };
+        check_class(*cla)?;
+        check_instruction(*ins)?;
+        let channel = channel_of(*cla, channels)?;
+        let line = line_of(*ins, *p1, *p2).ok_or(StatusWord::WRONG_PARAMETERS)?;
+        if !is_for_channel(channel, line.kind) {
+            return Err(StatusWord::WRONG_PARAMETERS);
+        }
+        let tail = tail_of(after).ok_or(StatusWord::WRONG_LENGTH)?;
+        if !is_taken(line.takes, *cla, &tail) {
+            return Err(StatusWord::WRONG_LENGTH);
+        }
+        if is_chained(*cla) {
+            return Err(StatusWord::CHAINING_NOT_SUPPORTED);
+        }
+        let data = tail.body.unwrap_or(&[]);
+        let operation = operation_in(line.kind, data, limit).ok_or(StatusWord::WRONG_DATA)?;
+        Ok(Command {
+            channel,
+            operation,
+            le: tail.le,
+        })
+    }
+}
+
+fn check_class(cla: u8) -> Result<(), StatusWord>
+    ensures { result ≡ form.class_of cla }
+{
+    if cla >> 5 != 0 {
+        return Err(StatusWord::CLASS_NOT_SUPPORTED);
+    }
+    if (cla >> 2) & 3 != 0 {
+        return Err(StatusWord::SECURE_MESSAGING_NOT_SUPPORTED);
+    }
+    Ok(())
+}
+
+// The command goes on in the next one.
+fn is_chained(cla: u8) -> bool
+    ensures { result ≡ form.is_chained cla }
+{
+    (cla >> 4) & 1 == 1
+}
+
 fn check_instruction(ins: u8) -> Result<(), StatusWord>
     ensures { result ≡ form.unless_refused (table.has_instruction table.built_operations ins) instruction_not_supported }
 {
@@ -121,20 +181,150 @@ fn find_line(lines: &[Line], ins: u8, p1: u8, p2: u8) -> Option<Line>
 {
     lines
         .iter()
-        .find(|line| line.is_built && line.ins == ins && line.p1 == p1 && line.p2 == p2)
         .copied()
+        .find(|line| line.is_built && line.ins == ins && line.p1 == p1 && line.p2 == p2)
 }
 
-/// What stands behind P2: a data field, where there is one, and Le, where there is one.
-#[derive(Drop)]
-pub(crate) struct Tail<'a> {
-    pub body: Option<&'a [u8]>,
-    pub le: Option<u16>,
+fn channel_of(cla: u8, channels: [bool; 4]) -> Result<u8, StatusWord>
+    ensures channel { result ≡ form.channel_of cla channels }
+    ensures on_open { IfOk result (λ channel. slice_get channels channel ≡ Some true) }
+{
+    let channel = cla % 4;
+    match channels.as_slice().get(channel as usize).copied() {
+        Some(true) => Ok(channel),
+        _ => Err(StatusWord::CHANNEL_NOT_SUPPORTED),
+    }
 }
 
-impl CommandApdu for Command {
-    fn read(octets: &[u8], channels: [bool; 4], limit: u16) -> Result<Command, StatusWord>
-    {
-        Err(StatusWord::WRONG_LENGTH)
+fn tail_of(after: &[u8]) -> Option<Tail<'_>>
+    ensures { option_map tail_view result ≡ form.tail_of after.now }
+{
+    match after {
+        [] => Some(Tail {
+            body: None,
+            le: None,
+        }),
+        [le] => Some(Tail {
+            body: None,
+            le: Some(le_of(*le)),
+        }),
+        [0, ..] => None,
+        [lc, rest @ ..] => split_tail(*lc, rest),
+    }
+}
+
+// Lc, the data and maybe Le.
+fn split_tail(lc: u8, rest: &[u8]) -> Option<Tail<'_>>
+    ensures { option_map tail_view result ≡ form.data_of lc rest.now }
+{
+    let count = lc as usize;
+    if rest.len() == count {
+        return Some(Tail {
+            body: Some(rest),
+            le: None,
+        });
+    }
+    if rest.len() == count + 1 {
+        return Some(Tail {
+            body: Some(&rest[..count]),
+            le: Some(le_of(rest[count])),
+        });
+    }
+    None
+}
+
+fn le_of(octet: u8) -> u16
+    ensures { result ≡ form.le_of octet }
+{
+    match octet {
+        0 => 256,
+        _ => octet as u16,
+    }
+}
+
+// The case of a command is one that the operation takes; in a part of one only case 3 is.
+fn is_taken(takes: Takes, cla: u8, tail: &Tail<'_>) -> bool
+    ensures { result ≡ (form.is_taken (takes_view takes) (tail_view tail.now) && (not (form.is_chained cla) || form.is_case_3 (tail_view tail.now))) }
+{
+    let has_body = tail.body.is_some();
+    let has_le = tail.le.is_some();
+    let is_case = match takes {
+        Takes::Nothing => !has_body,
+        Takes::DataField => has_body,
+        Takes::LeAlone => !has_body && has_le,
+    };
+    is_case && (!is_chained(cla) || has_body && !has_le)
+}
+
+// The operation that a data field asks for, where its kind is built. No row is read yet, so no limit is asked.
+fn operation_in(kind: OperationKind, data: &[u8], _limit: u16) -> Option<Operation>
+    ensures { result ≡ built_operation_in kind data.now }
+{
+    let params = Params::read(data)?;
+    match kind {
+        OperationKind::PresentUser => presented_in(params),
+        OperationKind::CreateUser => created_in(params),
+        _ => None,
+    }
+}
+
+fn presented_in(params: Params<'_>) -> Option<Operation>
+    ensures { result ≡ parameters.named_in operation.PresentUser params.entry }
+{
+    let (name, rest) = params.split_first()?;
+    if rest.count() != 0 {
+        return None;
+    }
+    let name = Name::read(name)?;
+    Some(Operation::PresentUser { name })
+}
+
+fn created_in(params: Params<'_>) -> Option<Operation>
+    ensures { result ≡ parameters.create_user_in params.entry }
+{
+    let (name, profile, secret) = three_of(params)?;
+    let name = Name::read(name)?;
+    let profile = made_profile_of(profile)?;
+    let secret = new_secret_of(secret)?;
+    Some(Operation::CreateUser {
+        name,
+        profile,
+        secret,
+    })
+}
+
+// The strings, where there are three.
+fn three_of(params: Params<'_>) -> Option<(&[u8], &[u8], &[u8])>
+    ensures three { IfSome result (λ x. params.entry ≡ x.0.now ∷ x.1.now ∷ x.2.now ∷ []) }
+    ensures others { IfNone result (parameters.create_user_in params.entry ≡ None) }
+{
+    let (first, rest) = params.split_first()?;
+    let (second, rest) = rest.split_first()?;
+    let (third, rest) = rest.split_first()?;
+    if rest.count() == 0 {
+        Some((first, second, third))
+    } else {
+        None
+    }
+}
+
+fn made_profile_of(string: &[u8]) -> Option<Profile>
+    ensures { result ≡ made_profile_in string.now }
+{
+    match string {
+        [0x02] => Some(Profile::Dboo),
+        [0x03] => Some(Profile::Dbbu),
+        _ => None,
+    }
+}
+
+// A secret is empty until there are secrets.
+fn new_secret_of(string: &[u8]) -> Option<Octets<8>>
+    ensures { result ≡ parameters.only_where (parameters.is_new_secret string.now) string.now }
+{
+    if string.is_empty() {
+        Octets::of(string)
+    } else {
+        None
     }
 }

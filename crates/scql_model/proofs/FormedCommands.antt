@@ -23,7 +23,7 @@ use Rattle.scql_model.specs.Operations.{Takes, nothing, a_data_field, le_alone, 
 use Rattle.scql_model.specs.Parameters as parameters
 use Rattle.scql_model.specs.Parameters.{only_where, are_columns, are_chosen_columns, are_conditions, are_changes, Choice, conditions_in, choice_in, changes_in, create_table_in, create_view_in, create_dictionary_in, named_in, granted_in, declare_cursor_in, is_row_within, insert_in, update_in, made_profile_of, create_user_in, is_verified_secret, operation_in}
 use Rattle.scql_model.specs.WellFormed.{HasForm, wants_le, IsWellFormed}
-use Rattle.scql_model.specs.Form.{◌>>=◌, or_refused, unless_refused, class_of, is_chained, is_open, channel_of, Tail, le_of, data_of, tail_of, is_taken, is_case_3, data_in, channel_asked, parts_of, Form, a_command, formed_on, formed, part_in, command_in, form_of}
+use Rattle.scql_model.specs.Form.{◌>>=◌, or_refused, unless_refused, class_of, is_chained, is_open, channel_of, Tail, le_of, data_of, tail_of, is_taken, is_case_3, data_in, channel_asked, line_on, taken_in, parts_of, Form, a_command, formed_on, formed, part_in, command_in, form_of}
 use Rattle.scql_model.proofs.FieldLaws.{AreOctets}
 
 both : (a b : Bool) → a && b ≡ true → (a ≡ true) × (b ≡ true)
@@ -249,6 +249,9 @@ found-passes p q (y ∷ ys) x all is = go (p y) refl is (found-passes p q ys x (
 refused-not : {A P : Type 0} (word : StatusWord) (y : A) → Err word ≡ Ok y → P
 refused-not word y is = absurd (none-some y (ap result_ok is))
 
+same_Ok : {A : Type 0} (x y : A) → (let o : Result A StatusWord = Ok x in o) ≡ Ok y → x ≡ y
+same_Ok x y is = same_Some x y (ap result_ok is)
+
 -- a value came of what went before
 bound : {A B P : Type 0} (r : Result A StatusWord) (f : A → Result B StatusWord) (y : B) → r >>= f ≡ Ok y → ((x : A) → r ≡ Ok x → f x ≡ Ok y → P) → P
 bound (Err word) f y is then' = refused-not word y is
@@ -301,6 +304,25 @@ command-read channel asked limit parts tail c near closed le_fits wanted least n
       form = read.form;
     }))
 
+line-read : (table : List Line) (channel ins p1 p2 : ℕ) (line : Line) → list_all is_sound table ≡ true → line_on table channel ins p1 p2 ≡ Ok line
+    → (is_for_channel channel line.kind ≡ true) × (is_sound line ≡ true)
+line-read table channel ins p1 p2 line sound is =
+    bound (or_refused (line_of table ins p1 p2) wrong_parameters) _ line is (λ found_line at is.
+    bound (unless_refused (is_for_channel channel found_line.kind) wrong_parameters) _ line is (λ closed at_closed same.
+    subst (λ (l : Line). (is_for_channel channel l.kind ≡ true) × (is_sound l ≡ true)) (same_Ok found_line line same) (
+      not_unless _ wrong_parameters closed at_closed,
+      (found-passes (λ (l : Line). l.ins == ins && l.p1 == p1 && l.p2 == p2) is_sound table found_line sound (not_refused (line_of table ins p1 p2) wrong_parameters found_line at)).1,
+    )))
+
+tail-taken : (takes : Takes) (is_part : Bool) (after : List ℕ) (tail : Tail) → AreOctets after → taken_in takes is_part after ≡ Ok tail → IsLe tail.le × (is_taken takes tail ≡ true)
+tail-taken takes is_part after tail octets is =
+    bound (or_refused (tail_of after) wrong_length) _ tail is (λ read at is.
+    bound (unless_refused (is_taken takes read && (not is_part || is_case_3 read)) wrong_length) _ tail is (λ taken at_taken same.
+    subst (λ (t : Tail). IsLe t.le × (is_taken takes t ≡ true)) (same_Ok read tail same) (
+      tail-read after read octets (not_refused (tail_of after) wrong_length read at),
+      (both (is_taken takes read) (not is_part || is_case_3 read) (not_unless _ wrong_length taken at_taken)).0,
+    )))
+
 -- What is read as a command is well-formed, by a table whose lines are those of operations, and under a limit that a card may have.
 pub IsWellFormed-form_of : (table : List Line) (octets : List ℕ) (channels : List Bool) (chain : ℕ → Option Chain) (limit : ℕ) (c : Command)
     → list_all is_sound table ≡ true → AreOctets octets → limit ≤ 1020 → form_of table octets channels chain limit ≡ a_command c → IsWellFormed c
@@ -313,20 +335,12 @@ IsWellFormed-form_of table (cla ∷ ins ∷ p1 ∷ p2 ∷ after) channels chain 
     on_channel (channel_asked table cla ins channels) _ c is (λ channel at is.
     bound (class_of cla) _ channel at (λ _ _ at.
     bound (unless_refused (has_instruction table ins) instruction_not_supported) _ channel at (λ _ _ at.
-    bound (or_refused (line_of table ins p1 p2) wrong_parameters) _ (a_command c) is (λ line at_line is.
-    bound (unless_refused (is_for_channel channel line.kind) wrong_parameters) _ (a_command c) is (λ closed at_closed is.
-    bound (or_refused (tail_of after) wrong_length) _ (a_command c) is (λ tail at_tail is.
-    bound (unless_refused (is_taken line.takes tail && (not (is_chained cla) || is_case_3 tail)) wrong_length) _ (a_command c) is (λ taken at_taken is.
-    let passes = found-passes (λ (l : Line). l.ins == ins && l.p1 == p1 && l.p2 == p2) is_sound table line sound (not_refused (line_of table ins p1 p2) wrong_parameters line at_line) in
-    let right = both (has_channel line.kind) (not (wants_le line.kind) || is_le_alone line.takes) passes.1 in
-    let takes = both (is_taken line.takes tail) (not (is_chained cla) || is_case_3 tail) (not_unless _ wrong_length taken at_taken) in
-    go (is_chained cla) channel line tail
-    (channel-read cla channels channel at)
-    (not_unless _ wrong_parameters closed at_closed)
-    (tail-read after tail (λ i. are (suc (suc (suc (suc i))))) (not_refused (tail_of after) wrong_length tail at_tail))
-    (le-wanted (wants_le line.kind) line.takes tail right.1 takes.0)
-    right.0
-    is)))))))
+    bound (line_on table channel ins p1 p2) _ (a_command c) is (λ line on_line is.
+    bound (taken_in line.takes (is_chained cla) after) _ (a_command c) is (λ tail on_tail is.
+    let read = line-read table channel ins p1 p2 line sound on_line in
+    let right = both (has_channel line.kind) (not (wants_le line.kind) || is_le_alone line.takes) read.1 in
+    let taken = tail-taken line.takes (is_chained cla) after tail (λ i. are (suc (suc (suc (suc i))))) on_tail in
+    go (is_chained cla) channel line tail (channel-read cla channels channel at) read.0 taken.0 (le-wanted (wants_le line.kind) line.takes tail right.1 taken.1) right.0 is)))))
   where
     go : (more : Bool) (channel : ℕ) (line : Line) (tail : Tail) → channel ≤ 3 → is_for_channel channel line.kind ≡ true → IsLe tail.le
         → (wants_le line.kind ≡ true → is_some tail.le ≡ true) → has_channel line.kind ≡ true

@@ -117,14 +117,26 @@ channel_asked table cla ins channels = do
   _ ← unless_refused (has_instruction table ins) instruction_not_supported
   channel_of cla channels
 
+-- the operation that P1 and P2 ask for on a channel
+abbrev pub line_on : List Line → ℕ → ℕ → ℕ → ℕ → Result Line StatusWord
+line_on table channel ins p1 p2 = do
+  line ← or_refused (line_of table ins p1 p2) wrong_parameters
+  _ ← unless_refused (is_for_channel channel line.kind) wrong_parameters
+  Ok line
+
+-- what stands behind P2, in a case that the operation takes; a part of a command takes case 3 alone
+abbrev pub taken_in : Takes → Bool → List ℕ → Result Tail StatusWord
+taken_in takes is_part after = do
+  tail ← or_refused (tail_of after) wrong_length
+  _ ← unless_refused (is_taken takes tail && (not is_part || is_case_3 tail)) wrong_length
+  Ok tail
+
 -- What octets are, by a table of operations, where these channels are open, with the chain of each channel, and where a row has at most so many octets.
 unfoldable pub form_of : List Line → List ℕ → List Bool → (ℕ → Option Chain) → ℕ → Form
 form_of table (cla ∷ ins ∷ p1 ∷ p2 ∷ after) channels chain limit =
     formed (channel_asked table cla ins channels) λ channel. do
-      line ← or_refused (line_of table ins p1 p2) wrong_parameters
-      _ ← unless_refused (is_for_channel channel line.kind) wrong_parameters
-      tail ← or_refused (tail_of after) wrong_length
-      _ ← unless_refused (is_taken line.takes tail && (not (is_chained cla) || is_case_3 tail)) wrong_length
+      line ← line_on table channel ins p1 p2
+      tail ← taken_in line.takes (is_chained cla) after
       if is_chained cla
           then part_in channel line.kind (parts_of line.kind (chain channel)) tail
           else command_in channel line.kind limit (parts_of line.kind (chain channel)) tail
