@@ -13,6 +13,7 @@ ghost use Rattle.scql_model.specs.Database.{Database, fresh};
 ghost use Rattle.eeprom.specs.Image.{overwrite};
 ghost use Rattle.card.specs.Card.{Kept, IsReady, IsAt, committed_slots, fresh_card};
 ghost use Rattle.card.specs.Answering.{Answers, LeavesOneOf, Performs, answer_to, reply_of, with_user};
+ghost use Rattle.card.specs.Commands.{AreUnchained};
 ghost use Rattle.card.specs.Creating.{IsAddition, IsCounter};
 ghost use Rattle.card.specs.Making.{LeavesMade};
 ghost use Rattle.card.specs.Opening.{ReadsCard};
@@ -214,7 +215,8 @@ impl Card {
     }
 
     fn open_channels(&self) -> [bool; 4]
-        ensures { result ≡ map is_some self.now.sessions }
+        ensures channels { result ≡ map is_some self.now.sessions }
+        ensures unchained { AreUnchained self.now.sessions }
     {
         let [first, second, third, fourth] = &self.sessions;
         [

@@ -1,13 +1,13 @@
 // Commands, read from octets (ISO/IEC 7816-4, command APDU).
 ghost use Rattle.std.specs.Prelude.{◌≡◌, ◌≤◌, ◌∷◌, [], ◌==◌, ◌||◌, not, ◌&&◌, true, Some, None, IfOk, IfSome, IfNone, slice_get, option_map, option_and_then, length, unwrap_or};
 ghost use Rattle.std.specs.List.{find, list_any};
-ghost use Rattle.scql_base.specs.Words.{instruction_not_supported};
+ghost use Rattle.scql_base.specs.Words.{instruction_not_supported, wrong_data};
 ghost use Rattle.scql_model.specs.Form as form;
 ghost use Rattle.scql_model.specs.Operations as table;
 ghost use Rattle.scql_model.specs.Parameters as parameters;
 ghost use Rattle.scql_model.specs.WellFormed.{IsWellFormed};
 ghost use Rattle.scql_base.specs.declared.operation.Operation.TheVariants as operation;
-ghost use Rattle.card.specs.Commands.{built_operation_in, line_view, made_profile_in, tail_view, takes_view};
+ghost use Rattle.card.specs.Commands.{built_operation_in, is_built, line_view, made_profile_in, seen, tail_view, takes_view};
 
 use scql_base::{Command, Name, Octets, Operation, OperationKind, Params, Profile, StatusWord};
 
@@ -95,36 +95,49 @@ pub(crate) struct Tail<'a> {
 }
 
 impl CommandApdu for Command {
-    #[tactic(auto, unfolding(scql_model::specs::Form::form_of))]
     fn read(octets: &[u8], channels: [bool; 4], limit: u16) -> Result<Command, StatusWord>
         ensures command { result ≡ form.as_command (form.form_of table.built_operations octets.now channels form.no_chain limit) }
         ensures formed { limit ≤ 1020 → IfOk result IsWellFormed }
         ensures on_open { IfOk result (λ command. slice_get channels command.channel ≡ Some true) }
     {
-        let [cla, ins, p1, p2, after @ ..] = octets else {
-            return Err(StatusWord::WRONG_LENGTH);
-        };
-        check_class(*cla)?;
-        check_instruction(*ins)?;
-        let channel = channel_of(*cla, channels)?;
-        let line = line_of(*ins, *p1, *p2).ok_or(StatusWord::WRONG_PARAMETERS)?;
-        if !is_for_channel(channel, line.kind) {
-            return Err(StatusWord::WRONG_PARAMETERS);
+        command_in(octets, channels, limit)
+    }
+}
+
+// The refusals come in the order of the steps.
+#[tactic(auto, unfolding(scql_model::specs::Form::form_of))]
+fn command_in(octets: &[u8], channels: [bool; 4], limit: u16) -> Result<Command, StatusWord>
+    ensures command { result ≡ form.as_command (form.form_of table.built_operations octets.now channels form.no_chain limit) }
+    ensures on_open { IfOk result (λ command. slice_get channels command.channel ≡ Some true) }
+{
+    let [cla, ins, p1, p2, after @ ..] = octets else {
+        return Err(StatusWord::WRONG_LENGTH);
+    };
+    check_class(*cla)?;
+    check_instruction(*ins)?;
+    let channel = channel_of(*cla, channels)?;
+    let line = line_on(channel, *ins, *p1, *p2)?;
+    let tail = taken_in(line.takes, is_chained(*cla), after)?;
+    if is_chained(*cla) {
+        return Err(StatusWord::CHAINING_NOT_SUPPORTED);
+    }
+    let operation = operation_in(line.kind, tail.data(), limit)?;
+    Ok(Command {
+        channel,
+        operation,
+        le: tail.le,
+    })
+}
+
+impl<'a> Tail<'a> {
+    // The data field, which has no octets where there is none.
+    fn data(&self) -> &'a [u8]
+        ensures { result.now ≡ form.data_in (tail_view self.now) }
+    {
+        match self.body {
+            Some(body) => body,
+            None => &[],
         }
-        let tail = tail_of(after).ok_or(StatusWord::WRONG_LENGTH)?;
-        if !is_taken(line.takes, *cla, &tail) {
-            return Err(StatusWord::WRONG_LENGTH);
-        }
-        if is_chained(*cla) {
-            return Err(StatusWord::CHAINING_NOT_SUPPORTED);
-        }
-        let data = tail.body.unwrap_or(&[]);
-        let operation = operation_in(line.kind, data, limit).ok_or(StatusWord::WRONG_DATA)?;
-        Ok(Command {
-            channel,
-            operation,
-            le: tail.le,
-        })
     }
 }
 
@@ -169,20 +182,25 @@ fn is_for_channel(channel: u8, kind: OperationKind) -> bool
     !(channel == 0 && kind == OperationKind::CloseChannel { number: 0 })
 }
 
-// The line of an operation that is built, for INS, P1 and P2.
-fn line_of(ins: u8, p1: u8, p2: u8) -> Option<Line>
-    ensures { option_map line_view result ≡ table.line_of table.built_operations ins p1 p2 }
+// The operation that is built for INS, P1 and P2 on a channel.
+fn line_on(channel: u8, ins: u8, p1: u8, p2: u8) -> Result<Line, StatusWord>
+    ensures line { seen line_view result ≡ form.line_on table.built_operations channel ins p1 p2 }
+    ensures built { IfOk result (λ line. is_built line.kind ≡ true) }
 {
-    find_line(&OPERATIONS, ins, p1, p2)
+    let line = find_line(&OPERATIONS, ins, p1, p2).ok_or(StatusWord::WRONG_PARAMETERS)?;
+    if !is_for_channel(channel, line.kind) {
+        return Err(StatusWord::WRONG_PARAMETERS);
+    }
+    Ok(line)
 }
 
 fn find_line(lines: &[Line], ins: u8, p1: u8, p2: u8) -> Option<Line>
     ensures { result ≡ find (λ line. line.is_built && line.ins == ins && line.p1 == p1 && line.p2 == p2) lines.now }
 {
-    lines
-        .iter()
-        .copied()
-        .find(|line| line.is_built && line.ins == ins && line.p1 == p1 && line.p2 == p2)
+    lines.iter().copied().find(|line| line.is_built
+        && line.ins == ins
+        && line.p1 == p1
+        && line.p2 == p2)
 }
 
 fn channel_of(cla: u8, channels: [bool; 4]) -> Result<u8, StatusWord>
@@ -242,9 +260,20 @@ fn le_of(octet: u8) -> u16
     }
 }
 
-// The case of a command is one that the operation takes; in a part of one only case 3 is.
-fn is_taken(takes: Takes, cla: u8, tail: &Tail<'_>) -> bool
-    ensures { result ≡ (form.is_taken (takes_view takes) (tail_view tail.now) && (not (form.is_chained cla) || form.is_case_3 (tail_view tail.now))) }
+// What stands behind P2, in a case that the operation takes. A part of a command takes case 3 alone.
+fn taken_in(takes: Takes, is_part: bool, after: &[u8]) -> Result<Tail<'_>, StatusWord>
+    ensures { seen tail_view result ≡ form.taken_in (takes_view takes) is_part after.now }
+{
+    let tail = tail_of(after).ok_or(StatusWord::WRONG_LENGTH)?;
+    if is_taken(takes, is_part, &tail) {
+        Ok(tail)
+    } else {
+        Err(StatusWord::WRONG_LENGTH)
+    }
+}
+
+fn is_taken(takes: Takes, is_part: bool, tail: &Tail<'_>) -> bool
+    ensures { result ≡ (form.is_taken (takes_view takes) (tail_view tail.now) && (not is_part || form.is_case_3 (tail_view tail.now))) }
 {
     let has_body = tail.body.is_some();
     let has_le = tail.le.is_some();
@@ -253,14 +282,21 @@ fn is_taken(takes: Takes, cla: u8, tail: &Tail<'_>) -> bool
         Takes::DataField => has_body,
         Takes::LeAlone => !has_body && has_le,
     };
-    is_case && (!is_chained(cla) || has_body && !has_le)
+    is_case && (!is_part || has_body && !has_le)
 }
 
-// The operation that a data field asks for, where its kind is built. No row is read yet, so no limit is asked.
-fn operation_in(kind: OperationKind, data: &[u8], _limit: u16) -> Option<Operation>
-    ensures { result ≡ built_operation_in kind data.now }
+// The operation that a data field asks for. No row is read yet, so no limit is asked.
+fn operation_in(kind: OperationKind, octets: &[u8], _limit: u16) -> Result<Operation, StatusWord>
+    requires { is_built kind ≡ true }
+    ensures { result ≡ form.or_refused (parameters.operation_in kind _limit octets.now) wrong_data }
 {
-    let params = Params::read(data)?;
+    built_operation_in(kind, octets).ok_or(StatusWord::WRONG_DATA)
+}
+
+fn built_operation_in(kind: OperationKind, octets: &[u8]) -> Option<Operation>
+    ensures { result ≡ built_operation_in kind octets.now }
+{
+    let params = Params::read(octets)?;
     match kind {
         OperationKind::PresentUser => presented_in(params),
         OperationKind::CreateUser => created_in(params),

@@ -1,6 +1,6 @@
 -- What is read of octets as a command is well-formed.
 use Rattle.std.proofs.Common.{◌≡◌, ◌≤◌, ◌<◌, ◌+◌, ◌%◌, ℕ, suc, ◌==◌, nat_le, not, ◌&&◌, ◌||◌, Bool, true, false, List, [], ◌∷◌, ◌++◌, length, take, drop, get_or, Option, Some, None, is_some, Result, Ok, Err, if◌then◌else◌, refl, ap, subst, sym, ◌∙◌, arith}
-use Rattle.std.specs.Prelude.{IfSome, slice_get}
+use Rattle.std.specs.Prelude.{IfSome, IfOk, slice_get}
 use Rattle.std.specs.List.{list_all, find, concat}
 use Rattle.std.specs.Result.{result_ok}
 use Rattle.std.proofs.lemmas.Option.{none-some, same_Some}
@@ -23,7 +23,7 @@ use Rattle.scql_model.specs.Operations.{Takes, nothing, a_data_field, le_alone, 
 use Rattle.scql_model.specs.Parameters as parameters
 use Rattle.scql_model.specs.Parameters.{only_where, are_columns, are_chosen_columns, are_conditions, are_changes, Choice, conditions_in, choice_in, changes_in, create_table_in, create_view_in, create_dictionary_in, named_in, granted_in, declare_cursor_in, is_row_within, insert_in, update_in, made_profile_of, create_user_in, is_verified_secret, operation_in}
 use Rattle.scql_model.specs.WellFormed.{HasForm, wants_le, IsWellFormed}
-use Rattle.scql_model.specs.Form.{◌>>=◌, or_refused, unless_refused, class_of, is_chained, is_open, channel_of, Tail, le_of, data_of, tail_of, is_taken, is_case_3, data_in, channel_asked, line_on, taken_in, parts_of, Form, a_command, formed_on, formed, part_in, command_in, form_of}
+use Rattle.scql_model.specs.Form.{◌>>=◌, or_refused, unless_refused, class_of, is_chained, is_open, channel_of, Tail, le_of, data_of, tail_of, is_taken, is_case_3, data_in, channel_asked, line_on, taken_in, parts_of, Form, refused, refused_on, part_on, a_command, as_command, formed_on, formed, part_in, command_in, form_of}
 use Rattle.scql_model.proofs.FieldLaws.{AreOctets}
 
 both : (a b : Bool) → a && b ≡ true → (a ≡ true) × (b ≡ true)
@@ -349,6 +349,19 @@ IsWellFormed-form_of table (cla ∷ ins ∷ p1 ∷ p2 ∷ after) channels chain 
     go true channel line tail near closed le_fits wanted number is = no_part channel line.kind (parts_of line.kind (chain channel)) tail c is
     go false channel line tail near closed le_fits wanted number is =
         command-read channel line.kind limit (parts_of line.kind (chain channel)) tail c near closed le_fits wanted least number is
+
+-- so is what is read as one command
+pub IsWellFormed-as_command : (table : List Line) (octets : List ℕ) (channels : List Bool) (chain : ℕ → Option Chain) (limit : ℕ) (result : Result Command StatusWord)
+    → list_all is_sound table ≡ true → AreOctets octets → limit ≤ 1020 → result ≡ as_command (form_of table octets channels chain limit) → IfOk result IsWellFormed
+IsWellFormed-as_command table octets channels chain limit (Err word) sound are least is = tt
+IsWellFormed-as_command table octets channels chain limit (Ok c) sound are least is =
+    IsWellFormed-form_of table octets channels chain limit c sound are least (go (form_of table octets channels chain limit) is)
+  where
+    go : (form : Form) → Ok c ≡ as_command form → form ≡ a_command c
+    go (a_command d) is = cc
+    go (refused word) is = refused-not word c (sym is)
+    go (refused_on channel word) is = refused-not word c (sym is)
+    go (part_on channel asked part) is = refused-not chaining_not_supported c (sym is)
 
 -- the table of all operations, and that of those which are built
 pub sound-operations : list_all is_sound operations ≡ true
