@@ -1,5 +1,6 @@
 mod Added
 mod ByStamp
+mod FormedCommands
 mod Gathering
 mod GatheringSlots
 pub mod Leaving

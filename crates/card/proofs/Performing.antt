@@ -23,12 +23,15 @@ use Rattle.scql_model.specs.Records.{counter_record, user_record, user_in}
 use Rattle.scql_model.specs.Database.{Database, user_stamped}
 use Rattle.scql_base.specs.declared.cursor.Presented.{Presented}
 use Rattle.scql_base.specs.declared.operation.Operation.TheVariants.{CreateUser}
-use Rattle.scql_model.specs.Machine.{Machine, Session, actor, actor_of, base, session_of, open_channels}
+use Rattle.scql_model.specs.Machine.{Machine, Session, actor, actor_of, base, session_of}
 use Rattle.scql_model.specs.Opens.{OpensToOneOf}
 use Rattle.scql_model.specs.Creating.{IsAsked, IsActorOf, created, new_user, with_user}
-use Rattle.scql_model.specs.Form.{form_of}
-use Rattle.scql_model.specs.Step.{Answer, said, answered, step, changed, user_created}
-use Rattle.scql_model.specs.WellFormed.{IsWellFormed}
+use Rattle.scql_model.specs.Operations.{built_operations}
+use Rattle.scql_model.specs.Form.{form_of, as_command, no_chain}
+use Rattle.card.specs.Commands.{AreUnchained}
+use Rattle.card.proofs.FormedCommands.{form_at-card}
+use Rattle.scql_model.specs.Step.{form_at, Answer, said, answered, step, changed, user_created}
+use Rattle.scql_model.specs.WellFormed.{HasForm}
 use Rattle.scql_model.proofs.Acting.{IsActorOf-actor}
 use Rattle.scql_model.proofs.Naming.{user_stamped-slots}
 use Rattle.card.specs.Sessions.{proved_stamp, proved_user}
@@ -76,10 +79,10 @@ Performs-refused card old new m word outcome ready at same refused =
 
 -- octets that are refused as a command
 pub step-refused : (card : Kept) (chip : Chip) (m : Machine) (octets : List ℕ) (channels : List Bool) (word : StatusWord) → IsAt card chip m
-    → channels ≡ map (λ (s : Option Session). is_some s) card.sessions → Err word ≡ form_of octets channels → step m octets ≡ answered m (Err word)
+    → channels ≡ map (λ (s : Option Session). is_some s) card.sessions → AreUnchained card.sessions → Err word ≡ as_command (form_of built_operations octets channels no_chain 240) → step m octets ≡ answered m (Err word)
 unfolding step
-step-refused card chip m octets channels word at are_open read =
-    let formed : form_of octets (open_channels m) ≡ Err word = ap (λ (sessions : List (Option Session)). form_of octets (map (λ (s : Option Session). is_some s) sessions)) at.sessions ∙ (ap (form_of octets) (sym are_open) ∙ sym read) in
+step-refused card chip m octets channels word at are_open unchained read =
+    let formed : as_command (form_at m octets) ≡ Err word = ap as_command (form_at-card card chip m octets channels at are_open unchained) ∙ sym read in
     rw formed refl
 
 -- For whom a channel acts, by the stamp of its proved user.
@@ -128,7 +131,7 @@ created-as card chip m channel who name profile secret at is = outside ∙ ap (�
 
 -- what is asked
 pub asked-at : (card : Kept) (chip : Chip) (m : Machine) (channel : ℕ) (who : Actor) (name : List ℕ) (profile : Profile) (secret : List ℕ) → IsAt card chip m → who ≡ actor m channel
-    → IsWellFormed (CreateUser name profile secret) → IsAsked m.committed who name profile secret
+    → HasForm (CreateUser name profile secret) → IsAsked m.committed who name profile secret
 asked-at card chip m channel who name profile secret at is formed = record {
   acts = subst (λ (who : Actor). IsActorOf m.committed who) (sym is) (subst (λ (db : Database). IsActorOf db (actor m channel)) (committed-base m channel at.transaction) (IsActorOf-actor m channel));
   named = formed.0;

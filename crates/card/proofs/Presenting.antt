@@ -12,10 +12,13 @@ use Rattle.scql_base.specs.Words.{done, not_found}
 use Rattle.scql_base.specs.declared.records.User.{User}
 use Rattle.scql_model.specs.Records.{user_in}
 use Rattle.scql_model.specs.Database.{public_name, is_named, user_named}
-use Rattle.scql_model.specs.Machine.{Machine, Session, session_for, open_channels}
-use Rattle.scql_model.specs.Step.{Answer, said, answered, done_with, step, operated, user_of_session, presented}
+use Rattle.scql_model.specs.Machine.{Machine, Session, session_for}
+use Rattle.scql_model.specs.Step.{form_at, Answer, said, answered, done_with, step, operated, user_of_session, presented}
 use Rattle.scql_base.specs.declared.operation.Command.{Command}
-use Rattle.scql_model.specs.Form.{form_of}
+use Rattle.scql_model.specs.Operations.{built_operations}
+use Rattle.scql_model.specs.Form.{form_of, as_command, no_chain}
+use Rattle.card.specs.Commands.{AreUnchained}
+use Rattle.card.proofs.FormedCommands.{form_at-card}
 use Rattle.scql_model.proofs.Naming.{user_named-slots}
 use Rattle.card.specs.Card.{Kept, IsAt, committed_slots}
 use Rattle.card.proofs.Told.{if_some-at}
@@ -81,9 +84,9 @@ user_answers card after store old new channel name u same stays user some is m a
 
 -- The step of a command, where card and EEPROM are at the machine.
 pub step-operated : (card : Kept) (chip : Chip) (m : Machine) (octets : List ℕ) (channels : List Bool) (command : Command) → IsAt card chip m
-    → channels ≡ map (λ (s : Option Session). is_some s) card.sessions → Ok command ≡ form_of octets channels
+    → channels ≡ map (λ (s : Option Session). is_some s) card.sessions → AreUnchained card.sessions → Ok command ≡ as_command (form_of built_operations octets channels no_chain 240)
     → step m octets ≡ answered m (operated m command.channel command.operation)
 unfolding step
-step-operated card chip m octets channels command at are_open read =
-    let formed : form_of octets (open_channels m) ≡ Ok command = ap (λ (sessions : List (Option Session)). form_of octets (map (λ (s : Option Session). is_some s) sessions)) at.sessions ∙ (ap (form_of octets) (sym are_open) ∙ sym read) in
+step-operated card chip m octets channels command at are_open unchained read =
+    let formed : as_command (form_at m octets) ≡ Ok command = ap as_command (form_at-card card chip m octets channels at are_open unchained) ∙ sym read in
     rw formed refl

@@ -1,12 +1,18 @@
--- The program's commands, as the model's.
-use Rattle.std.specs.Prelude.{ℕ, List, Result, Ok, Err, option_map}
-use Rattle.scql_base.specs.Strings.{params_of}
-use Rattle.scql_base.specs.Words.{wrong_data}
-use Rattle.scql_base.specs.declared.operation.Operation.{Operation}
-use Rattle.scql_model.specs.Form as form
+-- The program's table of operations and its sessions, as the model's.
+use Rattle.std.specs.Prelude.{◌≡◌, ℕ, Bool, true, false, List, [], ◌∷◌, Option, None, Result, Ok, Err, option_map, option_and_then, slice_get}
+use Rattle.std.specs.Option.{option_flatten}
 use Rattle.scql_base.specs.declared.words.StatusWord.{StatusWord}
-use Rattle.card.specs.declared.command.Kind.{Kind}
-use Rattle.card.specs.declared.command.Kind.TheVariants.{PresentUser as KindPresentUser, CreateUser as KindCreateUser}
+use Rattle.scql_base.specs.declared.words.Profile.{Profile}
+use Rattle.scql_base.specs.declared.operation.Operation.{Operation}
+use Rattle.scql_model.specs.Parameters.{operation_in, made_profile_of}
+use Rattle.scql_base.specs.declared.operation.OperationKind.{OperationKind}
+use Rattle.scql_base.specs.declared.operation.OperationKind.TheVariants.{PresentUser, CreateUser}
+use Rattle.scql_model.specs.Machine.{Session}
+use Rattle.scql_model.specs.Operations as model
+use Rattle.scql_model.specs.Form as form
+use Rattle.card.specs.declared.command.Takes.{Takes}
+use Rattle.card.specs.declared.command.Takes.TheVariants.{Nothing, DataField, LeAlone}
+use Rattle.card.specs.declared.command.Line.{Line}
 use Rattle.card.specs.declared.command.Tail.{Tail}
 
 -- a result, as what is seen of its value
@@ -14,13 +20,34 @@ abbrev pub seen : {A B : Type 0} → (A → B) → Result A StatusWord → Resul
 seen view (Ok x) = Ok (view x)
 seen view (Err word) = Err word
 
-abbrev pub kind_view : Kind → form.Kind
-kind_view KindPresentUser = form.presents_user
-kind_view KindCreateUser = form.creates_user
+abbrev pub takes_view : Takes → model.Takes
+takes_view Nothing = model.nothing
+takes_view DataField = model.a_data_field
+takes_view LeAlone = model.le_alone
+
+abbrev pub line_view : Line → model.Line
+line_view l = record { ins = l.ins; p1 = l.p1; p2 = l.p2; kind = l.kind; takes = takes_view l.takes; is_built = l.is_built }
 
 abbrev pub tail_view : Tail → form.Tail
 tail_view t = record { body = option_map (λ slice. slice.now) t.body; le = t.le }
 
--- the operation in a data field
-abbrev pub strings_read : Kind → List ℕ → Result Operation StatusWord
-strings_read kind body = form.◌>>=◌ (form.or_refused (params_of body) wrong_data) (form.operation_in (kind_view kind))
+-- the operations that are built
+abbrev pub is_built : OperationKind → Bool
+is_built PresentUser = true
+is_built CreateUser = true
+is_built kind = false
+
+-- the operation that a data field asks for, of the kinds that are built, whatever a row's limit
+abbrev pub built_operation_in : OperationKind → List ℕ → Option Operation
+built_operation_in PresentUser octets = operation_in PresentUser 0 octets
+built_operation_in CreateUser octets = operation_in CreateUser 0 octets
+built_operation_in kind octets = None
+
+-- the profile that one octet stands for
+abbrev pub made_profile_in : List ℕ → Option Profile
+made_profile_in (code ∷ []) = made_profile_of code
+made_profile_in string = None
+
+-- no session has a part of a command
+abbrev pub AreUnchained : List (Option Session) → Type 0
+AreUnchained sessions = (channel : ℕ) → option_and_then (λ (s : Session). s.chain) (option_flatten (slice_get sessions channel)) ≡ None

@@ -13,13 +13,14 @@ ghost use Rattle.scql_model.specs.Database.{Database, fresh};
 ghost use Rattle.eeprom.specs.Image.{overwrite};
 ghost use Rattle.card.specs.Card.{Kept, IsReady, IsAt, committed_slots, fresh_card};
 ghost use Rattle.card.specs.Answering.{Answers, LeavesOneOf, Performs, answer_to, reply_of, with_user};
+ghost use Rattle.card.specs.Commands.{AreUnchained};
 ghost use Rattle.card.specs.Creating.{IsAddition, IsCounter};
 ghost use Rattle.card.specs.Making.{LeavesMade};
 ghost use Rattle.card.specs.Opening.{ReadsCard};
 ghost use Rattle.card.specs.Sessions.{proved_user, sessions_of};
 ghost use Rattle.scql_base.specs.declared.operation.Operation.TheVariants as operation;
 ghost use Rattle.scql_model.specs.Creating.{created};
-ghost use Rattle.scql_model.specs.WellFormed.{IsWellFormed};
+ghost use Rattle.scql_model.specs.WellFormed.{HasForm};
 ghost use Rattle.scql_base.specs.declared.words.Actor.{Actor};
 ghost use Rattle.scql_base.specs.declared.words.Profile.{Profile};
 ghost use Rattle.std.specs.Option.{option_flatten};
@@ -38,6 +39,9 @@ use record_store::{FormatRefusal, OpenRefusal, RecordOctets, Store, StoreRefusal
 use scql_base::{Actor, Command, Name, Octets, Operation, Presented, Profile, StatusWord};
 use std::alloc::Global;
 use std::marker::Model;
+
+// The octets that a row may have. Cards with longer rows aren't opened yet.
+const ROW_LIMIT: u16 = 240;
 
 /// A card, which answers commands over the EEPROM that it was opened on.
 #[derive(Drop)]
@@ -172,7 +176,7 @@ impl Card {
         ensures cause { Counts (B.faults bench.old) (B.faults bench.new) result }
         ensures still { (B.chip bench.new).still ≡ (B.chip bench.old).still }
     {
-        match Command::read(command, self.open_channels()) {
+        match Command::read(command, self.open_channels(), ROW_LIMIT) {
             Err(word) => Ok(word),
             Ok(
                 Command {
@@ -192,7 +196,7 @@ impl Card {
     ) -> Result<StatusWord, EepromFault>
         requires ready { IsReady self.old (B.chip bench.old) }
         requires channel { channel < 4 }
-        requires formed { IsWellFormed operation }
+        requires formed { HasForm operation }
         ensures performs { (m : machine.Machine) → IsAt self.old (B.chip bench.old) m
             → Performs m (stepping.answered m (stepping.operated m channel operation)) result self.new (B.chip bench.old) (B.chip bench.new) }
         ensures ready { OnOk result (IsReady self.new (B.chip bench.new)) }
@@ -211,7 +215,8 @@ impl Card {
     }
 
     fn open_channels(&self) -> [bool; 4]
-        ensures { result ≡ map is_some self.now.sessions }
+        ensures channels { result ≡ map is_some self.now.sessions }
+        ensures unchained { AreUnchained self.now.sessions }
     {
         let [first, second, third, fourth] = &self.sessions;
         [
@@ -264,7 +269,7 @@ impl Card {
     ) -> Result<StatusWord, EepromFault>
         requires ready { IsReady self.old (B.chip bench.old) }
         requires channel { channel < 4 }
-        requires formed { IsWellFormed (operation.CreateUser name.now profile secret.now) }
+        requires formed { HasForm (operation.CreateUser name.now profile secret.now) }
         ensures performs { (m : machine.Machine) → IsAt self.old (B.chip bench.old) m
             → Performs m (stepping.answered m (stepping.user_created m channel name.now profile secret.now)) result self.new (B.chip bench.old) (B.chip bench.new) }
         ensures ready { OnOk result (IsReady self.new (B.chip bench.new)) }

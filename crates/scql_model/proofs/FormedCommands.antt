@@ -1,6 +1,6 @@
 -- What is read of octets as a command is well-formed.
 use Rattle.std.proofs.Common.{◌≡◌, ◌≤◌, ◌<◌, ◌+◌, ◌%◌, ℕ, suc, ◌==◌, nat_le, not, ◌&&◌, ◌||◌, Bool, true, false, List, [], ◌∷◌, ◌++◌, length, take, drop, get_or, Option, Some, None, is_some, Result, Ok, Err, if◌then◌else◌, refl, ap, subst, sym, ◌∙◌, arith}
-use Rattle.std.specs.Prelude.{IfSome, unwrap_or, slice_get}
+use Rattle.std.specs.Prelude.{IfSome, IfOk, slice_get}
 use Rattle.std.specs.List.{list_all, find, concat}
 use Rattle.std.specs.Result.{result_ok}
 use Rattle.std.proofs.lemmas.Option.{none-some, same_Some}
@@ -24,7 +24,7 @@ use Rattle.scql_model.specs.Parameters as parameters
 use Rattle.scql_model.specs.Parameters.{only_where, are_columns, are_chosen_columns, are_conditions, are_changes, Choice, conditions_in, choice_in, changes_in, create_table_in, create_view_in, create_dictionary_in, named_in, granted_in, declare_cursor_in, is_row_within, insert_in, update_in, made_profile_of, create_user_in, is_verified_secret, operation_in}
 use Rattle.scql_model.specs.WellFormed.{HasForm, wants_le, IsWellFormed}
 use Rattle.scql_model.specs.Refusals.{◌>>=◌, or_refused, provided}
-use Rattle.scql_model.specs.Form.{class_of, is_chained, is_open, channel_of, Tail, le_of, data_of, tail_of, is_taken, is_case_3, parts_of, Form, a_command, formed_on, formed, part_in, command_in, form_of}
+use Rattle.scql_model.specs.Form.{class_of, is_chained, is_open, channel_of, Tail, le_of, data_of, tail_of, is_taken, is_case_3, data_in, channel_asked, line_on, taken_in, parts_of, Form, refused, refused_on, part_on, a_command, as_command, formed_on, formed, part_in, command_in, form_of}
 use Rattle.scql_model.proofs.FieldLaws.{AreOctets}
 
 both : (a b : Bool) → a && b ≡ true → (a ≡ true) × (b ≡ true)
@@ -250,6 +250,9 @@ found-passes p q (y ∷ ys) x all is = go (p y) refl is (found-passes p q ys x (
 refused-not : {A P : Type 0} (word : StatusWord) (y : A) → Err word ≡ Ok y → P
 refused-not word y is = absurd (none-some y (ap result_ok is))
 
+same_Ok : {A : Type 0} (x y : A) → (let o : Result A StatusWord = Ok x in o) ≡ Ok y → x ≡ y
+same_Ok x y is = same_Some x y (ap result_ok is)
+
 -- a value came of what went before
 bound : {A B P : Type 0} (r : Result A StatusWord) (f : A → Result B StatusWord) (y : B) → r >>= f ≡ Ok y → ((x : A) → r ≡ Ok x → f x ≡ Ok y → P) → P
 bound (Err word) f y is then' = refused-not word y is
@@ -280,26 +283,46 @@ on_channel {P} (Ok channel) f c is then' = go (f channel) refl is
     go (Err word) same is = absurd cc
     go (Ok form) same is = then' channel refl (same ∙ ap Ok is)
 
-no_part : {P : Type 0} (channel : ℕ) (asked : OperationKind) (parts : List (List ℕ)) (octets : List ℕ) (c : Command) → part_in channel asked parts octets ≡ Ok (a_command c) → P
-no_part channel asked parts octets c is =
+no_part : {P : Type 0} (channel : ℕ) (asked : OperationKind) (parts : List (List ℕ)) (tail : Tail) (c : Command) → part_in channel asked parts tail ≡ Ok (a_command c) → P
+no_part channel asked parts tail c is =
     bound (provided (comes_in_parts asked) chaining_not_supported) _ (a_command c) is (λ _ _ is.
     bound (provided (not (length parts == 4)) wrong_length) _ (a_command c) is (λ _ _ is. absurd cc))
 
-command-read : (channel : ℕ) (asked : OperationKind) (limit : ℕ) (parts : List (List ℕ)) (octets : List ℕ) (le : Option ℕ) (c : Command)
-    → channel ≤ 3 → is_for_channel channel asked ≡ true → IsLe le → (wants_le asked ≡ true → is_some le ≡ true) → limit ≤ 1020 → has_channel asked ≡ true
-    → command_in channel asked limit parts octets le ≡ Ok (a_command c) → IsWellFormed c
-command-read channel asked limit parts octets le c near closed le_fits wanted least number is =
-    bound (or_refused (operation_in asked limit (concat parts ++ octets)) wrong_data) _ (a_command c) is (λ operation at same.
-    let read = read-operation asked limit least number (concat parts ++ octets) operation (not_refused (operation_in asked limit (concat parts ++ octets)) wrong_data operation at) in
-    let whole : Command = record { channel = channel; operation = operation; le = le } in
+command-read : (channel : ℕ) (asked : OperationKind) (limit : ℕ) (parts : List (List ℕ)) (tail : Tail) (c : Command)
+    → channel ≤ 3 → is_for_channel channel asked ≡ true → IsLe tail.le → (wants_le asked ≡ true → is_some tail.le ≡ true) → limit ≤ 1020 → has_channel asked ≡ true
+    → command_in channel asked limit parts tail ≡ Ok (a_command c) → IsWellFormed c
+command-read channel asked limit parts tail c near closed le_fits wanted least number is =
+    let octets : List ℕ = concat parts ++ data_in tail in
+    bound (or_refused (operation_in asked limit octets) wrong_data) _ (a_command c) is (λ operation at same.
+    let read = read-operation asked limit least number octets operation (not_refused (operation_in asked limit octets) wrong_data operation at) in
+    let whole : Command = record { channel = channel; operation = operation; le = tail.le } in
     let is_whole : whole ≡ c = cc in
     subst IsWellFormed is_whole (record {
       channel = near;
       closed = subst (λ (k : OperationKind). is_for_channel channel k ≡ true) (sym read.kind) closed;
       le = le_fits;
-      wanted = subst (λ (k : OperationKind). wants_le k ≡ true → is_some le ≡ true) (sym read.kind) wanted;
+      wanted = subst (λ (k : OperationKind). wants_le k ≡ true → is_some tail.le ≡ true) (sym read.kind) wanted;
       form = read.form;
     }))
+
+line-read : (table : List Line) (channel ins p1 p2 : ℕ) (line : Line) → list_all is_sound table ≡ true → line_on table channel ins p1 p2 ≡ Ok line
+    → (is_for_channel channel line.kind ≡ true) × (is_sound line ≡ true)
+line-read table channel ins p1 p2 line sound is =
+    bound (or_refused (line_of table ins p1 p2) wrong_parameters) _ line is (λ found_line at is.
+    bound (provided (is_for_channel channel found_line.kind) wrong_parameters) _ line is (λ closed at_closed same.
+    subst (λ (l : Line). (is_for_channel channel l.kind ≡ true) × (is_sound l ≡ true)) (same_Ok found_line line same) (
+      not_unless _ wrong_parameters closed at_closed,
+      (found-passes (λ (l : Line). l.ins == ins && l.p1 == p1 && l.p2 == p2) is_sound table found_line sound (not_refused (line_of table ins p1 p2) wrong_parameters found_line at)).1,
+    )))
+
+tail-taken : (takes : Takes) (is_part : Bool) (after : List ℕ) (tail : Tail) → AreOctets after → taken_in takes is_part after ≡ Ok tail → IsLe tail.le × (is_taken takes tail ≡ true)
+tail-taken takes is_part after tail octets is =
+    bound (or_refused (tail_of after) wrong_length) _ tail is (λ read at is.
+    bound (provided (is_taken takes read && (not is_part || is_case_3 read)) wrong_length) _ tail is (λ taken at_taken same.
+    subst (λ (t : Tail). IsLe t.le × (is_taken takes t ≡ true)) (same_Ok read tail same) (
+      tail-read after read octets (not_refused (tail_of after) wrong_length read at),
+      (both (is_taken takes read) (not is_part || is_case_3 read) (not_unless _ wrong_length taken at_taken)).0,
+    )))
 
 -- What is read as a command is well-formed, by a table whose lines are those of operations, and under a limit that a card may have.
 pub IsWellFormed-form_of : (table : List Line) (octets : List ℕ) (channels : List Bool) (chain : ℕ → Option Chain) (limit : ℕ) (c : Command)
@@ -310,33 +333,36 @@ IsWellFormed-form_of table (cla ∷ []) channels chain limit c sound are least i
 IsWellFormed-form_of table (cla ∷ ins ∷ []) channels chain limit c sound are least is = absurd cc
 IsWellFormed-form_of table (cla ∷ ins ∷ p1 ∷ []) channels chain limit c sound are least is = absurd cc
 IsWellFormed-form_of table (cla ∷ ins ∷ p1 ∷ p2 ∷ after) channels chain limit c sound are least is =
-    on_channel _ _ c is (λ channel at is.
+    on_channel (channel_asked table cla ins channels) _ c is (λ channel at is.
     bound (class_of cla) _ channel at (λ _ _ at.
     bound (provided (has_instruction table ins) instruction_not_supported) _ channel at (λ _ _ at.
-    bound (or_refused (line_of table channel ins p1 p2) wrong_parameters) _ (a_command c) is (λ line at_line is.
-    bound (or_refused (tail_of after) wrong_length) _ (a_command c) is (λ tail at_tail is.
-    bound (provided (is_taken line.takes tail && (not (is_chained cla) || is_case_3 tail)) wrong_length) _ (a_command c) is (λ taken at_taken is.
-    let passes = found-passes (λ (l : Line). l.ins == ins && l.p1 == p1 && l.p2 == p2 && is_for_channel channel l.kind) is_sound table line sound
-    (not_refused (line_of table channel ins p1 p2) wrong_parameters line at_line) in
-    let right = both (has_channel line.kind) (not (wants_le line.kind) || is_le_alone line.takes) passes.1 in
-    let takes = both (is_taken line.takes tail) (not (is_chained cla) || is_case_3 tail) (not_unless _ wrong_length taken at_taken) in
-    go (is_chained cla) channel line tail
-    (channel-read cla channels channel at)
-    (both (line.ins == ins && line.p1 == p1 && line.p2 == p2) (is_for_channel channel line.kind) passes.0).1
-    (tail-read after tail (λ i. are (suc (suc (suc (suc i))))) (not_refused (tail_of after) wrong_length tail at_tail))
-    (le-wanted (wants_le line.kind) line.takes tail right.1 takes.0)
-    right.0
-    is))))))
+    bound (line_on table channel ins p1 p2) _ (a_command c) is (λ line on_line is.
+    bound (taken_in line.takes (is_chained cla) after) _ (a_command c) is (λ tail on_tail is.
+    let read = line-read table channel ins p1 p2 line sound on_line in
+    let right = both (has_channel line.kind) (not (wants_le line.kind) || is_le_alone line.takes) read.1 in
+    let taken = tail-taken line.takes (is_chained cla) after tail (λ i. are (suc (suc (suc (suc i))))) on_tail in
+    go (is_chained cla) channel line tail (channel-read cla channels channel at) read.0 taken.0 (le-wanted (wants_le line.kind) line.takes tail right.1 taken.1) right.0 is)))))
   where
     go : (more : Bool) (channel : ℕ) (line : Line) (tail : Tail) → channel ≤ 3 → is_for_channel channel line.kind ≡ true → IsLe tail.le
         → (wants_le line.kind ≡ true → is_some tail.le ≡ true) → has_channel line.kind ≡ true
-        → (if more
-        then part_in channel line.kind (parts_of line.kind (chain channel)) (unwrap_or tail.body [])
-        else command_in channel line.kind limit (parts_of line.kind (chain channel)) (unwrap_or tail.body []) tail.le) ≡ Ok (a_command c)
+        → (if more then part_in channel line.kind (parts_of line.kind (chain channel)) tail else command_in channel line.kind limit (parts_of line.kind (chain channel)) tail) ≡ Ok (a_command c)
         → IsWellFormed c
-    go true channel line tail near closed le_fits wanted number is = no_part channel line.kind (parts_of line.kind (chain channel)) (unwrap_or tail.body []) c is
+    go true channel line tail near closed le_fits wanted number is = no_part channel line.kind (parts_of line.kind (chain channel)) tail c is
     go false channel line tail near closed le_fits wanted number is =
-        command-read channel line.kind limit (parts_of line.kind (chain channel)) (unwrap_or tail.body []) tail.le c near closed le_fits wanted least number is
+        command-read channel line.kind limit (parts_of line.kind (chain channel)) tail c near closed le_fits wanted least number is
+
+-- so is what is read as one command
+pub IsWellFormed-as_command : (table : List Line) (octets : List ℕ) (channels : List Bool) (chain : ℕ → Option Chain) (limit : ℕ) (result : Result Command StatusWord)
+    → list_all is_sound table ≡ true → AreOctets octets → limit ≤ 1020 → result ≡ as_command (form_of table octets channels chain limit) → IfOk result IsWellFormed
+IsWellFormed-as_command table octets channels chain limit (Err word) sound are least is = tt
+IsWellFormed-as_command table octets channels chain limit (Ok c) sound are least is =
+    IsWellFormed-form_of table octets channels chain limit c sound are least (go (form_of table octets channels chain limit) is)
+  where
+    go : (form : Form) → Ok c ≡ as_command form → form ≡ a_command c
+    go (a_command d) is = cc
+    go (refused word) is = refused-not word c (sym is)
+    go (refused_on channel word) is = refused-not word c (sym is)
+    go (part_on channel asked part) is = refused-not chaining_not_supported c (sym is)
 
 -- the table of all operations, and that of those which are built
 pub sound-operations : list_all is_sound operations ≡ true

@@ -8,7 +8,7 @@ use Rattle.scql_base.specs.declared.operation.OperationKind.{OperationKind}
 use Rattle.scql_base.specs.Words.{wrong_length, class_not_supported, secure_messaging_not_supported, chaining_not_supported, instruction_not_supported, channel_not_supported, wrong_parameters, wrong_data}
 use Rattle.scql_model.specs.Refusals.{◌>>=◌, or_refused, provided}
 use Rattle.scql_model.specs.Machine.{Chain}
-use Rattle.scql_model.specs.Operations.{Takes, nothing, a_data_field, le_alone, Line, has_instruction, line_of, goes_on, comes_in_parts}
+use Rattle.scql_model.specs.Operations.{Takes, nothing, a_data_field, le_alone, Line, has_instruction, line_of, is_for_channel, goes_on, comes_in_parts}
 use Rattle.scql_model.specs.Parameters.{operation_in}
 
 -- The first interindustry class, without secure messaging: bits b8 b7 b6, then b4 b3 of CLA are 0.
@@ -60,6 +60,10 @@ is_taken le_alone tail = is_none tail.body && is_some tail.le
 abbrev pub is_case_3 : Tail → Bool
 is_case_3 tail = is_some tail.body && is_none tail.le
 
+-- the data field, which has no octets where there is none
+abbrev pub data_in : Tail → List ℕ
+data_in tail = unwrap_or tail.body []
+
 -- the parts that a channel has of a command of this operation
 abbrev pub parts_of : OperationKind → Option Chain → List (List ℕ)
 parts_of kind None = []
@@ -82,33 +86,48 @@ formed (Err word) on_channel = refused word
 formed (Ok channel) on_channel = formed_on channel (on_channel channel)
 
 -- A part: INSERT and UPDATE have at most four before the last.
-abbrev pub part_in : ℕ → OperationKind → List (List ℕ) → List ℕ → Result Form StatusWord
-part_in channel kind parts octets = do
+abbrev pub part_in : ℕ → OperationKind → List (List ℕ) → Tail → Result Form StatusWord
+part_in channel kind parts tail = do
   _ ← provided (comes_in_parts kind) chaining_not_supported
   _ ← provided (not (length parts == 4)) wrong_length
-  Ok (part_on channel kind octets)
+  Ok (part_on channel kind (data_in tail))
 
 -- A command: its data field is that of the parts so far and its own, joined.
-abbrev pub command_in : ℕ → OperationKind → ℕ → List (List ℕ) → List ℕ → Option ℕ → Result Form StatusWord
-command_in channel kind limit parts octets le = do
-  operation ← or_refused (operation_in kind limit (concat parts ++ octets)) wrong_data
-  Ok (a_command (record { channel = channel; operation = operation; le = le }))
+abbrev pub command_in : ℕ → OperationKind → ℕ → List (List ℕ) → Tail → Result Form StatusWord
+command_in channel kind limit parts tail = do
+  operation ← or_refused (operation_in kind limit (concat parts ++ data_in tail)) wrong_data
+  Ok (a_command (record { channel = channel; operation = operation; le = tail.le }))
+
+-- the open channel that a known instruction of the class is for
+abbrev pub channel_asked : List Line → ℕ → ℕ → List Bool → Result ℕ StatusWord
+channel_asked table cla ins channels = do
+  _ ← class_of cla
+  _ ← provided (has_instruction table ins) instruction_not_supported
+  channel_of cla channels
+
+-- the operation that P1 and P2 ask for on a channel
+abbrev pub line_on : List Line → ℕ → ℕ → ℕ → ℕ → Result Line StatusWord
+line_on table channel ins p1 p2 = do
+  line ← or_refused (line_of table ins p1 p2) wrong_parameters
+  _ ← provided (is_for_channel channel line.kind) wrong_parameters
+  Ok line
+
+-- what stands behind P2, in a case that the operation takes; a part of a command takes case 3 alone
+abbrev pub taken_in : Takes → Bool → List ℕ → Result Tail StatusWord
+taken_in takes is_part after = do
+  tail ← or_refused (tail_of after) wrong_length
+  _ ← provided (is_taken takes tail && (not is_part || is_case_3 tail)) wrong_length
+  Ok tail
 
 -- What octets are, by a table of operations, where these channels are open, with the chain of each channel, and where a row has at most so many octets.
 unfoldable pub form_of : List Line → List ℕ → List Bool → (ℕ → Option Chain) → ℕ → Form
 form_of table (cla ∷ ins ∷ p1 ∷ p2 ∷ after) channels chain limit =
-    formed
-    (do
-      _ ← class_of cla
-      _ ← provided (has_instruction table ins) instruction_not_supported
-      channel_of cla channels)
-    (λ channel. do
-      line ← or_refused (line_of table channel ins p1 p2) wrong_parameters
-      tail ← or_refused (tail_of after) wrong_length
-      _ ← provided (is_taken line.takes tail && (not (is_chained cla) || is_case_3 tail)) wrong_length
+    formed (channel_asked table cla ins channels) λ channel. do
+      line ← line_on table channel ins p1 p2
+      tail ← taken_in line.takes (is_chained cla) after
       if is_chained cla
-          then part_in channel line.kind (parts_of line.kind (chain channel)) (unwrap_or tail.body [])
-          else command_in channel line.kind limit (parts_of line.kind (chain channel)) (unwrap_or tail.body []) tail.le)
+          then part_in channel line.kind (parts_of line.kind (chain channel)) tail
+          else command_in channel line.kind limit (parts_of line.kind (chain channel)) tail
 form_of table octets channels chain limit = refused wrong_length
 
 -- no channel has a part of a command

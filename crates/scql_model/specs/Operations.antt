@@ -74,15 +74,14 @@ built_operations = filter (λ (l : Line). l.is_built) operations
 abbrev pub has_instruction : List Line → ℕ → Bool
 has_instruction table ins = list_any (λ (l : Line). l.ins == ins) table
 
+-- the line of a table for INS, P1 and P2
+abbrev pub line_of : List Line → ℕ → ℕ → ℕ → Option Line
+line_of table ins p1 p2 = find (λ (l : Line). l.ins == ins && l.p1 == p1 && l.p2 == p2) table
+
 -- channel 0 stays open, so what closes the command's own channel isn't for it
 abbrev pub is_for_channel : ℕ → OperationKind → Bool
 is_for_channel channel (CloseChannel number) = not (channel == 0 && number == 0)
 is_for_channel channel kind = true
-
--- the line of a table for INS, P1 and P2 on a channel
-abbrev pub line_of : List Line → ℕ → ℕ → ℕ → ℕ → Option Line
-line_of table channel ins p1 p2 =
-    find (λ (l : Line). l.ins == ins && l.p1 == p1 && l.p2 == p2 && is_for_channel channel l.kind) table
 
 -- Two of one operation whose data field may come in parts (command chaining): INSERT and UPDATE alone.
 abbrev pub goes_on : OperationKind → OperationKind → Bool
