@@ -1,11 +1,10 @@
 mod Added
 mod ByStamp
-mod FormedCommands
 mod Gathering
 mod GatheringSlots
+mod IdleSteps
 pub mod Leaving
 mod NamesApart
-mod NotBuilt
 mod OpenedDatabase
 mod OwnerSearch
 mod Performing

@@ -28,16 +28,14 @@ use Rattle.scql_model.specs.Opens.{OpensToOneOf}
 use Rattle.scql_model.specs.Creating.{IsAsked, IsActorOf, created, new_user, with_user}
 use Rattle.scql_model.specs.Operations.{built_operations}
 use Rattle.scql_model.specs.Form.{form_of, as_command, no_chain}
-use Rattle.card.specs.Commands.{AreUnchained}
-use Rattle.card.proofs.FormedCommands.{form_at-card}
-use Rattle.scql_model.specs.Step.{form_at, Answer, said, answered, step, changed, user_created}
+use Rattle.scql_model.specs.Step.{Answer, said, answered}
 use Rattle.scql_model.specs.WellFormed.{HasForm}
 use Rattle.scql_model.proofs.Acting.{IsActorOf-actor}
 use Rattle.scql_model.proofs.Naming.{user_stamped-slots}
 use Rattle.card.specs.Sessions.{proved_stamp, proved_user}
 use Rattle.card.specs.Adding.{IsAdded, AddedTo, LeavesAdded, IsWritten, HasNoRoom, IfCommitted}
 use Rattle.card.specs.Card.{Kept, IsReady, IsAt, committed_slots}
-use Rattle.card.specs.Answering.{Answers, LeavesOneOf, Performs, answer_to}
+use Rattle.card.specs.Answering.{Answers, LeavesOneOf, Performs, answer_to, committed_at_once}
 use Rattle.card.specs.Creating.{IsAddition}
 use Rattle.card.specs.declared.creating.Addition.{Addition}
 use Rattle.card.proofs.Added.{IsNow, created-added, created-full}
@@ -77,14 +75,6 @@ Performs-refused card old new m word outcome ready at same refused =
     Performs-unwritten card card old new m (answered m outcome) (Ok word) ready at same
     (subst (λ (o : Result Answer StatusWord). Answers (answered m o) (said word) card new) (sym refused) (record { reply = refl; at = IsAt-unwritten card old new m at same }))
 
--- octets that are refused as a command
-pub step-refused : (card : Kept) (chip : Chip) (m : Machine) (octets : List ℕ) (channels : List Bool) (word : StatusWord) → IsAt card chip m
-    → channels ≡ map (λ (s : Option Session). is_some s) card.sessions → AreUnchained card.sessions → Err word ≡ as_command (form_of built_operations octets channels no_chain 240) → step m octets ≡ answered m (Err word)
-unfolding step
-step-refused card chip m octets channels word at are_open unchained read =
-    let formed : as_command (form_at m octets) ≡ Err word = ap as_command (form_at-card card chip m octets channels at are_open unchained) ∙ sym read in
-    rw formed refl
-
 -- For whom a channel acts, by the stamp of its proved user.
 abbrev acting : Database → ℕ → Actor
 acting db stamp = option_map_or (λ (u : User). a_user u.stamp u.profile) (user_stamped db.users stamp) Public
@@ -120,14 +110,6 @@ actor-found card store old m channel stamp found at same is there =
     let here = if_some-at (λ (slots : Slots). found ≡ find (λ (u : User). u.stamp == stamp) (filter_map (in_slot user_in) slots)) (committed_slots store old.image) at.slots (ap (λ (s : Held). committed_slots s old.image) same ∙ at.committed) there in
     ap (λ (o : Option User). option_map_or (λ (u : User). a_user u.stamp u.profile) o Public) (here ∙ sym (user_stamped-slots at.slots m.committed stamp at.holds at.valid))
     ∙ sym (actor-at card old m channel (Some stamp) at is)
-
--- CREATE USER outside of a transaction.
-pub created-as : (card : Kept) (chip : Chip) (m : Machine) (channel : ℕ) (who : Actor) (name : List ℕ) (profile : Profile) (secret : List ℕ) → IsAt card chip m → who ≡ actor m channel
-    → user_created m channel name profile secret ≡ changed m (created m.committed who name profile secret)
-created-as card chip m channel who name profile secret at is = outside ∙ ap (λ (who : Actor). changed m (created m.committed who name profile secret)) (sym is)
-  where
-    outside : user_created m channel name profile secret ≡ changed m (created m.committed (actor m channel) name profile secret)
-    outside = rw at.transaction refl
 
 -- what is asked
 pub asked-at : (card : Kept) (chip : Chip) (m : Machine) (channel : ℕ) (who : Actor) (name : List ℕ) (profile : Profile) (secret : List ℕ) → IsAt card chip m → who ≡ actor m channel
@@ -192,29 +174,29 @@ module _ (card : Kept) (old : Chip) (m : Machine) (at : IsAt card old m) (ready 
       )
 
   -- what a power loss leaves meanwhile
-  leaves : (new : Chip) → LeavesAdded card.store user_octets addition.counter_slot counter_octets old new → LeavesOneOf (m.committed ∷ (answered m (changed m outcome)).commits) old new
+  leaves : (new : Chip) → LeavesAdded card.store user_octets addition.counter_slot counter_octets old new → LeavesOneOf (m.committed ∷ (answered m (committed_at_once m outcome)).commits) old new
   leaves new moments = throughout-weaker old new _ _ moments (λ g left now. (
     now.0,
     elim now.3 [
       | inl same ↦ inl (record { slots = at.slots; stored = same ∙ slots_told now.1 now.2; holds = at.holds; valid = at.valid })
       | inr added ↦ (let after = is_now now.1 now.2 (store_of left) added in
-          inr (subst (λ (o : Result Database StatusWord). OpensToOneOf (answered m (changed m o)).commits left) (sym after.2.ok)
+          inr (subst (λ (o : Result Database StatusWord). OpensToOneOf (answered m (committed_at_once m o)).commits left) (sym after.2.ok)
           (inl (record { slots = after.0; stored = after.1; holds = after.2.holds; valid = after.2.valid }))))
     ],
   ))
 
   -- the answer, where it was committed
   done_now : (store : Held) (new : Chip) → is_some new.image ≡ is_some old.image → Becomes (IsWritten card.store store user_octets addition.counter_slot counter_octets) old.image new.image
-      → Answers (answered m (changed m outcome)) (said done) (record card { store = store }) new
+      → Answers (answered m (committed_at_once m outcome)) (said done) (record card { store = store }) new
   unfolding committed_slots
   done_now store new told written = go new.image refl
     where
-      go : (image : Option (List ℕ)) → new.image ≡ image → Answers (answered m (changed m outcome)) (said done) (record card { store = store }) new
+      go : (image : Option (List ℕ)) → new.image ≡ image → Answers (answered m (committed_at_once m outcome)) (said done) (record card { store = store }) new
       go None is_none = absurd (false≢true (sym (ap (λ (o : Option (List ℕ)). is_some o) is_none) ∙ (told ∙ is_told)))
       go (Some now) is_now' =
           let w = written now is_now' in
           let after = is_now w.0 w.1 (contents store Committed now) w.2.1 in
-          subst (λ (o : Result Database StatusWord). Answers (answered m (changed m o)) (said done) (record card { store = store }) new) (sym after.2.ok) (record {
+          subst (λ (o : Result Database StatusWord). Answers (answered m (committed_at_once m o)) (said done) (record card { store = store }) new) (sym after.2.ok) (record {
             reply = refl;
             at = record {
               slots = after.0;
@@ -228,7 +210,7 @@ module _ (card : Kept) (old : Chip) (m : Machine) (at : IsAt card old m) (ready 
 
   -- something was committed
   not_idle : (store : Held) (new : Chip) → is_some new.image ≡ is_some old.image → Becomes (IsWritten card.store store user_octets addition.counter_slot counter_octets) old.image new.image
-      → (answered m (changed m outcome)).commits ≡ [] → ⊥
+      → (answered m (committed_at_once m outcome)).commits ≡ [] → ⊥
   not_idle store new told written idle = go new.image refl
     where
       some_there : List Database → Bool
@@ -240,7 +222,7 @@ module _ (card : Kept) (old : Chip) (m : Machine) (at : IsAt card old m) (ready 
       go (Some now) is_now' =
           let w = written now is_now' in
           let after = is_now w.0 w.1 (contents store Committed now) w.2.1 in
-          false≢true (sym (ap some_there (subst (λ (o : Result Database StatusWord). (answered m (changed m o)).commits ≡ []) after.2.ok idle)))
+          false≢true (sym (ap some_there (subst (λ (o : Result Database StatusWord). (answered m (committed_at_once m o)).commits ≡ []) after.2.ok idle)))
 
   -- what is said of the committed slots
   of_slots : (P : Slots → Type 0) → IfCommitted card.store old.image P → P at.slots
@@ -253,13 +235,13 @@ module _ (card : Kept) (old : Chip) (m : Machine) (at : IsAt card old m) (ready 
   -- there was no room
   full_now : (store : Held) (new : Chip) → IfCommitted card.store old.image (HasNoRoom card.store.cells user_octets)
       → IfCommitted card.store old.image (λ slots. (new ≡ old) × ((image : List ℕ) → contents store Committed image ≡ contents card.store Committed image))
-      → Performs m (answered m (changed m outcome)) (Ok no_space) (record card { store = store }) old new
+      → Performs m (answered m (committed_at_once m outcome)) (Ok no_space) (record card { store = store }) old new
   unfolding committed_slots
   full_now store new full unchanged =
       let same = of_slots (λ slots. (new ≡ old) × ((image : List ℕ) → contents store Committed image ≡ contents card.store Committed image)) unchanged in
       let refused : outcome ≡ Err no_space = go old.image refl in
-      Performs-unwritten card (record card { store = store }) old new m (answered m (changed m outcome)) (Ok no_space) ready at same.0
-      (subst (λ (o : Result Database StatusWord). Answers (answered m (changed m o)) (said no_space) (record card { store = store }) new) (sym refused) (record {
+      Performs-unwritten card (record card { store = store }) old new m (answered m (committed_at_once m outcome)) (Ok no_space) ready at same.0
+      (subst (λ (o : Result Database StatusWord). Answers (answered m (committed_at_once m o)) (said no_space) (record card { store = store }) new) (sym refused) (record {
         reply = refl;
         at = record {
           slots = at.slots;
@@ -291,7 +273,7 @@ pub Performs-added : (card : Kept) (store : Held) (old new : Chip) (m : Machine)
     → (IsErrOf result Full → IfCommitted card.store old.image (HasNoRoom card.store.cells (user_record.spell addition.user)))
     → (IsErrOf result Full → IfCommitted card.store old.image (λ slots. (new ≡ old) × ((image : List ℕ) → contents store Committed image ≡ contents card.store Committed image)))
     → LeavesAdded card.store (user_record.spell addition.user) addition.counter_slot (counter_record.spell (addition.user.stamp + 1)) old new
-    → Performs m (answered m (changed m (created m.committed who name profile secret))) (answer_to result) (record card { store = store }) old new
+    → Performs m (answered m (committed_at_once m (created m.committed who name profile secret))) (answer_to result) (record card { store = store }) old new
 Performs-added card store old new m at who name profile secret addition (Ok x) ready is there told written full unchanged moments = record {
   step = done_now card old m at ready who name profile secret addition is there store new told written;
   moments = leaves card old m at ready who name profile secret addition is there new moments;

@@ -1,5 +1,5 @@
 -- What an answer leaves.
-use Rattle.std.specs.Prelude.{◌≡◌, ℕ, List, [], ◌∷◌, Option, Some, Result, Ok, Err, IfOk, OnOk, slice_set}
+use Rattle.std.specs.Prelude.{◌≡◌, ◌⊎◌, ℕ, List, [], ◌∷◌, Option, Some, Result, Ok, Err, IfOk, OnOk, slice_set}
 use Rattle.eeprom.specs.Chip.{Chip, Leaves}
 use Rattle.scql_model.specs.Database.{Database}
 use Rattle.scql_model.specs.Opens.{OpensToOneOf}
@@ -44,3 +44,12 @@ reply_of reply = record { body = reply.body.items; word = reply.word }
 abbrev pub with_user : Kept → ℕ → Option Presented → Kept
 with_user card channel user =
     record card { sessions = slice_set card.sessions channel (Some (session_for user)) }
+
+-- what comes of a change that is committed at once, where nothing is pending on the channel
+abbrev pub committed_at_once : Machine → Result Database StatusWord → Result Answer StatusWord
+committed_at_once m (Err word) = Err word
+committed_at_once m (Ok db) = Ok (record { reply = said done; machine = record m { committed = db }; commits = db ∷ [] })
+
+-- a command is done, or the machine is as it was and nothing is committed
+abbrev pub IsDoneOrStays : Machine → Answer → Type 0
+IsDoneOrStays m answer = (answer.reply.word ≡ done) ⊎ ((answer.machine ≡ m) × (answer.commits ≡ []))

@@ -47,7 +47,3 @@ built_operation_in kind octets = None
 abbrev pub made_profile_in : List ℕ → Option Profile
 made_profile_in (code ∷ []) = made_profile_of code
 made_profile_in string = None
-
--- no session has a part of a command
-abbrev pub AreUnchained : List (Option Session) → Type 0
-AreUnchained sessions = (channel : ℕ) → option_and_then (λ (s : Session). s.chain) (option_flatten (slice_get sessions channel)) ≡ None

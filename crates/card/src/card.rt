@@ -12,15 +12,17 @@ ghost use Rattle.scql_base.specs.Words.{done, memory_failure};
 ghost use Rattle.scql_model.specs.Database.{Database, fresh};
 ghost use Rattle.eeprom.specs.Image.{overwrite};
 ghost use Rattle.card.specs.Card.{Kept, IsReady, IsAt, committed_slots, fresh_card};
-ghost use Rattle.card.specs.Answering.{Answers, LeavesOneOf, Performs, answer_to, reply_of, with_user};
-ghost use Rattle.card.specs.Commands.{AreUnchained};
+ghost use Rattle.card.specs.Answering.{Answers, IsDoneOrStays, LeavesOneOf, Performs, answer_to, committed_at_once, reply_of, with_user};
+ghost use Rattle.card.specs.Commands.{is_built};
 ghost use Rattle.card.specs.Creating.{IsAddition, IsCounter};
 ghost use Rattle.card.specs.Making.{LeavesMade};
 ghost use Rattle.card.specs.Opening.{ReadsCard};
 ghost use Rattle.card.specs.Sessions.{proved_user, sessions_of};
 ghost use Rattle.scql_base.specs.declared.operation.Operation.TheVariants as operation;
 ghost use Rattle.scql_model.specs.Creating.{created};
-ghost use Rattle.scql_model.specs.WellFormed.{HasForm};
+ghost use Rattle.scql_model.specs.Sessions.{AreIdle};
+ghost use Rattle.scql_model.specs.Operations.{kind_of};
+ghost use Rattle.scql_model.specs.WellFormed.{HasForm, IsWellFormed};
 ghost use Rattle.scql_base.specs.declared.words.Actor.{Actor};
 ghost use Rattle.scql_base.specs.declared.words.Profile.{Profile};
 ghost use Rattle.std.specs.Option.{option_flatten};
@@ -175,35 +177,32 @@ impl Card {
         ensures ready { OnOk result (IsReady self.new (B.chip bench.new)) }
         ensures cause { Counts (B.faults bench.old) (B.faults bench.new) result }
         ensures still { (B.chip bench.new).still ≡ (B.chip bench.old).still }
+        // None of the operations that are built answers another word than done where it changes the machine.
+        ensures done_or_stays { (m : machine.Machine) → IsAt self.old (B.chip bench.old) m → IsDoneOrStays m (stepping.step m command.now) }
     {
         match Command::read(command, self.open_channels(), ROW_LIMIT) {
             Err(word) => Ok(word),
-            Ok(
-                Command {
-                    channel,
-                    operation,
-                    le: _,
-                },
-            ) => self.operate(bench, channel, operation),
+            Ok(command) => self.carry_out(bench, command),
         }
     }
 
-    fn operate<B: Eeprom>(
+    fn carry_out<B: Eeprom>(
         &mut self,
         bench: &mut B,
-        channel: u8,
-        operation: Operation,
+        command: Command,
     ) -> Result<StatusWord, EepromFault>
         requires ready { IsReady self.old (B.chip bench.old) }
-        requires channel { channel < 4 }
-        requires formed { HasForm operation }
+        requires formed { IsWellFormed command }
+        requires built { is_built (kind_of command.operation) ≡ true }
+        requires idle { AreIdle self.old.sessions }
         ensures performs { (m : machine.Machine) → IsAt self.old (B.chip bench.old) m
-            → Performs m (stepping.answered m (stepping.operated m channel operation)) result self.new (B.chip bench.old) (B.chip bench.new) }
+            → Performs m (stepping.answered m (stepping.carried_out m command)) result self.new (B.chip bench.old) (B.chip bench.new) }
         ensures ready { OnOk result (IsReady self.new (B.chip bench.new)) }
         ensures cause { Counts (B.faults bench.old) (B.faults bench.new) result }
         ensures still { (B.chip bench.new).still ≡ (B.chip bench.old).still }
     {
-        match operation {
+        let channel = command.channel;
+        match command.operation {
             Operation::PresentUser { name } => self.present_user(bench, channel, &name),
             Operation::CreateUser {
                 name,
@@ -216,7 +215,7 @@ impl Card {
 
     fn open_channels(&self) -> [bool; 4]
         ensures channels { result ≡ map is_some self.now.sessions }
-        ensures unchained { AreUnchained self.now.sessions }
+        ensures idle { AreIdle self.now.sessions }
     {
         let [first, second, third, fourth] = &self.sessions;
         [
@@ -236,7 +235,7 @@ impl Card {
         requires ready { IsReady self.old (B.chip bench.old) }
         requires channel { channel < 4 }
         ensures step { (m : machine.Machine) → IsAt self.old (B.chip bench.old) m
-            → IfOk result (λ word. Answers (stepping.answered m (stepping.user_of_session m channel name.now)) (stepping.said word) self.new (B.chip bench.new)) }
+            → IfOk result (λ word. Answers (stepping.answered m (stepping.user_presented m channel name.now)) (stepping.said word) self.new (B.chip bench.new)) }
         ensures ready { OnOk result (IsReady self.new (B.chip bench.new)) }
         ensures cause { Counts (B.faults bench.old) (B.faults bench.new) result }
         ensures same { B.chip bench.new ≡ B.chip bench.old }
@@ -270,8 +269,9 @@ impl Card {
         requires ready { IsReady self.old (B.chip bench.old) }
         requires channel { channel < 4 }
         requires formed { HasForm (operation.CreateUser name.now profile secret.now) }
+        requires idle { AreIdle self.old.sessions }
         ensures performs { (m : machine.Machine) → IsAt self.old (B.chip bench.old) m
-            → Performs m (stepping.answered m (stepping.user_created m channel name.now profile secret.now)) result self.new (B.chip bench.old) (B.chip bench.new) }
+            → Performs m (stepping.answered m (stepping.changed m channel (operation.CreateUser name.now profile secret.now))) result self.new (B.chip bench.old) (B.chip bench.new) }
         ensures ready { OnOk result (IsReady self.new (B.chip bench.new)) }
         ensures cause { Counts (B.faults bench.old) (B.faults bench.new) result }
         ensures still { (B.chip bench.new).still ≡ (B.chip bench.old).still }
@@ -295,7 +295,7 @@ impl Card {
         requires counter { IfSome (committed_slots self.old.store (B.chip bench.old).image) (IsCounter addition.now.counter_slot) }
         ensures performs { (m : machine.Machine) (actor : Actor) (name : List ℕ) (profile : Profile) (secret : List ℕ) → (at : IsAt self.old (B.chip bench.old) m)
             → IsAddition m.committed actor name profile secret at.slots addition.now
-            → Performs m (stepping.answered m (stepping.changed m (created m.committed actor name profile secret))) result self.new (B.chip bench.old) (B.chip bench.new) }
+            → Performs m (stepping.answered m (committed_at_once m (created m.committed actor name profile secret))) result self.new (B.chip bench.old) (B.chip bench.new) }
         ensures ready { OnOk result (IsReady self.new (B.chip bench.new)) }
         ensures cause { Counts (B.faults bench.old) (B.faults bench.new) result }
         ensures still { (B.chip bench.new).still ≡ (B.chip bench.old).still }

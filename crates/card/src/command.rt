@@ -3,6 +3,7 @@ ghost use Rattle.std.specs.Prelude.{◌≡◌, ◌≤◌, ◌∷◌, [], ◌==�
 ghost use Rattle.std.specs.List.{find, list_any};
 ghost use Rattle.scql_base.specs.Words.{instruction_not_supported, wrong_data};
 ghost use Rattle.scql_model.specs.Form as form;
+ghost use Rattle.scql_model.specs.Refusals as refusals;
 ghost use Rattle.scql_model.specs.Operations as table;
 ghost use Rattle.scql_model.specs.Parameters as parameters;
 ghost use Rattle.scql_model.specs.WellFormed.{IsWellFormed};
@@ -161,7 +162,7 @@ fn is_chained(cla: u8) -> bool
 }
 
 fn check_instruction(ins: u8) -> Result<(), StatusWord>
-    ensures { result ≡ form.unless_refused (table.has_instruction table.built_operations ins) instruction_not_supported }
+    ensures { result ≡ refusals.provided (table.has_instruction table.built_operations ins) instruction_not_supported }
 {
     if has_instruction(&OPERATIONS, ins) {
         Ok(())
@@ -288,7 +289,7 @@ fn is_taken(takes: Takes, is_part: bool, tail: &Tail<'_>) -> bool
 // The operation that a data field asks for. No row is read yet, so no limit is asked.
 fn operation_in(kind: OperationKind, octets: &[u8], _limit: u16) -> Result<Operation, StatusWord>
     requires { is_built kind ≡ true }
-    ensures { result ≡ form.or_refused (parameters.operation_in kind _limit octets.now) wrong_data }
+    ensures { result ≡ refusals.or_refused (parameters.operation_in kind _limit octets.now) wrong_data }
 {
     built_operation_in(kind, octets).ok_or(StatusWord::WRONG_DATA)
 }

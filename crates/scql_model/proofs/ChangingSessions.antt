@@ -2,10 +2,9 @@
 use Rattle.std.proofs.Common.{◌≡◌, ℕ, zero, suc, List, [], ◌∷◌, Option, Some, None, option_map, refl, sym, ap, ◌∙◌}
 use Rattle.std.specs.Prelude.{slice_get, slice_set, IfSome}
 use Rattle.std.specs.Option.{option_flatten}
-use Rattle.std.specs.List.{AllByRecursion}
 use Rattle.scql_base.specs.declared.cursor.Presented.{Presented}
 use Rattle.scql_model.specs.Machine.{Machine, Session, session_for, session_of}
-use Rattle.scql_model.specs.Sessions.{with_session, changing_session}
+use Rattle.scql_model.specs.Sessions.{IsIdle, AreIdle, with_session, changing_session}
 
 -- an element that is set to what it was
 set-same : {A : Type 0} (xs : List (Option A)) (i : ℕ) → slice_set xs i (option_flatten (slice_get xs i)) ≡ xs
@@ -33,14 +32,7 @@ pub changing_session-set : (change : Session → Session) (m : Machine) (channel
 changing_session-set change m channel session =
     ap (λ (sessions : List (Option Session)). let n : Machine = record m { sessions = sessions } in n) (set-changed change m.sessions channel session)
 
--- A session that keeps nothing but its user.
-abbrev pub IsIdle : Session → Type 0
-IsIdle s = s ≡ session_for s.user
-
-abbrev pub AreIdle : List (Option Session) → Type 0
-AreIdle sessions = AllByRecursion (λ (s : Option Session). IfSome s IsIdle) sessions
-
-idle-at : (sessions : List (Option Session)) (channel : ℕ) → AreIdle sessions → IfSome (option_flatten (slice_get sessions channel)) IsIdle
+pub idle-at : (sessions : List (Option Session)) (channel : ℕ) → AreIdle sessions → IfSome (option_flatten (slice_get sessions channel)) IsIdle
 idle-at [] channel are = tt
 idle-at (s ∷ sessions) zero are = are.0
 idle-at (s ∷ sessions) (suc channel) are = idle-at sessions channel are.1

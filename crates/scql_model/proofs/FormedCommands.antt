@@ -370,3 +370,79 @@ sound-operations = refl
 
 pub sound-built_operations : list_all is_sound built_operations ≡ true
 sound-built_operations = refl
+
+-- A command is of the kind of a line, so it passes each test that all lines of a table pass.
+line-passes : (q : Line → Bool) (table : List Line) (channel ins p1 p2 : ℕ) (line : Line) → list_all q table ≡ true → line_on table channel ins p1 p2 ≡ Ok line → q line ≡ true
+line-passes q table channel ins p1 p2 line all is =
+    bound (or_refused (line_of table ins p1 p2) wrong_parameters) _ line is (λ found_line at is.
+    bound (provided (is_for_channel channel found_line.kind) wrong_parameters) _ line is (λ closed at_closed same.
+    subst (λ (l : Line). q l ≡ true) (same_Ok found_line line same)
+    (found-passes (λ (l : Line). l.ins == ins && l.p1 == p1 && l.p2 == p2) q table found_line all (not_refused (line_of table ins p1 p2) wrong_parameters found_line at)).1))
+
+command-kind : (channel : ℕ) (asked : OperationKind) (limit : ℕ) (parts : List (List ℕ)) (tail : Tail) (c : Command) → limit ≤ 1020 → has_channel asked ≡ true
+    → command_in channel asked limit parts tail ≡ Ok (a_command c) → kind_of c.operation ≡ asked
+command-kind channel asked limit parts tail c least number is =
+    bound (or_refused (operation_in asked limit (concat parts ++ data_in tail)) wrong_data) _ (a_command c) is (λ operation at same.
+    let read = read-operation asked limit least number (concat parts ++ data_in tail) operation (not_refused (operation_in asked limit (concat parts ++ data_in tail)) wrong_data operation at) in
+    let whole : Command = record { channel = channel; operation = operation; le = tail.le } in
+    let is_whole : whole ≡ c = cc in
+    subst (λ (c : Command). kind_of c.operation ≡ asked) is_whole read.kind)
+
+pub kind-form_of : (q : OperationKind → Bool) (table : List Line) (octets : List ℕ) (channels : List Bool) (chain : ℕ → Option Chain) (limit : ℕ) (c : Command)
+    → list_all (λ (l : Line). q l.kind) table ≡ true → list_all is_sound table ≡ true → limit ≤ 1020 → form_of table octets channels chain limit ≡ a_command c
+    → q (kind_of c.operation) ≡ true
+unfolding form_of
+kind-form_of q table [] channels chain limit c all sound least is = absurd cc
+kind-form_of q table (cla ∷ []) channels chain limit c all sound least is = absurd cc
+kind-form_of q table (cla ∷ ins ∷ []) channels chain limit c all sound least is = absurd cc
+kind-form_of q table (cla ∷ ins ∷ p1 ∷ []) channels chain limit c all sound least is = absurd cc
+kind-form_of q table (cla ∷ ins ∷ p1 ∷ p2 ∷ after) channels chain limit c all sound least is =
+    on_channel (channel_asked table cla ins channels) _ c is (λ channel at is.
+    bound (line_on table channel ins p1 p2) _ (a_command c) is (λ line on_line is.
+    bound (taken_in line.takes (is_chained cla) after) _ (a_command c) is (λ tail on_tail is.
+    let sound_line = line-passes is_sound table channel ins p1 p2 line sound on_line in
+    go (is_chained cla) channel line tail (line-passes (λ (l : Line). q l.kind) table channel ins p1 p2 line all on_line)
+    (both (has_channel line.kind) (not (wants_le line.kind) || is_le_alone line.takes) sound_line).0 is)))
+  where
+    go : (more : Bool) (channel : ℕ) (line : Line) (tail : Tail) → q line.kind ≡ true → has_channel line.kind ≡ true
+        → (if more then part_in channel line.kind (parts_of line.kind (chain channel)) tail else command_in channel line.kind limit (parts_of line.kind (chain channel)) tail) ≡ Ok (a_command c)
+        → q (kind_of c.operation) ≡ true
+    go true channel line tail passes number is = no_part channel line.kind (parts_of line.kind (chain channel)) tail c is
+    go false channel line tail passes number is =
+        subst (λ (k : OperationKind). q k ≡ true) (sym (command-kind channel line.kind limit (parts_of line.kind (chain channel)) tail c least number is)) passes
+
+-- Where no operation of a table comes in parts, nothing is read as a part.
+pub no_part-form_of : (table : List Line) (octets : List ℕ) (channels : List Bool) (chain : ℕ → Option Chain) (limit channel : ℕ) (asked : OperationKind) (octets' : List ℕ)
+    → list_all (λ (l : Line). not (comes_in_parts l.kind)) table ≡ true → form_of table octets channels chain limit ≡ part_on channel asked octets' → ⊥
+unfolding form_of
+no_part-form_of table [] channels chain limit on_it asked part all is = absurd cc
+no_part-form_of table (cla ∷ []) channels chain limit on_it asked part all is = absurd cc
+no_part-form_of table (cla ∷ ins ∷ []) channels chain limit on_it asked part all is = absurd cc
+no_part-form_of table (cla ∷ ins ∷ p1 ∷ []) channels chain limit on_it asked part all is = absurd cc
+no_part-form_of table (cla ∷ ins ∷ p1 ∷ p2 ∷ after) channels chain limit on_it asked part all is =
+    go (channel_asked table cla ins channels) is
+  where
+    last : (more : Bool) (channel : ℕ) (line : Line) (tail : Tail) → not (comes_in_parts line.kind) ≡ true
+        → (if more then part_in channel line.kind (parts_of line.kind (chain channel)) tail else command_in channel line.kind limit (parts_of line.kind (chain channel)) tail) ≡ Ok (part_on on_it asked part) → ⊥
+    last true channel line tail none is =
+        bound (provided (comes_in_parts line.kind) chaining_not_supported) _ (part_on on_it asked part) is (λ x at _.
+        false≢true (sym (ap not (not_unless (comes_in_parts line.kind) chaining_not_supported x at)) ∙ none))
+    last false channel line tail none is =
+        bound (or_refused (operation_in line.kind limit (concat (parts_of line.kind (chain channel)) ++ data_in tail)) wrong_data) _ (part_on on_it asked part) is (λ _ _ is. absurd cc)
+
+    on_it' : (channel : ℕ) → (line_on table channel ins p1 p2 >>= λ line. taken_in line.takes (is_chained cla) after >>= λ tail.
+        if is_chained cla then part_in channel line.kind (parts_of line.kind (chain channel)) tail else command_in channel line.kind limit (parts_of line.kind (chain channel)) tail) ≡ Ok (part_on on_it asked part) → ⊥
+    on_it' channel is =
+        bound (line_on table channel ins p1 p2) _ (part_on on_it asked part) is (λ line on_line is.
+        bound (taken_in line.takes (is_chained cla) after) _ (part_on on_it asked part) is (λ tail on_tail is.
+        last (is_chained cla) channel line tail (line-passes (λ (l : Line). not (comes_in_parts l.kind)) table channel ins p1 p2 line all on_line) is))
+
+    known : (channel : ℕ) (r : Result Form StatusWord) → formed_on channel r ≡ (part_on on_it asked part) → r ≡ Ok (part_on on_it asked part)
+    known channel (Err word) is = absurd cc
+    known channel (Ok form) is = ap Ok is
+
+    go : (r : Result ℕ StatusWord)
+        → formed r (λ channel. line_on table channel ins p1 p2 >>= λ line. taken_in line.takes (is_chained cla) after >>= λ tail.
+        if is_chained cla then part_in channel line.kind (parts_of line.kind (chain channel)) tail else command_in channel line.kind limit (parts_of line.kind (chain channel)) tail) ≡ part_on on_it asked part → ⊥
+    go (Err word) is = absurd cc
+    go (Ok channel) is = on_it' channel (known channel _ is)

@@ -1,12 +1,12 @@
 -- What commands make of sessions.
-use Rattle.std.specs.Prelude.{ℕ, ◌==◌, not, Bool, true, false, List, [], ◌∷◌, ◌++◌, length, map, Option, Some, None, option_map, option_and_then, is_some, slice_set, if◌then◌else◌}
-use Rattle.std.specs.List.{find}
+use Rattle.std.specs.Prelude.{◌≡◌, ℕ, ◌==◌, not, Bool, true, false, List, [], ◌∷◌, ◌++◌, length, map, Option, Some, None, option_map, option_and_then, is_some, slice_set, IfSome, if◌then◌else◌}
+use Rattle.std.specs.List.{find, AllByRecursion}
 use Rattle.std.specs.Option.{option_map_or}
 use Rattle.scql_base.specs.declared.cursor.Cursor.{Cursor}
 use Rattle.scql_base.specs.declared.cursor.Presented.{Presented}
 use Rattle.scql_base.specs.declared.operation.OperationKind.{OperationKind}
 use Rattle.scql_base.specs.declared.records.User.{User}
-use Rattle.scql_model.specs.Machine.{Machine, Reading, Session, Chain, no_reading, session_of}
+use Rattle.scql_model.specs.Machine.{Machine, Reading, Session, Chain, no_reading, session_for, session_of}
 use Rattle.scql_model.specs.Form.{parts_of}
 
 -- a channel has this session, or none where it is closed
@@ -74,3 +74,10 @@ is_open m channel = is_some (session_of m channel)
 
 abbrev pub least_closed : Machine → Option ℕ
 least_closed m = find (λ channel. not (is_open m channel)) (1 ∷ 2 ∷ 3 ∷ [])
+
+-- a session that keeps nothing but its user
+abbrev pub IsIdle : Session → Type 0
+IsIdle s = s ≡ session_for s.user
+
+abbrev pub AreIdle : List (Option Session) → Type 0
+AreIdle sessions = AllByRecursion (λ (s : Option Session). IfSome s IsIdle) sessions

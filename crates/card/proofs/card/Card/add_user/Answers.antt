@@ -6,10 +6,10 @@ use Rattle.record_store.specs.Held.{Held}
 use Rattle.scql_base.specs.declared.StatusWord.{StatusWord}
 use Rattle.scql_model.specs.Records.{counter_record, user_record}
 use Rattle.scql_model.specs.Creating.{created}
-use Rattle.scql_model.specs.Step.{answered, changed}
+use Rattle.scql_model.specs.Step.{answered}
 use Rattle.card.specs.Adding.{IsAsLong, IfCommitted}
 use Rattle.card.specs.Creating.{IsCounter}
-use Rattle.card.specs.Answering.{Performs}
+use Rattle.card.specs.Answering.{Performs, committed_at_once}
 use Rattle.card.specs.Card.{Kept, committed_slots}
 use Rattle.card.proofs.Performing.{Performs-added}
 use Rattle.card.proofs.Added.{as_long-slots}
@@ -36,7 +36,7 @@ returns-clause-performs g c = λ m actor name profile secret at is.
     let store = ap (λ (kept : Kept). kept.store) c.self.view_is in
     let user : c.deref.result.now ≡ user_record.spell c.args.addition.now.user = c.deref.ensures.0 ∙ c.encode_user.ensures in
     let counter : c.deref-2.result.now ≡ counter_record.spell (c.args.addition.now.user.stamp + 1) = c.deref-2.ensures.0 ∙ c.encode.ensures in
-    let outcome = answered m (changed m (created m.committed actor name profile secret)) in
+    let outcome = answered m (committed_at_once m (created m.committed actor name profile secret)) in
     let new = g.B.Eeprom.chip c.add_and_change-added.new.bench in
     subst (λ (kept : Kept). Performs m outcome c.answer_to.result (record kept { store = c.add_and_change-added.new.store }) (g.B.Eeprom.chip c.args.bench.now) new) (sym c.self.view_is)
     (subst (λ (result : Result StatusWord EepromFault). Performs m outcome result (record c.args.self.now { store = c.add_and_change-added.new.store }) (g.B.Eeprom.chip c.args.bench.now) new) (sym c.answer_to.ensures)

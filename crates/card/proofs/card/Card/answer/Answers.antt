@@ -1,6 +1,5 @@
-use Rattle.std.proofs.Common.{ap, subst, ◌∙◌}
+use Rattle.std.proofs.Common.{ap, subst, ◌∙◌, inl, inr}
 use Rattle.scql_model.specs.Commands.{Reply}
-use Rattle.scql_model.proofs.Refusing.{refused-stays}
 use Rattle.card.specs.Card.{IsAt}
 use Rattle.card.proofs.card.Card.answer.Goals as goal
 
@@ -20,5 +19,7 @@ pub returns-in-Ok-clause-refused : goal.returns-in-Ok-clause-refused
 returns-in-Ok-clause-refused g c = λ m at is not_done.
     let performs = c.in-Ok.ensures.performs m at in
     let answers = performs.step in
-    let stays = refused-stays m c.args.command.now (λ is_done. not_done (ap (λ (sent : Reply). sent.word) answers.reply ∙ is_done)) in
-    (performs.unwritten stays.1, subst (IsAt c.word_of.new.self (g.B.Eeprom.chip c.word_of.new.bench)) stays.0 answers.at)
+    elim (c.in-Ok.ensures.done_or_stays m at) [
+      inl is_done ↦ absurd (not_done (ap (λ (sent : Reply). sent.word) answers.reply ∙ is_done))
+      | inr stays ↦ (performs.unwritten stays.1, subst (IsAt c.word_of.new.self (g.B.Eeprom.chip c.word_of.new.bench)) stays.0 answers.at)
+    ]

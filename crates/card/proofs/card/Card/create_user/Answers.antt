@@ -3,14 +3,16 @@ use Rattle.std.proofs.Common.{◌≡◌, Result, Err, sym, ap, subst, ◌∙◌,
 use Rattle.eeprom.specs.Chip.{Chip}
 use Rattle.scql_base.specs.declared.StatusWord.{StatusWord}
 use Rattle.scql_model.specs.Creating.{created}
-use Rattle.scql_model.specs.Step.{Answer, answered, changed, user_created}
+use Rattle.scql_base.specs.declared.operation.Operation.TheVariants.{CreateUser}
+use Rattle.scql_model.specs.Step.{Answer, answered, changed}
 use Rattle.std.specs.Prelude.{IfOk}
 use Rattle.record_store.specs.Held.{Held}
 use Rattle.scql_model.specs.Machine.{Machine}
 use Rattle.card.specs.Card.{Kept, IsAt, committed_slots}
 use Rattle.card.specs.Creating.{IsAddition, Prepares}
-use Rattle.card.specs.Answering.{Performs}
-use Rattle.card.proofs.Performing.{Performs-unwritten, Performs-refused, IsAt-unwritten, created-as, asked-at}
+use Rattle.card.specs.Answering.{Performs, committed_at_once}
+use Rattle.card.proofs.Performing.{Performs-unwritten, Performs-refused, IsAt-unwritten, asked-at}
+use Rattle.card.proofs.IdleSteps.{changed-creates}
 use Rattle.card.proofs.card.Card.create_user.Goals.{After-prepare_user}
 use Rattle.card.proofs.card.Card.create_user.Goals as goal
 
@@ -38,9 +40,9 @@ returns-in-Refused-clause-performs g c = λ m at.
     let old = g.B.Eeprom.chip c.args.bench.now in
     let refused : created m.committed c.in_ok-actor.actor c.args.name.now c.args.profile c.args.secret.now ≡ Err c.in-Refused.word
     = rw (c.in_ok-word.was, c.in-Refused.is) at (prepared g (goal.at.returns-in-Refused-clause-performs g c).After-prepare_user m at) in
-    Performs-refused c.args.self.now old (g.B.Eeprom.chip c.prepare_user.new.bench) m c.in-Refused.word (user_created m c.args.channel c.args.name.now c.args.profile c.args.secret.now) c.requires.ready at
+    Performs-refused c.args.self.now old (g.B.Eeprom.chip c.prepare_user.new.bench) m c.in-Refused.word (changed m c.args.channel (CreateUser c.args.name.now c.args.profile c.args.secret.now)) c.requires.ready at
     (c.in_ok-word.ensures.same ∙ c.in_ok-actor.ensures.same)
-    (created-as c.args.self.now old m c.args.channel c.in_ok-actor.actor c.args.name.now c.args.profile c.args.secret.now at (c.in_ok-actor.ensures.actor m at) ∙ ap (changed m) refused)
+    (changed-creates c.args.self.now old m c.args.channel c.in_ok-actor.actor c.args.name.now c.args.profile c.args.secret.now at c.requires.idle (c.in_ok-actor.ensures.actor m at) ∙ ap (committed_at_once m) refused)
 
 pub returns-in-Ready-clause-performs : goal.returns-in-Ready-clause-performs
 returns-in-Ready-clause-performs g c = λ m at.
@@ -48,7 +50,7 @@ returns-in-Ready-clause-performs g c = λ m at.
     let ready : IsAddition m.committed c.in_ok-actor.actor c.args.name.now c.args.profile c.args.secret.now at.slots c.in-Ready.addition
     = rw (c.in_ok-word.was, c.in-Ready.is) at (prepared g (goal.at.returns-in-Ready-clause-performs g c).After-prepare_user m at) in
     let stays = c.in_ok-word.ensures.same ∙ c.in_ok-actor.ensures.same in
-    subst (λ (chip : Chip). Performs m (answered m (user_created m c.args.channel c.args.name.now c.args.profile c.args.secret.now)) c.add_user.result c.add_user.new.self chip (g.B.Eeprom.chip c.add_user.new.bench)) stays
+    subst (λ (chip : Chip). Performs m (answered m (changed m c.args.channel (CreateUser c.args.name.now c.args.profile c.args.secret.now))) c.add_user.result c.add_user.new.self chip (g.B.Eeprom.chip c.add_user.new.bench)) stays
     (subst (λ (o : Result Answer StatusWord). Performs m (answered m o) c.add_user.result c.add_user.new.self (g.B.Eeprom.chip c.prepare_user.new.bench) (g.B.Eeprom.chip c.add_user.new.bench))
-    (sym (created-as c.args.self.now old m c.args.channel c.in_ok-actor.actor c.args.name.now c.args.profile c.args.secret.now at (c.in_ok-actor.ensures.actor m at)))
+    (sym (changed-creates c.args.self.now old m c.args.channel c.in_ok-actor.actor c.args.name.now c.args.profile c.args.secret.now at c.requires.idle (c.in_ok-actor.ensures.actor m at)))
     (c.add_user.ensures.performs m c.in_ok-actor.actor c.args.name.now c.args.profile c.args.secret.now (IsAt-unwritten c.args.self.now old (g.B.Eeprom.chip c.prepare_user.new.bench) m at stays) ready))
