@@ -198,27 +198,27 @@ Ends-too_long from to room count piece old mid new start before now m over withi
       },
     )
 
--- where both devices failed the EEPROM's count rose
-abbrev pub RoseAt : Stop → ℕ → ℕ → Type 0
-RoseAt Both from to = Rose from to
-RoseAt stop from to = Unit {0}
+-- At a stop the EEPROM's count of faults stays where the outlet alone failed, and rose else.
+abbrev pub CountsAt : Stop → ℕ → ℕ → Type 0
+CountsAt Outlet from to = to ≡ from
+CountsAt stop from to = Rose from to
 
-pub rose-at : (stop : Stop) (start : ℕ) (old new : Faults) → old.eeprom ≡ start → Causes {T = Unit {0}} old new (Err stop) → RoseAt stop start new.eeprom
-rose-at Eeprom start old new same causes = tt
-rose-at Outlet start old new same causes = tt
-rose-at Both start old new same causes = subst (λ (n : ℕ). Rose n new.eeprom) same (causes.both refl).0
+pub counts-at : (stop : Stop) (start : ℕ) (old new : Faults) → old.eeprom ≡ start → Causes {T = Unit {0}} old new (Err stop) → CountsAt stop start new.eeprom
+counts-at Eeprom start old new same causes = subst (λ (n : ℕ). Rose n new.eeprom) same (causes.eeprom refl)
+counts-at Outlet start old new same causes = causes.eeprom_stays refl ∙ same
+counts-at Both start old new same causes = subst (λ (n : ℕ). Rose n new.eeprom) same (causes.both refl).0
 
-Ends-stopped : (stop : Stop) (from to : ℕ) (m : Machine) (input left : List ℕ) (old now : Chip) → RoseAt stop from to → (stops : StopsIn stop m (lines input true) old.still.given now)
+Ends-stopped : (stop : Stop) (from to : ℕ) (m : Machine) (input left : List ℕ) (old now : Chip) → CountsAt stop from to → (stops : StopsIn stop m (lines input true) old.still.given now)
     → IfGiven now (AreKept m (lines input true) (carried_out stop stops.answered) old now) → Ends (status_of stop) from to m old now input left
-Ends-stopped Eeprom from to m input left old now rose stops kept = record { leaves = stops; keeps = λ given. (stops, kept given) }
-Ends-stopped Outlet from to m input left old now rose stops kept = record { leaves = inl stops; keeps = λ given. inl (stops, kept given) }
-Ends-stopped Both from to m input left old now rose stops kept = record { leaves = inr (rose, stops); keeps = λ given. inr (rose, (stops, kept given)) }
+Ends-stopped Eeprom from to m input left old now counts stops kept = record { leaves = stops; keeps = λ given. (stops, kept given) }
+Ends-stopped Outlet from to m input left old now counts stops kept = record { leaves = inl (counts, stops); keeps = λ given. inl (counts, (stops, kept given)) }
+Ends-stopped Both from to m input left old now counts stops kept = record { leaves = inr (counts, stops); keeps = λ given. inr (counts, (stops, kept given)) }
 
 -- a device stopped the run among the octets of a piece, of which so many were looked at
-pub Ends-halted : (stop : Stop) (from to : ℕ) → RoseAt stop from to → (room count k : ℕ) (piece : List ℕ) (old mid : RunState) (now : Chip) (start before taken : Option (List ℕ)) (m : Machine) → k ≤ count
+pub Ends-halted : (stop : Stop) (from to : ℕ) → CountsAt stop from to → (room count k : ℕ) (piece : List ℕ) (old mid : RunState) (now : Chip) (start before taken : Option (List ℕ)) (m : Machine) → k ≤ count
     → IsRunning old (from_machine m) → Becomes (HasTaken room old mid) start before → Takes count piece before taken → Halts stop (take k piece) mid now
     → Becomes (Ends (status_of stop) from to m old.chip now) start taken
-Ends-halted stop from to rose room count k piece old mid now start before taken m fits running so_far takes halts = λ left told.
+Ends-halted stop from to counts room count k piece old mid now start before taken m fits running so_far takes halts = λ left told.
     let found = looks_at room count k piece old mid start before taken fits so_far takes left told in
     let seen = found.2 in
     let halted : HaltsAt stop found.0 (from_machine m) old.chip now =
@@ -226,17 +226,17 @@ Ends-halted stop from to rose room count k piece old mid now start before taken 
     let cut : lines found.0 true ≡ lines halted.taken false ++ open_end halted.taken ∷ lines halted.rest true = ap (λ (x : List ℕ). lines x true) halted.split ∙ lines-line_feed halted.taken halted.rest true in (
       found.0,
       found.1,
-      Ends-stopped stop from to m found.0 left old.chip now rose (StopsIn-halted stop m found.0 old.chip now halted)
+      Ends-stopped stop from to m found.0 left old.chip now counts (StopsIn-halted stop m found.0 old.chip now halted)
           (λ given. kept-until stop m found.0 halted.taken (10 ∷ halted.rest) (lines halted.rest true) old.chip now halted.split cut (halted.moments given)),
     )
 
 -- a device stopped the run in the last line
-pub Ends-last : (stop : Stop) (from to : ℕ) → RoseAt stop from to → (room : ℕ) (piece : List ℕ) (old mid : RunState) (now : Chip) (start before taken : Option (List ℕ)) (m : Machine)
+pub Ends-last : (stop : Stop) (from to : ℕ) → CountsAt stop from to → (room : ℕ) (piece : List ℕ) (old mid : RunState) (now : Chip) (start before taken : Option (List ℕ)) (m : Machine)
     → IsRunning old (from_machine m) → Becomes (HasTaken room old mid) start before → Takes 0 piece before taken
     → ((r : Running) → IsRunning mid r → (is_nothing_kept r.begun ≡ false) × FailsAt stop [] r mid.chip.still.given now)
     → ((r : Running) → IsRunning mid r → IfGiven now (Throughout mid.chip now (IsInStopped stop r.machine (kept_reading r.begun) mid.chip.still.mark)))
     → Becomes (Ends (status_of stop) from to m old.chip now) start taken
-Ends-last stop from to rose room piece old mid now start before taken m running so_far takes ends last = λ left told.
+Ends-last stop from to counts room piece old mid now start before taken m running so_far takes ends last = λ left told.
     let found = taken_all room piece old mid start before taken so_far takes left told in
     let input : List ℕ = found.0 in
     let r : Running = after (from_machine m) input in
@@ -245,7 +245,7 @@ Ends-last stop from to rose room piece old mid now start before taken m running 
     let cut : lines input true ≡ lines input false ++ open_end input ∷ [] = lines-open input (subst (λ (s : Running). is_nothing_kept s.begun ≡ false) (after-lines m input) failing.0) in (
       input,
       found.1,
-      Ends-stopped stop from to m input left old.chip now rose (StopsIn-last stop m input old mid now running found.2 ends)
+      Ends-stopped stop from to m input left old.chip now counts (StopsIn-last stop m input old mid now running found.2 ends)
           (λ given.
           let given_before : IsSome mid.chip.still.given = told-before failing.1.said mid.chip.still.given now.still.given failing.1.given given in
           kept-until stop m input input [] [] old.chip now (sym (append-nil input)) cut (until-last stop input (from_machine m) old.chip mid.chip now (follows.passes given_before) (last r follows.running given))),

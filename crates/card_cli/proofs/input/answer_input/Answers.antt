@@ -9,7 +9,7 @@ use Rattle.card_cli.specs.declared.status.Status.TheVariants.{Done, ReadFault, T
 use Rattle.card_cli.specs.Line.{kept_line}
 use Rattle.card_cli.specs.RunState.{RunState, Faults, Feeds}
 use Rattle.card_cli.specs.Ends.{longest_input}
-use Rattle.card_cli.proofs.Taking.{rose-at, HasTaken, HasTaken-nothing, HasTaken-more, Ends, Ends-leaves, Ends-keeps, Ends-read_fault, Ends-done, Ends-last, Ends-halted, Ends-too_long}
+use Rattle.card_cli.proofs.Taking.{counts-at, HasTaken, HasTaken-nothing, HasTaken-more, Ends, Ends-leaves, Ends-keeps, Ends-read_fault, Ends-done, Ends-last, Ends-halted, Ends-too_long}
 use Rattle.card_cli.proofs.input.answer_input.Given as given
 use Rattle.card_cli.proofs.input.answer_input.Goals.{In_default, In-Ok-answer_last, After-status, After-status-in-Err-take_octets, Then-room-count}
 use Rattle.card_cli.proofs.input.answer_input.Goals as goal
@@ -77,9 +77,9 @@ last_failed g c m at =
     let old : RunState = state g c.args.card.now (Some []) c.args.bench.now in
     let mid : RunState = state g c.loop-count.card (kept_line c.loop-count.line) c.loop-count.bench in
     let now : Chip = g.B.Eeprom.chip c.answer_last.new.bench in
-    let rose = rose-at c.in-Err.stop (g.B.Eeprom.faults c.args.bench.now) (faults g c.loop-count.bench) (faults g c.answer_last.new.bench) c.loop-count.invariant.faults c.in-Err.ensures.causes in
+    let counts = counts-at c.in-Err.stop (g.B.Eeprom.faults c.args.bench.now) (faults g c.loop-count.bench) (faults g c.answer_last.new.bench) c.loop-count.invariant.faults c.in-Err.ensures.causes in
     subst (λ (status : Status). EndsSo g m status c.args.source.now c.read.new.self c.args.bench.now c.answer_last.new.bench) (sym c.status.ensures)
-    (Ends-last c.in-Err.stop (g.B.Eeprom.faults c.args.bench.now) (g.B.Eeprom.faults c.answer_last.new.bench) rose c.loop-count.room c.read.new.into old mid now (g.S.Source.left c.args.source.now) (g.S.Source.left c.loop-count.source) (g.S.Source.left c.read.new.self) m
+    (Ends-last c.in-Err.stop (g.B.Eeprom.faults c.args.bench.now) (g.B.Eeprom.faults c.answer_last.new.bench) counts c.loop-count.room c.read.new.into old mid now (g.S.Source.left c.args.source.now) (g.S.Source.left c.loop-count.source) (g.S.Source.left c.read.new.self) m
     (record { at = at; line = refl }) c.loop-count.invariant.taken
     (subst (λ (count : ℕ). Takes count c.read.new.into (g.S.Source.left c.loop-count.source) (g.S.Source.left c.read.new.self)) c.if-count-eq0.true c.in-Ok.ensures.taken)
     c.in-Err.ensures.fails c.in-Err.ensures.moments)
@@ -98,9 +98,9 @@ halted g c m at =
     let mid : RunState = state g c.loop-count.card (kept_line c.loop-count.line) c.loop-count.bench in
     let fits : c.min-taken.result ≤ c.in-Ok.count = omega (arith, c.min-taken.ensures) in
     let now : Chip = g.B.Eeprom.chip c.take_octets.new.bench in
-    let rose = rose-at c.in-Err-take_octets.stop (g.B.Eeprom.faults c.args.bench.now) (faults g c.loop-count.bench) (faults g c.take_octets.new.bench) c.loop-count.invariant.faults c.in-Err-take_octets.ensures.causes in
+    let counts = counts-at c.in-Err-take_octets.stop (g.B.Eeprom.faults c.args.bench.now) (faults g c.loop-count.bench) (faults g c.take_octets.new.bench) c.loop-count.invariant.faults c.in-Err-take_octets.ensures.causes in
     subst (λ (status : Status). EndsSo g m status c.args.source.now c.read.new.self c.args.bench.now c.take_octets.new.bench) (sym c.status-in-Err-take_octets.ensures)
-    (Ends-halted c.in-Err-take_octets.stop (g.B.Eeprom.faults c.args.bench.now) (g.B.Eeprom.faults c.take_octets.new.bench) rose c.loop-count.room c.in-Ok.count c.min-taken.result c.read.new.into old mid now (g.S.Source.left c.args.source.now) (g.S.Source.left c.loop-count.source) (g.S.Source.left c.read.new.self) m fits
+    (Ends-halted c.in-Err-take_octets.stop (g.B.Eeprom.faults c.args.bench.now) (g.B.Eeprom.faults c.take_octets.new.bench) counts c.loop-count.room c.in-Ok.count c.min-taken.result c.read.new.into old mid now (g.S.Source.left c.args.source.now) (g.S.Source.left c.loop-count.source) (g.S.Source.left c.read.new.self) m fits
     (record { at = at; line = refl }) c.loop-count.invariant.taken c.in-Ok.ensures.taken c.in-Err-take_octets.ensures.halts)
 
 pub returns-in-Err-take_octets-clause-leaves : goal.returns-in-Err-take_octets-clause-leaves
