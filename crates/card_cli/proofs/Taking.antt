@@ -17,7 +17,7 @@ use Rattle.card_cli.specs.declared.status.Status.TheVariants.{Done, ReadFault, T
 use Rattle.card_cli.specs.StatusNumber.{status_of}
 use Rattle.card_cli.specs.Running.{Running, from_machine, after, text_of, end_text, after_end}
 use Rattle.card_cli.specs.RunState.{Prints, RunState, IsRunning, Feeds, Faults, Causes}
-use Rattle.card_cli.specs.Ends.{LeavesOff, longest_input}
+use Rattle.card_cli.specs.Ends.{EndsAs, longest_input}
 use Rattle.card_cli.specs.Line.{kept_reading, is_nothing_kept}
 use Rattle.card_cli.specs.Moments.{IsInStopped, IsAtEnd, IfGiven}
 use Rattle.card_cli.specs.Keeping.{AreKept, AreAllKept, KeepsTo, carried_out}
@@ -38,15 +38,15 @@ pub record HasTaken (room : ℕ) (old new : RunState) (input left : List ℕ) : 
 
 -- How a run over its input ends, of which this is left, and what is kept at each moment of it, where what was given is told.
 pub record Ends (status : Status) (from to : ℕ) (m : Machine) (old new : Chip) (input left : List ℕ) : Type 0 where
-  pub leaves : LeavesOff status from to m input left old.still.given new
+  pub ended : EndsAs status from to m input left old.still.given new
   pub keeps : IfGiven new (KeepsTo status from to m input left old new)
 
 -- how it ends
-pub Ends-leaves : {status : Status} {from to : ℕ} {m : Machine} {old new : Chip} {start now : Option (List ℕ)} → Becomes (Ends status from to m old new) start now
-    → Becomes (λ input left. LeavesOff status from to m input left old.still.given new) start now
-Ends-leaves ends = λ left told.
+pub Ends-ended : {status : Status} {from to : ℕ} {m : Machine} {old new : Chip} {start now : Option (List ℕ)} → Becomes (Ends status from to m old new) start now
+    → Becomes (λ input left. EndsAs status from to m input left old.still.given new) start now
+Ends-ended ends = λ left told.
     let last = ends left told in
-    (last.0, last.1, last.2.leaves)
+    (last.0, last.1, last.2.ended)
 
 -- what is kept
 pub Ends-keeps : {status : Status} {from to : ℕ} {m : Machine} {old new : Chip} {start now : Option (List ℕ)} → Becomes (Ends status from to m old new) start now
@@ -96,7 +96,7 @@ Ends-read_fault from to room old mid start before now m ready running so_far sam
       first.0,
       first.1,
       record {
-        leaves = (taken, first.2.split, HasAnswered-taken taken old mid m ready running first.2.feeds);
+        ended = (taken, first.2.split, HasAnswered-taken taken old mid m ready running first.2.feeds);
         keeps = λ given. (taken, first.2.split, kept-taken m taken old.chip mid.chip ((first.2.feeds (from_machine m) running).passes given).moments);
       },
     )
@@ -127,7 +127,7 @@ Ends-done from to room piece old mid new start before now m running so_far takes
       input,
       found.1,
       record {
-        leaves = record {
+        ended = record {
           text = subst (λ (t : List ℕ). Prints t old.chip.still.given new.chip.still.given) (text_of-ended m input)
               (Prints-then (text_of (from_machine m) input) (end_text r) old.chip.still.given mid.chip.still.given new.chip.still.given follows.text printed);
           image = Opens-at new.card new.chip (machine_after m (lines input true)) ready (subst (λ (after : Machine). IsAt new.card new.chip after) (after_end-lines m input) (at r follows.running));
@@ -192,7 +192,7 @@ Ends-too_long from to room count piece old mid new start before now m over withi
       found.0,
       found.1,
       record {
-        leaves = subst (λ (taken : List ℕ). HasAnswered m (lines taken false) old.chip.still.given new.chip) (sym all.1) (HasAnswered-taken whole old new m ready running fed);
+        ended = subst (λ (taken : List ℕ). HasAnswered m (lines taken false) old.chip.still.given new.chip) (sym all.1) (HasAnswered-taken whole old new m ready running fed);
         keeps = λ given. subst (λ (taken : List ℕ). AreAllKept m (lines taken false) old.chip new.chip) (sym all.1)
             (kept-taken m whole old.chip new.chip ((fed (from_machine m) running).passes given).moments);
       },
@@ -210,9 +210,9 @@ counts-at Both start old new same causes = subst (λ (n : ℕ). Rose n new.eepro
 
 Ends-stopped : (stop : Stop) (from to : ℕ) (m : Machine) (input left : List ℕ) (old now : Chip) → CountsAt stop from to → (stops : StopsIn stop m (lines input true) old.still.given now)
     → IfGiven now (AreKept m (lines input true) (carried_out stop stops.answered) old now) → Ends (status_of stop) from to m old now input left
-Ends-stopped Eeprom from to m input left old now counts stops kept = record { leaves = stops; keeps = λ given. (stops, kept given) }
-Ends-stopped Outlet from to m input left old now counts stops kept = record { leaves = inl (counts, stops); keeps = λ given. inl (counts, (stops, kept given)) }
-Ends-stopped Both from to m input left old now counts stops kept = record { leaves = inr (counts, stops); keeps = λ given. inr (counts, (stops, kept given)) }
+Ends-stopped Eeprom from to m input left old now counts stops kept = record { ended = stops; keeps = λ given. (stops, kept given) }
+Ends-stopped Outlet from to m input left old now counts stops kept = record { ended = inl (counts, stops); keeps = λ given. inl (counts, (stops, kept given)) }
+Ends-stopped Both from to m input left old now counts stops kept = record { ended = inr (counts, stops); keeps = λ given. inr (counts, (stops, kept given)) }
 
 -- a device stopped the run among the octets of a piece, of which so many were looked at
 pub Ends-halted : (stop : Stop) (from to : ℕ) → CountsAt stop from to → (room count k : ℕ) (piece : List ℕ) (old mid : RunState) (now : Chip) (start before taken : Option (List ℕ)) (m : Machine) → k ≤ count

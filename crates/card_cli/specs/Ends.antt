@@ -44,10 +44,10 @@ has_read WriteFault = true
 has_read status = false
 
 -- How a run of lines from a machine on ends, of whose input this is left, where the EEPROM's count of faults goes from one number to another: which lines were answered, and in which one a device failed.
-abbrev pub LeavesOff : Status → ℕ → ℕ → Machine → List ℕ → List ℕ → Option (List ℕ) → Chip → Type 0
-LeavesOff Done from to m input left before now = HasAnswered m (lines input true) before now
-LeavesOff ReadFault from to m input left before now = (taken : List ℕ) × (input ≡ taken ++ left) × HasAnswered m (lines taken false) before now
-LeavesOff TooLong from to m input left before now = HasAnswered m (lines (take longest_input input) false) before now
-LeavesOff Eeprom from to m input left before now = StopsIn stop.Eeprom m (lines input true) before now
-LeavesOff WriteFault from to m input left before now = OutletFails from to (λ stop. StopsIn stop m (lines input true) before now)
-LeavesOff status from to m input left before now = ⊥
+abbrev pub EndsAs : Status → ℕ → ℕ → Machine → List ℕ → List ℕ → Option (List ℕ) → Chip → Type 0
+EndsAs Done from to m input left before now = HasAnswered m (lines input true) before now
+EndsAs ReadFault from to m input left before now = (taken : List ℕ) × (input ≡ taken ++ left) × HasAnswered m (lines taken false) before now
+EndsAs TooLong from to m input left before now = HasAnswered m (lines (take longest_input input) false) before now
+EndsAs Eeprom from to m input left before now = StopsIn stop.Eeprom m (lines input true) before now
+EndsAs WriteFault from to m input left before now = OutletFails from to (λ stop. StopsIn stop m (lines input true) before now)
+EndsAs status from to m input left before now = ⊥

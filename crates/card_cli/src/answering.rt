@@ -119,8 +119,8 @@ fn answer_command<B: Bench>(card: &mut Card, bench: &mut B, octets: &[u8]) -> Re
         word: StatusWord::DONE,
     };
     match card.answer(bench, octets, &mut reply) {
-        Outcome::Replied => Ok(give(bench, &text_of(&reply))?),
-        Outcome::Mute => match give(bench, &text_of(&reply)) {
+        Outcome::Replied => Ok(give(bench, &reply_text(&reply))?),
+        Outcome::Mute => match give(bench, &reply_text(&reply)) {
             Ok(()) => Err(Stop::Eeprom),
             Err(_) => Err(Stop::Both),
         },
@@ -128,7 +128,7 @@ fn answer_command<B: Bench>(card: &mut Card, bench: &mut B, octets: &[u8]) -> Re
 }
 
 // A reply in hexadecimal, with a line feed.
-fn text_of(reply: &Reply) -> ArrayVec<u8, LONGEST_ANSWER>
+fn reply_text(reply: &Reply) -> ArrayVec<u8, LONGEST_ANSWER>
     ensures { result.items ≡ encode_upper (model.reply_octets (reply_of reply.now)) ++ codes "\n" }
 {
     let mut octets: ArrayVec<u8, 258> = ArrayVec::new();

@@ -10,7 +10,7 @@ ghost use Rattle.eeprom.specs.Chip.{Throughout};
 ghost use Rattle.card_cli.specs.Halting.{FailsAt};
 ghost use Rattle.card_cli.specs.Moments.{IsInStopped, IsAtEnd, IfGiven};
 ghost use Rattle.card_cli.specs.Keeping.{KeepsTo};
-ghost use Rattle.card_cli.specs.Ends.{EndsBy, LeavesOff, ends_input, longest_input};
+ghost use Rattle.card_cli.specs.Ends.{EndsBy, EndsAs, ends_input, longest_input};
 
 use crate::answering::{answer_line, take_octets};
 use crate::line::Line;
@@ -32,8 +32,8 @@ pub(crate) fn answer_input<S: Source, B: Bench>(
     bench: &mut B,
 ) -> Status
     requires { IsReady card.old (B.chip bench.old) }
-    ensures leaves { (m : Machine) → IsAt card.old (B.chip bench.old) m
-        → Becomes (λ input left. LeavesOff result (B.faults bench.old) (B.faults bench.new) m input left (B.chip bench.old).still.given (B.chip bench.new)) (S.left source.old) (S.left source.new) }
+    ensures ends_as { (m : Machine) → IsAt card.old (B.chip bench.old) m
+        → Becomes (λ input left. EndsAs result (B.faults bench.old) (B.faults bench.new) m input left (B.chip bench.old).still.given (B.chip bench.new)) (S.left source.old) (S.left source.new) }
     // At each moment a power loss leaves each commit of the lines that were heard by then, and else at most commits of the line after them.
     ensures moments { (m : Machine) → IsAt card.old (B.chip bench.old) m → IfGiven (B.chip bench.new)
         (Becomes (λ input left. KeepsTo result (B.faults bench.old) (B.faults bench.new) m input left (B.chip bench.old) (B.chip bench.new)) (S.left source.old) (S.left source.new)) }

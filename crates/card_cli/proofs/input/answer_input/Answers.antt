@@ -9,7 +9,7 @@ use Rattle.card_cli.specs.declared.status.Status.TheVariants.{Done, ReadFault, T
 use Rattle.card_cli.specs.Line.{kept_line}
 use Rattle.card_cli.specs.RunState.{RunState, Faults, Feeds}
 use Rattle.card_cli.specs.Ends.{longest_input}
-use Rattle.card_cli.proofs.Taking.{counts-at, HasTaken, HasTaken-nothing, HasTaken-more, Ends, Ends-leaves, Ends-keeps, Ends-read_fault, Ends-done, Ends-last, Ends-halted, Ends-too_long}
+use Rattle.card_cli.proofs.Taking.{counts-at, HasTaken, HasTaken-nothing, HasTaken-more, Ends, Ends-ended, Ends-keeps, Ends-read_fault, Ends-done, Ends-last, Ends-halted, Ends-too_long}
 use Rattle.card_cli.proofs.input.answer_input.Given as given
 use Rattle.card_cli.proofs.input.answer_input.Goals.{In_default, In-Ok-answer_last, After-status, After-status-in-Err-take_octets, Then-room-count}
 use Rattle.card_cli.proofs.input.answer_input.Goals as goal
@@ -46,8 +46,8 @@ read_failed g c m at =
     Ends-read_fault (g.B.Eeprom.faults c.args.bench.now) (g.B.Eeprom.faults c.loop-count.bench) c.loop-count.room old mid (g.S.Source.left c.args.source.now) (g.S.Source.left c.loop-count.source) (g.S.Source.left c.read.new.self) m
     c.loop-count.invariant.ready (record { at = at; line = refl }) c.loop-count.invariant.taken c.in_default.ensures.err
 
-pub returns-in_default-clause-leaves : goal.returns-in_default-clause-leaves
-returns-in_default-clause-leaves g c = λ m at. Ends-leaves (read_failed g (goal.at.returns-in_default-clause-leaves g c).In_default m at)
+pub returns-in_default-clause-ends_as : goal.returns-in_default-clause-ends_as
+returns-in_default-clause-ends_as g c = λ m at. Ends-ended (read_failed g (goal.at.returns-in_default-clause-ends_as g c).In_default m at)
 
 pub returns-in_default-clause-moments : goal.returns-in_default-clause-moments
 returns-in_default-clause-moments g c = λ m at. Ends-keeps (read_failed g (goal.at.returns-in_default-clause-moments g c).In_default m at)
@@ -64,8 +64,8 @@ done g c m at =
     (subst (λ (count : ℕ). Takes count c.read.new.into (g.S.Source.left c.loop-count.source) (g.S.Source.left c.read.new.self)) c.if-count-eq0.true c.in-Ok.ensures.taken)
     c.in-Ok-answer_last.ensures.ready c.in-Ok-answer_last.ensures.at c.in-Ok-answer_last.ensures.text c.in-Ok-answer_last.ensures.answered
 
-pub returns-in-Ok-answer_last-clause-leaves : goal.returns-in-Ok-answer_last-clause-leaves
-returns-in-Ok-answer_last-clause-leaves g c = λ m at. Ends-leaves (done g (goal.at.returns-in-Ok-answer_last-clause-leaves g c).In-Ok-answer_last m at)
+pub returns-in-Ok-answer_last-clause-ends_as : goal.returns-in-Ok-answer_last-clause-ends_as
+returns-in-Ok-answer_last-clause-ends_as g c = λ m at. Ends-ended (done g (goal.at.returns-in-Ok-answer_last-clause-ends_as g c).In-Ok-answer_last m at)
 
 pub returns-in-Ok-answer_last-clause-moments : goal.returns-in-Ok-answer_last-clause-moments
 returns-in-Ok-answer_last-clause-moments g c = λ m at. Ends-keeps (done g (goal.at.returns-in-Ok-answer_last-clause-moments g c).In-Ok-answer_last m at)
@@ -84,8 +84,8 @@ last_failed g c m at =
     (subst (λ (count : ℕ). Takes count c.read.new.into (g.S.Source.left c.loop-count.source) (g.S.Source.left c.read.new.self)) c.if-count-eq0.true c.in-Ok.ensures.taken)
     c.in-Err.ensures.fails c.in-Err.ensures.moments)
 
-pub returns-in-Err-clause-leaves : goal.returns-in-Err-clause-leaves
-returns-in-Err-clause-leaves g c = λ m at. Ends-leaves (last_failed g (goal.at.returns-in-Err-clause-leaves g c).After-status m at)
+pub returns-in-Err-clause-ends_as : goal.returns-in-Err-clause-ends_as
+returns-in-Err-clause-ends_as g c = λ m at. Ends-ended (last_failed g (goal.at.returns-in-Err-clause-ends_as g c).After-status m at)
 
 pub returns-in-Err-clause-moments : goal.returns-in-Err-clause-moments
 returns-in-Err-clause-moments g c = λ m at. Ends-keeps (last_failed g (goal.at.returns-in-Err-clause-moments g c).After-status m at)
@@ -103,8 +103,8 @@ halted g c m at =
     (Ends-halted c.in-Err-take_octets.stop (g.B.Eeprom.faults c.args.bench.now) (g.B.Eeprom.faults c.take_octets.new.bench) counts c.loop-count.room c.in-Ok.count c.min-taken.result c.read.new.into old mid now (g.S.Source.left c.args.source.now) (g.S.Source.left c.loop-count.source) (g.S.Source.left c.read.new.self) m fits
     (record { at = at; line = refl }) c.loop-count.invariant.taken c.in-Ok.ensures.taken c.in-Err-take_octets.ensures.halts)
 
-pub returns-in-Err-take_octets-clause-leaves : goal.returns-in-Err-take_octets-clause-leaves
-returns-in-Err-take_octets-clause-leaves g c = λ m at. Ends-leaves (halted g (goal.at.returns-in-Err-take_octets-clause-leaves g c).After-status-in-Err-take_octets m at)
+pub returns-in-Err-take_octets-clause-ends_as : goal.returns-in-Err-take_octets-clause-ends_as
+returns-in-Err-take_octets-clause-ends_as g c = λ m at. Ends-ended (halted g (goal.at.returns-in-Err-take_octets-clause-ends_as g c).After-status-in-Err-take_octets m at)
 
 pub returns-in-Err-take_octets-clause-moments : goal.returns-in-Err-take_octets-clause-moments
 returns-in-Err-take_octets-clause-moments g c = λ m at. Ends-keeps (halted g (goal.at.returns-in-Err-take_octets-clause-moments g c).After-status-in-Err-take_octets m at)
@@ -122,8 +122,8 @@ more_came g c m at =
     c.in_default-take_octets.ensures.ready (record { at = at; line = refl }) c.loop-count.invariant.taken c.in-Ok.ensures.taken
     (subst (λ (count : ℕ). Feeds (take count c.read.new.into) mid new) all c.in_default-take_octets.ensures.feeds)
 
-pub returns-then-room-count-clause-leaves : goal.returns-then-room-count-clause-leaves
-returns-then-room-count-clause-leaves g c = λ m at. Ends-leaves (more_came g (goal.at.returns-then-room-count-clause-leaves g c).Then-room-count m at)
+pub returns-then-room-count-clause-ends_as : goal.returns-then-room-count-clause-ends_as
+returns-then-room-count-clause-ends_as g c = λ m at. Ends-ended (more_came g (goal.at.returns-then-room-count-clause-ends_as g c).Then-room-count m at)
 
 pub returns-then-room-count-clause-moments : goal.returns-then-room-count-clause-moments
 returns-then-room-count-clause-moments g c = λ m at. Ends-keeps (more_came g (goal.at.returns-then-room-count-clause-moments g c).Then-room-count m at)
