@@ -6,13 +6,13 @@ use Rattle.scql_model.specs.Lines.{Reading, lines, reading_of, line_text, line_s
 use Rattle.scql_model.specs.Opens.{Opens}
 use Rattle.scql_model.specs.Heard.{IsKept}
 use Rattle.scql_model.proofs.Hearing.{kept-idle, kept-failing, kept-answered, kept-after, kept-same}
-use Rattle.card_cli.specs.Line.{kept_reading, is_nothing_kept}
+use Rattle.card_cli.specs.Line.{line_reading, is_empty_line}
 use Rattle.card_cli.specs.Running.{Running, from_machine, after, text_of}
 use Rattle.card_cli.specs.Moments.{IsInLine, IsInAnswered, IsInStopped, IsWhile, IsUntil, IsAtEnd, Passes}
 use Rattle.card_cli.specs.declared.stop.Stop.{Stop}
 use Rattle.card_cli.specs.declared.stop.Stop.TheVariants.{Eeprom, Outlet, Both}
 use Rattle.card_cli.specs.Keeping.{AreKept, AreAllKept, carried_out}
-use Rattle.card_cli.proofs.Streaming.{open_end, reading-kept, text_of-lines, after-lines, lines-open, lines-line_feed, lines-prefix}
+use Rattle.card_cli.proofs.Streaming.{open_end, line_reading-begun_line, text_of-lines, after-lines, lines-open, lines-line_feed, lines-prefix}
 use Rattle.card_cli.proofs.Moving.{throughout-both}
 use Rattle.eeprom.proofs.Moments.{throughout-weaker}
 
@@ -22,13 +22,13 @@ KeptFrom m lines clean mark g left = (out : ℕ) × (g ≡ mark + out) × IsKept
 
 -- What holds of the run behind octets holds of the machine after their whole lines, and of what stands behind these.
 on_lines : (m : Machine) (octets : List ℕ) (P : Machine → Reading → ℕ → Type 0)
-    → P (after (from_machine m) octets).machine (kept_reading (after (from_machine m) octets).begun) (length (text_of (from_machine m) octets))
+    → P (after (from_machine m) octets).machine (line_reading (after (from_machine m) octets).begun) (length (text_of (from_machine m) octets))
     → P (machine_after m (lines octets false)) (reading_of (open_end octets)) (length (run_text m (lines octets false)))
 on_lines m octets P holds =
     let size : ℕ = length (run_text m (lines octets false)) in
-    subst (λ (reading : Reading). P (machine_after m (lines octets false)) reading size) (reading-kept (open_end octets))
-    (subst (λ (r : Running). P r.machine (kept_reading r.begun) size) (after-lines m octets)
-    (subst (λ (text : List ℕ). P (after (from_machine m) octets).machine (kept_reading (after (from_machine m) octets).begun) (length text)) (text_of-lines m octets) holds))
+    subst (λ (reading : Reading). P (machine_after m (lines octets false)) reading size) (line_reading-begun_line (open_end octets))
+    (subst (λ (r : Running). P r.machine (line_reading r.begun) size) (after-lines m octets)
+    (subst (λ (text : List ℕ). P (after (from_machine m) octets).machine (line_reading (after (from_machine m) octets).begun) (length text)) (text_of-lines m octets) holds))
 
 -- In a line that is answered, behind others.
 kept-in_answered : (m : Machine) (before : List (List ℕ)) (line : List ℕ) (rest : List (List ℕ)) (count mark g : ℕ) (left : List ℕ)
@@ -139,7 +139,7 @@ kept-at_end m input mark g left (inl ended) =
 kept-at_end m input mark g left (inr last) =
     let before : List (List ℕ) = lines input false in
     let line : List ℕ = open_end input in
-    let cut : lines input true ≡ before ++ line ∷ [] = lines-open input (subst (λ (r : Running). is_nothing_kept r.begun ≡ false) (after-lines m input) last.0) in
+    let cut : lines input true ≡ before ++ line ∷ [] = lines-open input (subst (λ (r : Running). is_empty_line r.begun ≡ false) (after-lines m input) last.0) in
     let here = kept-in_answered m before line [] 0 mark g left
     (on_lines m input (λ (m : Machine) (reading : Reading) (size : ℕ). IsInAnswered m reading (mark + size) g left) last.1) in
     subst (λ (all : List (List ℕ)). KeptFrom m all (length all) mark g left) (sym cut) (
@@ -163,8 +163,8 @@ kept-ended m input old mid new passes last =
 
 -- of calls that take all of the input, and fail in the last line
 pub until-last : (stop : Stop) (input : List ℕ) (r : Running) (old mid now : Chip) → Passes input r old mid
-    → Throughout mid now (IsInStopped stop (after r input).machine (kept_reading (after r input).begun) mid.still.mark) → Throughout old now (IsUntil stop input r old.still.mark)
+    → Throughout mid now (IsInStopped stop (after r input).machine (line_reading (after r input).begun) mid.still.mark) → Throughout old now (IsUntil stop input r old.still.mark)
 until-last stop input r old mid now passes last =
-    throughout-both old mid now (IsWhile input r old.still.mark) (IsInStopped stop (after r input).machine (kept_reading (after r input).begun) mid.still.mark) (IsUntil stop input r old.still.mark)
+    throughout-both old mid now (IsWhile input r old.still.mark) (IsInStopped stop (after r input).machine (line_reading (after r input).begun) mid.still.mark) (IsUntil stop input r old.still.mark)
     passes.moments last (λ g left during. inl during)
-    (λ g left during. inr (subst (λ (mark : ℕ). IsInStopped stop (after r input).machine (kept_reading (after r input).begun) mark g left) passes.mark during))
+    (λ g left during. inr (subst (λ (mark : ℕ). IsInStopped stop (after r input).machine (line_reading (after r input).begun) mark g left) passes.mark during))

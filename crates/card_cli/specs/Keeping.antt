@@ -18,7 +18,7 @@ use Rattle.card_cli.specs.Ends.{longest_input}
 
 -- At each moment from old on to new a power loss leaves what is kept of these lines, of which the first so many are clean: those that were carried out without a fault of the EEPROM. The octets that have gone out count from old on.
 abbrev pub AreKept : Machine → List (List ℕ) → ℕ → Chip → Chip → Type 0
-AreKept m lines clean old new = Throughout old new (λ g left. (out : ℕ) × (g ≡ old.still.mark + out) × IsKept m lines clean out left)
+AreKept m lines clean old new = Throughout old new (λ g image. (out : ℕ) × (g ≡ old.still.mark + out) × IsKept m lines clean out image)
 
 -- the same of lines that all were carried out
 abbrev pub AreAllKept : Machine → List (List ℕ) → Chip → Chip → Type 0

@@ -6,7 +6,7 @@ use Rattle.scql_model.specs.Machine.{Machine}
 use Rattle.card.specs.Card.{Kept, IsAt}
 use Rattle.card_cli.specs.declared.status.Status.{Status}
 use Rattle.card_cli.specs.declared.status.Status.TheVariants.{Done, ReadFault, TooLong}
-use Rattle.card_cli.specs.Line.{kept_line}
+use Rattle.card_cli.specs.Line.{line_octets}
 use Rattle.card_cli.specs.RunState.{RunState, Faults, Feeds}
 use Rattle.card_cli.specs.Ends.{longest_input}
 use Rattle.card_cli.proofs.Taking.{counts-at, HasTaken, HasTaken-nothing, HasTaken-more, Ends, Ends-ended, Ends-keeps, Ends-read_fault, Ends-done, Ends-last, Ends-halted, Ends-too_long}
@@ -42,7 +42,7 @@ read_failed : (g : given.Over) (c : In_default g) (m : Machine) → IsAt c.args.
     → EndsSo g m ReadFault c.args.source.now c.read.new.self c.args.bench.now c.loop-count.bench
 read_failed g c m at =
     let old : RunState = state g c.args.card.now (Some []) c.args.bench.now in
-    let mid : RunState = state g c.loop-count.card (kept_line c.loop-count.line) c.loop-count.bench in
+    let mid : RunState = state g c.loop-count.card (line_octets c.loop-count.line) c.loop-count.bench in
     Ends-read_fault (g.B.Eeprom.faults c.args.bench.now) (g.B.Eeprom.faults c.loop-count.bench) c.loop-count.room old mid (g.S.Source.left c.args.source.now) (g.S.Source.left c.loop-count.source) (g.S.Source.left c.read.new.self) m
     c.loop-count.invariant.ready (record { at = at; line = refl }) c.loop-count.invariant.taken c.in_default.ensures.err
 
@@ -57,7 +57,7 @@ done : (g : given.Over) (c : In-Ok-answer_last g) (m : Machine) → IsAt c.args.
     → EndsSo g m Done c.args.source.now c.read.new.self c.args.bench.now c.answer_last.new.bench
 done g c m at =
     let old : RunState = state g c.args.card.now (Some []) c.args.bench.now in
-    let mid : RunState = state g c.loop-count.card (kept_line c.loop-count.line) c.loop-count.bench in
+    let mid : RunState = state g c.loop-count.card (line_octets c.loop-count.line) c.loop-count.bench in
     let new : RunState = state g c.answer_last.new.card None c.answer_last.new.bench in
     Ends-done (g.B.Eeprom.faults c.args.bench.now) (g.B.Eeprom.faults c.answer_last.new.bench) c.loop-count.room c.read.new.into old mid new (g.S.Source.left c.args.source.now) (g.S.Source.left c.loop-count.source) (g.S.Source.left c.read.new.self) m
     (record { at = at; line = refl }) c.loop-count.invariant.taken
@@ -75,7 +75,7 @@ last_failed : (g : given.Over) (c : After-status g) (m : Machine) → IsAt c.arg
     → EndsSo g m c.status.result c.args.source.now c.read.new.self c.args.bench.now c.answer_last.new.bench
 last_failed g c m at =
     let old : RunState = state g c.args.card.now (Some []) c.args.bench.now in
-    let mid : RunState = state g c.loop-count.card (kept_line c.loop-count.line) c.loop-count.bench in
+    let mid : RunState = state g c.loop-count.card (line_octets c.loop-count.line) c.loop-count.bench in
     let now : Chip = g.B.Eeprom.chip c.answer_last.new.bench in
     let counts = counts-at c.in-Err.stop (g.B.Eeprom.faults c.args.bench.now) (faults g c.loop-count.bench) (faults g c.answer_last.new.bench) c.loop-count.invariant.faults c.in-Err.ensures.causes in
     subst (λ (status : Status). EndsSo g m status c.args.source.now c.read.new.self c.args.bench.now c.answer_last.new.bench) (sym c.status.ensures)
@@ -95,7 +95,7 @@ halted : (g : given.Over) (c : After-status-in-Err-take_octets g) (m : Machine) 
     → EndsSo g m c.status-in-Err-take_octets.result c.args.source.now c.read.new.self c.args.bench.now c.take_octets.new.bench
 halted g c m at =
     let old : RunState = state g c.args.card.now (Some []) c.args.bench.now in
-    let mid : RunState = state g c.loop-count.card (kept_line c.loop-count.line) c.loop-count.bench in
+    let mid : RunState = state g c.loop-count.card (line_octets c.loop-count.line) c.loop-count.bench in
     let fits : c.min-taken.result ≤ c.in-Ok.count = omega (arith, c.min-taken.ensures) in
     let now : Chip = g.B.Eeprom.chip c.take_octets.new.bench in
     let counts = counts-at c.in-Err-take_octets.stop (g.B.Eeprom.faults c.args.bench.now) (faults g c.loop-count.bench) (faults g c.take_octets.new.bench) c.loop-count.invariant.faults c.in-Err-take_octets.ensures.causes in
@@ -114,8 +114,8 @@ more_came : (g : given.Over) (c : Then-room-count g) (m : Machine) → IsAt c.ar
     → EndsSo g m TooLong c.args.source.now c.read.new.self c.args.bench.now c.take_octets.new.bench
 more_came g c m at =
     let old : RunState = state g c.args.card.now (Some []) c.args.bench.now in
-    let mid : RunState = state g c.loop-count.card (kept_line c.loop-count.line) c.loop-count.bench in
-    let new : RunState = state g c.take_octets.new.card (kept_line c.take_octets.new.line) c.take_octets.new.bench in
+    let mid : RunState = state g c.loop-count.card (line_octets c.loop-count.line) c.loop-count.bench in
+    let new : RunState = state g c.take_octets.new.card (line_octets c.take_octets.new.line) c.take_octets.new.bench in
     let over : c.loop-count.room ≤ c.in-Ok.count = omega (arith, c.if-room-count.true) in
     let all : c.min-taken.result ≡ c.loop-count.room = omega (arith, c.min-taken.ensures, over) in
     Ends-too_long (g.B.Eeprom.faults c.args.bench.now) (g.B.Eeprom.faults c.take_octets.new.bench) c.loop-count.room c.in-Ok.count c.read.new.into old mid new (g.S.Source.left c.args.source.now) (g.S.Source.left c.loop-count.source) (g.S.Source.left c.read.new.self) m over c.in-Ok.ensures.taken.fits
@@ -131,8 +131,8 @@ returns-then-room-count-clause-moments g c = λ m at. Ends-keeps (more_came g (g
 pub loop-count-preserved : goal.loop-count-preserved
 loop-count-preserved g c =
     let old : RunState = state g c.args.card.now (Some []) c.args.bench.now in
-    let mid : RunState = state g c.loop-count.card (kept_line c.loop-count.line) c.loop-count.bench in
-    let new : RunState = state g c.take_octets.new.card (kept_line c.take_octets.new.line) c.take_octets.new.bench in
+    let mid : RunState = state g c.loop-count.card (line_octets c.loop-count.line) c.loop-count.bench in
+    let new : RunState = state g c.take_octets.new.card (line_octets c.take_octets.new.line) c.take_octets.new.bench in
     let fits : c.in-Ok.count ≤ c.loop-count.room = c.if-room-count.false in
     let same : c.min-taken.result ≡ c.in-Ok.count = omega (arith, c.min-taken.ensures, fits) in
     record {
