@@ -48,7 +48,7 @@ pub record StopsIn (stop : Stop) (m : Machine) (lines : List (List ℕ)) (before
   pub split : lines ≡ answered ++ line ∷ rest
   pub fails : FailsIn stop (run_text m answered) (machine_after m answered) (reading_of line) before now
 
--- The outlet failed while the EEPROM's count of faults went from one number to another: alone, and that count stayed; or behind the EEPROM, and that count rose. This holds of the stop.
+-- The outlet failed while the EEPROM's count of faults went from one number to another: alone, where that count stayed, or behind the EEPROM, where it rose. This is so of that stop.
 abbrev pub OutletFails : ℕ → ℕ → (Stop → Type 0) → Type 0
 OutletFails from to P = ((to ≡ from) × P Outlet) ⊎ (Rose from to × P Both)
 

@@ -37,7 +37,7 @@ pub record Faults : Type 0 where
   pub eeprom : ℕ
   pub outlet : ℕ
 
--- Each stop has its cause: the count of a device that failed rises, and that of one that didn't stays.
+-- Each stop has its cause: the count of a device that failed rises, and that of one that didn't stays. No count falls.
 pub record Causes {T : Type 0} (old new : Faults) (result : Result T Stop) : Type 0 where
   pub quiet : OnOk result (new ≡ old)
   pub eeprom : IsErrOf result Eeprom → Rose old.eeprom new.eeprom
