@@ -14,7 +14,7 @@ use Rattle.card_cli.specs.Beginning.{IsOpenTo, LacksCard, LeavesUntilOpen}
 use Rattle.card_cli.specs.declared.status.Status.{Status}
 use Rattle.card_cli.specs.declared.status.Status.TheVariants.{Done, Eeprom, ReadFault, WriteFault, TooLong}
 use Rattle.card_cli.specs.RunState.{Prints}
-use Rattle.card_cli.specs.Ends.{AllFaults, EndsBy, LeavesOff, ends_input, longest_input}
+use Rattle.card_cli.specs.Ends.{AllFaults, EndsBy, EndsAs, ends_input, longest_input}
 use Rattle.card_cli.specs.Run.{IsQuiet, AnswersAll}
 
 -- the card that was opened is at the start of the database to which its EEPROM opens
@@ -56,17 +56,17 @@ becomes-at P start now input left from to becomes =
 pub answers_all : (status : Status) (m : Machine) (before : Option (List ℕ)) (now : Chip) (given : Option (List ℕ)) (old new : AllFaults) (start left : Option (List ℕ)) (input rest : List ℕ)
     → ends_input status ≡ true → EndsBy status old new → IsQuiet old new → start ≡ Some input → left ≡ Some rest → length input ≤ longest_input
     → (status ≡ TooLong → Becomes (λ (i l : List ℕ). longest_input < length i) start left)
-    → Becomes (λ (i l : List ℕ). LeavesOff status old.eeprom new.eeprom m i l before now) start left → now.still.given ≡ given → AnswersAll status (run_text m (lines input true)) before given
-answers_all Done m before now given old new start left input rest over ends quiet from to short long leaves same =
-    let answered = becomes-at (λ (i l : List ℕ). LeavesOff Done old.eeprom new.eeprom m i l before now) start left input rest from to leaves in
+    → Becomes (λ (i l : List ℕ). EndsAs status old.eeprom new.eeprom m i l before now) start left → now.still.given ≡ given → AnswersAll status (run_text m (lines input true)) before given
+answers_all Done m before now given old new start left input rest over ends quiet from to short long ended same =
+    let answered = becomes-at (λ (i l : List ℕ). EndsAs Done old.eeprom new.eeprom m i l before now) start left input rest from to ended in
     inl (refl, subst (λ (g : Option (List ℕ)). Prints (run_text m (lines input true)) before g) same answered.text)
-answers_all TooLong m before now given old new start left input rest over ends quiet from to short long leaves same =
+answers_all TooLong m before now given old new start left input rest over ends quiet from to short long ended same =
     let passes : longest_input < length input = becomes-at (λ (i l : List ℕ). longest_input < length i) start left input rest from to (long refl) in
     absurd (omega (arith, passes, short))
-answers_all Eeprom m before now given old new start left input rest over ends quiet from to short long leaves same = absurd (quiet.eeprom ends.0)
-answers_all ReadFault m before now given old new start left input rest over ends quiet from to short long leaves same = absurd (quiet.source ends.0)
-answers_all WriteFault m before now given old new start left input rest over ends quiet from to short long leaves same = absurd (quiet.outlet ends.0)
-answers_all status m before now given old new start left input rest over ends quiet from to short long leaves same = absurd cc
+answers_all Eeprom m before now given old new start left input rest over ends quiet from to short long ended same = absurd (quiet.eeprom ends.0)
+answers_all ReadFault m before now given old new start left input rest over ends quiet from to short long ended same = absurd (quiet.source ends.0)
+answers_all WriteFault m before now given old new start left input rest over ends quiet from to short long ended same = absurd (quiet.outlet ends.0)
+answers_all status m before now given old new start left input rest over ends quiet from to short long ended same = absurd cc
 
 pub same_faults : (a b s c d : ℕ) → a ≡ b → c ≡ d
     → (let first : AllFaults = record { eeprom = a; source = s; outlet = c } in let second : AllFaults = record { eeprom = b; source = s; outlet = d } in first ≡ second)

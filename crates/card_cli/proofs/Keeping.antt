@@ -6,29 +6,29 @@ use Rattle.scql_model.specs.Lines.{Reading, lines, reading_of, line_text, line_s
 use Rattle.scql_model.specs.Opens.{Opens}
 use Rattle.scql_model.specs.Heard.{IsKept}
 use Rattle.scql_model.proofs.Hearing.{kept-idle, kept-failing, kept-answered, kept-after, kept-same}
-use Rattle.card_cli.specs.Line.{kept_reading, is_nothing_kept}
+use Rattle.card_cli.specs.Line.{line_reading, is_empty_line}
 use Rattle.card_cli.specs.Running.{Running, from_machine, after, text_of}
 use Rattle.card_cli.specs.Moments.{IsInLine, IsInAnswered, IsInStopped, IsWhile, IsUntil, IsAtEnd, Passes}
 use Rattle.card_cli.specs.declared.stop.Stop.{Stop}
 use Rattle.card_cli.specs.declared.stop.Stop.TheVariants.{Eeprom, Outlet, Both}
 use Rattle.card_cli.specs.Keeping.{AreKept, AreAllKept, carried_out}
-use Rattle.card_cli.proofs.Streaming.{open_end, reading-kept, text_of-lines, after-lines, lines-open, lines-line_feed, lines-prefix}
+use Rattle.card_cli.proofs.Streaming.{open_end, line_reading-begun_line, text_of-lines, after-lines, lines-open, lines-line_feed, lines-prefix}
 use Rattle.card_cli.proofs.Moving.{throughout-both}
 use Rattle.eeprom.proofs.Moments.{throughout-weaker}
 
 -- what is kept where so many octets have gone out since a mark
 abbrev KeptFrom : Machine → List (List ℕ) → ℕ → ℕ → ℕ → List ℕ → Type 0
-KeptFrom m lines counted mark g left = (out : ℕ) × (g ≡ mark + out) × IsKept m lines counted out left
+KeptFrom m lines clean mark g left = (out : ℕ) × (g ≡ mark + out) × IsKept m lines clean out left
 
 -- What holds of the run behind octets holds of the machine after their whole lines, and of what stands behind these.
 on_lines : (m : Machine) (octets : List ℕ) (P : Machine → Reading → ℕ → Type 0)
-    → P (after (from_machine m) octets).machine (kept_reading (after (from_machine m) octets).begun) (length (text_of (from_machine m) octets))
+    → P (after (from_machine m) octets).machine (line_reading (after (from_machine m) octets).begun) (length (text_of (from_machine m) octets))
     → P (machine_after m (lines octets false)) (reading_of (open_end octets)) (length (run_text m (lines octets false)))
 on_lines m octets P holds =
     let size : ℕ = length (run_text m (lines octets false)) in
-    subst (λ (reading : Reading). P (machine_after m (lines octets false)) reading size) (reading-kept (open_end octets))
-    (subst (λ (r : Running). P r.machine (kept_reading r.begun) size) (after-lines m octets)
-    (subst (λ (text : List ℕ). P (after (from_machine m) octets).machine (kept_reading (after (from_machine m) octets).begun) (length text)) (text_of-lines m octets) holds))
+    subst (λ (reading : Reading). P (machine_after m (lines octets false)) reading size) (line_reading-begun_line (open_end octets))
+    (subst (λ (r : Running). P r.machine (line_reading r.begun) size) (after-lines m octets)
+    (subst (λ (text : List ℕ). P (after (from_machine m) octets).machine (line_reading (after (from_machine m) octets).begun) (length text)) (text_of-lines m octets) holds))
 
 -- In a line that is answered, behind others.
 kept-in_answered : (m : Machine) (before : List (List ℕ)) (line : List ℕ) (rest : List (List ℕ)) (count mark g : ℕ) (left : List ℕ)
@@ -57,25 +57,25 @@ kept-in_line m before line rest mark g left failing =
           (kept-after m before (line ∷ rest) 0 (g - from) left (kept-failing (machine_after m before) line rest (g - from) left failing.opens)),
     )
 
--- While octets are taken, of which at least the whole lines are counted.
-kept-while : (whole : Bool) (m : Machine) (taken behind : List ℕ) (counted mark g : ℕ) (left : List ℕ) → length (lines taken false) ≤ counted
-    → IsWhile taken (from_machine m) mark g left → KeptFrom m (lines (taken ++ behind) whole) counted mark g left
-kept-while whole m taken behind counted mark g left enough (inl between) =
+-- While octets are taken, of which at least the whole lines are clean.
+kept-while : (whole : Bool) (m : Machine) (taken behind : List ℕ) (clean mark g : ℕ) (left : List ℕ) → length (lines taken false) ≤ clean
+    → IsWhile taken (from_machine m) mark g left → KeptFrom m (lines (taken ++ behind) whole) clean mark g left
+kept-while whole m taken behind clean mark g left enough (inl between) =
     let before : List (List ℕ) = lines between.taken false in
     let inside = lines-prefix between.taken between.rest false in
     let all = lines-prefix between.taken (between.rest ++ behind) whole in
     let split : taken ++ behind ≡ between.taken ++ (between.rest ++ behind) = ap (λ (x : List ℕ). x ++ behind) between.split ∙ append_assoc between.taken between.rest behind in
-    let few : length before ≤ counted =
+    let few : length before ≤ clean =
     omega (arith, enough, ap (λ (x : List ℕ). length (lines x false)) between.split, ap length inside.1, length-append before inside.0) in
     let size : length (text_of (from_machine m) between.taken) ≡ length (run_text m before) = ap length (text_of-lines m between.taken) in
     let opens : Opens left (machine_after m before).committed = subst (λ (r : Running). Opens left r.machine.committed) (after-lines m between.taken) between.opens in (
       length (run_text m before) + 0,
       omega (arith, between.mark_is, size),
-      subst (λ (all : List (List ℕ)). IsKept m all counted (length (run_text m before) + 0) left) (sym (ap (λ (x : List ℕ). lines x whole) split ∙ all.1))
-          (kept-same m (before ++ all.0) (length before + (counted - length before)) counted (length (run_text m before) + 0) (length (run_text m before) + 0) left (omega (arith, few)) refl
-          (kept-after m before all.0 (counted - length before) 0 left (kept-idle (machine_after m before) all.0 (counted - length before) left opens))),
+      subst (λ (all : List (List ℕ)). IsKept m all clean (length (run_text m before) + 0) left) (sym (ap (λ (x : List ℕ). lines x whole) split ∙ all.1))
+          (kept-same m (before ++ all.0) (length before + (clean - length before)) clean (length (run_text m before) + 0) (length (run_text m before) + 0) left (omega (arith, few)) refl
+          (kept-after m before all.0 (clean - length before) 0 left (kept-idle (machine_after m before) all.0 (clean - length before) left opens))),
     )
-kept-while whole m taken behind counted mark g left enough (inr answering) =
+kept-while whole m taken behind clean mark g left enough (inr answering) =
     let before : List (List ℕ) = lines answering.taken false in
     let line : List ℕ = open_end answering.taken in
     let rest : List (List ℕ) = lines (answering.rest ++ behind) whole in
@@ -83,13 +83,13 @@ kept-while whole m taken behind counted mark g left enough (inr answering) =
     ap (λ (x : List ℕ). x ++ behind) answering.split ∙ append_assoc answering.taken (10 ∷ answering.rest) behind in
     let all : lines (taken ++ behind) whole ≡ before ++ line ∷ rest = ap (λ (x : List ℕ). lines x whole) split ∙ lines-line_feed answering.taken (answering.rest ++ behind) whole in
     let inside : lines taken false ≡ before ++ line ∷ lines answering.rest false = ap (λ (x : List ℕ). lines x false) answering.split ∙ lines-line_feed answering.taken answering.rest false in
-    let few : length before + 1 ≤ counted = omega (arith, enough, ap length inside, length-append before (line ∷ lines answering.rest false)) in
-    let here = kept-in_answered m before line rest (counted - (length before + 1)) mark g left
+    let few : length before + 1 ≤ clean = omega (arith, enough, ap length inside, length-append before (line ∷ lines answering.rest false)) in
+    let here = kept-in_answered m before line rest (clean - (length before + 1)) mark g left
     (on_lines m answering.taken (λ (m : Machine) (reading : Reading) (size : ℕ). IsInAnswered m reading (mark + size) g left) answering.answered) in (
       here.0,
       here.1,
-      subst (λ (all : List (List ℕ)). IsKept m all counted here.0 left) (sym all)
-          (kept-same m (before ++ line ∷ rest) (length before + suc (counted - (length before + 1))) counted here.0 here.0 left (omega (arith, few)) refl here.2),
+      subst (λ (all : List (List ℕ)). IsKept m all clean here.0 left) (sym all)
+          (kept-same m (before ++ line ∷ rest) (length before + suc (clean - (length before + 1))) clean here.0 here.0 left (omega (arith, few)) refl here.2),
     )
 
 -- of calls that take octets, of which the whole lines are answered
@@ -100,7 +100,7 @@ kept-taken m taken old new moments =
     (λ g left during. subst (λ (x : List ℕ). KeptFrom m (lines x false) count old.still.mark g left) (append-nil taken)
     (kept-while false m taken [] count old.still.mark g left (omega arith) during))
 
--- in a line in which a device fails, which is counted where the outlet alone does
+-- in a line in which a device fails, which is clean where the outlet alone does
 kept-in_stopped : (stop : Stop) (m : Machine) (before : List (List ℕ)) (line : List ℕ) (rest : List (List ℕ)) (mark g : ℕ) (left : List ℕ)
     → IsInStopped stop (machine_after m before) (reading_of line) (mark + length (run_text m before)) g left → KeptFrom m (before ++ line ∷ rest) (carried_out stop before) mark g left
 kept-in_stopped Outlet m before line rest mark g left stopped = kept-in_answered m before line rest 0 mark g left stopped
@@ -139,7 +139,7 @@ kept-at_end m input mark g left (inl ended) =
 kept-at_end m input mark g left (inr last) =
     let before : List (List ℕ) = lines input false in
     let line : List ℕ = open_end input in
-    let cut : lines input true ≡ before ++ line ∷ [] = lines-open input (subst (λ (r : Running). is_nothing_kept r.begun ≡ false) (after-lines m input) last.0) in
+    let cut : lines input true ≡ before ++ line ∷ [] = lines-open input (subst (λ (r : Running). is_empty_line r.begun ≡ false) (after-lines m input) last.0) in
     let here = kept-in_answered m before line [] 0 mark g left
     (on_lines m input (λ (m : Machine) (reading : Reading) (size : ℕ). IsInAnswered m reading (mark + size) g left) last.1) in
     subst (λ (all : List (List ℕ)). KeptFrom m all (length all) mark g left) (sym cut) (
@@ -163,8 +163,8 @@ kept-ended m input old mid new passes last =
 
 -- of calls that take all of the input, and fail in the last line
 pub until-last : (stop : Stop) (input : List ℕ) (r : Running) (old mid now : Chip) → Passes input r old mid
-    → Throughout mid now (IsInStopped stop (after r input).machine (kept_reading (after r input).begun) mid.still.mark) → Throughout old now (IsUntil stop input r old.still.mark)
+    → Throughout mid now (IsInStopped stop (after r input).machine (line_reading (after r input).begun) mid.still.mark) → Throughout old now (IsUntil stop input r old.still.mark)
 until-last stop input r old mid now passes last =
-    throughout-both old mid now (IsWhile input r old.still.mark) (IsInStopped stop (after r input).machine (kept_reading (after r input).begun) mid.still.mark) (IsUntil stop input r old.still.mark)
+    throughout-both old mid now (IsWhile input r old.still.mark) (IsInStopped stop (after r input).machine (line_reading (after r input).begun) mid.still.mark) (IsUntil stop input r old.still.mark)
     passes.moments last (λ g left during. inl during)
-    (λ g left during. inr (subst (λ (mark : ℕ). IsInStopped stop (after r input).machine (kept_reading (after r input).begun) mark g left) passes.mark during))
+    (λ g left during. inr (subst (λ (mark : ℕ). IsInStopped stop (after r input).machine (line_reading (after r input).begun) mark g left) passes.mark during))

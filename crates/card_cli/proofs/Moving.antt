@@ -11,7 +11,7 @@ use Rattle.card.specs.Card.{Kept, IsReady, IsAt}
 use Rattle.card.proofs.Leaving.{Opens-at, unwritten_leaves}
 use Rattle.card_cli.specs.declared.stop.Stop.{Stop}
 use Rattle.card_cli.specs.RunState.{Prints}
-use Rattle.card_cli.specs.Line.{kept_reading, is_nothing_kept}
+use Rattle.card_cli.specs.Line.{line_reading, is_empty_line}
 use Rattle.card_cli.specs.Running.{Running, after, text_of}
 use Rattle.card_cli.specs.Moments.{IsInLine, IsInAnswered, IsInStopped, IsAnswered, IsWhile, IsUntil, IsAtEnd, Passes, IfGiven}
 use Rattle.card_cli.proofs.Streaming.{after-append, text_of-append}
@@ -164,16 +164,16 @@ while-behind xs ys r mark g left (inr answering) = inr (record {
   taken = xs ++ answering.taken;
   rest = answering.rest;
   split = ap (λ (y : List ℕ). xs ++ y) answering.split ∙ sym (append_assoc xs answering.taken (10 ∷ answering.rest));
-  answered = subst (λ (mark : ℕ). IsInAnswered (after r (xs ++ answering.taken)).machine (kept_reading (after r (xs ++ answering.taken)).begun) mark g left) (mark-append xs answering.taken r mark)
-      (subst (λ (s : Running). IsInAnswered s.machine (kept_reading s.begun) (mark + length (text_of r xs) + length (text_of (after r xs) answering.taken)) g left) (sym (after-append xs answering.taken r)) answering.answered);
+  answered = subst (λ (mark : ℕ). IsInAnswered (after r (xs ++ answering.taken)).machine (line_reading (after r (xs ++ answering.taken)).begun) mark g left) (mark-append xs answering.taken r mark)
+      (subst (λ (s : Running). IsInAnswered s.machine (line_reading s.begun) (mark + length (text_of r xs) + length (text_of (after r xs) answering.taken)) g left) (sym (after-append xs answering.taken r)) answering.answered);
 })
 
 -- So it is where a device fails behind the later octets.
 until-behind : (stop : Stop) (xs ys : List ℕ) (r : Running) (mark g : ℕ) (left : List ℕ) → IsUntil stop ys (after r xs) (mark + length (text_of r xs)) g left → IsUntil stop (xs ++ ys) r mark g left
 until-behind stop xs ys r mark g left (inl during) = inl (while-behind xs ys r mark g left during)
 until-behind stop xs ys r mark g left (inr line) =
-    inr (subst (λ (mark : ℕ). IsInStopped stop (after r (xs ++ ys)).machine (kept_reading (after r (xs ++ ys)).begun) mark g left) (mark-append xs ys r mark)
-    (subst (λ (s : Running). IsInStopped stop s.machine (kept_reading s.begun) (mark + length (text_of r xs) + length (text_of (after r xs) ys)) g left) (sym (after-append xs ys r)) line))
+    inr (subst (λ (mark : ℕ). IsInStopped stop (after r (xs ++ ys)).machine (line_reading (after r (xs ++ ys)).begun) mark g left) (mark-append xs ys r mark)
+    (subst (λ (s : Running). IsInStopped stop s.machine (line_reading s.begun) (mark + length (text_of r xs) + length (text_of (after r xs) ys)) g left) (sym (after-append xs ys r)) line))
 
 pub Passes-nothing : (r : Running) (chip : Chip) → ((image : List ℕ) → chip.image ≡ Some image → Opens image r.machine.committed) → Passes [] r chip chip
 Passes-nothing r chip opens = record {
@@ -206,32 +206,32 @@ until-then stop xs ys r a b now first second =
     (λ g left during. until-behind stop xs ys r a.still.mark g left (subst (λ (mark : ℕ). IsUntil stop ys (after r xs) mark g left) first.mark during))
 
 -- a line feed ends the line that has begun, which is answered
-pub Passes-line_feed : (r : Running) (old new : Chip) → IsAnswered r.machine (kept_reading r.begun) old new → Passes (10 ∷ []) r old new
+pub Passes-line_feed : (r : Running) (old new : Chip) → IsAnswered r.machine (line_reading r.begun) old new → Passes (10 ∷ []) r old new
 Passes-line_feed r old new answered =
-    let text : List ℕ = reading_text r.machine (kept_reading r.begun) in
+    let text : List ℕ = reading_text r.machine (line_reading r.begun) in
     record {
       mark = omega (arith, answered.mark, ap length (append-nil text));
-      moments = throughout-weaker old new (IsInAnswered r.machine (kept_reading r.begun) old.still.mark) (IsWhile (10 ∷ []) r old.still.mark) answered.moments
+      moments = throughout-weaker old new (IsInAnswered r.machine (line_reading r.begun) old.still.mark) (IsWhile (10 ∷ []) r old.still.mark) answered.moments
           (λ g left during. inr (record {
             taken = [];
             rest = [];
             split = refl;
-            answered = subst (λ (mark : ℕ). IsInAnswered r.machine (kept_reading r.begun) mark g left) (omega arith) during;
+            answered = subst (λ (mark : ℕ). IsInAnswered r.machine (line_reading r.begun) mark g left) (omega arith) during;
           }));
     }
 
 -- or a device fails in it
-pub until-line_feed : (stop : Stop) (r : Running) (old now : Chip) → Throughout old now (IsInStopped stop r.machine (kept_reading r.begun) old.still.mark) → Throughout old now (IsUntil stop [] r old.still.mark)
+pub until-line_feed : (stop : Stop) (r : Running) (old now : Chip) → Throughout old now (IsInStopped stop r.machine (line_reading r.begun) old.still.mark) → Throughout old now (IsUntil stop [] r old.still.mark)
 until-line_feed stop r old now moments =
-    throughout-weaker old now (IsInStopped stop r.machine (kept_reading r.begun) old.still.mark) (IsUntil stop [] r old.still.mark) moments
-    (λ g left during. inr (subst (λ (mark : ℕ). IsInStopped stop r.machine (kept_reading r.begun) mark g left) (omega arith) during))
+    throughout-weaker old now (IsInStopped stop r.machine (line_reading r.begun) old.still.mark) (IsUntil stop [] r old.still.mark) moments
+    (λ g left during. inr (subst (λ (mark : ℕ). IsInStopped stop r.machine (line_reading r.begun) mark g left) (omega arith) during))
 
 -- The last line is answered.
-pub at_end-answered : (r : Running) (line : Option (List ℕ)) (old new : Chip) → line ≡ r.begun → is_nothing_kept line ≡ false → IsAnswered r.machine (kept_reading line) old new
+pub at_end-answered : (r : Running) (line : Option (List ℕ)) (old new : Chip) → line ≡ r.begun → is_empty_line line ≡ false → IsAnswered r.machine (line_reading line) old new
     → Throughout old new (IsAtEnd r old.still.mark)
 at_end-answered r line old new is some answered =
-    throughout-weaker old new (IsInAnswered r.machine (kept_reading line) old.still.mark) (IsAtEnd r old.still.mark) answered.moments
+    throughout-weaker old new (IsInAnswered r.machine (line_reading line) old.still.mark) (IsAtEnd r old.still.mark) answered.moments
     (λ g left during. inr (
-      subst (λ (l : Option (List ℕ)). is_nothing_kept l ≡ false) is some,
-      subst (λ (l : Option (List ℕ)). IsInAnswered r.machine (kept_reading l) old.still.mark g left) is during,
+      subst (λ (l : Option (List ℕ)). is_empty_line l ≡ false) is some,
+      subst (λ (l : Option (List ℕ)). IsInAnswered r.machine (line_reading l) old.still.mark g left) is during,
     ))

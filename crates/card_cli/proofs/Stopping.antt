@@ -13,7 +13,7 @@ use Rattle.card.specs.Card.{Kept, IsReady, IsAt}
 use Rattle.card.proofs.Leaving.{Opens-at}
 use Rattle.card_cli.specs.declared.stop.Stop.{Stop}
 use Rattle.card_cli.specs.declared.stop.Stop.TheVariants.{Eeprom, Outlet, Both}
-use Rattle.card_cli.specs.Line.{kept_reading, is_nothing_kept}
+use Rattle.card_cli.specs.Line.{line_reading, is_empty_line}
 use Rattle.card_cli.specs.Running.{Running, from_machine, after, text_of}
 use Rattle.card_cli.specs.RunState.{Prints, RunState, IsRunning, Feeds}
 use Rattle.card_cli.specs.CutOff.{FailsIn, StopsIn, IsCutShort, mute_text}
@@ -21,7 +21,7 @@ use Rattle.card_cli.specs.Moments.{IsInStopped, IfGiven}
 use Rattle.card_cli.proofs.Moving.{until-line_feed, until-then, told-before}
 use Rattle.card_cli.specs.Halting.{FailsAt, HaltsAt, Halts}
 use Rattle.card_cli.proofs.Feeding.{Prints-then}
-use Rattle.card_cli.proofs.Streaming.{open_end, reading-kept, text_of-lines, after-lines, after-append, text_of-append, lines-open, lines-line_feed}
+use Rattle.card_cli.proofs.Streaming.{open_end, line_reading-begun_line, text_of-lines, after-lines, after-append, text_of-append, lines-open, lines-line_feed}
 
 -- where an outlet failed, the first octets that it gave of a text are a start of it
 pub cut_short : {E : Type 0} (result : Result (Unit {0}) E) (text : List ℕ) (before now : Option (List ℕ))
@@ -96,27 +96,27 @@ FailsIn-after stop first text m reading a b now printed fails = record {
 -- a device fails at a line feed
 pub Halts-line_feed : (stop : Stop) (octet : ℕ) (old : RunState) (now : Chip) → octet ≡ 10
     → ((r : Running) → IsRunning old r → FailsAt stop [] r old.chip.still.given now)
-    → ((m : Machine) → IsAt old.card old.chip m → IfGiven now (Throughout old.chip now (IsInStopped stop m (kept_reading old.line) old.chip.still.mark))) → Halts stop (octet ∷ []) old now
+    → ((m : Machine) → IsAt old.card old.chip m → IfGiven now (Throughout old.chip now (IsInStopped stop m (line_reading old.line) old.chip.still.mark))) → Halts stop (octet ∷ []) old now
 Halts-line_feed stop octet old now is fails moments = λ r running. record {
   taken = [];
   rest = [];
   split = ap (λ (o : ℕ). o ∷ []) is;
   fails = fails r running;
   moments = λ told. until-line_feed stop r old.chip now
-      (subst (λ (l : Option (List ℕ)). Throughout old.chip now (IsInStopped stop r.machine (kept_reading l) old.chip.still.mark)) running.line (moments r.machine running.at told));
+      (subst (λ (l : Option (List ℕ)). Throughout old.chip now (IsInStopped stop r.machine (line_reading l) old.chip.still.mark)) running.line (moments r.machine running.at told));
 }
 
 -- the line that fails is the one that has begun
-pub FailsAt-begun : (stop : Stop) (old : RunState) (now : Chip) (r : Running) → old.line ≡ r.begun → FailsIn stop [] r.machine (kept_reading old.line) old.chip.still.given now
+pub FailsAt-begun : (stop : Stop) (old : RunState) (now : Chip) (r : Running) → old.line ≡ r.begun → FailsIn stop [] r.machine (line_reading old.line) old.chip.still.given now
     → FailsAt stop [] r old.chip.still.given now
-FailsAt-begun stop old now r line fails = subst (λ (l : Option (List ℕ)). FailsIn stop [] r.machine (kept_reading l) old.chip.still.given now) line fails
+FailsAt-begun stop old now r line fails = subst (λ (l : Option (List ℕ)). FailsIn stop [] r.machine (line_reading l) old.chip.still.given now) line fails
 
 -- so does one in the last line, which has an octet
-pub fails_last : (result : Result (Unit {0}) Stop) (old : RunState) (now : Chip) (r : Running) → old.line ≡ r.begun → is_nothing_kept old.line ≡ false
-    → IfErr result (λ (stop : Stop). FailsIn stop [] r.machine (kept_reading old.line) old.chip.still.given now)
-    → IfErr result (λ (stop : Stop). (is_nothing_kept r.begun ≡ false) × FailsAt stop [] r old.chip.still.given now)
+pub fails_last : (result : Result (Unit {0}) Stop) (old : RunState) (now : Chip) (r : Running) → old.line ≡ r.begun → is_empty_line old.line ≡ false
+    → IfErr result (λ (stop : Stop). FailsIn stop [] r.machine (line_reading old.line) old.chip.still.given now)
+    → IfErr result (λ (stop : Stop). (is_empty_line r.begun ≡ false) × FailsAt stop [] r old.chip.still.given now)
 fails_last (Ok x) old now r line some fails = tt
-fails_last (Err stop) old now r line some fails = (subst (λ (l : Option (List ℕ)). is_nothing_kept l ≡ false) line some, FailsAt-begun stop old now r line fails)
+fails_last (Err stop) old now r line some fails = (subst (λ (l : Option (List ℕ)). is_empty_line l ≡ false) line some, FailsAt-begun stop old now r line fails)
 
 -- after octets that were taken, and before others
 pub Halts-within : (stop : Stop) (xs ys zs : List ℕ) (a b : RunState) (now : Chip) → Feeds xs a b → Halts stop ys b now → Halts stop (xs ++ (ys ++ zs)) a now
@@ -124,7 +124,7 @@ Halts-within stop xs ys zs a b now feeds halts = λ r running.
     let first = feeds r running in
     let then = halts (after r xs) first.running in
     let fails : FailsAt stop (text_of r xs ++ text_of (after r xs) then.taken) (after (after r xs) then.taken) a.chip.still.given now =
-    FailsIn-after stop (text_of r xs) (text_of (after r xs) then.taken) (after (after r xs) then.taken).machine (kept_reading (after (after r xs) then.taken).begun) a.chip.still.given b.chip.still.given now first.text then.fails in
+    FailsIn-after stop (text_of r xs) (text_of (after r xs) then.taken) (after (after r xs) then.taken).machine (line_reading (after (after r xs) then.taken).begun) a.chip.still.given b.chip.still.given now first.text then.fails in
     record {
       taken = xs ++ then.taken;
       rest = then.rest ++ zs;
@@ -141,7 +141,7 @@ pub FailsIn-lines : (stop : Stop) (m : Machine) (taken : List ℕ) (before : Opt
 FailsIn-lines stop m taken before now fails =
     let text : List ℕ = run_text m (lines taken false) in
     let machine : Machine = machine_after m (lines taken false) in
-    subst (λ (reading : Reading). FailsIn stop text machine reading before now) (reading-kept (open_end taken))
+    subst (λ (reading : Reading). FailsIn stop text machine reading before now) (line_reading-begun_line (open_end taken))
     (subst (λ (r : Running). FailsAt stop text r before now) (after-lines m taken)
     (subst (λ (t : List ℕ). FailsAt stop t (after (from_machine m) taken) before now) (text_of-lines m taken) fails))
 
@@ -156,18 +156,18 @@ StopsIn-halted stop m input old now halts = record {
 
 -- a device fails in the last line, which no line feed ends
 abbrev pub StopsIn-last : (stop : Stop) (m : Machine) (input : List ℕ) (old mid : RunState) (now : Chip) → IsRunning old (from_machine m) → Feeds input old mid
-    → ((r : Running) → IsRunning mid r → (is_nothing_kept r.begun ≡ false) × FailsAt stop [] r mid.chip.still.given now) → StopsIn stop m (lines input true) old.chip.still.given now
+    → ((r : Running) → IsRunning mid r → (is_empty_line r.begun ≡ false) × FailsAt stop [] r mid.chip.still.given now) → StopsIn stop m (lines input true) old.chip.still.given now
 StopsIn-last stop m input old mid now running feeds ends =
     let r : Running = after (from_machine m) input in
     let text : List ℕ = text_of (from_machine m) input in
     let follows = feeds (from_machine m) running in
     let last = ends r follows.running in
     let fails : FailsAt stop (text ++ []) r old.chip.still.given now =
-    FailsIn-after stop text [] r.machine (kept_reading r.begun) old.chip.still.given mid.chip.still.given now follows.text last.1 in
+    FailsIn-after stop text [] r.machine (line_reading r.begun) old.chip.still.given mid.chip.still.given now follows.text last.1 in
     record {
       answered = lines input false;
       line = open_end input;
       rest = [];
-      split = lines-open input (subst (λ (s : Running). is_nothing_kept s.begun ≡ false) (after-lines m input) last.0);
+      split = lines-open input (subst (λ (s : Running). is_empty_line s.begun ≡ false) (after-lines m input) last.0);
       fails = FailsIn-lines stop m input old.chip.still.given now (subst (λ (t : List ℕ). FailsAt stop t r old.chip.still.given now) (append-nil text) fails);
     }

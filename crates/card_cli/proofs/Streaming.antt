@@ -6,24 +6,24 @@ use Rattle.std.proofs.lemmas.List.Splits.{slice_split-cons_yes, slice_split-cons
 use Rattle.std.specs.List.{slice_split, onto_first}
 use Rattle.scql_model.specs.Machine.{Machine}
 use Rattle.scql_model.specs.Lines.{is_line_feed, lines, without_open_end, reading_of, reading_text, reading_step, line_text, line_step, run_text, machine_after}
-use Rattle.card_cli.specs.Line.{longer_by, is_nothing_kept, kept_reading}
+use Rattle.card_cli.specs.Line.{longer_by, is_empty_line, line_reading}
 use Rattle.card_cli.specs.Running.{Running, from_machine, begun_text, after_begun, octet_text, after_octet, text_of, after, end_text, after_end}
 
--- a line as it is kept
-abbrev pub kept : List ℕ → Option (List ℕ)
-kept line = cond (ltb 1000 (length line)) None (Some line)
+-- the octets of a line that has begun so, or none where it is too long
+abbrev pub begun_line : List ℕ → Option (List ℕ)
+begun_line line = cond (ltb 1000 (length line)) None (Some line)
 
-kept-longer_by : (line : List ℕ) (octet : ℕ) → longer_by octet (kept line) ≡ kept (line ++ octet ∷ [])
-kept-longer_by line octet =
+longer_by-begun_line : (line : List ℕ) (octet : ℕ) → longer_by octet (begun_line line) ≡ begun_line (line ++ octet ∷ [])
+longer_by-begun_line line octet =
     let longer : length (line ++ octet ∷ []) ≡ length line + 1 = length-append line (octet ∷ []) in
     grind (arith, nat_tests)
 
-pub reading-kept : (line : List ℕ) → kept_reading (kept line) ≡ reading_of line
-reading-kept line = elim (cases_Bool (ltb 1000 (length line))) [ inl t ↦ rw t | inr e ↦ rw e ]
+pub line_reading-begun_line : (line : List ℕ) → line_reading (begun_line line) ≡ reading_of line
+line_reading-begun_line line = elim (cases_Bool (ltb 1000 (length line))) [ inl t ↦ rw t | inr e ↦ rw e ]
 
--- a line that is kept as an empty one is empty
-is_nothing-kept : (line : List ℕ) → is_nothing_kept (kept line) ≡ eqb (length line) 0
-is_nothing-kept line = grind (arith, nat_tests)
+-- a line that has begun and has no octet is empty
+is_empty_line-begun_line : (line : List ℕ) → is_empty_line (begun_line line) ≡ eqb (length line) 0
+is_empty_line-begun_line line = grind (arith, nat_tests)
 
 -- a line before the first piece
 abbrev with_front : List ℕ → List (List ℕ) → List (List ℕ)
@@ -31,7 +31,7 @@ with_front line [] = line ∷ []
 with_front line (piece ∷ pieces) = (line ++ piece) ∷ pieces
 
 abbrev pub begun : Machine → List ℕ → Running
-begun m line = record { machine = m; begun = kept line }
+begun m line = record { machine = m; begun = begun_line line }
 
 -- what stands behind the last line feed
 abbrev last_piece : List (List ℕ) → List ℕ
@@ -55,13 +55,13 @@ with_front-onto_first : (line : List ℕ) (octet : ℕ) (pieces : List (List ℕ
 with_front-onto_first line octet [] = refl
 with_front-onto_first line octet (piece ∷ pieces) = ap (λ (x : List ℕ). x ∷ pieces) (sym (append_assoc line (octet ∷ []) piece))
 
-begun_text-kept : (m : Machine) (line : List ℕ) → begun_text (begun m line) ≡ line_text m line
+begun_text-begun : (m : Machine) (line : List ℕ) → begun_text (begun m line) ≡ line_text m line
 unfolding line_text
-begun_text-kept m line = ap (reading_text m) (reading-kept line)
+begun_text-begun m line = ap (reading_text m) (line_reading-begun_line line)
 
-after_begun-kept : (m : Machine) (line : List ℕ) → after_begun (begun m line) ≡ begun (line_step m line) []
+after_begun-begun : (m : Machine) (line : List ℕ) → after_begun (begun m line) ≡ begun (line_step m line) []
 unfolding line_step
-after_begun-kept m line = ap (λ r. begun (reading_step m r) []) (reading-kept line)
+after_begun-begun m line = ap (λ r. begun (reading_step m r) []) (line_reading-begun_line line)
 
 -- octets of pieces print the text of all but the last, which has begun afterwards
 record Streams (octets : List ℕ) (r : Running) (m : Machine) (pieces : List (List ℕ)) : Type 0 where
@@ -73,10 +73,10 @@ Streams-line_feed : (octet : ℕ) (octets : List ℕ) (m : Machine) (line piece 
     → Streams octets (begun (line_step m line) []) (line_step m line) (piece ∷ pieces) → Streams (octet ∷ octets) (begun m line) m (line ∷ piece ∷ pieces)
 Streams-line_feed octet octets m line piece pieces is rest = record {
   text = text_is (begun m line)
-      ∙ (ap (λ (x : List ℕ). x ++ text_of (after_begun (begun m line)) octets) (begun_text-kept m line)
-      ∙ (ap (λ (r : Running). line_text m line ++ text_of r octets) (after_begun-kept m line)
+      ∙ (ap (λ (x : List ℕ). x ++ text_of (after_begun (begun m line)) octets) (begun_text-begun m line)
+      ∙ (ap (λ (r : Running). line_text m line ++ text_of r octets) (after_begun-begun m line)
       ∙ ap (λ (x : List ℕ). line_text m line ++ x) rest.text));
-  after = after_is (begun m line) ∙ (ap (λ (r : Running). after r octets) (after_begun-kept m line) ∙ rest.after);
+  after = after_is (begun m line) ∙ (ap (λ (r : Running). after r octets) (after_begun-begun m line) ∙ rest.after);
 }
   where
     text_is : (r : Running) → text_of r (octet ∷ octets) ≡ begun_text r ++ text_of (after_begun r) octets
@@ -89,8 +89,8 @@ Streams-line_feed octet octets m line piece pieces is rest = record {
 Streams-other : (octet : ℕ) (octets : List ℕ) (m : Machine) (line : List ℕ) (pieces : List (List ℕ)) → is_line_feed octet ≡ false
     → Streams octets (begun m (line ++ octet ∷ [])) m pieces → Streams (octet ∷ octets) (begun m line) m pieces
 Streams-other octet octets m line pieces is rest = record {
-  text = text_is (begun m line) ∙ (ap (λ (l : Option (List ℕ)). text_of (record { machine = m; begun = l }) octets) (kept-longer_by line octet) ∙ rest.text);
-  after = after_is (begun m line) ∙ (ap (λ (l : Option (List ℕ)). after (record { machine = m; begun = l }) octets) (kept-longer_by line octet) ∙ rest.after);
+  text = text_is (begun m line) ∙ (ap (λ (l : Option (List ℕ)). text_of (record { machine = m; begun = l }) octets) (longer_by-begun_line line octet) ∙ rest.text);
+  after = after_is (begun m line) ∙ (ap (λ (l : Option (List ℕ)). after (record { machine = m; begun = l }) octets) (longer_by-begun_line line octet) ∙ rest.after);
 }
   where
     text_is : (r : Running) → text_of r (octet ∷ octets) ≡ text_of (record r { begun = longer_by octet r.begun }) octets
@@ -140,11 +140,11 @@ without_open_end-open [] is = absurd cc
 without_open_end-open (piece ∷ []) is = rw is refl
 without_open_end-open (piece ∷ other ∷ pieces) is = ap (λ (x : List (List ℕ)). piece ∷ x) (without_open_end-open (other ∷ pieces) is)
 
-pub lines-open : (octets : List ℕ) → is_nothing_kept (kept (open_end octets)) ≡ false → lines octets true ≡ lines octets false ++ open_end octets ∷ []
-lines-open octets is = without_open_end-open (slice_split is_line_feed octets) (sym (is_nothing-kept (open_end octets)) ∙ is)
+pub lines-open : (octets : List ℕ) → is_empty_line (begun_line (open_end octets)) ≡ false → lines octets true ≡ lines octets false ++ open_end octets ∷ []
+lines-open octets is = without_open_end-open (slice_split is_line_feed octets) (sym (is_empty_line-begun_line (open_end octets)) ∙ is)
 
-lines-closed : (octets : List ℕ) → is_nothing_kept (kept (open_end octets)) ≡ true → lines octets true ≡ lines octets false
-lines-closed octets is = without_open_end-closed (slice_split is_line_feed octets) (sym (is_nothing-kept (open_end octets)) ∙ is)
+lines-closed : (octets : List ℕ) → is_empty_line (begun_line (open_end octets)) ≡ true → lines octets true ≡ lines octets false
+lines-closed octets is = without_open_end-closed (slice_split is_line_feed octets) (sym (is_empty_line-begun_line (open_end octets)) ∙ is)
 
 -- a line feed ends a line, and what follows begins anew
 slice_split-line_feed : (octets : List ℕ) (octet : ℕ) (rest : List ℕ) → is_line_feed octet ≡ true
@@ -237,17 +237,17 @@ text_of-ended m octets =
     let line : List ℕ = open_end octets in
     ap (λ (x : List ℕ). x ++ end_text (after (from_machine m) octets)) (text_of-lines m octets)
     ∙ (ap (λ (r : Running). run_text m whole ++ end_text r) (after-lines m octets)
-    ∙ elim (cases_Bool (is_nothing_kept (kept line))) [
+    ∙ elim (cases_Bool (is_empty_line (begun_line line))) [
       | inl t ↦ rw t (append-nil (run_text m whole) ∙ ap (run_text m) (sym (lines-closed octets t)))
-      | inr e ↦ rw e (ap (λ (x : List ℕ). run_text m whole ++ x) (begun_text-kept (machine_after m whole) line) ∙ (sym (run_text-more m whole line) ∙ ap (run_text m) (sym (lines-open octets e))))
+      | inr e ↦ rw e (ap (λ (x : List ℕ). run_text m whole ++ x) (begun_text-begun (machine_after m whole) line) ∙ (sym (run_text-more m whole line) ∙ ap (run_text m) (sym (lines-open octets e))))
     ])
 
 pub after_end-lines : (m : Machine) (octets : List ℕ) → (after_end (after (from_machine m) octets)).machine ≡ machine_after m (lines octets true)
 after_end-lines m octets =
     ap (λ (r : Running). (after_end r).machine) (after-lines m octets)
-    ∙ elim (cases_Bool (is_nothing_kept (kept (open_end octets)))) [
+    ∙ elim (cases_Bool (is_empty_line (begun_line (open_end octets)))) [
       | inl t ↦ rw t (ap (machine_after m) (sym (lines-closed octets t)))
-      | inr e ↦ rw e (ap (λ (r : Running). r.machine) (after_begun-kept (machine_after m (lines octets false)) (open_end octets))
+      | inr e ↦ rw e (ap (λ (r : Running). r.machine) (after_begun-begun (machine_after m (lines octets false)) (open_end octets))
           ∙ (sym (machine_after-more m (lines octets false) (open_end octets)) ∙ ap (machine_after m) (sym (lines-open octets e))))
     ]
 

@@ -17,8 +17,8 @@ use Rattle.card_cli.specs.declared.status.Status.TheVariants.{Done, ReadFault, T
 use Rattle.card_cli.specs.StatusNumber.{status_of}
 use Rattle.card_cli.specs.Running.{Running, from_machine, after, text_of, end_text, after_end}
 use Rattle.card_cli.specs.RunState.{Prints, RunState, IsRunning, Feeds, Faults, Causes}
-use Rattle.card_cli.specs.Ends.{LeavesOff, longest_input}
-use Rattle.card_cli.specs.Line.{kept_reading, is_nothing_kept}
+use Rattle.card_cli.specs.Ends.{EndsAs, longest_input}
+use Rattle.card_cli.specs.Line.{line_reading, is_empty_line}
 use Rattle.card_cli.specs.Moments.{IsInStopped, IsAtEnd, IfGiven}
 use Rattle.card_cli.specs.Keeping.{AreKept, AreAllKept, KeepsTo, carried_out}
 use Rattle.card_cli.proofs.Keeping.{kept-taken, kept-until, kept-ended, until-last}
@@ -38,15 +38,15 @@ pub record HasTaken (room : ℕ) (old new : RunState) (input left : List ℕ) : 
 
 -- How a run over its input ends, of which this is left, and what is kept at each moment of it, where what was given is told.
 pub record Ends (status : Status) (from to : ℕ) (m : Machine) (old new : Chip) (input left : List ℕ) : Type 0 where
-  pub leaves : LeavesOff status from to m input left old.still.given new
+  pub ended : EndsAs status from to m input left old.still.given new
   pub keeps : IfGiven new (KeepsTo status from to m input left old new)
 
 -- how it ends
-pub Ends-leaves : {status : Status} {from to : ℕ} {m : Machine} {old new : Chip} {start now : Option (List ℕ)} → Becomes (Ends status from to m old new) start now
-    → Becomes (λ input left. LeavesOff status from to m input left old.still.given new) start now
-Ends-leaves ends = λ left told.
+pub Ends-ended : {status : Status} {from to : ℕ} {m : Machine} {old new : Chip} {start now : Option (List ℕ)} → Becomes (Ends status from to m old new) start now
+    → Becomes (λ input left. EndsAs status from to m input left old.still.given new) start now
+Ends-ended ends = λ left told.
     let last = ends left told in
-    (last.0, last.1, last.2.leaves)
+    (last.0, last.1, last.2.ended)
 
 -- what is kept
 pub Ends-keeps : {status : Status} {from to : ℕ} {m : Machine} {old new : Chip} {start now : Option (List ℕ)} → Becomes (Ends status from to m old new) start now
@@ -96,7 +96,7 @@ Ends-read_fault from to room old mid start before now m ready running so_far sam
       first.0,
       first.1,
       record {
-        leaves = (taken, first.2.split, HasAnswered-taken taken old mid m ready running first.2.feeds);
+        ended = (taken, first.2.split, HasAnswered-taken taken old mid m ready running first.2.feeds);
         keeps = λ given. (taken, first.2.split, kept-taken m taken old.chip mid.chip ((first.2.feeds (from_machine m) running).passes given).moments);
       },
     )
@@ -127,7 +127,7 @@ Ends-done from to room piece old mid new start before now m running so_far takes
       input,
       found.1,
       record {
-        leaves = record {
+        ended = record {
           text = subst (λ (t : List ℕ). Prints t old.chip.still.given new.chip.still.given) (text_of-ended m input)
               (Prints-then (text_of (from_machine m) input) (end_text r) old.chip.still.given mid.chip.still.given new.chip.still.given follows.text printed);
           image = Opens-at new.card new.chip (machine_after m (lines input true)) ready (subst (λ (after : Machine). IsAt new.card new.chip after) (after_end-lines m input) (at r follows.running));
@@ -192,33 +192,33 @@ Ends-too_long from to room count piece old mid new start before now m over withi
       found.0,
       found.1,
       record {
-        leaves = subst (λ (taken : List ℕ). HasAnswered m (lines taken false) old.chip.still.given new.chip) (sym all.1) (HasAnswered-taken whole old new m ready running fed);
+        ended = subst (λ (taken : List ℕ). HasAnswered m (lines taken false) old.chip.still.given new.chip) (sym all.1) (HasAnswered-taken whole old new m ready running fed);
         keeps = λ given. subst (λ (taken : List ℕ). AreAllKept m (lines taken false) old.chip new.chip) (sym all.1)
             (kept-taken m whole old.chip new.chip ((fed (from_machine m) running).passes given).moments);
       },
     )
 
--- where both devices failed the EEPROM's count rose
-abbrev pub RoseAt : Stop → ℕ → ℕ → Type 0
-RoseAt Both from to = Rose from to
-RoseAt stop from to = Unit {0}
+-- At a stop the EEPROM's count of faults stays where the outlet alone failed, and rose else.
+abbrev pub CountsAt : Stop → ℕ → ℕ → Type 0
+CountsAt Outlet from to = to ≡ from
+CountsAt stop from to = Rose from to
 
-pub rose-at : (stop : Stop) (start : ℕ) (old new : Faults) → old.eeprom ≡ start → Causes {T = Unit {0}} old new (Err stop) → RoseAt stop start new.eeprom
-rose-at Eeprom start old new same causes = tt
-rose-at Outlet start old new same causes = tt
-rose-at Both start old new same causes = subst (λ (n : ℕ). Rose n new.eeprom) same (causes.both refl).0
+pub counts-at : (stop : Stop) (start : ℕ) (old new : Faults) → old.eeprom ≡ start → Causes {T = Unit {0}} old new (Err stop) → CountsAt stop start new.eeprom
+counts-at Eeprom start old new same causes = subst (λ (n : ℕ). Rose n new.eeprom) same (causes.eeprom refl)
+counts-at Outlet start old new same causes = causes.eeprom_stays refl ∙ same
+counts-at Both start old new same causes = subst (λ (n : ℕ). Rose n new.eeprom) same (causes.both refl).0
 
-Ends-stopped : (stop : Stop) (from to : ℕ) (m : Machine) (input left : List ℕ) (old now : Chip) → RoseAt stop from to → (stops : StopsIn stop m (lines input true) old.still.given now)
+Ends-stopped : (stop : Stop) (from to : ℕ) (m : Machine) (input left : List ℕ) (old now : Chip) → CountsAt stop from to → (stops : StopsIn stop m (lines input true) old.still.given now)
     → IfGiven now (AreKept m (lines input true) (carried_out stop stops.answered) old now) → Ends (status_of stop) from to m old now input left
-Ends-stopped Eeprom from to m input left old now rose stops kept = record { leaves = stops; keeps = λ given. (stops, kept given) }
-Ends-stopped Outlet from to m input left old now rose stops kept = record { leaves = inl stops; keeps = λ given. inl (stops, kept given) }
-Ends-stopped Both from to m input left old now rose stops kept = record { leaves = inr (rose, stops); keeps = λ given. inr (rose, (stops, kept given)) }
+Ends-stopped Eeprom from to m input left old now counts stops kept = record { ended = stops; keeps = λ given. (stops, kept given) }
+Ends-stopped Outlet from to m input left old now counts stops kept = record { ended = inl (counts, stops); keeps = λ given. inl (counts, (stops, kept given)) }
+Ends-stopped Both from to m input left old now counts stops kept = record { ended = inr (counts, stops); keeps = λ given. inr (counts, (stops, kept given)) }
 
 -- a device stopped the run among the octets of a piece, of which so many were looked at
-pub Ends-halted : (stop : Stop) (from to : ℕ) → RoseAt stop from to → (room count k : ℕ) (piece : List ℕ) (old mid : RunState) (now : Chip) (start before taken : Option (List ℕ)) (m : Machine) → k ≤ count
+pub Ends-halted : (stop : Stop) (from to : ℕ) → CountsAt stop from to → (room count k : ℕ) (piece : List ℕ) (old mid : RunState) (now : Chip) (start before taken : Option (List ℕ)) (m : Machine) → k ≤ count
     → IsRunning old (from_machine m) → Becomes (HasTaken room old mid) start before → Takes count piece before taken → Halts stop (take k piece) mid now
     → Becomes (Ends (status_of stop) from to m old.chip now) start taken
-Ends-halted stop from to rose room count k piece old mid now start before taken m fits running so_far takes halts = λ left told.
+Ends-halted stop from to counts room count k piece old mid now start before taken m fits running so_far takes halts = λ left told.
     let found = looks_at room count k piece old mid start before taken fits so_far takes left told in
     let seen = found.2 in
     let halted : HaltsAt stop found.0 (from_machine m) old.chip now =
@@ -226,26 +226,26 @@ Ends-halted stop from to rose room count k piece old mid now start before taken 
     let cut : lines found.0 true ≡ lines halted.taken false ++ open_end halted.taken ∷ lines halted.rest true = ap (λ (x : List ℕ). lines x true) halted.split ∙ lines-line_feed halted.taken halted.rest true in (
       found.0,
       found.1,
-      Ends-stopped stop from to m found.0 left old.chip now rose (StopsIn-halted stop m found.0 old.chip now halted)
+      Ends-stopped stop from to m found.0 left old.chip now counts (StopsIn-halted stop m found.0 old.chip now halted)
           (λ given. kept-until stop m found.0 halted.taken (10 ∷ halted.rest) (lines halted.rest true) old.chip now halted.split cut (halted.moments given)),
     )
 
 -- a device stopped the run in the last line
-pub Ends-last : (stop : Stop) (from to : ℕ) → RoseAt stop from to → (room : ℕ) (piece : List ℕ) (old mid : RunState) (now : Chip) (start before taken : Option (List ℕ)) (m : Machine)
+pub Ends-last : (stop : Stop) (from to : ℕ) → CountsAt stop from to → (room : ℕ) (piece : List ℕ) (old mid : RunState) (now : Chip) (start before taken : Option (List ℕ)) (m : Machine)
     → IsRunning old (from_machine m) → Becomes (HasTaken room old mid) start before → Takes 0 piece before taken
-    → ((r : Running) → IsRunning mid r → (is_nothing_kept r.begun ≡ false) × FailsAt stop [] r mid.chip.still.given now)
-    → ((r : Running) → IsRunning mid r → IfGiven now (Throughout mid.chip now (IsInStopped stop r.machine (kept_reading r.begun) mid.chip.still.mark)))
+    → ((r : Running) → IsRunning mid r → (is_empty_line r.begun ≡ false) × FailsAt stop [] r mid.chip.still.given now)
+    → ((r : Running) → IsRunning mid r → IfGiven now (Throughout mid.chip now (IsInStopped stop r.machine (line_reading r.begun) mid.chip.still.mark)))
     → Becomes (Ends (status_of stop) from to m old.chip now) start taken
-Ends-last stop from to rose room piece old mid now start before taken m running so_far takes ends last = λ left told.
+Ends-last stop from to counts room piece old mid now start before taken m running so_far takes ends last = λ left told.
     let found = taken_all room piece old mid start before taken so_far takes left told in
     let input : List ℕ = found.0 in
     let r : Running = after (from_machine m) input in
     let follows = found.2 (from_machine m) running in
     let failing = ends r follows.running in
-    let cut : lines input true ≡ lines input false ++ open_end input ∷ [] = lines-open input (subst (λ (s : Running). is_nothing_kept s.begun ≡ false) (after-lines m input) failing.0) in (
+    let cut : lines input true ≡ lines input false ++ open_end input ∷ [] = lines-open input (subst (λ (s : Running). is_empty_line s.begun ≡ false) (after-lines m input) failing.0) in (
       input,
       found.1,
-      Ends-stopped stop from to m input left old.chip now rose (StopsIn-last stop m input old mid now running found.2 ends)
+      Ends-stopped stop from to m input left old.chip now counts (StopsIn-last stop m input old mid now running found.2 ends)
           (λ given.
           let given_before : IsSome mid.chip.still.given = told-before failing.1.said mid.chip.still.given now.still.given failing.1.given given in
           kept-until stop m input input [] [] old.chip now (sym (append-nil input)) cut (until-last stop input (from_machine m) old.chip mid.chip now (follows.passes given_before) (last r follows.running given))),

@@ -1,6 +1,7 @@
 -- Where a run ends: what was given until then, and to which databases the image may open.
-use Rattle.std.specs.Prelude.{◌≡◌, ℕ, List, ◌∷◌, ◌++◌, Option, Some, codes}
+use Rattle.std.specs.Prelude.{◌≡◌, ◌⊎◌, ℕ, List, ◌∷◌, ◌++◌, Option, Some, codes}
 use Rattle.eeprom.specs.Chip.{Chip}
+use Rattle.eeprom.specs.Fault.{Rose}
 use Rattle.scql_model.specs.Machine.{Machine}
 use Rattle.scql_model.specs.Lines.{Reading, reading_of, reading_text, reading_step, reading_commits, run_text, machine_after}
 use Rattle.scql_model.specs.Opens.{Opens, OpensToOneOf}
@@ -46,6 +47,10 @@ pub record StopsIn (stop : Stop) (m : Machine) (lines : List (List ℕ)) (before
   pub rest : List (List ℕ)
   pub split : lines ≡ answered ++ line ∷ rest
   pub fails : FailsIn stop (run_text m answered) (machine_after m answered) (reading_of line) before now
+
+-- The outlet failed while the EEPROM's count of faults went from one number to another: alone, where that count stayed, or behind the EEPROM, where it rose. This is so of that stop.
+abbrev pub OutletFails : ℕ → ℕ → (Stop → Type 0) → Type 0
+OutletFails from to P = ((to ≡ from) × P Outlet) ⊎ (Rose from to × P Both)
 
 -- An outlet failed, and gave the start of a text.
 pub record IsCutShort (text : List ℕ) (before now : Option (List ℕ)) : Type 0 where

@@ -1,5 +1,5 @@
 -- How a run over its input ends.
-use Rattle.std.specs.Prelude.{◌≡◌, ◌⊎◌, ℕ, Bool, true, false, List, ◌++◌, take, Option}
+use Rattle.std.specs.Prelude.{◌≡◌, ◌≤◌, ℕ, Bool, true, false, List, ◌++◌, take, Option}
 use Rattle.eeprom.specs.Chip.{Chip}
 use Rattle.eeprom.specs.Fault.{Rose}
 use Rattle.scql_model.specs.Machine.{Machine}
@@ -7,7 +7,7 @@ use Rattle.scql_model.specs.Lines.{lines}
 use Rattle.card_cli.specs.declared.status.Status.{Status}
 use Rattle.card_cli.specs.declared.status.Status.TheVariants.{Done, Eeprom, ReadFault, WriteFault, TooLong}
 use Rattle.card_cli.specs.declared.stop.Stop.TheVariants as stop
-use Rattle.card_cli.specs.CutOff.{HasAnswered, StopsIn}
+use Rattle.card_cli.specs.CutOff.{HasAnswered, StopsIn, OutletFails}
 
 -- how many octets of input a run takes
 abbrev pub longest_input : ℕ
@@ -19,11 +19,11 @@ pub record AllFaults : Type 0 where
   pub source : ℕ
   pub outlet : ℕ
 
--- How the counts of faults move where a run ends so: a device that failed counted it, and else they stay. Of several faults the last one tells.
+-- How the counts of faults move where a run ends so: a device that failed counted it, and else they stay. Of several faults the last one tells: before the outlet the EEPROM may have failed.
 abbrev pub EndsBy : Status → AllFaults → AllFaults → Type 0
 EndsBy Eeprom old new = Rose old.eeprom new.eeprom × (new.source ≡ old.source) × (new.outlet ≡ old.outlet)
 EndsBy ReadFault old new = Rose old.source new.source × (new.eeprom ≡ old.eeprom) × (new.outlet ≡ old.outlet)
-EndsBy WriteFault old new = Rose old.outlet new.outlet × (new.source ≡ old.source)
+EndsBy WriteFault old new = Rose old.outlet new.outlet × (new.source ≡ old.source) × (old.eeprom ≤ new.eeprom)
 EndsBy status old new = new ≡ old
 
 -- the ends of a run over its input
@@ -43,12 +43,11 @@ has_read ReadFault = true
 has_read WriteFault = true
 has_read status = false
 
--- How a run of lines from a machine on ends, of whose input this is left, where the EEPROM's count of faults goes from one number to another.
-abbrev pub LeavesOff : Status → ℕ → ℕ → Machine → List ℕ → List ℕ → Option (List ℕ) → Chip → Type 0
-LeavesOff Done from to m input left before now = HasAnswered m (lines input true) before now
-LeavesOff ReadFault from to m input left before now = (taken : List ℕ) × (input ≡ taken ++ left) × HasAnswered m (lines taken false) before now
-LeavesOff TooLong from to m input left before now = HasAnswered m (lines (take longest_input input) false) before now
-LeavesOff Eeprom from to m input left before now = StopsIn stop.Eeprom m (lines input true) before now
-LeavesOff WriteFault from to m input left before now =
-    StopsIn stop.Outlet m (lines input true) before now ⊎ (Rose from to × StopsIn stop.Both m (lines input true) before now)
-LeavesOff status from to m input left before now = ⊥
+-- How a run of lines from a machine on ends, of whose input this is left, where the EEPROM's count of faults goes from one number to another: which lines were answered, and in which one a device failed.
+abbrev pub EndsAs : Status → ℕ → ℕ → Machine → List ℕ → List ℕ → Option (List ℕ) → Chip → Type 0
+EndsAs Done from to m input left before now = HasAnswered m (lines input true) before now
+EndsAs ReadFault from to m input left before now = (taken : List ℕ) × (input ≡ taken ++ left) × HasAnswered m (lines taken false) before now
+EndsAs TooLong from to m input left before now = HasAnswered m (lines (take longest_input input) false) before now
+EndsAs Eeprom from to m input left before now = StopsIn stop.Eeprom m (lines input true) before now
+EndsAs WriteFault from to m input left before now = OutletFails from to (λ stop. StopsIn stop m (lines input true) before now)
+EndsAs status from to m input left before now = ⊥

@@ -1,7 +1,6 @@
 -- What a power loss leaves at any moment of a run over its input.
-use Rattle.std.specs.Prelude.{◌≡◌, ◌⊎◌, ℕ, ◌+◌, true, false, List, ◌++◌, length, take, IfSome}
+use Rattle.std.specs.Prelude.{◌≡◌, ℕ, ◌+◌, true, false, List, ◌++◌, length, take, IfSome}
 use Rattle.eeprom.specs.Chip.{Chip, Throughout}
-use Rattle.eeprom.specs.Fault.{Rose}
 use Rattle.scql_model.specs.Database.{Database}
 use Rattle.scql_model.specs.Machine.{Machine, start}
 use Rattle.scql_model.specs.Lines.{lines}
@@ -14,12 +13,12 @@ use Rattle.card_cli.specs.declared.stop.Stop.TheVariants.{Outlet}
 use Rattle.card_cli.specs.declared.stop.Stop.TheVariants as stop
 use Rattle.card_cli.specs.declared.words.Form.{Form}
 use Rattle.card_cli.specs.Beginning.{LeavesUntilOpen}
-use Rattle.card_cli.specs.CutOff.{StopsIn}
+use Rattle.card_cli.specs.CutOff.{StopsIn, OutletFails}
 use Rattle.card_cli.specs.Ends.{longest_input}
 
--- At each moment from old on to new a power loss leaves what is kept of these lines, of which the first so many are counted: those that were carried out without a fault of the EEPROM. The octets that have gone out count from old on.
+-- At each moment from old on to new a power loss leaves what is kept of these lines, of which the first so many are clean: those that were carried out without a fault of the EEPROM. The octets that have gone out count from old on.
 abbrev pub AreKept : Machine → List (List ℕ) → ℕ → Chip → Chip → Type 0
-AreKept m lines counted old new = Throughout old new (λ g left. (out : ℕ) × (g ≡ old.still.mark + out) × IsKept m lines counted out left)
+AreKept m lines clean old new = Throughout old new (λ g image. (out : ℕ) × (g ≡ old.still.mark + out) × IsKept m lines clean out image)
 
 -- the same of lines that all were carried out
 abbrev pub AreAllKept : Machine → List (List ℕ) → Chip → Chip → Type 0
@@ -41,7 +40,7 @@ KeepsTo Done from to m input left old new = AreAllKept m (lines input true) old 
 KeepsTo ReadFault from to m input left old new = (taken : List ℕ) × (input ≡ taken ++ left) × AreAllKept m (lines taken false) old new
 KeepsTo TooLong from to m input left old new = AreAllKept m (lines (take longest_input input) false) old new
 KeepsTo Eeprom from to m input left old new = AreKeptUntil stop.Eeprom m input old new
-KeepsTo WriteFault from to m input left old new = AreKeptUntil Outlet m input old new ⊎ (Rose from to × AreKeptUntil stop.Both m input old new)
+KeepsTo WriteFault from to m input left old new = OutletFails from to (λ stop. AreKeptUntil stop m input old new)
 KeepsTo status from to m input left old new = ⊥
 
 -- The card of this form was opened at this database, and its run over the input ended so. Until it was open a power loss leaves what it leaves in that form, and from then on what is kept of the lines.

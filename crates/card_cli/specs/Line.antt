@@ -2,28 +2,29 @@
 use Rattle.std.specs.Prelude.{ℕ, ◌==◌, nat_lt, Bool, false, List, [], ◌∷◌, ◌++◌, length, Option, Some, None, if◌then◌else◌}
 use Rattle.scql_model.specs.Lines as model
 use Rattle.card_cli.specs.declared.line.Line.{Line}
-use Rattle.card_cli.specs.declared.line.Line.TheVariants.{Kept, TooLong}
+use Rattle.card_cli.specs.declared.line.Line.TheVariants.{Octets, TooLong}
 use Rattle.card_cli.specs.declared.line.Reading.{Reading}
 use Rattle.card_cli.specs.declared.line.Reading.TheVariants.{TooLong as ReadTooLong, Nothing, Reset, NotHexadecimal, Command}
 
 -- its octets, or none where it is too long
-abbrev pub kept_line : Line → Option (List ℕ)
-kept_line (Kept octets) = Some octets.items
-kept_line TooLong = None
+abbrev pub line_octets : Line → Option (List ℕ)
+line_octets (Octets octets) = Some octets.items
+line_octets TooLong = None
 
 -- one octet more
 abbrev pub longer_by : ℕ → Option (List ℕ) → Option (List ℕ)
 longer_by octet None = None
 longer_by octet (Some line) = if nat_lt (length line) model.longest_line then Some (line ++ octet ∷ []) else None
 
-abbrev pub is_nothing_kept : Option (List ℕ) → Bool
-is_nothing_kept None = false
-is_nothing_kept (Some line) = length line == 0
+-- no octet of it has come in
+abbrev pub is_empty_line : Option (List ℕ) → Bool
+is_empty_line None = false
+is_empty_line (Some line) = length line == 0
 
--- what a line is that is kept so
-abbrev pub kept_reading : Option (List ℕ) → model.Reading
-kept_reading None = model.too_long
-kept_reading (Some line) = model.reading_without_blanks (model.without_blanks line)
+-- what a line is, told by its octets
+abbrev pub line_reading : Option (List ℕ) → model.Reading
+line_reading None = model.too_long
+line_reading (Some line) = model.reading_without_blanks (model.without_blanks line)
 
 abbrev pub reading_view : Reading → model.Reading
 reading_view ReadTooLong = model.too_long

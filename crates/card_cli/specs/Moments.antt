@@ -6,24 +6,24 @@ use Rattle.scql_model.specs.Lines.{Reading, reading_text, reading_step, reading_
 use Rattle.scql_model.specs.Opens.{Opens, OpensToOneOf}
 use Rattle.card_cli.specs.declared.stop.Stop.{Stop}
 use Rattle.card_cli.specs.declared.stop.Stop.TheVariants.{Outlet}
-use Rattle.card_cli.specs.Line.{kept_reading, is_nothing_kept}
+use Rattle.card_cli.specs.Line.{line_reading, is_empty_line}
 use Rattle.card_cli.specs.Running.{Running, after, text_of}
 
 -- In a line that was begun at this mark: the image opens to the database before it, or to one that it commits.
-pub record IsInLine (m : Machine) (reading : Reading) (mark g : ℕ) (left : List ℕ) : Type 0 where
+pub record IsInLine (m : Machine) (reading : Reading) (mark g : ℕ) (image : List ℕ) : Type 0 where
   pub later : mark ≤ g
-  pub opens : OpensToOneOf (m.committed ∷ reading_commits m reading) left
+  pub opens : OpensToOneOf (m.committed ∷ reading_commits m reading) image
 
 -- In a line that is answered: at most its text has gone out, and the first octet of it not before all that the line commits.
-pub record IsInAnswered (m : Machine) (reading : Reading) (mark g : ℕ) (left : List ℕ) : Type 0 where
-  pub line : IsInLine m reading mark g left
+pub record IsInAnswered (m : Machine) (reading : Reading) (mark g : ℕ) (image : List ℕ) : Type 0 where
+  pub line : IsInLine m reading mark g image
   pub within : g ≤ mark + length (reading_text m reading)
-  pub done : mark < g → Opens left (reading_step m reading).committed
+  pub done : mark < g → Opens image (reading_step m reading).committed
 
 -- in a line in which a device fails, which was carried out where the outlet alone does
 abbrev pub IsInStopped : Stop → Machine → Reading → ℕ → ℕ → List ℕ → Type 0
-IsInStopped Outlet m reading mark g left = IsInAnswered m reading mark g left
-IsInStopped stop m reading mark g left = IsInLine m reading mark g left
+IsInStopped Outlet m reading mark g image = IsInAnswered m reading mark g image
+IsInStopped stop m reading mark g image = IsInLine m reading mark g image
 
 -- An answer raised the mark by its text.
 pub record IsAnswered (m : Machine) (reading : Reading) (old new : Chip) : Type 0 where
@@ -31,35 +31,35 @@ pub record IsAnswered (m : Machine) (reading : Reading) (old new : Chip) : Type 
   pub moments : Throughout old new (IsInAnswered m reading old.still.mark)
 
 -- Between two octets of input the image opens to the database of the machine there.
-pub record IsBetween (octets : List ℕ) (r : Running) (mark g : ℕ) (left : List ℕ) : Type 0 where
+pub record IsBetween (octets : List ℕ) (r : Running) (mark g : ℕ) (image : List ℕ) : Type 0 where
   pub taken : List ℕ
   pub rest : List ℕ
   pub split : octets ≡ taken ++ rest
   pub mark_is : g ≡ mark + length (text_of r taken)
-  pub opens : Opens left (after r taken).machine.committed
+  pub opens : Opens image (after r taken).machine.committed
 
 -- A line is answered, which a line feed among the octets ends.
-pub record IsAnswering (octets : List ℕ) (r : Running) (mark g : ℕ) (left : List ℕ) : Type 0 where
+pub record IsAnswering (octets : List ℕ) (r : Running) (mark g : ℕ) (image : List ℕ) : Type 0 where
   pub taken : List ℕ
   pub rest : List ℕ
   pub split : octets ≡ taken ++ 10 ∷ rest
-  pub answered : IsInAnswered (after r taken).machine (kept_reading (after r taken).begun) (mark + length (text_of r taken)) g left
+  pub answered : IsInAnswered (after r taken).machine (line_reading (after r taken).begun) (mark + length (text_of r taken)) g image
 
 -- while octets of input are taken
 abbrev pub IsWhile : List ℕ → Running → ℕ → ℕ → List ℕ → Type 0
-IsWhile octets r mark g left = IsBetween octets r mark g left ⊎ IsAnswering octets r mark g left
+IsWhile octets r mark g image = IsBetween octets r mark g image ⊎ IsAnswering octets r mark g image
 
 -- while octets are taken, or in the line that has begun behind them, in which a device fails
 abbrev pub IsUntil : Stop → List ℕ → Running → ℕ → ℕ → List ℕ → Type 0
-IsUntil stop octets r mark g left =
-    IsWhile octets r mark g left
-    ⊎ IsInStopped stop (after r octets).machine (kept_reading (after r octets).begun) (mark + length (text_of r octets)) g left
+IsUntil stop octets r mark g image =
+    IsWhile octets r mark g image
+    ⊎ IsInStopped stop (after r octets).machine (line_reading (after r octets).begun) (mark + length (text_of r octets)) g image
 
 -- at the end of the input, where a line that has begun is answered
 abbrev pub IsAtEnd : Running → ℕ → ℕ → List ℕ → Type 0
-IsAtEnd r mark g left =
-    ((g ≡ mark) × Opens left r.machine.committed)
-    ⊎ ((is_nothing_kept r.begun ≡ false) × IsInAnswered r.machine (kept_reading r.begun) mark g left)
+IsAtEnd r mark g image =
+    ((g ≡ mark) × Opens image r.machine.committed)
+    ⊎ ((is_empty_line r.begun ≡ false) × IsInAnswered r.machine (line_reading r.begun) mark g image)
 
 -- Octets of input raise the mark by their text.
 pub record Passes (octets : List ℕ) (r : Running) (old new : Chip) : Type 0 where

@@ -37,12 +37,13 @@ pub record Faults : Type 0 where
   pub eeprom : ℕ
   pub outlet : ℕ
 
--- Each stop has its cause, and where there is none the counts stay. Of several faults the last one is the stop's.
+-- Each stop has its cause: the count of a device that failed rises, and that of one that didn't stays. No count falls.
 pub record Causes {T : Type 0} (old new : Faults) (result : Result T Stop) : Type 0 where
   pub quiet : OnOk result (new ≡ old)
   pub eeprom : IsErrOf result Eeprom → Rose old.eeprom new.eeprom
   pub outlet_stays : IsErrOf result Eeprom → new.outlet ≡ old.outlet
   pub outlet : IsErrOf result Outlet → Rose old.outlet new.outlet
+  pub eeprom_stays : IsErrOf result Outlet → new.eeprom ≡ old.eeprom
   pub both : IsErrOf result Both → Rose old.eeprom new.eeprom × Rose old.outlet new.outlet
   pub eeprom_later : old.eeprom ≤ new.eeprom
   pub outlet_later : old.outlet ≤ new.outlet

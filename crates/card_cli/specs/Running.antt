@@ -1,8 +1,8 @@
--- A run, octet by octet: what is printed, and what is kept between two octets.
+-- A run, octet by octet: what is printed, and what has come in between two octets.
 use Rattle.std.specs.Prelude.{ℕ, List, [], ◌∷◌, ◌++◌, Option, Some, if◌then◌else◌}
 use Rattle.scql_model.specs.Machine.{Machine}
 use Rattle.scql_model.specs.Lines.{is_line_feed, reading_text, reading_step}
-use Rattle.card_cli.specs.Line.{longer_by, is_nothing_kept, kept_reading}
+use Rattle.card_cli.specs.Line.{longer_by, is_empty_line, line_reading}
 
 -- the machine, and the line that has begun, or none where it is too long
 pub record Running : Type 0 where
@@ -15,10 +15,10 @@ from_machine m = record { machine = m; begun = Some [] }
 
 -- the text of the line that has begun, as a whole line, and the run after it
 abbrev pub begun_text : Running → List ℕ
-begun_text r = reading_text r.machine (kept_reading r.begun)
+begun_text r = reading_text r.machine (line_reading r.begun)
 
 abbrev pub after_begun : Running → Running
-after_begun r = from_machine (reading_step r.machine (kept_reading r.begun))
+after_begun r = from_machine (reading_step r.machine (line_reading r.begun))
 
 -- one octet more
 abbrev pub octet_text : Running → ℕ → List ℕ
@@ -37,7 +37,7 @@ after r (octet ∷ octets) = after (after_octet r octet) octets
 
 -- what is printed at the end of the input: the text of the last line, where it has an octet; and the run after it
 abbrev pub end_text : Running → List ℕ
-end_text r = if is_nothing_kept r.begun then [] else begun_text r
+end_text r = if is_empty_line r.begun then [] else begun_text r
 
 abbrev pub after_end : Running → Running
-after_end r = if is_nothing_kept r.begun then r else after_begun r
+after_end r = if is_empty_line r.begun then r else after_begun r

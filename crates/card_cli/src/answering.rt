@@ -6,7 +6,7 @@ ghost use Rattle.scql_model.specs.Step.{step};
 ghost use Rattle.scql_model.specs.Lines as model;
 ghost use Rattle.card.specs.Card.{IsReady, IsAt};
 ghost use Rattle.card.specs.Answering.{reply_of};
-ghost use Rattle.card_cli.specs.Line.{kept_line, kept_reading};
+ghost use Rattle.card_cli.specs.Line.{line_octets, line_reading};
 ghost use Rattle.card_cli.specs.RunState.{Prints, Feeds, Faults, Causes};
 ghost use Rattle.card_cli.specs.CutOff.{FailsIn, IsCutShort};
 ghost use Rattle.card_cli.specs.Halting.{Halts};
@@ -33,10 +33,10 @@ pub(crate) fn take_octets<B: Bench>(
 ) -> Result<(), Stop>
     requires ready { IsReady card.old (B.chip bench.old) }
     ensures halts { IfErr result (λ stop. Halts stop octets.now
-        (record { card = card.old; line = kept_line line.old; chip = B.chip bench.old }) (B.chip bench.new)) }
+        (record { card = card.old; line = line_octets line.old; chip = B.chip bench.old }) (B.chip bench.new)) }
     ensures feeds { OnOk result (Feeds octets.now
-        (record { card = card.old; line = kept_line line.old; chip = B.chip bench.old })
-        (record { card = card.new; line = kept_line line.new; chip = B.chip bench.new })) }
+        (record { card = card.old; line = line_octets line.old; chip = B.chip bench.old })
+        (record { card = card.new; line = line_octets line.new; chip = B.chip bench.new })) }
     ensures ready { OnOk result (IsReady card.new (B.chip bench.new)) }
     ensures causes { Causes (record { eeprom = B.faults bench.old; outlet = B.sink_faults bench.old }) (record { eeprom = B.faults bench.new; outlet = B.sink_faults bench.new }) result }
 {
@@ -54,10 +54,10 @@ fn take_octet<B: Bench>(
 ) -> Result<(), Stop>
     requires ready { IsReady card.old (B.chip bench.old) }
     ensures halts { IfErr result (λ stop. Halts stop (octet ∷ [])
-        (record { card = card.old; line = kept_line line.old; chip = B.chip bench.old }) (B.chip bench.new)) }
+        (record { card = card.old; line = line_octets line.old; chip = B.chip bench.old }) (B.chip bench.new)) }
     ensures feeds { OnOk result (Feeds (octet ∷ [])
-        (record { card = card.old; line = kept_line line.old; chip = B.chip bench.old })
-        (record { card = card.new; line = kept_line line.new; chip = B.chip bench.new })) }
+        (record { card = card.old; line = line_octets line.old; chip = B.chip bench.old })
+        (record { card = card.new; line = line_octets line.new; chip = B.chip bench.new })) }
     ensures ready { OnOk result (IsReady card.new (B.chip bench.new)) }
     ensures causes { Causes (record { eeprom = B.faults bench.old; outlet = B.sink_faults bench.old }) (record { eeprom = B.faults bench.new; outlet = B.sink_faults bench.new }) result }
 {
@@ -74,17 +74,17 @@ fn take_octet<B: Bench>(
 pub(crate) fn answer_line<B: Bench>(card: &mut Card, bench: &mut B, line: &Line) -> Result<(), Stop>
     requires ready { IsReady card.old (B.chip bench.old) }
     ensures at { (m : Machine) → IsAt card.old (B.chip bench.old) m
-        → OnOk result (IsAt card.new (B.chip bench.new) (model.reading_step m (kept_reading (kept_line line.now)))) }
+        → OnOk result (IsAt card.new (B.chip bench.new) (model.reading_step m (line_reading (line_octets line.now)))) }
     ensures text { (m : Machine) → IsAt card.old (B.chip bench.old) m
-        → OnOk result (Prints (model.reading_text m (kept_reading (kept_line line.now))) (B.chip bench.old).still.given (B.chip bench.new).still.given) }
+        → OnOk result (Prints (model.reading_text m (line_reading (line_octets line.now))) (B.chip bench.old).still.given (B.chip bench.new).still.given) }
     ensures fails { (m : Machine) → IsAt card.old (B.chip bench.old) m
-        → IfErr result (λ stop. FailsIn stop [] m (kept_reading (kept_line line.now)) (B.chip bench.old).still.given (B.chip bench.new)) }
+        → IfErr result (λ stop. FailsIn stop [] m (line_reading (line_octets line.now)) (B.chip bench.old).still.given (B.chip bench.new)) }
     // At each moment a power loss leaves what the line commits, all of it once an octet of its text has gone out,
     ensures answered { (m : Machine) → IsAt card.old (B.chip bench.old) m
-        → OnOk result (IfGiven (B.chip bench.new) (IsAnswered m (kept_reading (kept_line line.now)) (B.chip bench.old) (B.chip bench.new))) }
+        → OnOk result (IfGiven (B.chip bench.new) (IsAnswered m (line_reading (line_octets line.now)) (B.chip bench.old) (B.chip bench.new))) }
     // also where the outlet alone fails; where the EEPROM does it leaves the database before the line or one that it commits.
     ensures moments { (m : Machine) → IsAt card.old (B.chip bench.old) m
-        → IfErr result (λ stop. IfGiven (B.chip bench.new) (Throughout (B.chip bench.old) (B.chip bench.new) (IsInStopped stop m (kept_reading (kept_line line.now)) (B.chip bench.old).still.mark))) }
+        → IfErr result (λ stop. IfGiven (B.chip bench.new) (Throughout (B.chip bench.old) (B.chip bench.new) (IsInStopped stop m (line_reading (line_octets line.now)) (B.chip bench.old).still.mark))) }
     ensures ready { OnOk result (IsReady card.new (B.chip bench.new)) }
     ensures causes { Causes (record { eeprom = B.faults bench.old; outlet = B.sink_faults bench.old }) (record { eeprom = B.faults bench.new; outlet = B.sink_faults bench.new }) result }
 {
@@ -119,8 +119,8 @@ fn answer_command<B: Bench>(card: &mut Card, bench: &mut B, octets: &[u8]) -> Re
         word: StatusWord::DONE,
     };
     match card.answer(bench, octets, &mut reply) {
-        Outcome::Replied => Ok(give(bench, &text_of(&reply))?),
-        Outcome::Mute => match give(bench, &text_of(&reply)) {
+        Outcome::Replied => Ok(give(bench, &reply_text(&reply))?),
+        Outcome::Mute => match give(bench, &reply_text(&reply)) {
             Ok(()) => Err(Stop::Eeprom),
             Err(_) => Err(Stop::Both),
         },
@@ -128,7 +128,7 @@ fn answer_command<B: Bench>(card: &mut Card, bench: &mut B, octets: &[u8]) -> Re
 }
 
 // A reply in hexadecimal, with a line feed.
-fn text_of(reply: &Reply) -> ArrayVec<u8, LONGEST_ANSWER>
+fn reply_text(reply: &Reply) -> ArrayVec<u8, LONGEST_ANSWER>
     ensures { result.items ≡ encode_upper (model.reply_octets (reply_of reply.now)) ++ codes "\n" }
 {
     let mut octets: ArrayVec<u8, 258> = ArrayVec::new();

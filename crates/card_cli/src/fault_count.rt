@@ -6,7 +6,7 @@ use std::io;
 
 /// Counts what a device answered, and gives the device's own fault in place of the system's error.
 /// At the last value of a u64 the count stands still.
-pub fn counted<T, E: Drop>(faults: &mut u64, answer: io::Result<T>, fault: E) -> Result<T, E>
+pub fn count_fault<T, E: Drop>(faults: &mut u64, answer: io::Result<T>, fault: E) -> Result<T, E>
     ensures counts { Counts faults.old faults.new result }
     ensures value { IfOk result (λ value. answer ≡ Ok value) }
 {

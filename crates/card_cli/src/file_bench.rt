@@ -3,7 +3,7 @@ ghost use Rattle.std.specs.Prelude.{◌≡◌, ◌≤◌, ◌+◌, None, IfOk, l
 ghost use Rattle.card_cli.specs.FileChip.{file_chip};
 ghost use Rattle.std.proofs.Common.{rules};
 
-use crate::fault_count::counted;
+use crate::fault_count::count_fault;
 use eeprom::{Bench, Eeprom, EepromFault, Outlet, SinkFault};
 use std::fs::{Files, OpenFile, OpenOptions};
 use std::io;
@@ -64,12 +64,12 @@ impl<R: Files + Print + Drop> Eeprom for FileBench<R> {
 
     fn read(&mut self, at: usize, into: &mut [u8]) -> Result<(), EepromFault> {
         let answer = read_at(&mut self.file, at as u64, into);
-        counted(&mut self.faults, answer, EepromFault)
+        count_fault(&mut self.faults, answer, EepromFault)
     }
 
     fn write(&mut self, at: usize, from: &[u8]) -> Result<(), EepromFault> {
         let answer = write_at(&mut self.file, at as u64, from);
-        counted(&mut self.faults, answer, EepromFault)
+        count_fault(&mut self.faults, answer, EepromFault)
     }
 
     ghost small = { λ _. Prim.search rules };
@@ -88,7 +88,7 @@ impl<R: Files + Print + Drop> Outlet for FileBench<R> {
 
     fn give(&mut self, octets: &[u8]) -> Result<(), SinkFault> {
         let answer = write_out(&mut io::writer(&self.rt), octets);
-        counted(&mut self.sink_faults, answer, SinkFault)
+        count_fault(&mut self.sink_faults, answer, SinkFault)
     }
 }
 

@@ -3,14 +3,14 @@ ghost use Rattle.std.specs.Prelude.{◌≡◌, ◌<◌, ◌≤◌, [], true, fal
 ghost use Rattle.eeprom.specs.Chip.{Becomes};
 ghost use Rattle.scql_model.specs.Machine.{Machine};
 ghost use Rattle.card.specs.Card.{IsReady, IsAt};
-ghost use Rattle.card_cli.specs.Line.{kept_line, kept_reading, is_nothing_kept};
+ghost use Rattle.card_cli.specs.Line.{line_octets, line_reading, is_empty_line};
 ghost use Rattle.card_cli.specs.Running.{Running, end_text, after_end};
 ghost use Rattle.card_cli.specs.RunState.{Prints, IsRunning, Causes};
 ghost use Rattle.eeprom.specs.Chip.{Throughout};
 ghost use Rattle.card_cli.specs.Halting.{FailsAt};
 ghost use Rattle.card_cli.specs.Moments.{IsInStopped, IsAtEnd, IfGiven};
 ghost use Rattle.card_cli.specs.Keeping.{KeepsTo};
-ghost use Rattle.card_cli.specs.Ends.{EndsBy, LeavesOff, ends_input, longest_input};
+ghost use Rattle.card_cli.specs.Ends.{EndsBy, EndsAs, ends_input, longest_input};
 
 use crate::answering::{answer_line, take_octets};
 use crate::line::Line;
@@ -32,13 +32,13 @@ pub(crate) fn answer_input<S: Source, B: Bench>(
     bench: &mut B,
 ) -> Status
     requires { IsReady card.old (B.chip bench.old) }
-    ensures leaves { (m : Machine) → IsAt card.old (B.chip bench.old) m
-        → Becomes (λ input left. LeavesOff result (B.faults bench.old) (B.faults bench.new) m input left (B.chip bench.old).still.given (B.chip bench.new)) (S.left source.old) (S.left source.new) }
+    ensures ends_as { (m : Machine) → IsAt card.old (B.chip bench.old) m
+        → Becomes (λ input left. EndsAs result (B.faults bench.old) (B.faults bench.new) m input left (B.chip bench.old).still.given (B.chip bench.new)) (S.left source.old) (S.left source.new) }
     // At each moment a power loss leaves each commit of the lines that were heard by then, and else at most commits of the line after them.
     ensures moments { (m : Machine) → IsAt card.old (B.chip bench.old) m → IfGiven (B.chip bench.new)
         (Becomes (λ input left. KeepsTo result (B.faults bench.old) (B.faults bench.new) m input left (B.chip bench.old) (B.chip bench.new)) (S.left source.old) (S.left source.new)) }
     ensures status { ends_input result ≡ true }
-    ensures whole { result ≡ Status.Done → Becomes (λ input left. (left ≡ []) × (length input ≤ longest_input)) (S.left source.old) (S.left source.new) }
+    ensures done { result ≡ Status.Done → Becomes (λ input left. (left ≡ []) × (length input ≤ longest_input)) (S.left source.old) (S.left source.new) }
     ensures too_long { result ≡ Status.TooLong → Becomes (λ input left. longest_input < length input) (S.left source.old) (S.left source.new) }
     ensures ends { EndsBy result
         (record { eeprom = B.faults bench.old; source = S.source_faults source.old; outlet = B.sink_faults bench.old })
@@ -71,17 +71,17 @@ pub(crate) fn answer_input<S: Source, B: Bench>(
 // Where the input ends behind octets without a line feed, they are a line.
 fn answer_last<B: Bench>(card: &mut Card, bench: &mut B, line: &Line) -> Result<(), Stop>
     requires { IsReady card.old (B.chip bench.old) }
-    ensures text { (r : Running) → IsRunning (record { card = card.old; line = kept_line line.now; chip = B.chip bench.old }) r
+    ensures text { (r : Running) → IsRunning (record { card = card.old; line = line_octets line.now; chip = B.chip bench.old }) r
         → OnOk result (Prints (end_text r) (B.chip bench.old).still.given (B.chip bench.new).still.given) }
-    ensures at { (r : Running) → IsRunning (record { card = card.old; line = kept_line line.now; chip = B.chip bench.old }) r
+    ensures at { (r : Running) → IsRunning (record { card = card.old; line = line_octets line.now; chip = B.chip bench.old }) r
         → OnOk result (IsAt card.new (B.chip bench.new) (after_end r).machine) }
     ensures ready { OnOk result (IsReady card.new (B.chip bench.new)) }
-    ensures fails { (r : Running) → IsRunning (record { card = card.old; line = kept_line line.now; chip = B.chip bench.old }) r
-        → IfErr result (λ stop. (is_nothing_kept r.begun ≡ false) × FailsAt stop [] r (B.chip bench.old).still.given (B.chip bench.new)) }
-    ensures answered { (r : Running) → IsRunning (record { card = card.old; line = kept_line line.now; chip = B.chip bench.old }) r
+    ensures fails { (r : Running) → IsRunning (record { card = card.old; line = line_octets line.now; chip = B.chip bench.old }) r
+        → IfErr result (λ stop. (is_empty_line r.begun ≡ false) × FailsAt stop [] r (B.chip bench.old).still.given (B.chip bench.new)) }
+    ensures answered { (r : Running) → IsRunning (record { card = card.old; line = line_octets line.now; chip = B.chip bench.old }) r
         → OnOk result (IfGiven (B.chip bench.new) (Throughout (B.chip bench.old) (B.chip bench.new) (IsAtEnd r (B.chip bench.old).still.mark))) }
-    ensures moments { (r : Running) → IsRunning (record { card = card.old; line = kept_line line.now; chip = B.chip bench.old }) r
-        → IfErr result (λ stop. IfGiven (B.chip bench.new) (Throughout (B.chip bench.old) (B.chip bench.new) (IsInStopped stop r.machine (kept_reading r.begun) (B.chip bench.old).still.mark))) }
+    ensures moments { (r : Running) → IsRunning (record { card = card.old; line = line_octets line.now; chip = B.chip bench.old }) r
+        → IfErr result (λ stop. IfGiven (B.chip bench.new) (Throughout (B.chip bench.old) (B.chip bench.new) (IsInStopped stop r.machine (line_reading r.begun) (B.chip bench.old).still.mark))) }
     ensures causes { Causes (record { eeprom = B.faults bench.old; outlet = B.sink_faults bench.old }) (record { eeprom = B.faults bench.new; outlet = B.sink_faults bench.new }) result }
 {
     if line.is_empty() {

@@ -3,7 +3,7 @@ ghost use Rattle.std.specs.Prelude.{◌≡◌, ◌≤◌, Some, [], length, opti
 ghost use Rattle.std.specs.Result.{result_ok};
 ghost use Rattle.hex.specs.Hex.{decode_of};
 ghost use Rattle.scql_model.specs.Lines as model;
-ghost use Rattle.card_cli.specs.Line.{kept_line, longer_by, is_nothing_kept, kept_reading, reading_view};
+ghost use Rattle.card_cli.specs.Line.{line_octets, longer_by, is_empty_line, line_reading, reading_view};
 
 use arrayvec::ArrayVec;
 
@@ -16,7 +16,7 @@ const LONGEST_COMMAND: usize = LONGEST / 2;
 #[derive(Drop)]
 pub(crate) enum Line {
     /// Its octets so far.
-    Kept(ArrayVec<u8, LONGEST>),
+    Octets(ArrayVec<u8, LONGEST>),
     /// It is longer than a line may be.
     TooLong,
 }
@@ -36,24 +36,24 @@ pub(crate) enum Reading {
 
 impl Line {
     pub fn new() -> Line
-        ensures { kept_line result ≡ Some [] }
+        ensures { line_octets result ≡ Some [] }
     {
-        Line::Kept(ArrayVec::new())
+        Line::Octets(ArrayVec::new())
     }
 
     pub fn is_empty(&self) -> bool
-        ensures { result ≡ is_nothing_kept (kept_line self.now) }
+        ensures { result ≡ is_empty_line (line_octets self.now) }
     {
         match self {
-            Line::Kept(octets) => octets.is_empty(),
+            Line::Octets(octets) => octets.is_empty(),
             Line::TooLong => false,
         }
     }
 
     pub fn push(&mut self, octet: u8)
-        ensures { kept_line self.new ≡ longer_by octet (kept_line self.old) }
+        ensures { line_octets self.new ≡ longer_by octet (line_octets self.old) }
     {
-        if let Line::Kept(octets) = self {
+        if let Line::Octets(octets) = self {
             if octets.is_full() {
                 *self = Line::TooLong;
             } else {
@@ -64,20 +64,20 @@ impl Line {
 
     /// Begins a new line.
     pub fn clear(&mut self)
-        ensures { kept_line self.new ≡ Some [] }
+        ensures { line_octets self.new ≡ Some [] }
     {
         match self {
-            Line::Kept(octets) => octets.clear(),
+            Line::Octets(octets) => octets.clear(),
             Line::TooLong => *self = Line::new(),
         }
     }
 
     pub fn read(&self) -> Reading
-        ensures { reading_view result ≡ kept_reading (kept_line self.now) }
+        ensures { reading_view result ≡ line_reading (line_octets self.now) }
     {
         match self {
             Line::TooLong => Reading::TooLong,
-            Line::Kept(octets) => read_digits(&without_blanks(octets)),
+            Line::Octets(octets) => read_digits(&without_blanks(octets)),
         }
     }
 }

@@ -10,7 +10,7 @@ ghost use Rattle.card.specs.Making.{OpensToNone};
 ghost use Rattle.card_cli.specs.Words.{form_in, IsWithinLimits};
 ghost use Rattle.card_cli.specs.declared.stop.Stop.TheVariants as stop;
 ghost use Rattle.card_cli.specs.Beginning.{IsOpenTo, Begins, BeginsWith, LacksCard, FindsNoCard, LeavesUntilOpen, EndsUnread};
-ghost use Rattle.card_cli.specs.CutOff.{HasAnswered, StopsIn};
+ghost use Rattle.card_cli.specs.CutOff.{HasAnswered, StopsIn, OutletFails};
 ghost use Rattle.card_cli.specs.Ends.{longest_input, has_read, AllFaults, EndsBy};
 ghost use Rattle.card_cli.specs.Run.{IsQuiet, AnswersAll, IsWithoutCard};
 ghost use Rattle.card_cli.specs.Moments.{IfGiven};
@@ -72,10 +72,9 @@ pub fn run_card<S: Source, B: Bench>(
     ensures mute { result ≡ Status.Eeprom → (db : Database) → BeginsWith (map string_bytes words.now) (B.chip bench.old) db
         → EndsUnread (map string_bytes words.now) source.old source.new (B.chip bench.old) (B.chip bench.new)
         ⊎ Becomes (λ input left. StopsIn stop.Eeprom (start db) (lines input true) (B.given bench.old) (B.chip bench.new)) (S.left source.old) (S.left source.new) }
-    // or those up to the line whose answer the outlet cut short, or in which the EEPROM failed and then the outlet.
+    // or those up to the line whose answer the outlet cut short, where the EEPROM's count stayed, or in which the EEPROM failed and then the outlet.
     ensures write_fault { result ≡ Status.WriteFault → (db : Database) → BeginsWith (map string_bytes words.now) (B.chip bench.old) db
-        → Becomes (λ input left. StopsIn stop.Outlet (start db) (lines input true) (B.given bench.old) (B.chip bench.new)
-        ⊎ (Rose (B.faults bench.old) (B.faults bench.new) × StopsIn stop.Both (start db) (lines input true) (B.given bench.old) (B.chip bench.new))) (S.left source.old) (S.left source.new) }
+        → Becomes (λ input left. OutletFails (B.faults bench.old) (B.faults bench.new) (λ stop. StopsIn stop (start db) (lines input true) (B.given bench.old) (B.chip bench.new))) (S.left source.old) (S.left source.new) }
     // At each moment a power loss leaves what it leaves until the card is open, where no line was read;
     // or from the opening on each commit of the lines that were heard by then, and else at most commits of the line after them.
     ensures moments { EndsUnread (map string_bytes words.now) source.old source.new (B.chip bench.old) (B.chip bench.new)

@@ -1,7 +1,7 @@
 // Standard input as the source of a card's commands.
 ghost use Rattle.std.specs.Prelude.{◌≡◌, None};
 
-use crate::fault_count::counted;
+use crate::fault_count::count_fault;
 use eeprom::{Source, SourceFault};
 use std::io::Read;
 
@@ -30,6 +30,6 @@ impl<R: Input + Drop> Source for StdSource<R> {
 
     fn read(&mut self, into: &mut [u8]) -> Result<usize, SourceFault> {
         let answer = self.reader.read(into);
-        counted(&mut self.faults, answer, SourceFault)
+        count_fault(&mut self.faults, answer, SourceFault)
     }
 }

@@ -21,7 +21,7 @@ use Rattle.card_cli.proofs.answering.answer_command.Goals as goal
 -- what a card says that replies, and to what its image opens
 replied_text : (g : _) (c : After-give g) (m : Machine) → IsAt c.args.card.now (g.B.Eeprom.chip c.args.bench.now) m → c.deref.result.now ≡ reading_text m (command c.args.octets.now)
 replied_text g c m at =
-    c.deref.ensures.0 ∙ (c.text_of.ensures ∙ ap (λ (reply : Reply). encode_upper (reply_octets reply) ++ codes "\n") (c.in-Replied.ensures.step m at refl).reply)
+    c.deref.ensures.0 ∙ (c.reply_text.ensures ∙ ap (λ (reply : Reply). encode_upper (reply_octets reply) ++ codes "\n") (c.in-Replied.ensures.step m at refl).reply)
 
 replied_opens : (g : _) (c : After-give g) (m : Machine) → IsAt c.args.card.now (g.B.Eeprom.chip c.args.bench.now) m
     → (image : List ℕ) → (g.B.Eeprom.chip c.answer.new.bench).image ≡ Some image → Opens image (step m c.args.octets.now).machine.committed
@@ -61,7 +61,7 @@ returns-in_err-give-in-Replied-clause-fails g c = λ m at.
 mute : (g : _) (c : After-give-in-Mute g) → c.deref-in-Mute.result.now ≡ mute_text
 mute g c =
     let mute = c.in-Mute.ensures.mute refl in
-    c.deref-in-Mute.ensures.0 ∙ (c.text_of-in-Mute.ensures ∙ mute_text-reply c.answer.new.reply.body.items c.answer.new.reply.word mute.0 mute.1)
+    c.deref-in-Mute.ensures.0 ∙ (c.reply_text-in-Mute.ensures ∙ mute_text-reply c.answer.new.reply.body.items c.answer.new.reply.word mute.0 mute.1)
 
 pub returns-in-Ok-clause-fails : goal.returns-in-Ok-clause-fails
 returns-in-Ok-clause-fails g c = λ m at.

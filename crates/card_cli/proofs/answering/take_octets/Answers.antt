@@ -4,7 +4,7 @@ use Rattle.std.proofs.lemmas.List.{take_more, drop_more}
 use Rattle.std.proofs.lemmas.Result.{err_from_is_err_and}
 use Rattle.std.proofs.Math.Seq.{take-length}
 use Rattle.card_cli.specs.Halting.{Halts}
-use Rattle.card_cli.specs.Line.{kept_line}
+use Rattle.card_cli.specs.Line.{line_octets}
 use Rattle.card_cli.specs.RunState.{RunState, Faults, Feeds}
 use Rattle.card_cli.proofs.Stopping.{Halts-within}
 use Rattle.card_cli.proofs.Feeding.{Feeds-nothing, Feeds-then}
@@ -15,14 +15,14 @@ loop-octet-init g c = record {
   ready = c.requires.ready;
   faults = refl;
   sink_faults = refl;
-  feeds = Feeds-nothing (record { card = c.args.card.now; line = kept_line c.args.line.now; chip = g.B.Eeprom.chip c.args.bench.now }) c.requires.ready;
+  feeds = Feeds-nothing (record { card = c.args.card.now; line = line_octets c.args.line.now; chip = g.B.Eeprom.chip c.args.bench.now }) c.requires.ready;
 }
 
 pub loop-octet-preserved : goal.loop-octet-preserved
 loop-octet-preserved g c =
-    let old : RunState = record { card = c.args.card.now; line = kept_line c.args.line.now; chip = g.B.Eeprom.chip c.args.bench.now } in
-    let mid : RunState = record { card = c.loop-octet.card; line = kept_line c.loop-octet.line; chip = g.B.Eeprom.chip c.loop-octet.bench } in
-    let new : RunState = record { card = c.take_octet.new.card; line = kept_line c.take_octet.new.line; chip = g.B.Eeprom.chip c.take_octet.new.bench } in
+    let old : RunState = record { card = c.args.card.now; line = line_octets c.args.line.now; chip = g.B.Eeprom.chip c.args.bench.now } in
+    let mid : RunState = record { card = c.loop-octet.card; line = line_octets c.loop-octet.line; chip = g.B.Eeprom.chip c.loop-octet.bench } in
+    let new : RunState = record { card = c.take_octet.new.card; line = line_octets c.take_octet.new.line; chip = g.B.Eeprom.chip c.take_octet.new.bench } in
     let octet : ℕ = get_or c.args.octets.now c.loop-octet.octet-index 0 in
     record {
       ready = c.in_ok-take_octet.ensures.ready;
@@ -34,16 +34,16 @@ loop-octet-preserved g c =
 
 pub returns-clause-feeds : goal.returns-clause-feeds
 returns-clause-feeds g c =
-    let old : RunState = record { card = c.args.card.now; line = kept_line c.args.line.now; chip = g.B.Eeprom.chip c.args.bench.now } in
-    let new : RunState = record { card = c.loop-octet.card; line = kept_line c.loop-octet.line; chip = g.B.Eeprom.chip c.loop-octet.bench } in
+    let old : RunState = record { card = c.args.card.now; line = line_octets c.args.line.now; chip = g.B.Eeprom.chip c.args.bench.now } in
+    let new : RunState = record { card = c.loop-octet.card; line = line_octets c.loop-octet.line; chip = g.B.Eeprom.chip c.loop-octet.bench } in
     let at_end : length c.args.octets.now ≡ c.loop-octet.octet-index = omega (arith, c.loop-octet-test.false, c.loop-octet.auto.octet-index-end) in
     let all : take c.loop-octet.octet-index c.args.octets.now ≡ c.args.octets.now = subst (λ (n : ℕ). take n c.args.octets.now ≡ c.args.octets.now) at_end (take-length c.args.octets.now) in
     subst (λ (octets : List ℕ). Feeds octets old new) all c.loop-octet.invariant.feeds
 
 pub returns-in_err-take_octet-clause-halts : goal.returns-in_err-take_octet-clause-halts
 returns-in_err-take_octet-clause-halts g c =
-    let old : RunState = record { card = c.args.card.now; line = kept_line c.args.line.now; chip = g.B.Eeprom.chip c.args.bench.now } in
-    let mid : RunState = record { card = c.loop-octet.card; line = kept_line c.loop-octet.line; chip = g.B.Eeprom.chip c.loop-octet.bench } in
+    let old : RunState = record { card = c.args.card.now; line = line_octets c.args.line.now; chip = g.B.Eeprom.chip c.args.bench.now } in
+    let mid : RunState = record { card = c.loop-octet.card; line = line_octets c.loop-octet.line; chip = g.B.Eeprom.chip c.loop-octet.bench } in
     let octets : List ℕ = c.args.octets.now in
     let at : ℕ = c.loop-octet.octet-index in
     let here : List ℕ = get_or octets at 0 ∷ [] in

@@ -1,6 +1,6 @@
 use Rattle.std.proofs.Common.{◌≡◌, take}
 use Rattle.card.specs.Card.{IsReady}
-use Rattle.card_cli.specs.Line.{kept_line}
+use Rattle.card_cli.specs.Line.{line_octets}
 use Rattle.card_cli.specs.RunState.{Feeds}
 use Rattle.card_cli.proofs.answering.take_octets.Given as goal
 
@@ -10,6 +10,6 @@ invariant-loop-octet g l = record {
   faults : g.B.Eeprom.faults l.bench ≡ g.B.Eeprom.faults l.fn.bench;
   sink_faults : g.B.Outlet.sink_faults l.bench ≡ g.B.Outlet.sink_faults l.fn.bench;
   feeds : Feeds (take l.octet-index l.octets)
-      (record { card = l.fn.card; line = kept_line l.fn.line; chip = g.B.Eeprom.chip l.fn.bench })
-      (record { card = l.card; line = kept_line l.line; chip = g.B.Eeprom.chip l.bench });
+      (record { card = l.fn.card; line = line_octets l.fn.line; chip = g.B.Eeprom.chip l.fn.bench })
+      (record { card = l.card; line = line_octets l.line; chip = g.B.Eeprom.chip l.bench });
 }

@@ -6,10 +6,10 @@ use Rattle.scql_model.specs.Machine.{Machine}
 use Rattle.card.specs.Card.{Kept, IsAt}
 use Rattle.card_cli.specs.declared.status.Status.{Status}
 use Rattle.card_cli.specs.declared.status.Status.TheVariants.{Done, ReadFault, TooLong}
-use Rattle.card_cli.specs.Line.{kept_line}
+use Rattle.card_cli.specs.Line.{line_octets}
 use Rattle.card_cli.specs.RunState.{RunState, Faults, Feeds}
 use Rattle.card_cli.specs.Ends.{longest_input}
-use Rattle.card_cli.proofs.Taking.{rose-at, HasTaken, HasTaken-nothing, HasTaken-more, Ends, Ends-leaves, Ends-keeps, Ends-read_fault, Ends-done, Ends-last, Ends-halted, Ends-too_long}
+use Rattle.card_cli.proofs.Taking.{counts-at, HasTaken, HasTaken-nothing, HasTaken-more, Ends, Ends-ended, Ends-keeps, Ends-read_fault, Ends-done, Ends-last, Ends-halted, Ends-too_long}
 use Rattle.card_cli.proofs.input.answer_input.Given as given
 use Rattle.card_cli.proofs.input.answer_input.Goals.{In_default, In-Ok-answer_last, After-status, After-status-in-Err-take_octets, Then-room-count}
 use Rattle.card_cli.proofs.input.answer_input.Goals as goal
@@ -42,12 +42,12 @@ read_failed : (g : given.Over) (c : In_default g) (m : Machine) → IsAt c.args.
     → EndsSo g m ReadFault c.args.source.now c.read.new.self c.args.bench.now c.loop-count.bench
 read_failed g c m at =
     let old : RunState = state g c.args.card.now (Some []) c.args.bench.now in
-    let mid : RunState = state g c.loop-count.card (kept_line c.loop-count.line) c.loop-count.bench in
+    let mid : RunState = state g c.loop-count.card (line_octets c.loop-count.line) c.loop-count.bench in
     Ends-read_fault (g.B.Eeprom.faults c.args.bench.now) (g.B.Eeprom.faults c.loop-count.bench) c.loop-count.room old mid (g.S.Source.left c.args.source.now) (g.S.Source.left c.loop-count.source) (g.S.Source.left c.read.new.self) m
     c.loop-count.invariant.ready (record { at = at; line = refl }) c.loop-count.invariant.taken c.in_default.ensures.err
 
-pub returns-in_default-clause-leaves : goal.returns-in_default-clause-leaves
-returns-in_default-clause-leaves g c = λ m at. Ends-leaves (read_failed g (goal.at.returns-in_default-clause-leaves g c).In_default m at)
+pub returns-in_default-clause-ends_as : goal.returns-in_default-clause-ends_as
+returns-in_default-clause-ends_as g c = λ m at. Ends-ended (read_failed g (goal.at.returns-in_default-clause-ends_as g c).In_default m at)
 
 pub returns-in_default-clause-moments : goal.returns-in_default-clause-moments
 returns-in_default-clause-moments g c = λ m at. Ends-keeps (read_failed g (goal.at.returns-in_default-clause-moments g c).In_default m at)
@@ -57,15 +57,15 @@ done : (g : given.Over) (c : In-Ok-answer_last g) (m : Machine) → IsAt c.args.
     → EndsSo g m Done c.args.source.now c.read.new.self c.args.bench.now c.answer_last.new.bench
 done g c m at =
     let old : RunState = state g c.args.card.now (Some []) c.args.bench.now in
-    let mid : RunState = state g c.loop-count.card (kept_line c.loop-count.line) c.loop-count.bench in
+    let mid : RunState = state g c.loop-count.card (line_octets c.loop-count.line) c.loop-count.bench in
     let new : RunState = state g c.answer_last.new.card None c.answer_last.new.bench in
     Ends-done (g.B.Eeprom.faults c.args.bench.now) (g.B.Eeprom.faults c.answer_last.new.bench) c.loop-count.room c.read.new.into old mid new (g.S.Source.left c.args.source.now) (g.S.Source.left c.loop-count.source) (g.S.Source.left c.read.new.self) m
     (record { at = at; line = refl }) c.loop-count.invariant.taken
     (subst (λ (count : ℕ). Takes count c.read.new.into (g.S.Source.left c.loop-count.source) (g.S.Source.left c.read.new.self)) c.if-count-eq0.true c.in-Ok.ensures.taken)
     c.in-Ok-answer_last.ensures.ready c.in-Ok-answer_last.ensures.at c.in-Ok-answer_last.ensures.text c.in-Ok-answer_last.ensures.answered
 
-pub returns-in-Ok-answer_last-clause-leaves : goal.returns-in-Ok-answer_last-clause-leaves
-returns-in-Ok-answer_last-clause-leaves g c = λ m at. Ends-leaves (done g (goal.at.returns-in-Ok-answer_last-clause-leaves g c).In-Ok-answer_last m at)
+pub returns-in-Ok-answer_last-clause-ends_as : goal.returns-in-Ok-answer_last-clause-ends_as
+returns-in-Ok-answer_last-clause-ends_as g c = λ m at. Ends-ended (done g (goal.at.returns-in-Ok-answer_last-clause-ends_as g c).In-Ok-answer_last m at)
 
 pub returns-in-Ok-answer_last-clause-moments : goal.returns-in-Ok-answer_last-clause-moments
 returns-in-Ok-answer_last-clause-moments g c = λ m at. Ends-keeps (done g (goal.at.returns-in-Ok-answer_last-clause-moments g c).In-Ok-answer_last m at)
@@ -75,17 +75,17 @@ last_failed : (g : given.Over) (c : After-status g) (m : Machine) → IsAt c.arg
     → EndsSo g m c.status.result c.args.source.now c.read.new.self c.args.bench.now c.answer_last.new.bench
 last_failed g c m at =
     let old : RunState = state g c.args.card.now (Some []) c.args.bench.now in
-    let mid : RunState = state g c.loop-count.card (kept_line c.loop-count.line) c.loop-count.bench in
+    let mid : RunState = state g c.loop-count.card (line_octets c.loop-count.line) c.loop-count.bench in
     let now : Chip = g.B.Eeprom.chip c.answer_last.new.bench in
-    let rose = rose-at c.in-Err.stop (g.B.Eeprom.faults c.args.bench.now) (faults g c.loop-count.bench) (faults g c.answer_last.new.bench) c.loop-count.invariant.faults c.in-Err.ensures.causes in
+    let counts = counts-at c.in-Err.stop (g.B.Eeprom.faults c.args.bench.now) (faults g c.loop-count.bench) (faults g c.answer_last.new.bench) c.loop-count.invariant.faults c.in-Err.ensures.causes in
     subst (λ (status : Status). EndsSo g m status c.args.source.now c.read.new.self c.args.bench.now c.answer_last.new.bench) (sym c.status.ensures)
-    (Ends-last c.in-Err.stop (g.B.Eeprom.faults c.args.bench.now) (g.B.Eeprom.faults c.answer_last.new.bench) rose c.loop-count.room c.read.new.into old mid now (g.S.Source.left c.args.source.now) (g.S.Source.left c.loop-count.source) (g.S.Source.left c.read.new.self) m
+    (Ends-last c.in-Err.stop (g.B.Eeprom.faults c.args.bench.now) (g.B.Eeprom.faults c.answer_last.new.bench) counts c.loop-count.room c.read.new.into old mid now (g.S.Source.left c.args.source.now) (g.S.Source.left c.loop-count.source) (g.S.Source.left c.read.new.self) m
     (record { at = at; line = refl }) c.loop-count.invariant.taken
     (subst (λ (count : ℕ). Takes count c.read.new.into (g.S.Source.left c.loop-count.source) (g.S.Source.left c.read.new.self)) c.if-count-eq0.true c.in-Ok.ensures.taken)
     c.in-Err.ensures.fails c.in-Err.ensures.moments)
 
-pub returns-in-Err-clause-leaves : goal.returns-in-Err-clause-leaves
-returns-in-Err-clause-leaves g c = λ m at. Ends-leaves (last_failed g (goal.at.returns-in-Err-clause-leaves g c).After-status m at)
+pub returns-in-Err-clause-ends_as : goal.returns-in-Err-clause-ends_as
+returns-in-Err-clause-ends_as g c = λ m at. Ends-ended (last_failed g (goal.at.returns-in-Err-clause-ends_as g c).After-status m at)
 
 pub returns-in-Err-clause-moments : goal.returns-in-Err-clause-moments
 returns-in-Err-clause-moments g c = λ m at. Ends-keeps (last_failed g (goal.at.returns-in-Err-clause-moments g c).After-status m at)
@@ -95,16 +95,16 @@ halted : (g : given.Over) (c : After-status-in-Err-take_octets g) (m : Machine) 
     → EndsSo g m c.status-in-Err-take_octets.result c.args.source.now c.read.new.self c.args.bench.now c.take_octets.new.bench
 halted g c m at =
     let old : RunState = state g c.args.card.now (Some []) c.args.bench.now in
-    let mid : RunState = state g c.loop-count.card (kept_line c.loop-count.line) c.loop-count.bench in
+    let mid : RunState = state g c.loop-count.card (line_octets c.loop-count.line) c.loop-count.bench in
     let fits : c.min-taken.result ≤ c.in-Ok.count = omega (arith, c.min-taken.ensures) in
     let now : Chip = g.B.Eeprom.chip c.take_octets.new.bench in
-    let rose = rose-at c.in-Err-take_octets.stop (g.B.Eeprom.faults c.args.bench.now) (faults g c.loop-count.bench) (faults g c.take_octets.new.bench) c.loop-count.invariant.faults c.in-Err-take_octets.ensures.causes in
+    let counts = counts-at c.in-Err-take_octets.stop (g.B.Eeprom.faults c.args.bench.now) (faults g c.loop-count.bench) (faults g c.take_octets.new.bench) c.loop-count.invariant.faults c.in-Err-take_octets.ensures.causes in
     subst (λ (status : Status). EndsSo g m status c.args.source.now c.read.new.self c.args.bench.now c.take_octets.new.bench) (sym c.status-in-Err-take_octets.ensures)
-    (Ends-halted c.in-Err-take_octets.stop (g.B.Eeprom.faults c.args.bench.now) (g.B.Eeprom.faults c.take_octets.new.bench) rose c.loop-count.room c.in-Ok.count c.min-taken.result c.read.new.into old mid now (g.S.Source.left c.args.source.now) (g.S.Source.left c.loop-count.source) (g.S.Source.left c.read.new.self) m fits
+    (Ends-halted c.in-Err-take_octets.stop (g.B.Eeprom.faults c.args.bench.now) (g.B.Eeprom.faults c.take_octets.new.bench) counts c.loop-count.room c.in-Ok.count c.min-taken.result c.read.new.into old mid now (g.S.Source.left c.args.source.now) (g.S.Source.left c.loop-count.source) (g.S.Source.left c.read.new.self) m fits
     (record { at = at; line = refl }) c.loop-count.invariant.taken c.in-Ok.ensures.taken c.in-Err-take_octets.ensures.halts)
 
-pub returns-in-Err-take_octets-clause-leaves : goal.returns-in-Err-take_octets-clause-leaves
-returns-in-Err-take_octets-clause-leaves g c = λ m at. Ends-leaves (halted g (goal.at.returns-in-Err-take_octets-clause-leaves g c).After-status-in-Err-take_octets m at)
+pub returns-in-Err-take_octets-clause-ends_as : goal.returns-in-Err-take_octets-clause-ends_as
+returns-in-Err-take_octets-clause-ends_as g c = λ m at. Ends-ended (halted g (goal.at.returns-in-Err-take_octets-clause-ends_as g c).After-status-in-Err-take_octets m at)
 
 pub returns-in-Err-take_octets-clause-moments : goal.returns-in-Err-take_octets-clause-moments
 returns-in-Err-take_octets-clause-moments g c = λ m at. Ends-keeps (halted g (goal.at.returns-in-Err-take_octets-clause-moments g c).After-status-in-Err-take_octets m at)
@@ -114,16 +114,16 @@ more_came : (g : given.Over) (c : Then-room-count g) (m : Machine) → IsAt c.ar
     → EndsSo g m TooLong c.args.source.now c.read.new.self c.args.bench.now c.take_octets.new.bench
 more_came g c m at =
     let old : RunState = state g c.args.card.now (Some []) c.args.bench.now in
-    let mid : RunState = state g c.loop-count.card (kept_line c.loop-count.line) c.loop-count.bench in
-    let new : RunState = state g c.take_octets.new.card (kept_line c.take_octets.new.line) c.take_octets.new.bench in
+    let mid : RunState = state g c.loop-count.card (line_octets c.loop-count.line) c.loop-count.bench in
+    let new : RunState = state g c.take_octets.new.card (line_octets c.take_octets.new.line) c.take_octets.new.bench in
     let over : c.loop-count.room ≤ c.in-Ok.count = omega (arith, c.if-room-count.true) in
     let all : c.min-taken.result ≡ c.loop-count.room = omega (arith, c.min-taken.ensures, over) in
     Ends-too_long (g.B.Eeprom.faults c.args.bench.now) (g.B.Eeprom.faults c.take_octets.new.bench) c.loop-count.room c.in-Ok.count c.read.new.into old mid new (g.S.Source.left c.args.source.now) (g.S.Source.left c.loop-count.source) (g.S.Source.left c.read.new.self) m over c.in-Ok.ensures.taken.fits
     c.in_default-take_octets.ensures.ready (record { at = at; line = refl }) c.loop-count.invariant.taken c.in-Ok.ensures.taken
     (subst (λ (count : ℕ). Feeds (take count c.read.new.into) mid new) all c.in_default-take_octets.ensures.feeds)
 
-pub returns-then-room-count-clause-leaves : goal.returns-then-room-count-clause-leaves
-returns-then-room-count-clause-leaves g c = λ m at. Ends-leaves (more_came g (goal.at.returns-then-room-count-clause-leaves g c).Then-room-count m at)
+pub returns-then-room-count-clause-ends_as : goal.returns-then-room-count-clause-ends_as
+returns-then-room-count-clause-ends_as g c = λ m at. Ends-ended (more_came g (goal.at.returns-then-room-count-clause-ends_as g c).Then-room-count m at)
 
 pub returns-then-room-count-clause-moments : goal.returns-then-room-count-clause-moments
 returns-then-room-count-clause-moments g c = λ m at. Ends-keeps (more_came g (goal.at.returns-then-room-count-clause-moments g c).Then-room-count m at)
@@ -131,8 +131,8 @@ returns-then-room-count-clause-moments g c = λ m at. Ends-keeps (more_came g (g
 pub loop-count-preserved : goal.loop-count-preserved
 loop-count-preserved g c =
     let old : RunState = state g c.args.card.now (Some []) c.args.bench.now in
-    let mid : RunState = state g c.loop-count.card (kept_line c.loop-count.line) c.loop-count.bench in
-    let new : RunState = state g c.take_octets.new.card (kept_line c.take_octets.new.line) c.take_octets.new.bench in
+    let mid : RunState = state g c.loop-count.card (line_octets c.loop-count.line) c.loop-count.bench in
+    let new : RunState = state g c.take_octets.new.card (line_octets c.take_octets.new.line) c.take_octets.new.bench in
     let fits : c.in-Ok.count ≤ c.loop-count.room = c.if-room-count.false in
     let same : c.min-taken.result ≡ c.in-Ok.count = omega (arith, c.min-taken.ensures, fits) in
     record {

@@ -1,7 +1,7 @@
 use Rattle.std.proofs.Common.{◌≡◌, [], Some}
 use Rattle.eeprom.specs.Chip.{Becomes}
 use Rattle.card.specs.Card.{IsReady}
-use Rattle.card_cli.specs.Line.{kept_line}
+use Rattle.card_cli.specs.Line.{line_octets}
 use Rattle.card_cli.proofs.Taking.{HasTaken}
 use Rattle.card_cli.proofs.input.answer_input.Given as goal
 
@@ -14,7 +14,7 @@ invariant-loop-count g l = record {
   taken : Becomes
       (HasTaken l.room
       (record { card = l.fn.card; line = Some []; chip = g.B.Eeprom.chip l.fn.bench })
-      (record { card = l.card; line = kept_line l.line; chip = g.B.Eeprom.chip l.bench }))
+      (record { card = l.card; line = line_octets l.line; chip = g.B.Eeprom.chip l.bench }))
       (g.S.Source.left l.fn.source) (g.S.Source.left l.source);
 }
 

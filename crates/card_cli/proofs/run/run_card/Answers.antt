@@ -11,7 +11,7 @@ use Rattle.card_cli.specs.declared.status.Status.{Status}
 use Rattle.card_cli.specs.declared.status.Status.TheVariants.{Done, Eeprom, ReadFault, WriteFault, TooLong}
 use Rattle.card_cli.specs.declared.words.Form.{Form}
 use Rattle.card_cli.specs.Beginning.{IsOpenTo, BeginsWith, Begins, LacksCard}
-use Rattle.card_cli.specs.Ends.{AllFaults, EndsBy, LeavesOff}
+use Rattle.card_cli.specs.Ends.{AllFaults, EndsBy, EndsAs}
 use Rattle.card_cli.specs.Keeping.{KeepsTo}
 use Rattle.card_cli.proofs.Finishing.{is_at, open_to, opens_if_told, not_to_none, lacks_none, answers_all, same_faults, until_same}
 use Rattle.card_cli.proofs.run.run_card.Given as given
@@ -39,15 +39,15 @@ starts g c db begins = is_at c.in-Ok-open.card (g.B.Eeprom.chip c.prepare.new.be
 
 ended : (g : given.Over) (c : Ended g) (status : Status) → c.answer_input.result ≡ status
     → (db : Database) → BeginsWith (map string_bytes c.args.words.now) (g.B.Eeprom.chip c.args.bench.now) db
-    → Becomes (λ (input left : List ℕ). LeavesOff status (g.B.Eeprom.faults c.args.bench.now) (g.B.Eeprom.faults c.answer_input.new.bench) (start db) input left (g.B.Outlet.given c.args.bench.now) (g.B.Eeprom.chip c.answer_input.new.bench))
+    → Becomes (λ (input left : List ℕ). EndsAs status (g.B.Eeprom.faults c.args.bench.now) (g.B.Eeprom.faults c.answer_input.new.bench) (start db) input left (g.B.Outlet.given c.args.bench.now) (g.B.Eeprom.chip c.answer_input.new.bench))
     (g.S.Source.left c.args.source.now) (g.S.Source.left c.answer_input.new.source)
 ended g c status is db begins =
     let before : (g.B.Eeprom.chip c.open.new.bench).still.given ≡ g.B.Outlet.given c.args.bench.now = ap (λ (s : Still). s.given) (still g c) ∙ (g.met.B.Bench.output c.args.bench.now).0 in
-    let leaves : Status → ℕ → Option (List ℕ) → Type 0 = λ status from before.
-    Becomes (λ (input left : List ℕ). LeavesOff status from (g.B.Eeprom.faults c.answer_input.new.bench) (start db) input left before (g.B.Eeprom.chip c.answer_input.new.bench)) (g.S.Source.left c.args.source.now) (g.S.Source.left c.answer_input.new.source) in
-    subst (λ (s : Status). leaves s (g.B.Eeprom.faults c.args.bench.now) (g.B.Outlet.given c.args.bench.now)) is
-    (subst (λ (from : ℕ). leaves c.answer_input.result from (g.B.Outlet.given c.args.bench.now)) (no_fault g c)
-    (subst (leaves c.answer_input.result (g.B.Eeprom.faults c.open.new.bench)) before (c.answer_input.ensures.leaves (start db) (starts g c db begins))))
+    let ends_as : Status → ℕ → Option (List ℕ) → Type 0 = λ status from before.
+    Becomes (λ (input left : List ℕ). EndsAs status from (g.B.Eeprom.faults c.answer_input.new.bench) (start db) input left before (g.B.Eeprom.chip c.answer_input.new.bench)) (g.S.Source.left c.args.source.now) (g.S.Source.left c.answer_input.new.source) in
+    subst (λ (s : Status). ends_as s (g.B.Eeprom.faults c.args.bench.now) (g.B.Outlet.given c.args.bench.now)) is
+    (subst (λ (from : ℕ). ends_as c.answer_input.result from (g.B.Outlet.given c.args.bench.now)) (no_fault g c)
+    (subst (ends_as c.answer_input.result (g.B.Eeprom.faults c.open.new.bench)) before (c.answer_input.ensures.ends_as (start db) (starts g c db begins))))
 
 pub returns-in-Ok-open-clause-answered : goal.returns-in-Ok-open-clause-answered
 returns-in-Ok-open-clause-answered g c = ended g (goal.at.returns-in-Ok-open-clause-answered g c).After-answer_input Done
