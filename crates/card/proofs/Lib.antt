@@ -1,4 +1,5 @@
 mod Added
+mod BuiltLines
 mod ByStamp
 mod Gathering
 mod GatheringSlots

@@ -1,5 +1,5 @@
 // Commands, read from octets (ISO/IEC 7816-4, command APDU).
-ghost use Rattle.std.specs.Prelude.{◌≡◌, ◌≤◌, ◌∷◌, [], ◌==◌, ◌||◌, not, ◌&&◌, true, Some, None, IfOk, IfSome, IfNone, slice_get, option_map, option_and_then, length, unwrap_or};
+ghost use Rattle.std.specs.Prelude.{◌≡◌, ◌≤◌, ◌∷◌, [], ◌==◌, ◌||◌, not, ◌&&◌, true, Some, None, IfOk, IfSome, IfNone, slice_get, option_map, map};
 ghost use Rattle.std.specs.List.{find, list_any};
 ghost use Rattle.scql_base.specs.Words.{instruction_not_supported, wrong_data};
 ghost use Rattle.scql_model.specs.Form as form;
@@ -54,7 +54,7 @@ macro_rules! line {
 }
 
 // All operations. The number of a channel to open or to close is P2.
-const OPERATIONS: [Line; 31] = [
+static OPERATIONS: [Line; 31] = [
     line!(planned 0x10 0x00 0x80 CreateTable, DataField),
     line!(planned 0x10 0x00 0x81 CreateView, DataField),
     line!(planned 0x10 0x00 0x82 CreateDictionary, DataField),
@@ -87,6 +87,13 @@ const OPERATIONS: [Line; 31] = [
     line!(planned 0x70 0x80 0x03 CloseChannel { number: 3 }, Nothing),
     line!(planned 0xC0 0x00 0x00 GetResponse, LeAlone),
 ];
+
+// The table, line beside line.
+fn operations() -> &'static [Line]
+    ensures { map line_view result.now ≡ table.operations }
+{
+    &OPERATIONS
+}
 
 /// What stands behind P2: a data field, where there is one, and Le, where there is one.
 #[derive(Drop)]
@@ -164,17 +171,40 @@ fn is_chained(cla: u8) -> bool
 fn check_instruction(ins: u8) -> Result<(), StatusWord>
     ensures { result ≡ refusals.provided (table.has_instruction table.built_operations ins) instruction_not_supported }
 {
-    if has_instruction(&OPERATIONS, ins) {
+    if has_instruction(ins) {
         Ok(())
     } else {
         Err(StatusWord::INSTRUCTION_NOT_SUPPORTED)
     }
 }
 
-fn has_instruction(lines: &[Line], ins: u8) -> bool
+// Some operation that is built has this instruction.
+fn has_instruction(ins: u8) -> bool
+    ensures { result ≡ table.has_instruction table.built_operations ins }
+{
+    is_among(operations(), ins)
+}
+
+fn is_among(lines: &[Line], ins: u8) -> bool
     ensures { result ≡ list_any (λ line. line.is_built && line.ins == ins) lines.now }
 {
     lines.iter().any(|line| line.is_built && line.ins == ins)
+}
+
+// The line of the operation that is built for INS, P1 and P2.
+fn line_of(ins: u8, p1: u8, p2: u8) -> Option<Line>
+    ensures { option_map line_view result ≡ table.line_of table.built_operations ins p1 p2 }
+{
+    find_line(operations(), ins, p1, p2)
+}
+
+fn find_line(lines: &[Line], ins: u8, p1: u8, p2: u8) -> Option<Line>
+    ensures { result ≡ find (λ line. line.is_built && line.ins == ins && line.p1 == p1 && line.p2 == p2) lines.now }
+{
+    lines.iter().copied().find(|line| line.is_built
+        && line.ins == ins
+        && line.p1 == p1
+        && line.p2 == p2)
 }
 
 fn is_for_channel(channel: u8, kind: OperationKind) -> bool
@@ -188,20 +218,11 @@ fn line_on(channel: u8, ins: u8, p1: u8, p2: u8) -> Result<Line, StatusWord>
     ensures line { seen line_view result ≡ form.line_on table.built_operations channel ins p1 p2 }
     ensures built { IfOk result (λ line. is_built line.kind ≡ true) }
 {
-    let line = find_line(&OPERATIONS, ins, p1, p2).ok_or(StatusWord::WRONG_PARAMETERS)?;
+    let line = line_of(ins, p1, p2).ok_or(StatusWord::WRONG_PARAMETERS)?;
     if !is_for_channel(channel, line.kind) {
         return Err(StatusWord::WRONG_PARAMETERS);
     }
     Ok(line)
-}
-
-fn find_line(lines: &[Line], ins: u8, p1: u8, p2: u8) -> Option<Line>
-    ensures { result ≡ find (λ line. line.is_built && line.ins == ins && line.p1 == p1 && line.p2 == p2) lines.now }
-{
-    lines.iter().copied().find(|line| line.is_built
-        && line.ins == ins
-        && line.p1 == p1
-        && line.p2 == p2)
 }
 
 fn channel_of(cla: u8, channels: [bool; 4]) -> Result<u8, StatusWord>

@@ -1,16 +1,18 @@
 -- Worked readings of commands, where all operations are built: the definitions compute them.
-use Rattle.std.proofs.Common.{◌≡◌, ℕ, Bool, true, false, List, [], ◌∷◌, ◌++◌, take, drop, replicate, Option, Some, None, refl}
+use Rattle.std.proofs.Common.{◌≡◌, ℕ, Bool, true, false, List, [], ◌∷◌, ◌++◌, take, drop, map, replicate, Option, Some, None, refl}
 use Rattle.std.specs.Prelude.{codes}
 use Rattle.std.specs.List.{flat_map}
 use Rattle.std.specs.Result.{result_unwrap_or}
 use Rattle.hex.specs.Hex.{decode_of}
 use Rattle.hex.proofs.OnLiterals.{hex_on_literals}
 use Rattle.scql_base.specs.declared.operation.Operation.{Operation}
-use Rattle.scql_base.specs.declared.operation.Operation.TheVariants.{CreateTable, OpenCursor, Insert, OpenChannel, CloseChannel}
+use Rattle.scql_base.specs.declared.operation.Operation.TheVariants.{CreateTable, CreateView, CreateDictionary, Grant, DeclareCursor, OpenCursor, Insert, Update, Verify, OpenChannel, CloseChannel}
+use Rattle.scql_base.specs.declared.words.Subject.TheVariants.{Objects}
+use Rattle.scql_base.specs.declared.words.Comparison.TheVariants.{Equal}
 use Rattle.scql_base.specs.declared.operation.OperationKind.TheVariants as kind
 use Rattle.scql_base.specs.Words.{wrong_length, class_not_supported, secure_messaging_not_supported, chaining_not_supported, instruction_not_supported, channel_not_supported, wrong_parameters, wrong_data}
 use Rattle.scql_base.specs.Strings.{spelled, params_of, pieces_of}
-use Rattle.scql_model.specs.Operations.{operations}
+use Rattle.scql_model.specs.Operations.{Line, operations, built_operations, line_of}
 use Rattle.scql_model.specs.Form.{Form, refused, refused_on, part_on, a_command, form_of, no_chain}
 
 -- octets, from their digits
@@ -30,6 +32,14 @@ reading digits = form_of operations (octets_of digits) one_open no_chain 240
 
 abbrev on : ℕ → Operation → Option ℕ → Form
 on channel operation le = a_command (record { channel = channel; operation = operation; le = le })
+
+-- each line of the table is found by its own INS, P1 and P2, so no two have the same
+lines_found : map (λ (l : Line). line_of operations l.ins l.p1 l.p2) operations ≡ map Some operations
+lines_found = refl
+
+-- what is built today
+kinds_built : map (λ (l : Line). l.kind) built_operations ≡ kind.PresentUser ∷ kind.CreateUser ∷ []
+kinds_built = refl
 
 -- each refusal in its order
 too_short : reading (codes "001000") ≡ refused wrong_length
@@ -75,6 +85,48 @@ opens_cursor = refl
 creates_table : reading (codes "0010008006015401410142") ≡ on 0 (CreateTable (codes "T") (codes "A" ∷ codes "B" ∷ [])) None
 unfolding form_of params_of pieces_of hex_on_literals
 creates_table = refl
+
+same_columns : reading (codes "0010008006015401410141") ≡ refused_on 0 wrong_data
+unfolding form_of params_of pieces_of hex_on_literals
+same_columns = refl
+
+creates_view : reading (codes "00100081080156015401010141") ≡ on 0 (CreateView (codes "V") (codes "T") (codes "A" ∷ []) []) None
+unfolding form_of params_of pieces_of hex_on_literals
+creates_view = refl
+
+creates_dictionary : reading (codes "00100082040144014F") ≡ on 0 (CreateDictionary (codes "D") Objects) None
+unfolding form_of params_of pieces_of hex_on_literals
+creates_dictionary = refl
+
+grants : reading (codes "00100085080101015603414E4E") ≡ on 0 (Grant 1 (codes "V") (codes "ANN")) None
+unfolding form_of params_of pieces_of hex_on_literals
+grants = refl
+
+grants_nothing : reading (codes "00100085080100015603414E4E") ≡ refused_on 0 wrong_data
+unfolding form_of params_of pieces_of hex_on_literals
+grants_nothing = refl
+
+-- all columns, and one column with a condition
+declares : reading (codes "001000870401540100") ≡ on 0 (DeclareCursor (codes "T") [] []) None
+unfolding form_of params_of pieces_of hex_on_literals
+declares = refl
+
+declares_condition : reading (codes "001000870C0154010101420141013D0178")
+    ≡ on 0 (DeclareCursor (codes "T") (codes "B" ∷ []) (record { column = codes "A"; comparison = Equal; value = codes "x" } ∷ [])) None
+unfolding form_of params_of pieces_of hex_on_literals
+declares_condition = refl
+
+half_a_condition : reading (codes "0010008708015401000141013D") ≡ refused_on 0 wrong_data
+unfolding form_of params_of pieces_of hex_on_literals
+half_a_condition = refl
+
+updates : reading (codes "0010008D0701410178014200") ≡ on 0 (Update ((codes "A", codes "x") ∷ (codes "B", []) ∷ [])) None
+unfolding form_of params_of pieces_of hex_on_literals
+updates = refl
+
+verifies : reading (codes "002000000431323334") ≡ on 0 (Verify (codes "1234")) None
+unfolding form_of hex_on_literals
+verifies = refl
 
 -- a row of 240 octets, and one of 241
 widest_row : form_of operations (octets_of (codes "0010008CF20157C8") ++ (replicate 200 0x61 ++ (0x26 ∷ replicate 38 0x62))) one_open no_chain 240

@@ -50,10 +50,15 @@ unfolding line_text line_step step step_by form_of edits_of user_added params_of
 resets = refl
 
 -- each refusal of the reading, in its order, and the four cases
-refusals : run_text card (lines (codes "001400\n80140080\n04140080\n10140080\n00FF0080\n01140080\n0014008F\n00140080\n0014008000\n00140080000154\n0014008002054F\n001400800200\n0014008002014F\n001400800401410142\n") true)
-    ≡ codes "6700\n6E00\n6882\n6700\n6D00\n6881\n6A86\n6700\n6700\n6700\n6A80\n6700\n6A88\n6A80\n"
+refusals : run_text card (lines (codes "001400\n80140080\n04140080\n00FF0080\n01140080\n0014008F\n10140080\n10140080020154\n00140080\n0014008000\n00140080000154\n0014008002054F\n001400800200\n0014008002014F\n001400800401410142\n") true)
+    ≡ codes "6700\n6E00\n6882\n6D00\n6881\n6A86\n6700\n6884\n6700\n6700\n6700\n6A80\n6700\n6A88\n6A80\n"
 unfolding line_text line_step step step_by form_of edits_of user_added params_of pieces_of hex_on_literals
 refusals = refl
+
+-- operations that aren't built yet
+not_built : run_text card (lines (codes "00100088\n0020000004 30303030\n00C0000000\n00140082020154\n") true) ≡ codes "6D00\n6D00\n6D00\n6A86\n"
+unfolding line_text line_step step step_by form_of edits_of user_added params_of pieces_of hex_on_literals
+not_built = refl
 
 -- what isn't hexadecimal, a reset, blanks, notes and empty lines
 odd_lines : run_text card (lines (codes "zz\n0\nreset\n\n# note\n 00 10 00 \n") true) ≡ codes "not hexadecimal\nnot hexadecimal\nreset\n6700\n"

@@ -22,19 +22,21 @@ class_of cla =
 abbrev pub is_chained : ℕ → Bool
 is_chained cla = cla / 16 % 2 == 1
 
--- The logical channel is in bits b2 b1 of CLA, and is open.
+-- the channel is one of those told of, and is told to be open
 abbrev pub is_open : Option Bool → Bool
 is_open None = false
 is_open (Some told) = told
 
+-- The logical channel is in bits b2 b1 of CLA, and is open.
 abbrev pub channel_of : ℕ → List Bool → Result ℕ StatusWord
 channel_of cla channels = if is_open (slice_get channels (cla % 4)) then Ok (cla % 4) else Err channel_not_supported
 
--- The four cases of a command: nothing, Le, Lc and data, or Lc, data and Le. In one octet Le is 1 to 256, 256 being 00.
+-- What stands behind P2: a data field or none, and Le or none.
 pub record Tail : Type 0 where
   pub body : Option (List ℕ)
   pub le : Option ℕ
 
+-- Le in one octet is 1 to 256, 256 being 00
 abbrev pub le_of : ℕ → ℕ
 le_of octet = if octet == 0 then 256 else octet
 
@@ -45,6 +47,7 @@ data_of lc rest =
     else if length rest == lc + 1 then Some (record { body = Some (take lc rest); le = Some (le_of (slice_index rest lc)) })
     else None
 
+-- The four cases of a command: nothing, Le, Lc and data, or Lc, data and Le. Lc isn't 0.
 abbrev pub tail_of : List ℕ → Option Tail
 tail_of [] = Some (record { body = None; le = None })
 tail_of (le ∷ []) = Some (record { body = None; le = Some (le_of le) })
@@ -69,18 +72,22 @@ abbrev pub parts_of : OperationKind → Option Chain → List (List ℕ)
 parts_of kind None = []
 parts_of kind (Some chain) = if goes_on kind chain.operation then chain.parts else []
 
--- What octets are: refused before it is known for which channel they are, refused on an open channel, a part of a command whose operation is
--- this one, or a command.
+-- What octets are.
 pub data Form : Type 0 where
+  -- refused before they come to an open channel
   refused : StatusWord → Form
+  -- refused on an open channel
   refused_on : ℕ → StatusWord → Form
+  -- on a channel, octets of the data field of this operation, which goes on in the next command
   part_on : ℕ → OperationKind → List ℕ → Form
   a_command : Command → Form
 
+-- what was read on a channel
 abbrev pub formed_on : ℕ → Result Form StatusWord → Form
 formed_on channel (Err word) = refused_on channel word
 formed_on channel (Ok form) = form
 
+-- a channel is read, and then the rest on it
 abbrev pub formed : Result ℕ StatusWord → (ℕ → Result Form StatusWord) → Form
 formed (Err word) on_channel = refused word
 formed (Ok channel) on_channel = formed_on channel (on_channel channel)

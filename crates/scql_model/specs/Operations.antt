@@ -21,6 +21,7 @@ pub record Line : Type 0 where
   pub takes : Takes
   pub is_built : Bool
 
+-- a line, and one of an operation that is built or isn't yet
 abbrev line : Bool → ℕ → ℕ → ℕ → OperationKind → Takes → Line
 line is_built ins p1 p2 kind takes = record { ins = ins; p1 = p1; p2 = p2; kind = kind; takes = takes; is_built = is_built }
 
@@ -66,9 +67,13 @@ operations =
     ∷ planned 0xC0 0x00 0x00 GetResponse le_alone
     ∷ []
 
+-- the lines of a table that are built
+abbrev pub built_lines : List Line → List Line
+built_lines table = filter (λ (l : Line). l.is_built) table
+
 -- the operations that the card has today
 abbrev pub built_operations : List Line
-built_operations = filter (λ (l : Line). l.is_built) operations
+built_operations = built_lines operations
 
 -- some operation of a table has this instruction
 abbrev pub has_instruction : List Line → ℕ → Bool
@@ -83,12 +88,13 @@ abbrev pub is_for_channel : ℕ → OperationKind → Bool
 is_for_channel channel (CloseChannel number) = not (channel == 0 && number == 0)
 is_for_channel channel kind = true
 
--- Two of one operation whose data field may come in parts (command chaining): INSERT and UPDATE alone.
+-- The same of the two operations whose data field may come in parts (command chaining): INSERT or UPDATE.
 abbrev pub goes_on : OperationKind → OperationKind → Bool
 goes_on Insert Insert = true
 goes_on Update Update = true
 goes_on kind other = false
 
+-- the data field may come in parts
 abbrev pub comes_in_parts : OperationKind → Bool
 comes_in_parts kind = goes_on kind kind
 

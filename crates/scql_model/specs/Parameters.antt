@@ -14,6 +14,7 @@ use Rattle.scql_base.specs.declared.operation.OperationKind.TheVariants as kind
 use Rattle.scql_model.specs.Records.{subject_of, comparison_of, is_privileges, is_one_to_fifteen, is_at_most_eight}
 use Rattle.scql_model.specs.Database.{are_different}
 
+-- one value and then the next; where there is none there is none
 infixl 10 ◌>>=◌
 abbrev pub ◌>>=◌ : {A B : Type 0} → Option A → (A → Option B) → Option B
 None >>= f = None
@@ -40,12 +41,13 @@ pub record Choice : Type 0 where
   pub columns : List (List ℕ)
   pub conditions : List Condition
 
--- a condition is three parameters: a name, one octet for the comparison, and a value
+-- at most eight conditions, each on a name and with a value of at most 200 octets
 abbrev pub are_conditions : List Condition → Bool
 are_conditions conditions =
     is_at_most_eight (length conditions)
     && list_all (λ (c : Condition). is_name c.column && is_narrow c.value) conditions
 
+-- a condition is three parameters: a name, one octet for the comparison, and a value
 abbrev pub conditions_in : List (List ℕ) → Option (List Condition)
 conditions_in [] = Some []
 conditions_in (column ∷ (code ∷ []) ∷ value ∷ strings) =
