@@ -14,6 +14,7 @@ pub mod LongerLists
 pub mod Naming
 pub mod RecordLaws
 pub mod Refusing
+pub mod Removing
 pub mod RightEdits
 pub mod Room
 pub mod SpellingLengths
