@@ -1,5 +1,5 @@
 -- What a changing command does to a database: its edits, and the new database or the first refusal that applies.
-use Rattle.std.specs.Prelude.{◌==◌, ◌&&◌, ◌||◌, Bool, List, Option, Result, Ok, Err, if◌then◌else◌}
+use Rattle.std.specs.Prelude.{◌==◌, ◌&&◌, ◌||◌, Bool, true, false, List, Option, Result, Ok, Err, if◌then◌else◌}
 use Rattle.std.specs.List.{list_any}
 use Rattle.scql_base.specs.declared.words.Actor.{Actor}
 use Rattle.scql_base.specs.declared.words.StatusWord.{StatusWord}
@@ -11,7 +11,7 @@ use Rattle.scql_base.specs.Words.{no_space, instruction_not_supported}
 use Rattle.scql_model.specs.Database.{Database}
 use Rattle.scql_model.specs.Creating.{stamps_end, is_overfull}
 use Rattle.scql_model.specs.Refusals.{◌>>=◌}
-use Rattle.scql_model.specs.Edits.{Edit, applied, touched}
+use Rattle.scql_model.specs.Edits.{AnyRecord, of_counter, Edit, applied}
 use Rattle.scql_model.specs.Defining.{object_created, view_created, table_dropped, view_dropped}
 use Rattle.scql_model.specs.Granting.{privileges_granted, privileges_revoked}
 use Rattle.scql_model.specs.Writing.{row_inserted, row_updated, row_deleted}
@@ -34,9 +34,13 @@ edits_of db actor cursor (CreateUser name profile secret) = user_added db actor 
 edits_of db actor cursor (DeleteUser name) = user_deleted db actor name
 edits_of db actor cursor operation = Err instruction_not_supported
 
--- a stamp is taken where the counter is edited
+-- a stamp is taken where the counter is changed
+abbrev pub is_counter : AnyRecord → Bool
+is_counter (of_counter next) = true
+is_counter r = false
+
 abbrev pub takes_stamp : List Edit → Bool
-takes_stamp edits = list_any (λ stamp. stamp == 0) (touched edits)
+takes_stamp edits = list_any (λ (e : Edit). is_counter e.entry) edits
 
 -- no stamp is left that is to be taken, or the records would take more cells than the card has
 abbrev pub lacks_room : Database → List Edit → Bool
