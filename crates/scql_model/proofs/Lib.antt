@@ -5,12 +5,14 @@ pub mod CounterSlot
 pub mod Creating
 pub mod CreatingSlots
 pub mod CreatingWeight
+pub mod Depths
 pub mod FieldLaws
 pub mod FormedCommands
 pub mod FoundAgain
 pub mod FreshCard
 pub mod Hearing
 pub mod LongerLists
+pub mod NameOrder
 pub mod Naming
 pub mod Positions
 pub mod ReadingIsShown
