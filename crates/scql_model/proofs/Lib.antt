@@ -1,17 +1,27 @@
+mod WorkedChanges
+mod WorkedCreating
+mod WorkedReading
+mod WorkedRows
 pub mod Acting
 pub mod AddedUser
 pub mod ChangeLaws
+pub mod ContentsRise
 pub mod CounterSlot
 pub mod Creating
 pub mod CreatingSlots
 pub mod CreatingWeight
+pub mod Depths
 pub mod EditLaws
 pub mod FieldLaws
 pub mod FormedCommands
+pub mod FoundAgain
 pub mod FreshCard
 pub mod Hearing
 pub mod LongerLists
+pub mod NameOrder
 pub mod Naming
+pub mod Positions
+pub mod ReadingIsShown
 pub mod RecordLaws
 pub mod Refusing
 pub mod Removing
@@ -21,6 +31,3 @@ pub mod SpellingLengths
 pub mod Spellings
 pub mod Touching
 pub mod Validity
-mod WorkedChanges
-mod WorkedCreating
-mod WorkedRows

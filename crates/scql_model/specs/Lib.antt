@@ -17,9 +17,12 @@ pub mod Moves
 pub mod Objects
 pub mod Opens
 pub mod ReadingCommands
+pub mod ReadingLaws
+pub mod Reads
 pub mod Records
 pub mod Refusals
 pub mod Rights
+pub mod Shown
 pub mod Step
 pub mod Users
 pub mod Validity

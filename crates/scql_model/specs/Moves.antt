@@ -12,12 +12,12 @@ use Rattle.scql_model.specs.Database.{Database}
 use Rattle.scql_model.specs.Machine.{Reading}
 use Rattle.scql_model.specs.Form.{◌>>=◌, or_refused}
 use Rattle.scql_model.specs.Rights.{select_privilege, holds, seen_named, seen_stamped}
-use Rattle.scql_model.specs.Matching.{matches}
+use Rattle.scql_model.specs.Matching.{Values, matches}
 use Rattle.scql_model.specs.Objects.{StampedRow}
 use Rattle.scql_model.specs.Contents.{Contents, contents_of}
 use Rattle.scql_model.specs.ReadingCommands.{ReadingCommand, declare, open_cursor, next, fetch, fetch_next, get_response, Move, word_alone, or_stays, provided, end_reached, record_not_found, cut, fitting, wanted_of, named_among, row_octets}
 
--- the contents of an object from which the actor may select
+-- the contents of an object, where the actor may select from it
 abbrev pub selected : Database → Actor → Object → Result Contents StatusWord
 selected db actor o = do
   _ ← provided (holds db actor o select_privilege) security_not_satisfied
@@ -36,26 +36,22 @@ opened cursor = do
   Ok c
 
 -- whether a row of the cursor's object meets the cursor's conditions
-abbrev pub passes : Contents → Cursor → List (List ℕ) → Bool
+abbrev pub passes : Contents → Cursor → Values → Bool
 passes contents c values = matches contents.columns c.conditions values
 
 -- the first row from a stamp on that passes
-abbrev pub first_from : ℕ → (List (List ℕ) → Bool) → List StampedRow → Option StampedRow
+abbrev pub first_from : ℕ → (Values → Bool) → List StampedRow → Option StampedRow
 first_from stamp test rows = find (λ (r : StampedRow). nat_le stamp r.stamp && test r.values) rows
 
 -- the first row behind a place that passes; behind the end there is none
-abbrev pub row_behind : Place → (List (List ℕ) → Bool) → List StampedRow → Option StampedRow
+abbrev pub row_behind : Place → (Values → Bool) → List StampedRow → Option StampedRow
 row_behind NotOpen test rows = None
 row_behind (At stamp) test rows = first_from (stamp + 1) test rows
 row_behind End test rows = None
 
 -- the row of a stamp, if it is there and passes
-abbrev pub row_at : ℕ → (List (List ℕ) → Bool) → List StampedRow → Option StampedRow
+abbrev pub row_at : ℕ → (Values → Bool) → List StampedRow → Option StampedRow
 row_at stamp test rows = find (λ (r : StampedRow). r.stamp == stamp && test r.values) rows
-
--- a new cursor isn't open, and nothing is pending
-abbrev pub declared : Cursor → Move Reading
-declared c = record { reply = word_alone done; after = record { cursor = Some c; pending = [] } }
 
 -- the cursor stands at a place, and nothing is pending
 abbrev pub moved_to : Place → Cursor → StatusWord → Move Reading
@@ -97,7 +93,7 @@ moved db actor reading (declare object columns conditions) = do
   o ← or_refused (seen_named db actor object) not_found
   contents ← selected db actor o
   _ ← named_among contents.columns columns conditions
-  Ok (declared (record { object = o.stamp; columns = wanted_of contents.columns columns; conditions = conditions; place = NotOpen }))
+  Ok (moved_to NotOpen (record { object = o.stamp; columns = wanted_of contents.columns columns; conditions = conditions; place = NotOpen }) done)
 moved db actor reading open_cursor = do
   c ← or_refused reading.cursor conditions_not_satisfied
   o ← or_refused (seen_stamped db actor c.object) not_found
