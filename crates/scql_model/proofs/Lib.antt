@@ -1,7 +1,3 @@
-mod WorkedChanges
-mod WorkedCreating
-mod WorkedReading
-mod WorkedRows
 pub mod Acting
 pub mod AddedUser
 pub mod ChangeLaws
@@ -31,3 +27,7 @@ pub mod SpellingLengths
 pub mod Spellings
 pub mod Touching
 pub mod Validity
+mod WorkedChanges
+mod WorkedCreating
+mod WorkedReading
+mod WorkedRows

@@ -30,7 +30,7 @@ use Rattle.scql_model.specs.Contents.{contents_of}
 use Rattle.scql_model.specs.Rights.{owns, seen_named, update_privilege, delete_privilege}
 use Rattle.scql_model.specs.Defining.{of_kind, owned_by, named_anew, has_view, removing_object, removing_rows, object_created, view_created, table_dropped, view_dropped}
 use Rattle.scql_model.specs.Granting.{grantee_named, grant_to, more_granted, left_of, less_granted, privileges_granted, privileges_revoked}
-use Rattle.scql_model.specs.Writing.{row_inserted, written_through, row_at_place, record_at, row_with, row_updated, row_deleted}
+use Rattle.scql_model.specs.Writing.{Assignment, row_inserted, written_through, row_at_place, record_at, row_after, row_updated, row_deleted}
 use Rattle.scql_model.specs.Users.{owns_user, is_needed, removing_user, user_added, user_deleted}
 use Rattle.scql_model.specs.Changing.{edits_of, is_counter, takes_stamp}
 use Rattle.scql_model.specs.Edits.{AnyRecord, of_counter, of_user, of_object, of_grant, of_row, record_stamp, Action, to_add, to_change, to_remove, Edit, making, changing, removing, has_record, edited, applied}
@@ -221,15 +221,15 @@ record_at-there db cursor r found = go (row_at_place (contents_of db cursor.obje
     go None found = absurd (none-some r found)
     go (Some s) found = has_record-row db r.stamp (found-there (λ (t : RowRecord). t.stamp) (λ (t : RowRecord). t.stamp == s.stamp) db.rows r found)
 
-updated-right : (db : Database) (actor : Actor) (cursor : Option Cursor) (changes : List (List ℕ × List ℕ)) → Gives (AreRight db) (row_updated db actor cursor changes)
+updated-right : (db : Database) (actor : Actor) (cursor : Option Cursor) (assignments : List Assignment) → Gives (AreRight db) (row_updated db actor cursor assignments)
 unfolding row_updated
-updated-right db actor cursor changes =
+updated-right db actor cursor assignments =
     bound-gives (AreRight db) (opened cursor) _ λ c _.
     bound-gives (AreRight db) (written_through db actor update_privilege c) _ λ o _.
-    bound-gives (AreRight db) (provided (are_among (map (λ (change : List ℕ × List ℕ). change.0) changes) (columns_of o.kind)) not_found) _ λ _ _.
+    bound-gives (AreRight db) (provided (are_among (map (λ (a : Assignment). a.0) assignments) (columns_of o.kind)) not_found) _ λ _ _.
     bound-gives (AreRight db) (or_refused (record_at db c) record_not_found) _ λ r is.
-    bound-gives (AreRight db) (provided (nat_le (row_size (row_with db changes r).row) db.limit) wrong_data) _ λ _ _.
-    done-gives (AreRight db) (changing (of_row (row_with db changes r)) ∷ []) (rw (record_at-there db c r (not_refused _ record_not_found r is)) refl)
+    bound-gives (AreRight db) (provided (nat_le (row_size (row_after db assignments r).row) db.limit) wrong_data) _ λ _ _.
+    done-gives (AreRight db) (changing (of_row (row_after db assignments r)) ∷ []) (rw (record_at-there db c r (not_refused _ record_not_found r is)) refl)
 
 deleted-right : (db : Database) (actor : Actor) (cursor : Option Cursor) → Gives (AreRight db) (row_deleted db actor cursor)
 unfolding row_deleted
@@ -259,7 +259,7 @@ edits_of-gives db actor cursor (DropView name) = view_dropped-right db actor nam
 edits_of-gives db actor cursor (grant privileges object grantee) = granted-right db actor privileges object grantee
 edits_of-gives db actor cursor (Revoke privileges object grantee) = revoked-right db actor privileges object grantee
 edits_of-gives db actor cursor (Insert table row) = inserted-right db actor table row
-edits_of-gives db actor cursor (Update changes) = updated-right db actor cursor changes
+edits_of-gives db actor cursor (Update assignments) = updated-right db actor cursor assignments
 edits_of-gives db actor cursor Delete = deleted-right db actor cursor
 edits_of-gives db actor cursor (CreateUser name profile secret) = user_added-right db actor name profile secret
 edits_of-gives db actor cursor (DeleteUser name) = user_deleted-right db actor name

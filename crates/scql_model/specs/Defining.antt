@@ -16,7 +16,8 @@ use Rattle.scql_base.specs.declared.records.RowRecord.{RowRecord}
 use Rattle.scql_base.specs.Words.{security_not_satisfied, conditions_not_satisfied, not_found, already_exists}
 use Rattle.scql_model.specs.Database.{Database, is_maker, is_table}
 use Rattle.scql_model.specs.Creating.{actor_stamp}
-use Rattle.scql_model.specs.Objects.{columns_of, depth_of}
+use Rattle.scql_model.specs.Matching.{Columns}
+use Rattle.scql_model.specs.Objects.{columns_of, deepest, depth_of}
 use Rattle.scql_model.specs.Rights.{owns, seen_named}
 use Rattle.scql_model.specs.ReadingCommands.{wanted_of, named_among}
 use Rattle.scql_model.specs.Refusals.{◌>>=◌, or_refused, provided}
@@ -60,12 +61,12 @@ abbrev pub is_table_or_view : ObjectKind → Bool
 is_table_or_view (Dictionary subject) = false
 is_table_or_view kind = true
 
--- an object on which a view may rest: it stands at a depth below 4
+-- an object on which a view may rest: it doesn't stand at the greatest depth
 abbrev pub may_have_view : List Object → Object → Bool
-may_have_view objects base = option_map_or (λ depth. nat_lt depth 4) (depth_of objects base.stamp) false
+may_have_view objects base = option_map_or (λ depth. nat_lt depth deepest) (depth_of objects base.stamp) false
 
 -- CREATE VIEW; an empty list of columns becomes all columns
-unfoldable pub view_created : Database → Actor → List ℕ → List ℕ → List (List ℕ) → List Condition → Result (List Edit) StatusWord
+unfoldable pub view_created : Database → Actor → List ℕ → List ℕ → Columns → List Condition → Result (List Edit) StatusWord
 view_created db actor name base_name columns conditions = do
   _ ← provided (makes_objects actor) security_not_satisfied
   base ← owned_by actor (of_kind is_table_or_view (seen_named db actor base_name))
