@@ -9,9 +9,10 @@ use Rattle.scql_base.specs.declared.operation.Operation.{Operation}
 use Rattle.scql_base.specs.declared.operation.Operation.TheVariants.{CreateTable, CreateView, CreateDictionary, DropTable, DropView, Grant, Revoke, Insert, Update, Delete, CreateUser, DeleteUser}
 use Rattle.scql_base.specs.Words.{no_space, instruction_not_supported}
 use Rattle.scql_model.specs.Database.{Database}
+use Rattle.scql_model.specs.Machine.{Transaction}
 use Rattle.scql_model.specs.Creating.{stamps_end, is_overfull}
 use Rattle.scql_model.specs.Refusals.{◌>>=◌}
-use Rattle.scql_model.specs.Edits.{AnyRecord, of_counter, Edit, applied}
+use Rattle.scql_model.specs.Edits.{AnyRecord, of_counter, Edit, applied, touched_after}
 use Rattle.scql_model.specs.Defining.{object_created, view_created, table_dropped, view_dropped}
 use Rattle.scql_model.specs.Granting.{privileges_granted, privileges_revoked}
 use Rattle.scql_model.specs.Writing.{row_inserted, row_updated, row_deleted}
@@ -55,3 +56,8 @@ unfoldable pub change_of : Database → Actor → Option Cursor → Operation �
 change_of db actor cursor operation = do
   edits ← edits_of db actor cursor operation
   with_edits db edits
+
+-- A transaction goes on: its working database has the edits too, and so have the records that it touched.
+abbrev pub transaction_after : Database → Transaction → List Edit → Transaction
+transaction_after committed t edits =
+    record t { working = applied t.working edits; touched = touched_after committed (applied t.working edits) t.touched edits }
