@@ -1,5 +1,6 @@
 pub mod Acting
 pub mod AddedUser
+pub mod Assigning
 pub mod ChangeLaws
 pub mod ContentsRise
 pub mod CounterSlot
