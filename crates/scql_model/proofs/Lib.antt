@@ -1,5 +1,6 @@
 pub mod Acting
 pub mod AddedUser
+pub mod ChannelsApart
 pub mod ContentsRise
 pub mod CounterSlot
 pub mod Creating
