@@ -18,12 +18,12 @@ use Rattle.scql_base.specs.declared.records.Grant.{Grant}
 use Rattle.scql_base.specs.declared.records.RowRecord.{RowRecord}
 use Rattle.scql_base.specs.Strings.{spelled}
 use Rattle.scql_model.specs.Commands.{Reply}
-use Rattle.scql_model.specs.Database.{Database, owner}
+use Rattle.scql_model.specs.Database.{Database, are_among, owner}
 use Rattle.scql_model.specs.Machine.{Reading, no_reading}
 use Rattle.scql_model.specs.Lines.{reply_octets}
 use Rattle.scql_model.specs.Rights.{holds, appears}
 use Rattle.scql_model.specs.Matching.{compares}
-use Rattle.scql_model.specs.Objects.{StampedRow, depth_of}
+use Rattle.scql_model.specs.Objects.{StampedRow, columns_of, depth_of}
 use Rattle.scql_model.specs.Contents.{contents_of}
 use Rattle.scql_model.specs.ReadingCommands.{ReadingCommand, declare, open_cursor, next, fetch, fetch_next, get_response}
 use Rattle.scql_model.specs.Moves.{move_of}
@@ -211,7 +211,10 @@ fourth_view : answers views the_owner no_reading (declare (codes "V4") [] [] ∷
 unfolding move_of holds appears contents_of hex_on_literals
 fourth_view = refl
 
--- V4 may be over V3, and no view may be over V4; V2 has no column B to show
+-- a view over V2 can't have the column B; V4 may be over V3, and no view over V4
+refused_column : are_among (codes "B" ∷ []) (columns_of (view_over 6 (codes "V2") 5 (codes "A" ∷ []) []).kind) ≡ false
+refused_column = refl
+
 depths : (depth_of views.objects 2 ≡ Some 0) × (depth_of views.objects 5 ≡ Some 1) × (depth_of views.objects 7 ≡ Some 3) × (depth_of views.objects 8 ≡ Some 4) × (depth_of views.objects 9 ≡ None)
 unfolding depth_of
 depths = (refl, refl, refl, refl, refl)
