@@ -1,7 +1,12 @@
+mod WorkedChanges
+mod WorkedCreating
+mod WorkedReading
+mod WorkedRows
 pub mod Acting
 pub mod AddedUser
 pub mod Assigning
 pub mod ChangeLaws
+pub mod ChannelsApart
 pub mod ContentsRise
 pub mod CounterSlot
 pub mod Creating
@@ -28,7 +33,3 @@ pub mod SpellingLengths
 pub mod Spellings
 pub mod Touching
 pub mod Validity
-mod WorkedChanges
-mod WorkedCreating
-mod WorkedReading
-mod WorkedRows

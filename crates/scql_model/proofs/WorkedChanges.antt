@@ -217,19 +217,19 @@ deep = record card {
 abbrev v4 : Object
 v4 = view_on 13 (codes "V4") 11
 
-abbrev deepest : Database
-deepest = record deep { next = 14; objects = t ∷ v ∷ d ∷ view_on 10 (codes "V2") 5 ∷ view_on 11 (codes "V3") 10 ∷ v4 ∷ [] }
+abbrev with_v4 : Database
+with_v4 = record deep { next = 14; objects = t ∷ v ∷ d ∷ view_on 10 (codes "V2") 5 ∷ view_on 11 (codes "V3") 10 ∷ v4 ∷ [] }
 
-view_of_depth_4 : done_by the_owner None (CreateView (codes "V4") (codes "V3") (codes "A" ∷ []) []) deep ≡ Ok deepest
+view_of_depth_4 : done_by the_owner None (CreateView (codes "V4") (codes "V3") (codes "A" ∷ []) []) deep ≡ Ok with_v4
 unfolding done_by
 view_of_depth_4 = refl
 
-view_of_depth_5 : done_by the_owner None (CreateView (codes "V5") (codes "V4") (codes "A" ∷ []) []) deepest ≡ Err conditions_not_satisfied
+view_of_depth_5 : done_by the_owner None (CreateView (codes "V5") (codes "V4") (codes "A" ∷ []) []) with_v4 ≡ Err conditions_not_satisfied
 unfolding done_by
 view_of_depth_5 = refl
 
 -- the depth comes before the columns
-view_of_depth_5_and_a_wrong_column : done_by the_owner None (CreateView (codes "V5") (codes "V4") (codes "B" ∷ []) []) deepest ≡ Err conditions_not_satisfied
+view_of_depth_5_and_a_wrong_column : done_by the_owner None (CreateView (codes "V5") (codes "V4") (codes "B" ∷ []) []) with_v4 ≡ Err conditions_not_satisfied
 unfolding done_by
 view_of_depth_5_and_a_wrong_column = refl
 

@@ -18,8 +18,8 @@ use Rattle.scql_model.specs.Granting.{privileges_granted, privileges_revoked}
 use Rattle.scql_model.specs.Writing.{row_inserted, row_updated, row_deleted}
 use Rattle.scql_model.specs.Users.{user_added, user_deleted}
 
--- The edits that a changing command makes for an actor, or the first refusal that applies, but for those of a full card. UPDATE and DELETE
--- are of the row at the cursor. The other operations change no database.
+-- The edits that a changing command makes for an actor, or the first refusal that applies, but for that of a full card. UPDATE and DELETE
+-- are of the row at the cursor. No other operation is a changing command.
 unfoldable pub edits_of : Database → Actor → Option Cursor → Operation → Result (List Edit) StatusWord
 edits_of db actor cursor (CreateTable name columns) = object_created db actor name (Table columns)
 edits_of db actor cursor (CreateView name base columns conditions) = view_created db actor name base columns conditions
@@ -57,7 +57,7 @@ change_of db actor cursor operation = do
   edits ← edits_of db actor cursor operation
   with_edits db edits
 
--- A transaction goes on: its working database has the edits too, and so have the records that it touched.
+-- A transaction after further edits: its working database has them, and the records that they touch are touched.
 abbrev pub transaction_after : Database → Transaction → List Edit → Transaction
 transaction_after committed t edits =
     record t { working = applied t.working edits; touched = touched_after committed (applied t.working edits) t.touched edits }

@@ -18,6 +18,7 @@ pub mod Objects
 pub mod Opens
 pub mod ReadingCommands
 pub mod ReadingLaws
+pub mod ReadingOn
 pub mod Reads
 pub mod Records
 pub mod Refusals

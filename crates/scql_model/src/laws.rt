@@ -1,5 +1,5 @@
 // Laws over the definitions. Each is the contract of a function that does nothing.
-ghost use Rattle.std.specs.Prelude.{◌≡◌, ◌+◌, ◌<◌, ◌≤◌, ◌==◌, IsSome, List, None, Some, filter, find, map, option_map, ℕ};
+ghost use Rattle.std.specs.Prelude.{◌≡◌, ◌≢◌, ◌+◌, ◌<◌, ◌≤◌, ◌==◌, IsSome, List, None, Some, filter, find, map, option_map, ℕ};
 ghost use Rattle.std.specs.Cmp.Lexicographic.{slice_cmp};
 ghost use Rattle.std.specs.List.Sorted.{IsSortedByKey};
 ghost use Rattle.std.specs.Ordering.{nat_cmp};
@@ -12,12 +12,13 @@ ghost use Rattle.scql_base.specs.declared.words.Subject.{Subject};
 ghost use Rattle.scql_model.specs.Contents.{contents_of, narrowed, of_table};
 ghost use Rattle.scql_model.specs.Database.{Database, IsValid, object_stamped};
 ghost use Rattle.scql_model.specs.Dictionaries.{rows_told};
-ghost use Rattle.scql_model.specs.Machine.{Reading};
+ghost use Rattle.scql_model.specs.Machine.{Machine, Reading, base, session_of};
 ghost use Rattle.scql_model.specs.Matching.{Columns};
 ghost use Rattle.scql_model.specs.Moves.{move_of};
 ghost use Rattle.scql_model.specs.Objects.{deepest, depth_of, dictionary_columns};
 ghost use Rattle.scql_model.specs.ReadingCommands.{ReadingCommand};
 ghost use Rattle.scql_model.specs.ReadingLaws.{IsReadable, reading_after, replies_to};
+ghost use Rattle.scql_model.specs.ReadingOn.{move_on, shown_on};
 ghost use Rattle.scql_model.specs.Reads.{is_called, read_next, read_reply};
 ghost use Rattle.scql_model.specs.Rights.{seen_named};
 ghost use Rattle.scql_model.specs.Shown.{ShownObject, object_shown, shown};
@@ -82,4 +83,17 @@ pub fn equal_shown_gives_equal_replies()
         → IsReadable db → IsReadable other
         → shown db actor reading ≡ shown other another further
         → shown db actor (reading_after db actor reading commands) ≡ shown other another (reading_after other another further commands) }
+{}
+
+/// A reading command on an open channel is answered from what is shown there, and changes what is shown there and nowhere else.
+pub fn reading_is_of_its_own_channel()
+    ensures reply { (m : Machine) (channel : ℕ) (command : ReadingCommand)
+        → IsReadable (base m channel)
+        → (move_on m channel command).reply ≡ read_reply (shown_on m channel) command }
+    ensures own { (m : Machine) (channel : ℕ) (command : ReadingCommand)
+        → IsSome (session_of m channel) → IsReadable (base m channel)
+        → shown_on (move_on m channel command).after channel ≡ read_next (shown_on m channel) command }
+    ensures others { (m : Machine) (channel other : ℕ) (command : ReadingCommand)
+        → other ≢ channel
+        → shown_on (move_on m channel command).after other ≡ shown_on m other }
 {}
