@@ -20,7 +20,7 @@ use Rattle.scql_model.specs.Refusals.{◌>>=◌, or_refused, provided}
 use Rattle.scql_model.specs.Edits.{Edit, applied}
 use Rattle.scql_model.specs.Defining.{owned_by, named_anew, object_created, view_created, table_dropped, view_dropped}
 use Rattle.scql_model.specs.Granting.{privileges_granted, privileges_revoked}
-use Rattle.scql_model.specs.Writing.{row_inserted, written_through, row_updated, row_deleted}
+use Rattle.scql_model.specs.Writing.{Assignment, row_inserted, written_through, row_updated, row_deleted}
 use Rattle.scql_model.specs.Users.{user_added, user_deleted}
 use Rattle.scql_model.specs.Changing.{edits_of, takes_stamp, lacks_room, with_edits, change_of}
 use Rattle.scql_model.proofs.EditLaws.{applied-cells, applied-limit}
@@ -157,9 +157,9 @@ opened-not_full cursor = search refusals
 written_through-not_full : (db : Database) (actor : Actor) (privilege : ℕ) (cursor : Cursor) → IsNotFull (written_through db actor privilege cursor)
 written_through-not_full db actor privilege cursor = search refusals
 
-updated-not_full : (db : Database) (actor : Actor) (cursor : Option Cursor) (changes : List (List ℕ × List ℕ)) → IsNotFull (row_updated db actor cursor changes)
+updated-not_full : (db : Database) (actor : Actor) (cursor : Option Cursor) (assignments : List Assignment) → IsNotFull (row_updated db actor cursor assignments)
 unfolding row_updated
-updated-not_full db actor cursor changes = search (refusals, opened-not_full, written_through-not_full) depth 7
+updated-not_full db actor cursor assignments = search (refusals, opened-not_full, written_through-not_full) depth 7
 
 deleted-not_full : (db : Database) (actor : Actor) (cursor : Option Cursor) → IsNotFull (row_deleted db actor cursor)
 unfolding row_deleted
@@ -183,7 +183,7 @@ edits_of-not_full db actor cursor (DropView name) = view_dropped-not_full db act
 edits_of-not_full db actor cursor (Grant privileges object grantee) = granted-not_full db actor privileges object grantee
 edits_of-not_full db actor cursor (Revoke privileges object grantee) = revoked-not_full db actor privileges object grantee
 edits_of-not_full db actor cursor (Insert table row) = inserted-not_full db actor table row
-edits_of-not_full db actor cursor (Update changes) = updated-not_full db actor cursor changes
+edits_of-not_full db actor cursor (Update assignments) = updated-not_full db actor cursor assignments
 edits_of-not_full db actor cursor Delete = deleted-not_full db actor cursor
 edits_of-not_full db actor cursor (CreateUser name profile secret) = user_added-not_full db actor name profile secret
 edits_of-not_full db actor cursor (DeleteUser name) = user_deleted-not_full db actor name

@@ -1,5 +1,6 @@
 pub mod Acting
 pub mod AddedUser
+pub mod Assigning
 pub mod ChangeLaws
 pub mod ChangedLists
 pub mod ChangingSessions
@@ -8,6 +9,7 @@ pub mod CounterSlot
 pub mod Creating
 pub mod CreatingSlots
 pub mod CreatingWeight
+pub mod Depths
 pub mod EditLaws
 pub mod FieldLaws
 pub mod FormedCommands
@@ -16,6 +18,7 @@ pub mod FreshCard
 pub mod Hearing
 pub mod LastCommits
 pub mod LongerLists
+pub mod NameOrder
 pub mod Naming
 pub mod Positions
 pub mod ReadingIsShown
@@ -24,6 +27,7 @@ pub mod RecordLaws
 pub mod RecordLengths
 pub mod RecordsOf
 pub mod Refusing
+pub mod Removing
 pub mod RightEdits
 pub mod Room
 pub mod SpellingLengths

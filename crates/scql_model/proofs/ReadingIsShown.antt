@@ -78,170 +78,180 @@ is_opened-shown (Some contents) (At stamp) = refl
 is_opened-shown (Some contents) End = refl
 
 module _ (db : Database) (actor : Actor) (reading : Reading) where
+  -- what is shown before the command; a cursor as it is shown; and what the actor reads of an object
+  abbrev before : Shown
+  before = shown db actor reading
+
+  abbrev as_shown : Cursor → ShownCursor
+  as_shown c = cursor_shown db actor reading.pending c
+
+  abbrev here : Object → Contents
+  here o = contents_of db o.stamp
+
   -- what is made of a cursor is made of it as it is shown
   told-cursor : (continue : Cursor → Result (Move Reading) StatusWord) (read_on : ShownCursor → Result (Move Shown) StatusWord)
-      → ((c : Cursor) → told db actor (continue c) ≡ read_on (cursor_shown db actor reading.pending c))
-      → told db actor (or_refused reading.cursor conditions_not_satisfied >>= continue) ≡ (or_refused (shown db actor reading).cursor conditions_not_satisfied >>= read_on)
+      → ((c : Cursor) → told db actor (continue c) ≡ read_on (as_shown c))
+      → told db actor (or_refused reading.cursor conditions_not_satisfied >>= continue) ≡ (or_refused before.cursor conditions_not_satisfied >>= read_on)
   unfolding shown
   told-cursor continue read_on same = go reading.cursor
     where
-      go : (cursor : Option Cursor) → told db actor (or_refused cursor conditions_not_satisfied >>= continue) ≡ (or_refused (option_map (cursor_shown db actor reading.pending) cursor) conditions_not_satisfied >>= read_on)
+      go : (cursor : Option Cursor) → told db actor (or_refused cursor conditions_not_satisfied >>= continue) ≡ (or_refused (option_map as_shown cursor) conditions_not_satisfied >>= read_on)
       go None = refl
       go (Some c) = same c
 
   told-opened : (continue : Cursor → Result (Move Reading) StatusWord) (read_on : ShownCursor → Result (Move Shown) StatusWord)
-      → ((c : Cursor) → told db actor (continue c) ≡ read_on (cursor_shown db actor reading.pending c))
-      → told db actor (opened reading.cursor >>= continue) ≡ (opened_cursor (shown db actor reading).cursor >>= read_on)
+      → ((c : Cursor) → told db actor (continue c) ≡ read_on (as_shown c))
+      → told db actor (opened reading.cursor >>= continue) ≡ (opened_cursor before.cursor >>= read_on)
   unfolding shown
   told-opened continue read_on same = go reading.cursor
     where
       when : (c : Cursor) (open_now shown_open : Bool) → shown_open ≡ open_now
-          → told db actor ((provided open_now conditions_not_satisfied >>= λ _. Ok c) >>= continue) ≡ ((provided shown_open conditions_not_satisfied >>= λ _. Ok (cursor_shown db actor reading.pending c)) >>= read_on)
+          → told db actor ((provided open_now conditions_not_satisfied >>= λ _. Ok c) >>= continue) ≡ ((provided shown_open conditions_not_satisfied >>= λ _. Ok (as_shown c)) >>= read_on)
       when c true shown_open is = rw is (same c)
       when c false shown_open is = rw is refl
 
-      go : (cursor : Option Cursor) → told db actor (opened cursor >>= continue) ≡ (opened_cursor (option_map (cursor_shown db actor reading.pending) cursor) >>= read_on)
+      go : (cursor : Option Cursor) → told db actor (opened cursor >>= continue) ≡ (opened_cursor (option_map as_shown cursor) >>= read_on)
       go None = refl
       go (Some c) = when c (is_opened c.place) _ (is_opened-shown (option_and_then (open_contents db actor) (seen_stamped db actor c.object)) c.place)
 
   -- what is made of the contents under a cursor is made of what is shown there
   told-under : (c : Cursor) (continue : Contents → Result (Move Reading) StatusWord) (read_on : ShownTable → Result (Move Shown) StatusWord) → IsReadable db
-      → ((o : Object) → seen_stamped db actor c.object ≡ Some o → holds db actor o select_privilege ≡ true → told db actor (continue (contents_of db o.stamp)) ≡ read_on (without_stamps (contents_of db o.stamp)))
-      → told db actor (or_refused (seen_stamped db actor c.object) not_found >>= λ (o : Object). selected db actor o >>= continue) ≡ (table_under (shown db actor reading) (cursor_shown db actor reading.pending c) >>= read_on)
+      → ((o : Object) → seen_stamped db actor c.object ≡ Some o → holds db actor o select_privilege ≡ true → told db actor (continue (here o)) ≡ read_on (without_stamps (here o)))
+      → told db actor (or_refused (seen_stamped db actor c.object) not_found >>= λ (o : Object). selected db actor o >>= continue) ≡ (table_under before (as_shown c) >>= read_on)
   told-under c continue read_on readable same =
       told-selected db actor (seen_stamped db actor c.object) (λ (_ : Object). continue) read_on same
       ∙ ap (λ (t : Result ShownTable StatusWord). t >>= read_on) (sym (table_under-seen db actor reading reading.pending c (seen_stamped db actor c.object) readable refl))
 
   -- under a cursor whose object is seen and may be selected from
   module _ (c : Cursor) (o : Object) (is : seen_stamped db actor c.object ≡ Some o) (may : holds db actor o select_privilege ≡ true) where
-    went_to-shown : (found : Option StampedRow) → ((r : StampedRow) → found ≡ Some r → is_there r.stamp (contents_of db o.stamp).rows ≡ true)
-        → move_shown db actor (went_to c found) ≡ goes_to (shown db actor reading) (cursor_shown db actor reading.pending c) (option_map (at_position (contents_of db o.stamp).rows) found)
+    went_to-shown : (found : Option StampedRow) → ((r : StampedRow) → found ≡ Some r → is_there r.stamp (here o).rows ≡ true)
+        → move_shown db actor (went_to c found) ≡ goes_to before (as_shown c) (option_map (at_position (here o).rows) found)
     went_to-shown None there = stands-shown db actor reading reading.pending c o End end_reached is may
     went_to-shown (Some r) there =
         stands-shown db actor reading reading.pending c o (At r.stamp) done is may
-        ∙ ap (λ (b : Bool). stands_at (on (rows_before r.stamp (contents_of db o.stamp).rows) b) (shown db actor reading) (cursor_shown db actor reading.pending c) done) (there r refl)
+        ∙ ap (λ (b : Bool). stands_at (on (rows_before r.stamp (here o).rows) b) before (as_shown c) done) (there r refl)
 
-    given-shown : (place : Place) (shown_place : ShownPlace) (le : ℕ) (fits : Result (List ℕ) StatusWord) → place_shown (Some (contents_of db o.stamp)) place ≡ shown_place
-        → told db actor (fits >>= λ (octets : List ℕ). Ok (giving place c le octets)) ≡ (fits >>= λ (octets : List ℕ). Ok (gives_at shown_place (shown db actor reading) (cursor_shown db actor reading.pending c) le octets))
+    given-shown : (place : Place) (shown_place : ShownPlace) (le : ℕ) (fits : Result (List ℕ) StatusWord) → place_shown (Some (here o)) place ≡ shown_place
+        → told db actor (fits >>= λ (octets : List ℕ). Ok (giving place c le octets)) ≡ (fits >>= λ (octets : List ℕ). Ok (gives_at shown_place before (as_shown c) le octets))
     given-shown place shown_place le (Err word) at = refl
     given-shown place shown_place le (Ok octets) at =
-        ap Ok (gives-shown db actor reading reading.pending c o place le octets is may ∙ ap (λ (p : ShownPlace). gives_at p (shown db actor reading) (cursor_shown db actor reading.pending c) le octets) at)
+        ap Ok (gives-shown db actor reading reading.pending c o place le octets is may ∙ ap (λ (p : ShownPlace). gives_at p before (as_shown c) le octets) at)
 
-    gave_next-shown : (le : ℕ) (found : Option StampedRow) → ((r : StampedRow) → found ≡ Some r → is_there r.stamp (contents_of db o.stamp).rows ≡ true)
-        → told db actor (gave_next (contents_of db o.stamp) c le found)
-        ≡ gives_next (shown db actor reading) (without_stamps (contents_of db o.stamp)) (cursor_shown db actor reading.pending c) le (option_map (at_position (contents_of db o.stamp).rows) found)
+    gave_next-shown : (le : ℕ) (found : Option StampedRow) → ((r : StampedRow) → found ≡ Some r → is_there r.stamp (here o).rows ≡ true)
+        → told db actor (gave_next (here o) c le found)
+        ≡ gives_next before (without_stamps (here o)) (as_shown c) le (option_map (at_position (here o).rows) found)
     gave_next-shown le None there = ap Ok (stands-shown db actor reading reading.pending c o End end_reached is may)
     gave_next-shown le (Some r) there =
-        given-shown (At r.stamp) (on (rows_before r.stamp (contents_of db o.stamp).rows) true) le (fitting le (row_octets (contents_of db o.stamp).columns c.columns r.values))
-        (ap (on (rows_before r.stamp (contents_of db o.stamp).rows)) (there r refl))
+        given-shown (At r.stamp) (on (rows_before r.stamp (here o).rows) true) le (fitting le (row_octets (here o).columns c.columns r.values))
+        (ap (on (rows_before r.stamp (here o).rows)) (there r refl))
 
     row-shown : (stamp le : ℕ) (found : Option StampedRow)
-        → told db actor (or_refused found record_not_found >>= λ (r : StampedRow). fitting le (row_octets (contents_of db o.stamp).columns c.columns r.values) >>= λ (octets : List ℕ). Ok (giving (At stamp) c le octets))
-        ≡ (or_refused (option_map (λ (r : StampedRow). r.values) found) record_not_found >>= λ (values : List (List ℕ)). fitting le (row_octets (contents_of db o.stamp).columns c.columns values)
-        >>= λ (octets : List ℕ). Ok (gives_at (place_shown (Some (contents_of db o.stamp)) (At stamp)) (shown db actor reading) (cursor_shown db actor reading.pending c) le octets))
+        → told db actor (or_refused found record_not_found >>= λ (r : StampedRow). fitting le (row_octets (here o).columns c.columns r.values) >>= λ (octets : List ℕ). Ok (giving (At stamp) c le octets))
+        ≡ (or_refused (option_map (λ (r : StampedRow). r.values) found) record_not_found >>= λ (values : List (List ℕ)). fitting le (row_octets (here o).columns c.columns values)
+        >>= λ (octets : List ℕ). Ok (gives_at (place_shown (Some (here o)) (At stamp)) before (as_shown c) le octets))
     row-shown stamp le None = refl
-    row-shown stamp le (Some r) = given-shown (At stamp) _ le (fitting le (row_octets (contents_of db o.stamp).columns c.columns r.values)) refl
+    row-shown stamp le (Some r) = given-shown (At stamp) _ le (fitting le (row_octets (here o).columns c.columns r.values)) refl
 
     gave-shown : (le : ℕ) (place : Place) → IsReadable db
-        → told db actor (gave (contents_of db o.stamp) c le place)
-        ≡ gives_row (shown db actor reading) (without_stamps (contents_of db o.stamp)) (cursor_shown db actor reading.pending c) le (place_shown (Some (contents_of db o.stamp)) place)
+        → told db actor (gave (here o) c le place)
+        ≡ gives_row before (without_stamps (here o)) (as_shown c) le (place_shown (Some (here o)) place)
     gave-shown le NotOpen readable = refl
     gave-shown le End readable = ap Ok (stands-shown db actor reading reading.pending c o End end_reached is may)
     gave-shown le (At stamp) readable =
-        row-shown stamp le (row_at stamp (passes (contents_of db o.stamp) c) (contents_of db o.stamp).rows)
-        ∙ ap (λ (found : Option (List (List ℕ))). or_refused found record_not_found >>= λ (values : List (List ℕ)). fitting le (row_octets (contents_of db o.stamp).columns c.columns values)
-        >>= λ (octets : List ℕ). Ok (gives_at (place_shown (Some (contents_of db o.stamp)) (At stamp)) (shown db actor reading) (cursor_shown db actor reading.pending c) le octets))
-        (at_is_on stamp (passes (contents_of db o.stamp) c) (contents_of db o.stamp).rows (Rises-contents_of db o.stamp readable))
+        row-shown stamp le (row_at stamp (passes (here o) c) (here o).rows)
+        ∙ ap (λ (found : Option (List (List ℕ))). or_refused found record_not_found >>= λ (values : List (List ℕ)). fitting le (row_octets (here o).columns c.columns values)
+        >>= λ (octets : List ℕ). Ok (gives_at (place_shown (Some (here o)) (At stamp)) before (as_shown c) le octets))
+        (at_is_on stamp (passes (here o) c) (here o).rows (Rises-contents_of db o.stamp readable))
 
-    gave_more-shown : (le : ℕ) (pending : List ℕ) → told db actor (gave_more c le pending) ≡ gives_more (shown db actor reading) (cursor_shown db actor reading.pending c) le (Some pending)
+    gave_more-shown : (le : ℕ) (pending : List ℕ) → told db actor (gave_more c le pending) ≡ gives_more before (as_shown c) le (Some pending)
     gave_more-shown le [] = refl
     gave_more-shown le (octet ∷ octets) = ap Ok (gives-shown db actor reading reading.pending c o c.place le (octet ∷ octets) is may ∙ rw (is, may) refl)
 
-    place-under : (cursor_shown db actor reading.pending c).place ≡ place_shown (Some (contents_of db o.stamp)) c.place
+    place-under : (as_shown c).place ≡ place_shown (Some (here o)) c.place
     place-under = rw (is, may) refl
 
-    pending-under : (cursor_shown db actor reading.pending c).pending ≡ Some reading.pending
+    pending-under : (as_shown c).pending ≡ Some reading.pending
     pending-under = rw (is, may) refl
 
     -- the next row behind the cursor's place
-    behind-shown : (place : Place) → IsReadable db → option_map (at_position (contents_of db o.stamp).rows) (row_behind place (passes (contents_of db o.stamp) c) (contents_of db o.stamp).rows)
-        ≡ least_behind (place_shown (Some (contents_of db o.stamp)) place) (passes (contents_of db o.stamp) c) (values_of (contents_of db o.stamp).rows)
+    behind-shown : (place : Place) → IsReadable db → option_map (at_position (here o).rows) (row_behind place (passes (here o) c) (here o).rows)
+        ≡ least_behind (place_shown (Some (here o)) place) (passes (here o) c) (values_of (here o).rows)
     behind-shown NotOpen readable = refl
     behind-shown End readable = refl
     behind-shown (At stamp) readable =
         let rise = Rises-contents_of db o.stamp readable in
-        first_is_least (stamp + 1) (passes (contents_of db o.stamp) c) (contents_of db o.stamp).rows rise
-        ∙ ap (λ (k : ℕ). least_from k (passes (contents_of db o.stamp) c) (values_of (contents_of db o.stamp).rows)) (before_next stamp (contents_of db o.stamp).rows rise)
+        first_is_least (stamp + 1) (passes (here o) c) (here o).rows rise
+        ∙ ap (λ (k : ℕ). least_from k (passes (here o) c) (values_of (here o).rows)) (before_next stamp (here o).rows rise)
 
-    behind-there : (place : Place) (r : StampedRow) → row_behind place (passes (contents_of db o.stamp) c) (contents_of db o.stamp).rows ≡ Some r → is_there r.stamp (contents_of db o.stamp).rows ≡ true
+    behind-there : (place : Place) (r : StampedRow) → row_behind place (passes (here o) c) (here o).rows ≡ Some r → is_there r.stamp (here o).rows ≡ true
     behind-there NotOpen r found = absurd (none-some r found)
     behind-there End r found = absurd (none-some r found)
-    behind-there (At stamp) r found = there-find (λ (x : StampedRow). nat_le (stamp + 1) x.stamp && passes (contents_of db o.stamp) c x.values) (contents_of db o.stamp).rows r found
+    behind-there (At stamp) r found = there-find (λ (x : StampedRow). nat_le (stamp + 1) x.stamp && passes (here o) c x.values) (here o).rows r found
 
-    next-shown : IsReadable db → option_map (at_position (contents_of db o.stamp).rows) (row_behind c.place (passes (contents_of db o.stamp) c) (contents_of db o.stamp).rows)
-        ≡ least_behind (cursor_shown db actor reading.pending c).place (passes (contents_of db o.stamp) c) (values_of (contents_of db o.stamp).rows)
+    next-shown : IsReadable db → option_map (at_position (here o).rows) (row_behind c.place (passes (here o) c) (here o).rows)
+        ≡ least_behind (as_shown c).place (passes (here o) c) (values_of (here o).rows)
     next-shown readable =
-        behind-shown c.place readable ∙ ap (λ (p : ShownPlace). least_behind p (passes (contents_of db o.stamp) c) (values_of (contents_of db o.stamp).rows)) (sym place-under)
+        behind-shown c.place readable ∙ ap (λ (p : ShownPlace). least_behind p (passes (here o) c) (values_of (here o).rows)) (sym place-under)
 
-  first-shown : (c : Cursor) (o : Object) → IsReadable db → option_map (at_position (contents_of db o.stamp).rows) (first_from 0 (passes (contents_of db o.stamp) c) (contents_of db o.stamp).rows)
-      ≡ least_from 0 (passes (contents_of db o.stamp) c) (values_of (contents_of db o.stamp).rows)
+  first-shown : (c : Cursor) (o : Object) → IsReadable db → option_map (at_position (here o).rows) (first_from 0 (passes (here o) c) (here o).rows)
+      ≡ least_from 0 (passes (here o) c) (values_of (here o).rows)
   first-shown c o readable =
-      first_is_least 0 (passes (contents_of db o.stamp) c) (contents_of db o.stamp).rows (Rises-contents_of db o.stamp readable)
-      ∙ ap (λ (k : ℕ). least_from k (passes (contents_of db o.stamp) c) (values_of (contents_of db o.stamp).rows)) (before_zero (contents_of db o.stamp).rows)
+      first_is_least 0 (passes (here o) c) (here o).rows (Rises-contents_of db o.stamp readable)
+      ∙ ap (λ (k : ℕ). least_from k (passes (here o) c) (values_of (here o).rows)) (before_zero (here o).rows)
 
   told-declared : (object : List ℕ) (columns : List (List ℕ)) (conditions : List Condition) (o : Object) (asked : Result (Unit {0}) StatusWord) (wanted : List (List ℕ)) → IsReadable db
       → seen_named db actor object ≡ Some o → holds db actor o select_privilege ≡ true
       → told db actor (asked >>= λ _. Ok (moved_to NotOpen (record { object = o.stamp; columns = wanted; conditions = conditions; place = NotOpen }) done))
-      ≡ (asked >>= λ _. Ok (stands_at not_open (shown db actor reading) (record { object = Some object; columns = wanted; conditions = conditions; place = not_open; pending = Some [] }) done))
+      ≡ (asked >>= λ _. Ok (stands_at not_open before (record { object = Some object; columns = wanted; conditions = conditions; place = not_open; pending = Some [] }) done))
   unfolding shown
   told-declared object columns conditions o (Err word) wanted readable is may = refl
   told-declared object columns conditions o (Ok _) wanted readable is may =
       rw (seen_stamped-named db actor object o readable is, may, name-seen_named db actor object o is) refl
 
   -- each reading command, with its refusals in their order
-  told-moved : IsReadable db → (command : ReadingCommand) → told db actor (moved db actor reading command) ≡ read (shown db actor reading) command
+  told-moved : IsReadable db → (command : ReadingCommand) → told db actor (moved db actor reading command) ≡ read before command
   unfolding shown
   told-moved readable (declare object columns conditions) =
       told-selected db actor (seen_named db actor object) _
       (λ (t : ShownTable). named_among t.columns columns conditions
-      >>= λ _. Ok (stands_at not_open (shown db actor reading) (record { object = Some object; columns = wanted_of t.columns columns; conditions = conditions; place = not_open; pending = Some [] }) done))
-      (λ o is may. told-declared object columns conditions o (named_among (contents_of db o.stamp).columns columns conditions) (wanted_of (contents_of db o.stamp).columns columns) readable is may)
+      >>= λ _. Ok (stands_at not_open before (record { object = Some object; columns = wanted_of t.columns columns; conditions = conditions; place = not_open; pending = Some [] }) done))
+      (λ o is may. told-declared object columns conditions o (named_among (here o).columns columns conditions) (wanted_of (here o).columns columns) readable is may)
       ∙ rw (find-objects_shown db actor object) refl
   told-moved readable open_cursor =
       told-cursor _ _ (λ (c : Cursor). told-under c _
-      (λ (t : ShownTable). Ok (goes_to (shown db actor reading) (cursor_shown db actor reading.pending c) (least_from 0 (meets_cursor t (cursor_shown db actor reading.pending c)) t.rows))) readable
-      (λ o is may. ap Ok (went_to-shown c o is may (first_from 0 (passes (contents_of db o.stamp) c) (contents_of db o.stamp).rows)
-      (λ r found. there-find (λ (x : StampedRow). nat_le 0 x.stamp && passes (contents_of db o.stamp) c x.values) (contents_of db o.stamp).rows r found)
-      ∙ ap (goes_to (shown db actor reading) (cursor_shown db actor reading.pending c)) (first-shown c o readable))))
+      (λ (t : ShownTable). Ok (goes_to before (as_shown c) (least_from 0 (meets_cursor t (as_shown c)) t.rows))) readable
+      (λ o is may. ap Ok (went_to-shown c o is may (first_from 0 (passes (here o) c) (here o).rows)
+      (λ r found. there-find (λ (x : StampedRow). nat_le 0 x.stamp && passes (here o) c x.values) (here o).rows r found)
+      ∙ ap (goes_to before (as_shown c)) (first-shown c o readable))))
   told-moved readable next =
       told-opened _ _ (λ (c : Cursor). told-under c _
-      (λ (t : ShownTable). Ok (goes_to (shown db actor reading) (cursor_shown db actor reading.pending c) (least_behind (cursor_shown db actor reading.pending c).place (meets_cursor t (cursor_shown db actor reading.pending c)) t.rows))) readable
-      (λ o is may. ap Ok (went_to-shown c o is may (row_behind c.place (passes (contents_of db o.stamp) c) (contents_of db o.stamp).rows) (behind-there c o is may c.place)
-      ∙ ap (goes_to (shown db actor reading) (cursor_shown db actor reading.pending c)) (next-shown c o is may readable))))
+      (λ (t : ShownTable). Ok (goes_to before (as_shown c) (least_behind (as_shown c).place (meets_cursor t (as_shown c)) t.rows))) readable
+      (λ o is may. ap Ok (went_to-shown c o is may (row_behind c.place (passes (here o) c) (here o).rows) (behind-there c o is may c.place)
+      ∙ ap (goes_to before (as_shown c)) (next-shown c o is may readable))))
   told-moved readable (fetch le) =
       told-opened _ _ (λ (c : Cursor). told-under c _
-      (λ (t : ShownTable). gives_row (shown db actor reading) t (cursor_shown db actor reading.pending c) le (cursor_shown db actor reading.pending c).place) readable
+      (λ (t : ShownTable). gives_row before t (as_shown c) le (as_shown c).place) readable
       (λ o is may. gave-shown c o is may le c.place readable
-      ∙ ap (gives_row (shown db actor reading) (without_stamps (contents_of db o.stamp)) (cursor_shown db actor reading.pending c) le) (sym (place-under c o is may))))
+      ∙ ap (gives_row before (without_stamps (here o)) (as_shown c) le) (sym (place-under c o is may))))
   told-moved readable (fetch_next le) =
       told-opened _ _ (λ (c : Cursor). told-under c _
-      (λ (t : ShownTable). gives_next (shown db actor reading) t (cursor_shown db actor reading.pending c) le (least_behind (cursor_shown db actor reading.pending c).place (meets_cursor t (cursor_shown db actor reading.pending c)) t.rows)) readable
-      (λ o is may. gave_next-shown c o is may le (row_behind c.place (passes (contents_of db o.stamp) c) (contents_of db o.stamp).rows) (behind-there c o is may c.place)
-      ∙ ap (gives_next (shown db actor reading) (without_stamps (contents_of db o.stamp)) (cursor_shown db actor reading.pending c) le) (next-shown c o is may readable)))
+      (λ (t : ShownTable). gives_next before t (as_shown c) le (least_behind (as_shown c).place (meets_cursor t (as_shown c)) t.rows)) readable
+      (λ o is may. gave_next-shown c o is may le (row_behind c.place (passes (here o) c) (here o).rows) (behind-there c o is may c.place)
+      ∙ ap (gives_next before (without_stamps (here o)) (as_shown c) le) (next-shown c o is may readable)))
   told-moved readable (get_response le) =
       told-cursor _ _ (λ (c : Cursor). told-under c _
-      (λ (t : ShownTable). gives_more (shown db actor reading) (cursor_shown db actor reading.pending c) le (cursor_shown db actor reading.pending c).pending) readable
+      (λ (t : ShownTable). gives_more before (as_shown c) le (as_shown c).pending) readable
       (λ o is may. gave_more-shown c o is may le reading.pending
-      ∙ ap (gives_more (shown db actor reading) (cursor_shown db actor reading.pending c) le) (sym (pending-under c o is may))))
+      ∙ ap (gives_more before (as_shown c) le) (sym (pending-under c o is may))))
 
-  told-or_stays : (outcome : Result (Move Reading) StatusWord) → move_shown db actor (or_stays reading outcome) ≡ or_stays (shown db actor reading) (told db actor outcome)
+  told-or_stays : (outcome : Result (Move Reading) StatusWord) → move_shown db actor (or_stays reading outcome) ≡ or_stays before (told db actor outcome)
   told-or_stays (Ok move) = refl
   told-or_stays (Err word) = refl
 
   -- the law: a move by stamps is shown as the move from what is shown
-  pub move_shown-move_of : IsReadable db → (command : ReadingCommand) → move_shown db actor (move_of db actor reading command) ≡ read_move (shown db actor reading) command
+  pub move_shown-move_of : IsReadable db → (command : ReadingCommand) → move_shown db actor (move_of db actor reading command) ≡ read_move before command
   unfolding move_of read_move
-  move_shown-move_of readable command = told-or_stays (moved db actor reading command) ∙ ap (or_stays (shown db actor reading)) (told-moved readable command)
+  move_shown-move_of readable command = told-or_stays (moved db actor reading command) ∙ ap (or_stays before) (told-moved readable command)
 
 -- its two parts
 pub reply-move_of : (db : Database) (actor : Actor) (reading : Reading) (command : ReadingCommand) → IsReadable db → (move_of db actor reading command).reply ≡ read_reply (shown db actor reading) command

@@ -1,12 +1,12 @@
--- Edits are right: each changes or removes a record that is there, or adds one with the next stamp.
-use Rattle.std.proofs.Common.{◌≡◌, subst, ℕ, ◌==◌, Bool, true, false, not, ◌||◌, List, [], ◌∷◌, ◌++◌, map, filter, Option, Some, None, Result, Ok, Err, refl, ap, sym, ◌∙◌, inl, inr}
+-- Edits are right: each changes or removes a record that is there, or adds one with the next stamp, which the counter has then given out.
+use Rattle.std.proofs.Common.{◌≡◌, subst, ℕ, ◌==◌, ◌+◌, ◌&&◌, if◌then◌else◌, Bool, true, false, not, ◌||◌, List, [], ◌∷◌, ◌++◌, map, filter, Option, Some, None, Result, Ok, Err, refl, ap, sym, ◌∙◌, inl, inr}
 use Rattle.std.specs.Result.{result_ok}
 use Rattle.std.specs.Prelude.{option_and_then, nat_le}
 use Rattle.std.specs.List.{list_any, list_all, find}
-use Rattle.std.proofs.lemmas.Bool.{cases_Bool, eq-eqb}
+use Rattle.std.proofs.lemmas.Bool.{cases_Bool, and_parts, eqb-true, eq-eqb}
 use Rattle.std.proofs.lemmas.List.Folds.{list_any-append, list_all-append, list_all-map}
 use Rattle.std.proofs.lemmas.Option.{none-some, same_Some}
-use Rattle.scql_model.proofs.LongerLists.{any-map}
+use Rattle.scql_model.proofs.LongerLists.{any-map, all-weaker}
 use Rattle.scql_base.specs.declared.words.StatusWord.{StatusWord}
 use Rattle.scql_base.specs.declared.records.User.{User}
 use Rattle.scql_base.specs.declared.records.Object.{Object}
@@ -30,18 +30,23 @@ use Rattle.scql_model.specs.Contents.{contents_of}
 use Rattle.scql_model.specs.Rights.{owns, seen_named, update_privilege, delete_privilege}
 use Rattle.scql_model.specs.Defining.{of_kind, owned_by, named_anew, has_view, removing_object, removing_rows, object_created, view_created, table_dropped, view_dropped}
 use Rattle.scql_model.specs.Granting.{grantee_named, grant_to, more_granted, left_of, less_granted, privileges_granted, privileges_revoked}
-use Rattle.scql_model.specs.Writing.{row_inserted, written_through, row_at_place, record_at, row_with, row_updated, row_deleted}
+use Rattle.scql_model.specs.Writing.{Assignment, row_inserted, written_through, row_at_place, record_at, row_after, row_updated, row_deleted}
 use Rattle.scql_model.specs.Users.{owns_user, is_needed, removing_user, user_added, user_deleted}
-use Rattle.scql_model.specs.Changing.{edits_of}
-use Rattle.scql_model.specs.Edits.{AnyRecord, of_grant, of_row, record_stamp, Action, to_add, to_change, to_remove, Edit, making, changing, removing, has_record}
+use Rattle.scql_model.specs.Changing.{edits_of, is_counter, takes_stamp}
+use Rattle.scql_model.specs.Edits.{AnyRecord, of_counter, of_user, of_object, of_grant, of_row, record_stamp, Action, to_add, to_change, to_remove, Edit, making, changing, removing, has_record, edited, applied}
 
 abbrev is_right_of : Database → Action → ℕ → Bool
 is_right_of db to_add stamp = stamp == db.next
 is_right_of db to_change stamp = has_record db stamp
 is_right_of db to_remove stamp = has_record db stamp
 
+-- the counter counts one stamp on
+abbrev pub counts_on : ℕ → AnyRecord → Bool
+counts_on next (of_counter n) = n == next + 1
+counts_on next r = true
+
 abbrev pub is_right : Database → Edit → Bool
-is_right db e = is_right_of db e.action (record_stamp e.entry)
+is_right db e = counts_on db.next e.entry && is_right_of db e.action (record_stamp e.entry)
 
 abbrev pub AreRight : Database → List Edit → Type 0
 AreRight db edits = list_all (is_right db) edits ≡ true
@@ -113,8 +118,8 @@ not_refused None word x is = cc
 not_refused (Some y) word x is = ap Some (same_Some y x (ap result_ok is))
 
 -- a record that is made takes the next stamp
-right-making : (db : Database) (r : AnyRecord) → record_stamp r ≡ db.next → AreRight db (making db r)
-right-making db r next = rw (next, eq-eqb db.next db.next refl) refl
+right-making : (db : Database) (r : AnyRecord) → record_stamp r ≡ db.next → counts_on db.next r ≡ true → AreRight db (making db r)
+right-making db r next counts = rw (next, counts, eq-eqb (db.next + 1) (db.next + 1) refl, eq-eqb db.next db.next refl) refl
 
 ruleset outcomes = (bound-gives, done-gives, right-making)
 
@@ -194,7 +199,7 @@ granted-right db actor privileges name grantee_name =
     done-gives (AreRight db) (more_granted db o grantee privileges (grant_to db o grantee)) (more o grantee (grant_to db o grantee) refl)
   where
     more : (o : Object) (grantee : ℕ) (found : Option Grant) → grant_to db o grantee ≡ found → AreRight db (more_granted db o grantee privileges found)
-    more o grantee None is = right-making db (of_grant (record { stamp = db.next; object = o.stamp; grantee = grantee; privileges = privileges })) refl
+    more o grantee None is = right-making db (of_grant (record { stamp = db.next; object = o.stamp; grantee = grantee; privileges = privileges })) refl refl
     more o grantee (Some g) is = rw (granted-there db o grantee g is) refl
 
 revoked-right : (db : Database) (actor : Actor) (privileges : ℕ) (name grantee : List ℕ) → Gives (AreRight db) (privileges_revoked db actor privileges name grantee)
@@ -216,15 +221,15 @@ record_at-there db cursor r found = go (row_at_place (contents_of db cursor.obje
     go None found = absurd (none-some r found)
     go (Some s) found = has_record-row db r.stamp (found-there (λ (t : RowRecord). t.stamp) (λ (t : RowRecord). t.stamp == s.stamp) db.rows r found)
 
-updated-right : (db : Database) (actor : Actor) (cursor : Option Cursor) (changes : List (List ℕ × List ℕ)) → Gives (AreRight db) (row_updated db actor cursor changes)
+updated-right : (db : Database) (actor : Actor) (cursor : Option Cursor) (assignments : List Assignment) → Gives (AreRight db) (row_updated db actor cursor assignments)
 unfolding row_updated
-updated-right db actor cursor changes =
+updated-right db actor cursor assignments =
     bound-gives (AreRight db) (opened cursor) _ λ c _.
     bound-gives (AreRight db) (written_through db actor update_privilege c) _ λ o _.
-    bound-gives (AreRight db) (provided (are_among (map (λ (change : List ℕ × List ℕ). change.0) changes) (columns_of o.kind)) not_found) _ λ _ _.
+    bound-gives (AreRight db) (provided (are_among (map (λ (a : Assignment). a.0) assignments) (columns_of o.kind)) not_found) _ λ _ _.
     bound-gives (AreRight db) (or_refused (record_at db c) record_not_found) _ λ r is.
-    bound-gives (AreRight db) (provided (nat_le (row_size (row_with db changes r).row) db.limit) wrong_data) _ λ _ _.
-    done-gives (AreRight db) (changing (of_row (row_with db changes r)) ∷ []) (rw (record_at-there db c r (not_refused _ record_not_found r is)) refl)
+    bound-gives (AreRight db) (provided (nat_le (row_size (row_after db assignments r).row) db.limit) wrong_data) _ λ _ _.
+    done-gives (AreRight db) (changing (of_row (row_after db assignments r)) ∷ []) (rw (record_at-there db c r (not_refused _ record_not_found r is)) refl)
 
 deleted-right : (db : Database) (actor : Actor) (cursor : Option Cursor) → Gives (AreRight db) (row_deleted db actor cursor)
 unfolding row_deleted
@@ -254,7 +259,7 @@ edits_of-gives db actor cursor (DropView name) = view_dropped-right db actor nam
 edits_of-gives db actor cursor (grant privileges object grantee) = granted-right db actor privileges object grantee
 edits_of-gives db actor cursor (Revoke privileges object grantee) = revoked-right db actor privileges object grantee
 edits_of-gives db actor cursor (Insert table row) = inserted-right db actor table row
-edits_of-gives db actor cursor (Update changes) = updated-right db actor cursor changes
+edits_of-gives db actor cursor (Update assignments) = updated-right db actor cursor assignments
 edits_of-gives db actor cursor Delete = deleted-right db actor cursor
 edits_of-gives db actor cursor (CreateUser name profile secret) = user_added-right db actor name profile secret
 edits_of-gives db actor cursor (DeleteUser name) = user_deleted-right db actor name
@@ -264,3 +269,30 @@ edits_of-gives db actor cursor operation = record { each = λ edits (is : Err in
 pub edits_of-right : (db : Database) (actor : Actor) (cursor : Option Cursor) (operation : Operation) (edits : List Edit)
     → edits_of db actor cursor operation ≡ Ok edits → AreRight db edits
 edits_of-right db actor cursor operation edits made = (edits_of-gives db actor cursor operation).each edits made
+
+-- So the next stamp is one more where a stamp was taken, and else it stays: no stamp is taken twice.
+applied-next : (base : ℕ) (db : Database) (edits : List Edit) → list_all (λ (e : Edit). counts_on base e.entry) edits ≡ true
+    → (applied db edits).next ≡ (if takes_stamp edits then base + 1 else db.next)
+applied-next base db [] counts = refl
+applied-next base db (e ∷ edits) counts =
+    let parts = and_parts (counts_on base e.entry) (list_all (λ (e : Edit). counts_on base e.entry) edits) counts in
+    let rest = applied-next base (edited e.action e.entry db) edits parts.1 in
+    go e.action e.entry parts.0 rest
+  where
+    either : (b : Bool) (n m : ℕ) → n ≡ m → (if b then m else n) ≡ m
+    either true n m same = refl
+    either false n m same = same
+
+    go : (action : Action) (r : AnyRecord) → counts_on base r ≡ true → (applied (edited action r db) edits).next ≡ (if takes_stamp edits then base + 1 else (edited action r db).next)
+        → (applied (edited action r db) edits).next ≡ (if is_counter r || takes_stamp edits then base + 1 else db.next)
+    go action (of_counter n) on rest = rest ∙ either (takes_stamp edits) n (base + 1) (eqb-true n (base + 1) on)
+    go action (of_user u) on rest = rest
+    go action (of_object o) on rest = rest
+    go action (of_grant g) on rest = rest
+    go action (of_row r) on rest = rest
+
+pub edits_of-next : (db : Database) (actor : Actor) (cursor : Option Cursor) (operation : Operation) (edits : List Edit)
+    → edits_of db actor cursor operation ≡ Ok edits → (applied db edits).next ≡ (if takes_stamp edits then db.next + 1 else db.next)
+edits_of-next db actor cursor operation edits made =
+    applied-next db.next db edits (all-weaker (is_right db) (λ (e : Edit). counts_on db.next e.entry) edits (λ e (right : is_right db e ≡ true). (and_parts (counts_on db.next e.entry) _ right).0)
+    (edits_of-right db actor cursor operation edits made))

@@ -29,11 +29,17 @@ use Rattle.scql_model.specs.Defining.{object_created, view_created, table_droppe
 use Rattle.scql_model.specs.Granting.{privileges_granted, privileges_revoked}
 use Rattle.scql_model.specs.Writing.{row_inserted, row_updated, row_deleted}
 use Rattle.scql_model.specs.Users.{user_added, user_deleted}
-use Rattle.scql_model.specs.Changing.{edits_of, change_of}
+use Rattle.scql_model.specs.Machine.{Transaction}
+use Rattle.scql_model.specs.Edits.{Edit, octets_for}
+use Rattle.scql_model.specs.Changing.{edits_of, change_of, transaction_after}
 
--- what a command does, all definitions open
+-- the edits of a command and what it does, with all definitions open
+unfoldable edits_by : Actor → Option Cursor → Operation → Database → Result (List Edit) StatusWord
+unfolding edits_of object_created view_created table_dropped view_dropped privileges_granted privileges_revoked row_inserted row_updated row_deleted user_added user_deleted holds appears depth_of contents_of
+edits_by actor cursor operation db = edits_of db actor cursor operation
+
 unfoldable done_by : Actor → Option Cursor → Operation → Database → Result Database StatusWord
-unfolding change_of edits_of object_created view_created table_dropped view_dropped privileges_granted privileges_revoked row_inserted row_updated row_deleted user_added user_deleted holds appears depth_of contents_of
+unfolding change_of edits_by
 done_by actor cursor operation db = change_of db actor cursor operation
 
 abbrev the_owner : Actor
@@ -211,19 +217,19 @@ deep = record card {
 abbrev v4 : Object
 v4 = view_on 13 (codes "V4") 11
 
-abbrev deepest : Database
-deepest = record deep { next = 14; objects = t ∷ v ∷ d ∷ view_on 10 (codes "V2") 5 ∷ view_on 11 (codes "V3") 10 ∷ v4 ∷ [] }
+abbrev with_v4 : Database
+with_v4 = record deep { next = 14; objects = t ∷ v ∷ d ∷ view_on 10 (codes "V2") 5 ∷ view_on 11 (codes "V3") 10 ∷ v4 ∷ [] }
 
-view_of_depth_4 : done_by the_owner None (CreateView (codes "V4") (codes "V3") (codes "A" ∷ []) []) deep ≡ Ok deepest
+view_of_depth_4 : done_by the_owner None (CreateView (codes "V4") (codes "V3") (codes "A" ∷ []) []) deep ≡ Ok with_v4
 unfolding done_by
 view_of_depth_4 = refl
 
-view_of_depth_5 : done_by the_owner None (CreateView (codes "V5") (codes "V4") (codes "A" ∷ []) []) deepest ≡ Err conditions_not_satisfied
+view_of_depth_5 : done_by the_owner None (CreateView (codes "V5") (codes "V4") (codes "A" ∷ []) []) with_v4 ≡ Err conditions_not_satisfied
 unfolding done_by
 view_of_depth_5 = refl
 
 -- the depth comes before the columns
-view_of_depth_5_and_a_wrong_column : done_by the_owner None (CreateView (codes "V5") (codes "V4") (codes "B" ∷ []) []) deepest ≡ Err conditions_not_satisfied
+view_of_depth_5_and_a_wrong_column : done_by the_owner None (CreateView (codes "V5") (codes "V4") (codes "B" ∷ []) []) with_v4 ≡ Err conditions_not_satisfied
 unfolding done_by
 view_of_depth_5_and_a_wrong_column = refl
 
@@ -385,6 +391,26 @@ fourteen_rows : repeated 14 insert_z small ≡ Err no_space
 unfolding done_by
 fourteen_rows = refl
 
+-- the longest row of a card that isn't migrated takes nine cells, beside those of the counter, of OWNER and of its table
+abbrev with_w : Database
+with_w = record (fresh 64) { next = 3; objects = record t { name = codes "W" } ∷ [] }
+
+abbrev with_long_row : Database
+with_long_row = record with_w { next = 4; rows = row_of 3 (replicate 200 0x61) (replicate 38 0x62) ∷ [] }
+
+long_row_inserted : done_by the_owner None (Insert (codes "W") (replicate 200 0x61 ∷ replicate 38 0x62 ∷ [])) with_w ≡ Ok with_long_row
+unfolding done_by
+long_row_inserted = refl
+
+cells_with_long_row : weight with_long_row ≡ 12
+cells_with_long_row = refl
+
+-- a table that is dropped and made again is another one, of a new stamp
+table_made_again : (done_by the_owner None (DropTable (codes "T")) with_t >>= done_by the_owner None create_t)
+    ≡ Ok (record (fresh 64) { next = 4; objects = record t { stamp = 3 } ∷ [] })
+unfolding done_by
+table_made_again = refl
+
 -- cursors on T, V and D
 abbrev cursor_on : ℕ → Place → Option Cursor
 cursor_on object place = Some (record { object = object; columns = codes "A" ∷ []; conditions = []; place = place })
@@ -392,7 +418,7 @@ cursor_on object place = Some (record { object = object; columns = codes "A" ∷
 abbrev cursor_where_b : ℕ → Option Cursor
 cursor_where_b stamp = Some (record { object = 2; columns = codes "A" ∷ []; conditions = where_b; place = At stamp })
 
--- and after a row is deleted there is room for one again
+-- after a row is deleted there is room for one again
 room_again : is_ok (repeated 13 insert_z small >>= λ db. done_by the_owner (cursor_on 2 (At 3)) Delete db >>= done_by the_owner None insert_z) ≡ true
 unfolding done_by
 room_again = refl
@@ -571,3 +597,37 @@ delete_of_an_object's_owner = refl
 delete_of_a_user's_owner : done_by the_owner None (DeleteUser (codes "DAN")) (record card { users = owner ∷ record ann { owner = 4 } ∷ dan ∷ [] }) ≡ Err conditions_not_satisfied
 unfolding done_by
 delete_of_a_user's_owner = refl
+
+-- The octets that are written for a change: 32 for each of two cells and 16 for two touched records, or 10 for one that goes.
+octets_for_a_row : (edits_by the_owner None insert_z card >>= λ edits. Ok (octets_for edits)) ≡ Ok 80
+unfolding edits_by
+octets_for_a_row = refl
+
+octets_for_a_row_that_goes : (edits_by the_owner (cursor_on 2 (At 7)) Delete card >>= λ edits. Ok (octets_for edits)) ≡ Ok 10
+unfolding edits_by
+octets_for_a_row_that_goes = refl
+
+-- What a transaction touches: it inserts a row and changes it, and changes another one twice.
+abbrev begun : Result Transaction StatusWord
+begun = Ok (record { channel = 0; working = card; touched = [] })
+
+abbrev on_with : Option Cursor → Operation → Result Transaction StatusWord → Result Transaction StatusWord
+on_with cursor operation transaction = do
+  t ← transaction
+  edits ← edits_by the_owner cursor operation t.working
+  Ok (transaction_after card t edits)
+
+abbrev at_row : ℕ → Operation → Result Transaction StatusWord → Result Transaction StatusWord
+at_row stamp operation transaction = on_with (cursor_on 2 (At stamp)) operation transaction
+
+abbrev four_changes : Result Transaction StatusWord
+four_changes = at_row 7 set_b (at_row 7 set_b (at_row 10 set_b (on_with None insert_z begun)))
+
+touched_by_four_changes : (four_changes >>= λ t. Ok t.touched) ≡ Ok (0 ∷ 10 ∷ 7 ∷ [])
+unfolding edits_by
+touched_by_four_changes = refl
+
+-- a row that was never committed leaves where it goes, and one that was committed stays
+touched_by_deleting : (at_row 7 Delete (at_row 10 Delete four_changes) >>= λ t. Ok t.touched) ≡ Ok (0 ∷ 7 ∷ [])
+unfolding edits_by
+touched_by_deleting = refl

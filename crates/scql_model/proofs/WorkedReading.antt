@@ -1,5 +1,5 @@
 -- Worked rows of reading: the definitions compute each answer.
-use Rattle.std.proofs.Common.{◌≡◌, ℕ, true, false, List, [], ◌∷◌, length, map, flat_map, replicate, Some, None, refl}
+use Rattle.std.proofs.Common.{◌≡◌, ℕ, true, false, List, [], ◌∷◌, length, map, flat_map, replicate, Option, Some, None, option_map, refl}
 use Rattle.std.specs.Prelude.{codes}
 use Rattle.hex.specs.Hex.{encode_upper}
 use Rattle.hex.proofs.OnLiterals.{hex_on_literals}
@@ -18,17 +18,18 @@ use Rattle.scql_base.specs.declared.records.Grant.{Grant}
 use Rattle.scql_base.specs.declared.records.RowRecord.{RowRecord}
 use Rattle.scql_base.specs.Strings.{spelled}
 use Rattle.scql_model.specs.Commands.{Reply}
-use Rattle.scql_model.specs.Database.{Database, owner}
+use Rattle.scql_model.specs.Database.{Database, are_among, owner}
 use Rattle.scql_model.specs.Machine.{Reading, no_reading}
 use Rattle.scql_model.specs.Lines.{reply_octets}
 use Rattle.scql_model.specs.Rights.{holds, appears}
 use Rattle.scql_model.specs.Matching.{compares}
-use Rattle.scql_model.specs.Objects.{StampedRow, depth_of}
+use Rattle.scql_model.specs.Objects.{StampedRow, columns_of, depth_of}
 use Rattle.scql_model.specs.Contents.{contents_of}
 use Rattle.scql_model.specs.ReadingCommands.{ReadingCommand, declare, open_cursor, next, fetch, fetch_next, get_response}
 use Rattle.scql_model.specs.Moves.{move_of}
-use Rattle.scql_model.specs.Shown.{shown}
-use Rattle.scql_model.specs.ReadingLaws.{replies_to, reading_after}
+use Rattle.scql_model.specs.Shown.{ShownTable, ShownObject, ShownPlace, not_open, hidden, on, at_end, ShownCursor, shown}
+use Rattle.scql_model.specs.Reads.{read_move}
+use Rattle.scql_model.specs.ReadingLaws.{replies_to, reading_after, read_replies}
 
 abbrev Row : Type 0
 Row = List (List ℕ)
@@ -210,7 +211,10 @@ fourth_view : answers views the_owner no_reading (declare (codes "V4") [] [] ∷
 unfolding move_of holds appears contents_of hex_on_literals
 fourth_view = refl
 
--- V4 may be over V3, and no view may be over V4; V2 has no column B to show
+-- a view over V2 can't have the column B; V4 may be over V3, and no view over V4
+refused_column : are_among (codes "B" ∷ []) (columns_of (view_over 6 (codes "V2") 5 (codes "A" ∷ []) []).kind) ≡ false
+refused_column = refl
+
 depths : (depth_of views.objects 2 ≡ Some 0) × (depth_of views.objects 5 ≡ Some 1) × (depth_of views.objects 7 ≡ Some 3) × (depth_of views.objects 8 ≡ Some 4) × (depth_of views.objects 9 ≡ None)
 unfolding depth_of
 depths = (refl, refl, refl, refl, refl)
@@ -279,3 +283,57 @@ long_row = refl
 long_body : flat_map (λ (r : Reply). r.body) (replies_to long_card the_owner no_reading (declare_t ∷ open_cursor ∷ fetch_next 256 ∷ open_cursor ∷ fetch 256 ∷ get_response 255 ∷ get_response 256 ∷ get_response 256 ∷ [])) ≡ flat_map spelled long_values
 unfolding move_of holds appears contents_of
 long_body = refl
+
+-- What is shown: objects in the order of their names, closed where nothing may be selected, and a cursor by its position.
+abbrev table_shown : List (List ℕ) → List Row → Option ShownTable
+table_shown columns rows = Some (record { columns = columns; rows = rows })
+
+abbrev object_named : List ℕ → Option ShownTable → ShownObject
+object_named name table = record { name = name; table = table }
+
+abbrev two_objects : Database
+two_objects = record (card_for_ann (to_ann 2 2) (codes "s")) { objects = t ∷ record v { name = codes "AB" } ∷ []; grants = to_ann 2 2 ∷ record (to_ann 5 1) { stamp = 7 } ∷ [] }
+
+shown_to_ann : (shown two_objects as_ann no_reading).objects ≡ object_named (codes "AB") (table_shown (codes "A" ∷ []) ((codes "x" ∷ []) ∷ [])) ∷ object_named (codes "T") None ∷ []
+unfolding shown holds appears contents_of
+shown_to_ann = refl
+
+shown_to_owner : (shown two_objects the_owner no_reading).objects
+    ≡ object_named (codes "AB") (table_shown (codes "A" ∷ []) ((codes "x" ∷ []) ∷ [])) ∷ object_named (codes "T") (table_shown (codes "A" ∷ codes "B" ∷ []) ((codes "x" ∷ codes "s" ∷ []) ∷ [])) ∷ []
+unfolding shown holds appears contents_of
+shown_to_owner = refl
+
+shown_to_public : (shown two_objects Public no_reading).objects ≡ []
+unfolding shown holds appears contents_of
+shown_to_public = refl
+
+-- the place of a cursor: not open, on the second row, behind the first row where the second is gone, at the end, and hidden
+abbrev place_of : Database → Actor → Reading → Option ShownPlace
+place_of db actor reading = option_map (λ (c : ShownCursor). c.place) (shown db actor reading).cursor
+
+abbrev rows_xyz : List RowRecord
+rows_xyz = x_and_empty ∷ y_and_empty ∷ row_of_t 6 (codes "z" ∷ [] ∷ []) ∷ []
+
+abbrev on_second : Reading
+on_second = reading_after (card_with rows_xyz) the_owner no_reading (declare_t ∷ open_cursor ∷ next ∷ [])
+
+places : (place_of (card_with rows_xyz) the_owner (reading_after (card_with rows_xyz) the_owner no_reading (declare_t ∷ [])) ≡ Some not_open)
+    × (place_of (card_with rows_xyz) the_owner on_second ≡ Some (on 1 true))
+    × (place_of (card_with (x_and_empty ∷ [])) the_owner on_second ≡ Some (on 1 false))
+    × (place_of (card_with rows_xyz) the_owner (reading_after (card_with rows_xyz) the_owner on_second (next ∷ next ∷ [])) ≡ Some at_end)
+    × (place_of (card_with rows_xyz) Public on_second ≡ Some hidden)
+unfolding shown move_of holds appears contents_of
+places = (refl, refl, refl, refl, refl)
+
+-- from what is shown alone the same answers follow
+read_row : map (λ (r : Reply). encode_upper (reply_octets r)) (read_replies (shown two_objects as_ann no_reading)
+    (declare (codes "T") [] [] ∷ declare (codes "Z") [] [] ∷ declare (codes "AB") [] [] ∷ next ∷ open_cursor ∷ fetch 1 ∷ fetch 256 ∷ fetch_next 256 ∷ fetch 256 ∷ get_response 256 ∷ []))
+    ≡ codes "6982" ∷ codes "6A88" ∷ codes "9000" ∷ codes "6985" ∷ codes "9000" ∷ codes "6C02" ∷ codes "01789000" ∷ codes "6282" ∷ codes "6282" ∷ codes "6985" ∷ []
+unfolding shown read_move holds appears contents_of hex_on_literals
+read_row = refl
+
+-- what is pending is kept by a refusal, and dropped by NEXT
+pending_kept : map part (replies_to long_card the_owner no_reading (declare_t ∷ open_cursor ∷ fetch 256 ∷ fetch 2 ∷ get_response 1 ∷ next ∷ get_response 256 ∷ []))
+    ≡ (0, 0x9000) ∷ (0, 0x9000) ∷ (256, 0x6100) ∷ (0, 0x6C00) ∷ (1, 0x6100) ∷ (0, 0x6282) ∷ (0, 0x6985) ∷ []
+unfolding move_of holds appears contents_of
+pending_kept = refl

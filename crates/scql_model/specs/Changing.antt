@@ -1,5 +1,5 @@
 -- What a changing command does to a database: its edits, and the new database or the first refusal that applies.
-use Rattle.std.specs.Prelude.{◌==◌, ◌&&◌, ◌||◌, Bool, List, Option, Result, Ok, Err, if◌then◌else◌}
+use Rattle.std.specs.Prelude.{◌==◌, ◌&&◌, ◌||◌, Bool, true, false, List, Option, Result, Ok, Err, if◌then◌else◌}
 use Rattle.std.specs.List.{list_any}
 use Rattle.scql_base.specs.declared.words.Actor.{Actor}
 use Rattle.scql_base.specs.declared.words.StatusWord.{StatusWord}
@@ -9,16 +9,17 @@ use Rattle.scql_base.specs.declared.operation.Operation.{Operation}
 use Rattle.scql_base.specs.declared.operation.Operation.TheVariants.{CreateTable, CreateView, CreateDictionary, DropTable, DropView, Grant, Revoke, Insert, Update, Delete, CreateUser, DeleteUser}
 use Rattle.scql_base.specs.Words.{no_space, instruction_not_supported}
 use Rattle.scql_model.specs.Database.{Database}
+use Rattle.scql_model.specs.Machine.{Transaction}
 use Rattle.scql_model.specs.Creating.{stamps_end, is_overfull}
 use Rattle.scql_model.specs.Refusals.{◌>>=◌}
-use Rattle.scql_model.specs.Edits.{Edit, applied, touched}
+use Rattle.scql_model.specs.Edits.{AnyRecord, of_counter, Edit, applied, touched_after}
 use Rattle.scql_model.specs.Defining.{object_created, view_created, table_dropped, view_dropped}
 use Rattle.scql_model.specs.Granting.{privileges_granted, privileges_revoked}
 use Rattle.scql_model.specs.Writing.{row_inserted, row_updated, row_deleted}
 use Rattle.scql_model.specs.Users.{user_added, user_deleted}
 
--- The edits that a changing command makes for an actor, or the first refusal that applies, but for those of a full card. UPDATE and DELETE
--- are of the row at the cursor. The other operations change no database.
+-- The edits that a changing command makes for an actor, or the first refusal that applies, but for that of a full card. UPDATE and DELETE
+-- are of the row at the cursor. No other operation is a changing command.
 unfoldable pub edits_of : Database → Actor → Option Cursor → Operation → Result (List Edit) StatusWord
 edits_of db actor cursor (CreateTable name columns) = object_created db actor name (Table columns)
 edits_of db actor cursor (CreateView name base columns conditions) = view_created db actor name base columns conditions
@@ -34,9 +35,13 @@ edits_of db actor cursor (CreateUser name profile secret) = user_added db actor 
 edits_of db actor cursor (DeleteUser name) = user_deleted db actor name
 edits_of db actor cursor operation = Err instruction_not_supported
 
--- a stamp is taken where the counter is edited
+-- a stamp is taken where the counter is changed
+abbrev pub is_counter : AnyRecord → Bool
+is_counter (of_counter next) = true
+is_counter r = false
+
 abbrev pub takes_stamp : List Edit → Bool
-takes_stamp edits = list_any (λ stamp. stamp == 0) (touched edits)
+takes_stamp edits = list_any (λ (e : Edit). is_counter e.entry) edits
 
 -- no stamp is left that is to be taken, or the records would take more cells than the card has
 abbrev pub lacks_room : Database → List Edit → Bool
@@ -51,3 +56,8 @@ unfoldable pub change_of : Database → Actor → Option Cursor → Operation �
 change_of db actor cursor operation = do
   edits ← edits_of db actor cursor operation
   with_edits db edits
+
+-- A transaction after further edits: its working database has them, and the records that they touch are touched.
+abbrev pub transaction_after : Database → Transaction → List Edit → Transaction
+transaction_after committed t edits =
+    record t { working = applied t.working edits; touched = touched_after committed (applied t.working edits) t.touched edits }

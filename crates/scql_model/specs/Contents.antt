@@ -41,7 +41,7 @@ abbrev pub contents_in : (ℕ → Contents) → Database → Option Object → C
 contents_in contents db None = no_contents
 contents_in contents db (Some o) = record { columns = columns_of o.kind; rows = rows_in contents db o o.kind }
 
--- the contents of the object of a stamp, and none of a view whose depth isn't below a number
+-- the contents of the object of a stamp, from at most so many objects over one another
 abbrev pub contents_below : ℕ → Database → ℕ → Contents
 contents_below zero db stamp = no_contents
 contents_below (suc n) db stamp = contents_in (contents_below n db) db (object_stamped db.objects stamp)

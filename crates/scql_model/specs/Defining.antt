@@ -15,8 +15,9 @@ use Rattle.scql_base.specs.declared.records.RowRecord.{RowRecord}
 use Rattle.scql_base.specs.Words.{security_not_satisfied, conditions_not_satisfied, not_found, already_exists}
 use Rattle.scql_model.specs.Database.{Database, is_maker, is_table}
 use Rattle.scql_model.specs.Creating.{actor_stamp}
-use Rattle.scql_model.specs.Rules.{may_have_view}
+use Rattle.scql_model.specs.Matching.{Columns}
 use Rattle.scql_model.specs.Objects.{columns_of}
+use Rattle.scql_model.specs.Rules.{may_have_view}
 use Rattle.scql_model.specs.Rights.{owns, seen_named}
 use Rattle.scql_model.specs.ReadingCommands.{wanted_of, named_among}
 use Rattle.scql_model.specs.Refusals.{◌>>=◌, or_refused, provided}
@@ -61,7 +62,7 @@ is_table_or_view (Dictionary subject) = false
 is_table_or_view kind = true
 
 -- CREATE VIEW; an empty list of columns becomes all columns
-unfoldable pub view_created : Database → Actor → List ℕ → List ℕ → List (List ℕ) → List Condition → Result (List Edit) StatusWord
+unfoldable pub view_created : Database → Actor → List ℕ → List ℕ → Columns → List Condition → Result (List Edit) StatusWord
 view_created db actor name base_name columns conditions = do
   _ ← provided (makes_objects actor) security_not_satisfied
   base ← owned_by actor (of_kind is_table_or_view (seen_named db actor base_name))

@@ -10,7 +10,7 @@ use Rattle.scql_base.specs.declared.records.RowRecord.{RowRecord}
 use Rattle.scql_model.specs.Records.{counter_record, user_record, object_spelling, grant_record, row_record}
 use Rattle.scql_model.specs.Database.{Database, stamps}
 
--- a record of any kind: the counter, which has the next stamp, or that of a user, an object, a grant or a row
+-- a record of any kind: that of the counter, which has the next stamp, or of a user, an object, a grant or a row
 pub data AnyRecord : Type 0 where
   of_counter : ℕ → AnyRecord
   of_user : User → AnyRecord
@@ -26,12 +26,16 @@ record_stamp (of_object o) = o.stamp
 record_stamp (of_grant g) = g.stamp
 record_stamp (of_row r) = r.stamp
 
+-- how a record is spelled, and how many cells it takes
 abbrev pub record_spelling : AnyRecord → List ℕ
 record_spelling (of_counter next) = counter_record.spell next
 record_spelling (of_user u) = user_record.spell u
 record_spelling (of_object o) = object_spelling o
 record_spelling (of_grant g) = grant_record.spell g
 record_spelling (of_row r) = row_record.spell r
+
+abbrev pub cells_of_record : AnyRecord → ℕ
+cells_of_record r = cells_for (length (record_spelling r))
 
 -- A record is added behind all others of its kind, it takes the place of the one that has its stamp, or it is removed.
 pub data Action : Type 0 where
@@ -52,7 +56,7 @@ changing r = record { action = to_change; entry = r }
 abbrev pub removing : AnyRecord → Edit
 removing r = record { action = to_remove; entry = r }
 
--- a record is made: it takes the next stamp, and the counter has given that out
+-- a new record, which takes the next stamp: the counter counts on, and the record is added
 abbrev pub making : Database → AnyRecord → List Edit
 making db r = changing (of_counter (db.next + 1)) ∷ adding r ∷ []
 
@@ -78,9 +82,6 @@ applied db (e ∷ edits) = applied (edited e.action e.entry db) edits
 -- the stamps of the records that are added, changed or removed
 abbrev pub touched : List Edit → List ℕ
 touched edits = map (λ (e : Edit). record_stamp e.entry) edits
-
-abbrev pub cells_of_record : AnyRecord → ℕ
-cells_of_record r = cells_for (length (record_spelling r))
 
 -- how many cells the records take that are added or changed
 abbrev pub cells_of_edit : Action → AnyRecord → ℕ

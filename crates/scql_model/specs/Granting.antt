@@ -14,7 +14,7 @@ use Rattle.scql_model.specs.Refusals.{◌>>=◌, or_refused}
 use Rattle.scql_model.specs.Edits.{Edit, of_grant, making, changing, removing}
 use Rattle.scql_model.specs.Defining.{owned_by}
 
--- to whom a grant of this name is: a user, named by its stamp, or PUBLIC, which is 0
+-- the grantee of a name: a user, by its stamp, or PUBLIC, which is 0
 abbrev pub grantee_named : Database → List ℕ → Option ℕ
 grantee_named db name = if bytes_eq name public_name then Some 0 else option_map (λ (u : User). u.stamp) (user_named db.users name)
 
@@ -25,7 +25,7 @@ is_granted_to o grantee g = g.object == o.stamp && g.grantee == grantee
 abbrev pub grant_to : Database → Object → ℕ → Option Grant
 grant_to db o grantee = find (is_granted_to o grantee) db.grants
 
--- the privileges are added to those that the grantee has, or are a new grant
+-- the privileges are added to those of the grantee's grant, or are a new grant
 abbrev pub more_granted : Database → Object → ℕ → ℕ → Option Grant → List Edit
 more_granted db o grantee privileges (Some g) = changing (of_grant (record g { privileges = bit_or g.privileges privileges })) ∷ []
 more_granted db o grantee privileges None =

@@ -19,7 +19,7 @@ dictionary_columns Objects = codes "NAME" ∷ codes "KIND" ∷ codes "OWNER" ∷
 dictionary_columns Users = codes "NAME" ∷ codes "PROFILE" ∷ codes "OWNER" ∷ []
 dictionary_columns Grants = codes "OBJECT" ∷ codes "GRANTEE" ∷ codes "PRIV" ∷ []
 
--- the columns of an object, in their order; a view's record names its own
+-- the columns of an object, in their order; a view has its own written out
 abbrev pub columns_of : ObjectKind → Columns
 columns_of (Table columns) = columns
 columns_of (View base columns conditions) = columns
@@ -40,6 +40,6 @@ depth_below (suc n) objects stamp = option_and_then (λ (o : Object). depth_over
 abbrev pub deepest : ℕ
 deepest = 4
 
--- the depth of the object of a stamp, if it stands nowhere too deep
+-- the depth of the object of a stamp, which is at most that of the deepest view
 unfoldable pub depth_of : List Object → ℕ → Option ℕ
 depth_of objects stamp = depth_below (deepest + 1) objects stamp

@@ -56,7 +56,7 @@ least_from from test [] = None
 least_from zero test (values ∷ rows) = if test values then Some (record { position = 0; values = values }) else option_map one_further (least_from zero test rows)
 least_from (suc from) test (values ∷ rows) = option_map one_further (least_from from test rows)
 
--- the position behind one, where there is a row; else that position is free
+-- where the next row is looked for: behind the cursor's row, or at its position where that row is gone
 abbrev pub position_behind : ℕ → Bool → ℕ
 position_behind before there = if there then before + 1 else before
 

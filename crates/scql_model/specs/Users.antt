@@ -27,11 +27,11 @@ abbrev pub owns_user : Actor → User → Bool
 owns_user Public u = false
 owns_user (a_user stamp profile) u = u.owner == stamp
 
--- a user stays who is OWNER, or owns a user or an object
+-- OWNER is needed, and so is who owns a user or an object
 abbrev pub is_needed : Database → User → Bool
 is_needed db u = is_db_o u || list_any (λ (v : User). v.owner == u.stamp) db.users || list_any (λ (o : Object). o.owner == u.stamp) db.objects
 
--- the user goes, and the grants to it
+-- a user goes, and the grants to it
 abbrev pub removing_user : Database → User → List Edit
 removing_user db u = removing (of_user u) ∷ map (λ (g : Grant). removing (of_grant g)) (filter (λ (g : Grant). g.grantee == u.stamp) db.grants)
 

@@ -13,6 +13,7 @@ use Rattle.scql_base.specs.declared.cursor.Place.TheVariants.{At}
 use Rattle.scql_base.specs.Row.{row_size}
 use Rattle.scql_base.specs.Words.{conditions_not_satisfied, security_not_satisfied, not_found, wrong_data, record_not_found}
 use Rattle.scql_model.specs.Database.{Database, is_table, are_among, object_stamped}
+use Rattle.scql_model.specs.Matching.{Columns, Values}
 use Rattle.scql_model.specs.Objects.{StampedRow, columns_of}
 use Rattle.scql_model.specs.Contents.{Contents, contents_of}
 use Rattle.scql_model.specs.Rights.{insert_privilege, update_privilege, delete_privilege, holds, seen_named, seen_stamped}
@@ -23,7 +24,7 @@ use Rattle.scql_model.specs.Edits.{Edit, of_row, making, changing, removing}
 use Rattle.scql_model.specs.Defining.{of_kind, is_table_or_view}
 
 -- INSERT
-unfoldable pub row_inserted : Database → Actor → List ℕ → List (List ℕ) → Result (List Edit) StatusWord
+unfoldable pub row_inserted : Database → Actor → List ℕ → Values → Result (List Edit) StatusWord
 row_inserted db actor name values = do
   o ← or_refused (of_kind is_table (seen_named db actor name)) not_found
   _ ← provided (holds db actor o insert_privilege) security_not_satisfied
@@ -49,29 +50,34 @@ record_at db cursor =
     option_and_then (λ (r : StampedRow). find (λ (s : RowRecord). s.stamp == r.stamp) db.rows) (row_at_place (contents_of db cursor.object) cursor cursor.place)
 
 -- the columns of the table of a row
-abbrev pub columns_of_row : Database → RowRecord → List (List ℕ)
+abbrev pub columns_of_row : Database → RowRecord → Columns
 columns_of_row db r = option_map_or (λ (o : Object). columns_of o.kind) (object_stamped db.objects r.table) []
 
--- the values under these columns, those of the named columns changed
-abbrev pub with_changes : List (List ℕ × List ℕ) → List (List ℕ) → List (List ℕ) → List (List ℕ)
-with_changes changes (column ∷ columns) (value ∷ values) =
-    option_map_or (λ (change : List ℕ × List ℕ). change.1) (find (λ (change : List ℕ × List ℕ). bytes_eq column change.0) changes) value
-    ∷ with_changes changes columns values
-with_changes changes columns values = values
+-- an assignment to a column of a row: the column's name, and its new value
+abbrev pub Assignment : Type 0
+Assignment = List ℕ × List ℕ
 
--- the row with those changes; its stamp and its table stay
-abbrev pub row_with : Database → List (List ℕ × List ℕ) → RowRecord → RowRecord
-row_with db changes r = record r { row = with_changes changes (columns_of_row db r) r.row }
+-- the value in a column, after assignments
+abbrev pub assigned : List Assignment → List ℕ → List ℕ → List ℕ
+assigned assignments column value = option_map_or (λ (a : Assignment). a.1) (find (λ (a : Assignment). bytes_eq column a.0) assignments) value
+
+abbrev pub all_assigned : List Assignment → Columns → Values → Values
+all_assigned assignments (column ∷ columns) (value ∷ values) = assigned assignments column value ∷ all_assigned assignments columns values
+all_assigned assignments columns values = values
+
+-- a row after assignments; its stamp and its table stay
+abbrev pub row_after : Database → List Assignment → RowRecord → RowRecord
+row_after db assignments r = record r { row = all_assigned assignments (columns_of_row db r) r.row }
 
 -- UPDATE
-unfoldable pub row_updated : Database → Actor → Option Cursor → List (List ℕ × List ℕ) → Result (List Edit) StatusWord
-row_updated db actor cursor changes = do
+unfoldable pub row_updated : Database → Actor → Option Cursor → List Assignment → Result (List Edit) StatusWord
+row_updated db actor cursor assignments = do
   cursor ← opened cursor
   o ← written_through db actor update_privilege cursor
-  _ ← provided (are_among (map (λ (change : List ℕ × List ℕ). change.0) changes) (columns_of o.kind)) not_found
+  _ ← provided (are_among (map (λ (a : Assignment). a.0) assignments) (columns_of o.kind)) not_found
   r ← or_refused (record_at db cursor) record_not_found
-  _ ← provided (nat_le (row_size (row_with db changes r).row) db.limit) wrong_data
-  Ok (changing (of_row (row_with db changes r)) ∷ [])
+  _ ← provided (nat_le (row_size (row_after db assignments r).row) db.limit) wrong_data
+  Ok (changing (of_row (row_after db assignments r)) ∷ [])
 
 -- DELETE
 unfoldable pub row_deleted : Database → Actor → Option Cursor → Result (List Edit) StatusWord

@@ -1,19 +1,70 @@
 // Laws over the definitions. Each is the contract of a function that does nothing.
-ghost use Rattle.std.specs.Prelude.{◌≡◌, ℕ, List, Some, length};
+ghost use Rattle.std.specs.Prelude.{◌≡◌, ◌+◌, ◌<◌, ◌≤◌, ◌==◌, IsSome, List, None, Some, filter, find, length, map, option_map, ℕ};
+ghost use Rattle.std.specs.Cmp.Lexicographic.{slice_cmp};
+ghost use Rattle.std.specs.List.Sorted.{IsSortedByKey};
+ghost use Rattle.std.specs.Ordering.{nat_cmp};
+ghost use Rattle.scql_base.specs.declared.condition.Condition.{Condition};
 ghost use Rattle.scql_base.specs.declared.operation.Command.{Command};
+ghost use Rattle.scql_base.specs.declared.records.Object.{Object};
+ghost use Rattle.scql_base.specs.declared.records.ObjectKind.TheVariants.{Dictionary, Table, View};
+ghost use Rattle.scql_base.specs.declared.records.RowRecord.{RowRecord};
 ghost use Rattle.scql_base.specs.declared.words.Actor.{Actor};
-ghost use Rattle.scql_model.specs.Database.{Database, IsValid};
-ghost use Rattle.scql_model.specs.Machine.{Machine, Reading, Session, base, session_of};
-ghost use Rattle.scql_model.specs.Heard.{after_commits};
+ghost use Rattle.scql_base.specs.declared.words.Subject.{Subject};
 ghost use Rattle.scql_model.specs.Accepting.{AcceptsOrLeaves};
-ghost use Rattle.scql_model.specs.Operations.{Line};
+ghost use Rattle.scql_model.specs.Contents.{contents_of, narrowed, of_table};
+ghost use Rattle.scql_model.specs.Database.{Database, IsValid, object_stamped};
+ghost use Rattle.scql_model.specs.Dictionaries.{rows_told};
 ghost use Rattle.scql_model.specs.Form.{a_command};
-ghost use Rattle.scql_model.specs.Step.{stepped, step_by};
+ghost use Rattle.scql_model.specs.Heard.{after_commits};
+ghost use Rattle.scql_model.specs.Machine.{Machine, Reading, Session, base, session_of};
+ghost use Rattle.scql_model.specs.Matching.{Columns};
 ghost use Rattle.scql_model.specs.Moves.{move_of};
+ghost use Rattle.scql_model.specs.Operations.{Line};
+ghost use Rattle.scql_model.specs.Objects.{deepest, depth_of, dictionary_columns};
 ghost use Rattle.scql_model.specs.ReadingCommands.{ReadingCommand, reading_command};
 ghost use Rattle.scql_model.specs.ReadingLaws.{IsReadable, reading_after, replies_to};
-ghost use Rattle.scql_model.specs.Reads.{read_next, read_reply};
-ghost use Rattle.scql_model.specs.Shown.{shown, shown_on};
+ghost use Rattle.scql_model.specs.Reads.{is_called, read_next, read_reply};
+ghost use Rattle.scql_model.specs.Rights.{seen_named};
+ghost use Rattle.scql_model.specs.Shown.{ShownObject, object_shown, shown, shown_on};
+ghost use Rattle.scql_model.specs.Step.{step_by, stepped};
+
+/// A table contains its rows, a view those rows of its base that meet its conditions, cut to its columns, and a dictionary
+/// what it tells of.
+pub fn contents_are_those_of_the_kind()
+    ensures table { (db : Database) (o : Object) (columns : Columns)
+        → object_stamped db.objects o.stamp ≡ Some o → o.kind ≡ Table columns
+        → contents_of db o.stamp ≡ record { columns = columns; rows = map of_table (filter (λ (r : RowRecord). r.table == o.stamp) db.rows) } }
+    ensures view { (db : Database) (o : Object) (base : ℕ) (columns : Columns) (conditions : List Condition)
+        → object_stamped db.objects o.stamp ≡ Some o → o.kind ≡ View base columns conditions → IsSome (depth_of db.objects o.stamp)
+        → contents_of db o.stamp ≡ record { columns = columns; rows = narrowed columns conditions (contents_of db base) } }
+    ensures dictionary { (db : Database) (o : Object) (subject : Subject)
+        → object_stamped db.objects o.stamp ≡ Some o → o.kind ≡ Dictionary subject
+        → contents_of db o.stamp ≡ record { columns = dictionary_columns subject; rows = rows_told db o.owner subject } }
+{}
+
+/// A table stands at depth 0 and a view one deeper than its base, and no view stands over one that is the deepest, or over
+/// a dictionary.
+pub fn depth_is_one_more_than_the_base_has()
+    ensures table { (objects : List Object) (o : Object) (columns : Columns)
+        → object_stamped objects o.stamp ≡ Some o → o.kind ≡ Table columns → depth_of objects o.stamp ≡ Some 0 }
+    ensures view { (objects : List Object) (o : Object) (base depth : ℕ) (columns : Columns) (conditions : List Condition)
+        → object_stamped objects o.stamp ≡ Some o → o.kind ≡ View base columns conditions
+        → depth_of objects base ≡ Some depth → depth < deepest → depth_of objects o.stamp ≡ Some (depth + 1) }
+    ensures too_deep { (objects : List Object) (o : Object) (base : ℕ) (columns : Columns) (conditions : List Condition)
+        → object_stamped objects o.stamp ≡ Some o → o.kind ≡ View base columns conditions
+        → depth_of objects base ≡ Some deepest → depth_of objects o.stamp ≡ None }
+    ensures dictionary { (objects : List Object) (o : Object) (subject : Subject)
+        → object_stamped objects o.stamp ≡ Some o → o.kind ≡ Dictionary subject → depth_of objects o.stamp ≡ None }
+    ensures most { (objects : List Object) (stamp depth : ℕ) → depth_of objects stamp ≡ Some depth → depth ≤ deepest }
+{}
+
+/// The objects that are shown stand in the order of their names, and by each name the object is shown that is seen by it.
+pub fn objects_are_shown_by_their_names()
+    ensures sorted { (db : Database) (actor : Actor) (reading : Reading)
+        → IsSortedByKey (λ (o : ShownObject). o.name) (slice_cmp nat_cmp) (shown db actor reading).objects }
+    ensures seen { (db : Database) (actor : Actor) (reading : Reading) (name : List ℕ)
+        → find (is_called name) (shown db actor reading).objects ≡ option_map (object_shown db actor) (seen_named db actor name) }
+{}
 
 /// The answer to a reading command follows from what is shown before it, and so does what is shown after it.
 pub fn reading_is_of_what_is_shown()
