@@ -1,6 +1,7 @@
 pub mod Acting
 pub mod AddedUser
 pub mod ChannelsApart
+pub mod ChosenRows
 pub mod ContentsRise
 pub mod CounterSlot
 pub mod Creating
