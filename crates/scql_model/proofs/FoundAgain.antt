@@ -117,7 +117,7 @@ find-by_names : (name : List ℕ) (xs : List ShownObject) → find (is_called na
 find-by_names name [] = refl
 find-by_names name (x ∷ xs) = find-put_by_name name x (by_names xs) ∙ ap (λ found. cond (is_called name x) (Some x) found) (find-by_names name xs)
 
-find-map_filter : {X Y : Type 0} (q : Y → Bool) (f : X → Y) (seen : X → Bool) (xs : List X) → find q (map f (filter seen xs)) ≡ option_map f (find (λ x. q (f x) && seen x) xs)
+pub find-map_filter : {X Y : Type 0} (q : Y → Bool) (f : X → Y) (seen : X → Bool) (xs : List X) → find q (map f (filter seen xs)) ≡ option_map f (find (λ x. q (f x) && seen x) xs)
 find-map_filter q f seen [] = refl
 find-map_filter q f seen (x ∷ xs) =
     elim (cases_Bool (seen x)) [

@@ -4,6 +4,7 @@ pub mod Assigning
 pub mod ChangeLaws
 pub mod ChangedLists
 pub mod ChangingSessions
+pub mod ChosenRows
 pub mod ContentsRise
 pub mod CounterSlot
 pub mod Creating

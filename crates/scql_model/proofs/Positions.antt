@@ -1,12 +1,12 @@
 -- Rows found by their stamps are those found by their positions, where stamps rise.
-use Rattle.std.proofs.Common.{◌≡◌, ℕ, suc, ◌+◌, ◌<◌, ◌≤◌, ◌==◌, nat_lt, nat_le, Bool, true, false, ◌&&◌, List, [], ◌∷◌, map, Some, None, option_map, refl, sym, ◌∙◌, ap, subst, inl, inr, arith, one-add}
+use Rattle.std.proofs.Common.{◌≡◌, ℕ, suc, ◌<◌, ◌≤◌, ◌==◌, nat_lt, nat_le, Bool, true, false, ◌&&◌, List, [], ◌∷◌, map, filter, Option, Some, None, option_map, refl, sym, ◌∙◌, ap, subst, inl, inr, arith, one-add}
 use Rattle.std.specs.List.{find, AllByRecursion}
-use Rattle.std.proofs.lemmas.Bool.{cases_Bool, ltb-true, ltb-false, lt-ltb, le-ltb, leb-true, leb-false, eqb-true, eqb-false, eq-eqb, ne_eqb, or_right}
+use Rattle.std.proofs.lemmas.Bool.{cases_Bool, ltb-true, ltb-false, lt-ltb, le-ltb, le-leb, leb-true, leb-false, eqb-true, eqb-false, eq-eqb, ne_eqb, or_right}
 use Rattle.std.proofs.lemmas.Option.{none-some, same_Some}
 use Rattle.eeprom.specs.Slots.{Rises}
 use Rattle.eeprom.proofs.InOrder.{counts, counts_not}
 use Rattle.scql_model.specs.Objects.{StampedRow}
-use Rattle.scql_model.specs.Moves.{first_from, row_at}
+use Rattle.scql_model.specs.Moves.{first_row}
 use Rattle.scql_model.specs.Shown.{rows_before, is_there}
 use Rattle.scql_model.specs.Reads.{PositionedRow, one_further, least_from, position_behind, row_on}
 
@@ -20,8 +20,15 @@ values_of rows = map (λ (r : StampedRow). r.values) rows
 abbrev pub at_position : List StampedRow → StampedRow → PositionedRow
 at_position rows r = record { position = rows_before r.stamp rows; values = r.values }
 
-abbrev Test : Type 0
+abbrev pub Test : Type 0
 Test = List (List ℕ) → Bool
+
+-- the first row from a stamp on that passes, and the row of a stamp, if it passes
+abbrev pub first_from : ℕ → Test → List StampedRow → Option StampedRow
+first_from stamp test rows = find (λ (r : StampedRow). nat_le stamp r.stamp && test r.values) rows
+
+abbrev pub passing_at : ℕ → Test → List StampedRow → Option StampedRow
+passing_at stamp test rows = find (λ (r : StampedRow). r.stamp == stamp && test r.values) rows
 
 before_more : (s : ℕ) (r : StampedRow) (rows : List StampedRow) → r.stamp < s → rows_before s (r ∷ rows) ≡ suc (rows_before s rows)
 before_more s r rows less = counts (λ (x : StampedRow). nat_lt x.stamp s) r rows (lt-ltb r.stamp s less) ∙ one-add (rows_before s rows)
@@ -75,7 +82,7 @@ none_there : (s : ℕ) (rows : List StampedRow) → AllByRecursion (λ (r : Stam
 none_there s [] above = refl
 none_there s (r ∷ rows) above = rw (ne_eqb r.stamp s (λ (e : r.stamp ≡ s). let h : s < r.stamp = above.0 in omega arith)) (none_there s rows above.1)
 
-none_at : (s : ℕ) (test : Test) (rows : List StampedRow) → AllByRecursion (λ (r : StampedRow). s < r.stamp) rows → row_at s test rows ≡ None
+none_at : (s : ℕ) (test : Test) (rows : List StampedRow) → AllByRecursion (λ (r : StampedRow). s < r.stamp) rows → passing_at s test rows ≡ None
 none_at s test [] above = refl
 none_at s test (r ∷ rows) above = rw (ne_eqb r.stamp s (λ (e : r.stamp ≡ s). let h : s < r.stamp = above.0 in omega arith)) (none_at s test rows above.1)
 
@@ -83,7 +90,7 @@ above_too : (s t : ℕ) (rows : List StampedRow) → s ≤ t → AllByRecursion 
 above_too s t [] le above = tt
 above_too s t (r ∷ rows) le above = (let h : t < r.stamp = above.0 in omega arith, above_too s t rows le above.1)
 
-next_above : (s : ℕ) (rows : List StampedRow) → AllByRecursion (λ (r : StampedRow). s < r.stamp) rows → AllByRecursion (λ (r : StampedRow). s + 1 ≤ r.stamp) rows
+next_above : (s : ℕ) (rows : List StampedRow) → AllByRecursion (λ (r : StampedRow). s < r.stamp) rows → AllByRecursion (λ (r : StampedRow). suc s ≤ r.stamp) rows
 next_above s [] above = tt
 next_above s (r ∷ rows) above = (let h : s < r.stamp = above.0 in omega arith, next_above s rows above.1)
 
@@ -92,27 +99,27 @@ position_behind-suc n true = omega arith
 position_behind-suc n false = refl
 
 -- the rows before the next stamp are those before a stamp, and the one that has it
-pub before_next : (s : ℕ) (rows : List StampedRow) → Rises stamp_of rows → rows_before (s + 1) rows ≡ position_behind (rows_before s rows) (is_there s rows)
+pub before_next : (s : ℕ) (rows : List StampedRow) → Rises stamp_of rows → rows_before (suc s) rows ≡ position_behind (rows_before s rows) (is_there s rows)
 before_next s [] rises = refl
 before_next s (r ∷ rows) rises =
     elim (cases_Bool (nat_lt r.stamp s)) [
       | inl t ↦ (let less = ltb-true r.stamp s t in
-          before_more (s + 1) r rows (omega arith) ∙ ap suc (before_next s rows rises.1)
+          before_more (suc s) r rows (omega arith) ∙ ap suc (before_next s rows rises.1)
           ∙ rw (before_more s r rows less, ne_eqb r.stamp s (λ (e : r.stamp ≡ s). omega arith)) (sym (position_behind-suc (rows_before s rows) (is_there s rows))))
       | inr f ↦ (let least = ltb-false r.stamp s f in
           let none = before_none s rows (at_least s r.stamp rows least rises.0) in
           elim (cases_Bool (r.stamp == s)) [
             | inl t ↦ (let is = eqb-true r.stamp s t in
                 let behind = next_above s rows (above_too s r.stamp rows least rises.0) in
-                rw (before_more (s + 1) r rows (omega arith), before_none (s + 1) rows behind, before_same s r rows least, none, t) (omega arith))
+                rw (before_more (suc s) r rows (omega arith), before_none (suc s) rows behind, before_same s r rows least, none, t) (omega arith))
             | inr g ↦ (let ne = eqb-false r.stamp s g in
                 let behind = above_too s r.stamp rows least rises.0 in
-                rw (before_same (s + 1) r rows (omega arith), before_none (s + 1) rows (next_above s rows behind), before_same s r rows least, none, g, none_there s rows behind) refl)
+                rw (before_same (suc s) r rows (omega arith), before_none (suc s) rows (next_above s rows behind), before_same s r rows least, none, g, none_there s rows behind) refl)
           ])
     ]
 
 pub at_is_on : (s : ℕ) (test : Test) (rows : List StampedRow) → Rises stamp_of rows
-    → option_map (λ (r : StampedRow). r.values) (row_at s test rows) ≡ row_on (rows_before s rows) (is_there s rows) test (values_of rows)
+    → option_map (λ (r : StampedRow). r.values) (passing_at s test rows) ≡ row_on (rows_before s rows) (is_there s rows) test (values_of rows)
 at_is_on s test [] rises = refl
 at_is_on s test (r ∷ rows) rises =
     elim (cases_Bool (nat_lt r.stamp s)) [
@@ -137,4 +144,17 @@ there-find p (x ∷ rows) r found =
     elim (cases_Bool (p x)) [
       | inl t ↦ rw (eq-eqb x.stamp r.stamp (ap stamp_of (same_Some x r (rw t at found)))) refl
       | inr f ↦ or_right (x.stamp == r.stamp) (is_there r.stamp rows) (there-find p rows r (rw f at found))
+    ]
+
+-- every row stands from stamp 0 on
+pub first_from-zero : (test : Test) (rows : List StampedRow) → find (λ (r : StampedRow). test r.values) rows ≡ first_from 0 test rows
+first_from-zero test [] = refl
+first_from-zero test (r ∷ rows) = rw (le-leb 0 r.stamp (omega arith), first_from-zero test rows) refl
+
+pub first_row-narrowed : (f : StampedRow → StampedRow) (p : StampedRow → Bool) (rows : List StampedRow) → first_row (map f (filter p rows)) ≡ option_map f (find p rows)
+first_row-narrowed f p [] = refl
+first_row-narrowed f p (r ∷ rows) =
+    elim (cases_Bool (p r)) [
+      | inl t ↦ rw t refl
+      | inr g ↦ rw g (first_row-narrowed f p rows)
     ]

@@ -1,7 +1,6 @@
 -- What a reading command answers, and what is shown after it, are what follows from what is shown before it.
-use Rattle.std.proofs.Common.{◌≡◌, ℕ, ◌+◌, nat_le, Bool, true, false, ◌&&◌, List, [], ◌∷◌, Option, Some, None, option_map, option_and_then, Result, Ok, Err, refl, sym, ◌∙◌, ap, inl, inr}
+use Rattle.std.proofs.Common.{◌≡◌, ℕ, Bool, true, false, List, [], ◌∷◌, Option, Some, None, option_map, option_and_then, Result, Ok, Err, refl, sym, ◌∙◌, ap, subst, inl, inr}
 use Rattle.std.proofs.lemmas.Bool.{cases_Bool}
-use Rattle.std.proofs.lemmas.Option.{none-some}
 use Rattle.scql_base.specs.declared.words.Actor.{Actor}
 use Rattle.scql_base.specs.declared.words.StatusWord.{StatusWord}
 use Rattle.scql_base.specs.declared.condition.Condition.{Condition}
@@ -15,13 +14,15 @@ use Rattle.scql_model.specs.Machine.{Reading}
 use Rattle.scql_model.specs.Refusals.{◌>>=◌, or_refused, provided}
 use Rattle.scql_model.specs.Rights.{select_privilege, holds, seen_named, seen_stamped}
 use Rattle.scql_model.specs.Objects.{StampedRow}
-use Rattle.scql_model.specs.Contents.{Contents, contents_of}
+use Rattle.scql_model.specs.Matching.{Columns, Values}
+use Rattle.scql_model.specs.Contents.{Contents, cut_to, contents_of}
 use Rattle.scql_model.specs.ReadingCommands.{ReadingCommand, declare, open_cursor, next, fetch, fetch_next, get_response, Move, or_stays, fitting, wanted_of, named_among, row_octets}
-use Rattle.scql_model.specs.Moves.{selected, is_opened, opened, passes, first_from, row_behind, row_at, moved_to, giving, went_to, gave_next, gave, gave_more, moved, move_of}
+use Rattle.scql_model.specs.Moves.{selected, is_opened, opened, chosen, rows_under, row_behind, moved_to, giving, went_to, gave_next, gave, gave_more, moved, move_of}
 use Rattle.scql_model.specs.Shown.{ShownTable, ShownObject, ShownPlace, not_open, on, ShownCursor, Shown, open_contents, without_stamps, object_shown, rows_before, is_there, place_shown, cursor_shown, shown}
-use Rattle.scql_model.specs.Reads.{table_under, is_opened_place, opened_cursor, meets_cursor, least_from, least_behind, stands_at, gives_at, goes_to, gives_next, gives_row, gives_more, read, read_move, read_reply, read_next}
+use Rattle.scql_model.specs.Reads.{PositionedRow, table_under, is_opened_place, opened_cursor, meets_cursor, least_from, least_behind, stands_at, gives_at, goes_to, gives_next, gives_row, gives_more, read, read_move, read_reply, read_next}
 use Rattle.scql_model.specs.ReadingLaws.{IsReadable, replies_to, reading_after, read_replies, shown_after}
-use Rattle.scql_model.proofs.Positions.{values_of, at_position, before_zero, before_next, first_is_least, at_is_on, there-find}
+use Rattle.scql_model.proofs.Positions.{values_of, at_position}
+use Rattle.scql_model.proofs.ChosenRows.{chooses, cut_row, IsAt, IsAt-first_row, IsAt-row_behind, row_at-chosen}
 use Rattle.scql_model.proofs.FoundAgain.{seen_stamped-named, seen_named-stamped, name-seen_named, find-objects_shown}
 use Rattle.scql_model.proofs.ContentsRise.{Rises-contents_of}
 
@@ -114,22 +115,34 @@ module _ (db : Database) (actor : Actor) (reading : Reading) where
       go None = refl
       go (Some c) = when c (is_opened c.place) _ (is_opened-shown (option_and_then (open_contents db actor) (seen_stamped db actor c.object)) c.place)
 
-  -- what is made of the contents under a cursor is made of what is shown there
-  told-under : (c : Cursor) (continue : Contents → Result (Move Reading) StatusWord) (read_on : ShownTable → Result (Move Shown) StatusWord) → IsReadable db
-      → ((o : Object) → seen_stamped db actor c.object ≡ Some o → holds db actor o select_privilege ≡ true → told db actor (continue (here o)) ≡ read_on (without_stamps (here o)))
-      → told db actor (or_refused (seen_stamped db actor c.object) not_found >>= λ (o : Object). selected db actor o >>= continue) ≡ (table_under before (as_shown c) >>= read_on)
+  -- what is made of the rows under a cursor is made of what is shown there
+  told-under : (c : Cursor) (continue : List StampedRow → Result (Move Reading) StatusWord) (read_on : ShownTable → Result (Move Shown) StatusWord) → IsReadable db
+      → ((o : Object) → seen_stamped db actor c.object ≡ Some o → holds db actor o select_privilege ≡ true → told db actor (continue (chosen (here o) c)) ≡ read_on (without_stamps (here o)))
+      → told db actor (rows_under db actor c >>= continue) ≡ (table_under before (as_shown c) >>= read_on)
   told-under c continue read_on readable same =
-      told-selected db actor (seen_stamped db actor c.object) (λ (_ : Object). continue) read_on same
+      go (seen_stamped db actor c.object) same
       ∙ ap (λ (t : Result ShownTable StatusWord). t >>= read_on) (sym (table_under-seen db actor reading reading.pending c (seen_stamped db actor c.object) readable refl))
+    where
+      go : (seen : Option Object) → ((o : Object) → seen ≡ Some o → holds db actor o select_privilege ≡ true → told db actor (continue (chosen (here o) c)) ≡ read_on (without_stamps (here o)))
+          → told db actor ((or_refused seen not_found >>= λ (o : Object). selected db actor o >>= λ (contents : Contents). Ok (chosen contents c)) >>= continue) ≡ (table_of (option_map (object_shown db actor) seen) >>= read_on)
+      go None same = refl
+      go (Some o) same =
+          elim (cases_Bool (holds db actor o select_privilege)) [
+            | inl t ↦ rw t (same o refl t)
+            | inr f ↦ rw f refl
+          ]
 
   -- under a cursor whose object is seen and may be selected from
   module _ (c : Cursor) (o : Object) (is : seen_stamped db actor c.object ≡ Some o) (may : holds db actor o select_privilege ≡ true) where
-    went_to-shown : (found : Option StampedRow) → ((r : StampedRow) → found ≡ Some r → is_there r.stamp (here o).rows ≡ true)
-        → move_shown db actor (went_to c found) ≡ goes_to before (as_shown c) (option_map (at_position (here o).rows) found)
-    went_to-shown None there = stands-shown db actor reading reading.pending c o End end_reached is may
-    went_to-shown (Some r) there =
-        stands-shown db actor reading reading.pending c o (At r.stamp) done is may
-        ∙ ap (λ (b : Bool). stands_at (on (rows_before r.stamp (here o).rows) b) before (as_shown c) done) (there r refl)
+    went_to-shown : (found : Option StampedRow) (positioned : Option PositionedRow) → IsAt (here o) c found positioned → move_shown db actor (went_to c found) ≡ goes_to before (as_shown c) positioned
+    went_to-shown found positioned at = rw (at.is_cut, ← at.is_positioned) (go at.row at.there)
+      where
+        go : (row : Option StampedRow) → ((r : StampedRow) → row ≡ Some r → is_there r.stamp (here o).rows ≡ true)
+            → move_shown db actor (went_to c (option_map (cut_row (here o) c) row)) ≡ goes_to before (as_shown c) (option_map (at_position (here o).rows) row)
+        go None there = stands-shown db actor reading reading.pending c o End end_reached is may
+        go (Some r) there =
+            stands-shown db actor reading reading.pending c o (At r.stamp) done is may
+            ∙ ap (λ (b : Bool). stands_at (on (rows_before r.stamp (here o).rows) b) before (as_shown c) done) (there r refl)
 
     given-shown : (place : Place) (shown_place : ShownPlace) (le : ℕ) (fits : Result (List ℕ) StatusWord) → place_shown (Some (here o)) place ≡ shown_place
         → told db actor (fits >>= λ (octets : List ℕ). Ok (giving place c le octets)) ≡ (fits >>= λ (octets : List ℕ). Ok (gives_at shown_place before (as_shown c) le octets))
@@ -137,31 +150,31 @@ module _ (db : Database) (actor : Actor) (reading : Reading) where
     given-shown place shown_place le (Ok octets) at =
         ap Ok (gives-shown db actor reading reading.pending c o place le octets is may ∙ ap (λ (p : ShownPlace). gives_at p before (as_shown c) le octets) at)
 
-    gave_next-shown : (le : ℕ) (found : Option StampedRow) → ((r : StampedRow) → found ≡ Some r → is_there r.stamp (here o).rows ≡ true)
-        → told db actor (gave_next (here o) c le found)
-        ≡ gives_next before (without_stamps (here o)) (as_shown c) le (option_map (at_position (here o).rows) found)
-    gave_next-shown le None there = ap Ok (stands-shown db actor reading reading.pending c o End end_reached is may)
-    gave_next-shown le (Some r) there =
-        given-shown (At r.stamp) (on (rows_before r.stamp (here o).rows) true) le (fitting le (row_octets (here o).columns c.columns r.values))
-        (ap (on (rows_before r.stamp (here o).rows)) (there r refl))
+    gave_next-shown : (le : ℕ) (found : Option StampedRow) (positioned : Option PositionedRow) → IsAt (here o) c found positioned
+        → told db actor (gave_next c le found) ≡ gives_next before (without_stamps (here o)) (as_shown c) le positioned
+    gave_next-shown le found positioned at = rw (at.is_cut, ← at.is_positioned) (go at.row at.there)
+      where
+        go : (row : Option StampedRow) → ((r : StampedRow) → row ≡ Some r → is_there r.stamp (here o).rows ≡ true)
+            → told db actor (gave_next c le (option_map (cut_row (here o) c) row)) ≡ gives_next before (without_stamps (here o)) (as_shown c) le (option_map (at_position (here o).rows) row)
+        go None there = ap Ok (stands-shown db actor reading reading.pending c o End end_reached is may)
+        go (Some r) there =
+            given-shown (At r.stamp) (on (rows_before r.stamp (here o).rows) true) le (fitting le (row_octets (cut_to (here o).columns c.columns r.values))) (ap (on (rows_before r.stamp (here o).rows)) (there r refl))
 
+    -- FETCH at a row
     row-shown : (stamp le : ℕ) (found : Option StampedRow)
-        → told db actor (or_refused found record_not_found >>= λ (r : StampedRow). fitting le (row_octets (here o).columns c.columns r.values) >>= λ (octets : List ℕ). Ok (giving (At stamp) c le octets))
-        ≡ (or_refused (option_map (λ (r : StampedRow). r.values) found) record_not_found >>= λ (values : List (List ℕ)). fitting le (row_octets (here o).columns c.columns values)
+        → told db actor (or_refused (option_map (cut_row (here o) c) found) record_not_found >>= λ (r : StampedRow). fitting le (row_octets r.values) >>= λ (octets : List ℕ). Ok (giving (At stamp) c le octets))
+        ≡ (or_refused (option_map (λ (r : StampedRow). r.values) found) record_not_found >>= λ (values : Values). fitting le (row_octets (cut_to (here o).columns c.columns values))
         >>= λ (octets : List ℕ). Ok (gives_at (place_shown (Some (here o)) (At stamp)) before (as_shown c) le octets))
     row-shown stamp le None = refl
-    row-shown stamp le (Some r) = given-shown (At stamp) _ le (fitting le (row_octets (here o).columns c.columns r.values)) refl
+    row-shown stamp le (Some r) = given-shown (At stamp) _ le (fitting le (row_octets (cut_to (here o).columns c.columns r.values))) refl
 
     gave-shown : (le : ℕ) (place : Place) → IsReadable db
-        → told db actor (gave (here o) c le place)
-        ≡ gives_row before (without_stamps (here o)) (as_shown c) le (place_shown (Some (here o)) place)
+        → told db actor (gave c le place (chosen (here o) c)) ≡ gives_row before (without_stamps (here o)) (as_shown c) le (place_shown (Some (here o)) place)
     gave-shown le NotOpen readable = refl
     gave-shown le End readable = ap Ok (stands-shown db actor reading reading.pending c o End end_reached is may)
     gave-shown le (At stamp) readable =
-        row-shown stamp le (row_at stamp (passes (here o) c) (here o).rows)
-        ∙ ap (λ (found : Option (List (List ℕ))). or_refused found record_not_found >>= λ (values : List (List ℕ)). fitting le (row_octets (here o).columns c.columns values)
-        >>= λ (octets : List ℕ). Ok (gives_at (place_shown (Some (here o)) (At stamp)) before (as_shown c) le octets))
-        (at_is_on stamp (passes (here o) c) (here o).rows (Rises-contents_of db o.stamp readable))
+        let at = row_at-chosen (here o) c stamp (Rises-contents_of db o.stamp readable) in
+        rw (at.1, ← at.2) (row-shown stamp le at.0)
 
     gave_more-shown : (le : ℕ) (pending : List ℕ) → told db actor (gave_more c le pending) ≡ gives_more before (as_shown c) le (Some pending)
     gave_more-shown le [] = refl
@@ -170,36 +183,16 @@ module _ (db : Database) (actor : Actor) (reading : Reading) where
     place-under : (as_shown c).place ≡ place_shown (Some (here o)) c.place
     place-under = rw (is, may) refl
 
+    -- the next row behind the cursor's place
+    behind : IsReadable db → IsAt (here o) c (row_behind c.place (chosen (here o) c)) (least_behind (as_shown c).place (chooses (here o) c) (values_of (here o).rows))
+    behind readable =
+        subst (λ (p : ShownPlace). IsAt (here o) c (row_behind c.place (chosen (here o) c)) (least_behind p (chooses (here o) c) (values_of (here o).rows))) (sym place-under)
+        (IsAt-row_behind (here o) c c.place (Rises-contents_of db o.stamp readable))
+
     pending-under : (as_shown c).pending ≡ Some reading.pending
     pending-under = rw (is, may) refl
 
-    -- the next row behind the cursor's place
-    behind-shown : (place : Place) → IsReadable db → option_map (at_position (here o).rows) (row_behind place (passes (here o) c) (here o).rows)
-        ≡ least_behind (place_shown (Some (here o)) place) (passes (here o) c) (values_of (here o).rows)
-    behind-shown NotOpen readable = refl
-    behind-shown End readable = refl
-    behind-shown (At stamp) readable =
-        let rise = Rises-contents_of db o.stamp readable in
-        first_is_least (stamp + 1) (passes (here o) c) (here o).rows rise
-        ∙ ap (λ (k : ℕ). least_from k (passes (here o) c) (values_of (here o).rows)) (before_next stamp (here o).rows rise)
-
-    behind-there : (place : Place) (r : StampedRow) → row_behind place (passes (here o) c) (here o).rows ≡ Some r → is_there r.stamp (here o).rows ≡ true
-    behind-there NotOpen r found = absurd (none-some r found)
-    behind-there End r found = absurd (none-some r found)
-    behind-there (At stamp) r found = there-find (λ (x : StampedRow). nat_le (stamp + 1) x.stamp && passes (here o) c x.values) (here o).rows r found
-
-    next-shown : IsReadable db → option_map (at_position (here o).rows) (row_behind c.place (passes (here o) c) (here o).rows)
-        ≡ least_behind (as_shown c).place (passes (here o) c) (values_of (here o).rows)
-    next-shown readable =
-        behind-shown c.place readable ∙ ap (λ (p : ShownPlace). least_behind p (passes (here o) c) (values_of (here o).rows)) (sym place-under)
-
-  first-shown : (c : Cursor) (o : Object) → IsReadable db → option_map (at_position (here o).rows) (first_from 0 (passes (here o) c) (here o).rows)
-      ≡ least_from 0 (passes (here o) c) (values_of (here o).rows)
-  first-shown c o readable =
-      first_is_least 0 (passes (here o) c) (here o).rows (Rises-contents_of db o.stamp readable)
-      ∙ ap (λ (k : ℕ). least_from k (passes (here o) c) (values_of (here o).rows)) (before_zero (here o).rows)
-
-  told-declared : (object : List ℕ) (columns : List (List ℕ)) (conditions : List Condition) (o : Object) (asked : Result (Unit {0}) StatusWord) (wanted : List (List ℕ)) → IsReadable db
+  told-declared : (object : List ℕ) (columns : Columns) (conditions : List Condition) (o : Object) (asked : Result (Unit {0}) StatusWord) (wanted : Columns) → IsReadable db
       → seen_named db actor object ≡ Some o → holds db actor o select_privilege ≡ true
       → told db actor (asked >>= λ _. Ok (moved_to NotOpen (record { object = o.stamp; columns = wanted; conditions = conditions; place = NotOpen }) done))
       ≡ (asked >>= λ _. Ok (stands_at not_open before (record { object = Some object; columns = wanted; conditions = conditions; place = not_open; pending = Some [] }) done))
@@ -220,14 +213,11 @@ module _ (db : Database) (actor : Actor) (reading : Reading) where
   told-moved readable open_cursor =
       told-cursor _ _ (λ (c : Cursor). told-under c _
       (λ (t : ShownTable). Ok (goes_to before (as_shown c) (least_from 0 (meets_cursor t (as_shown c)) t.rows))) readable
-      (λ o is may. ap Ok (went_to-shown c o is may (first_from 0 (passes (here o) c) (here o).rows)
-      (λ r found. there-find (λ (x : StampedRow). nat_le 0 x.stamp && passes (here o) c x.values) (here o).rows r found)
-      ∙ ap (goes_to before (as_shown c)) (first-shown c o readable))))
+      (λ o is may. ap Ok (went_to-shown c o is may _ _ (IsAt-first_row (here o) c (Rises-contents_of db o.stamp readable)))))
   told-moved readable next =
       told-opened _ _ (λ (c : Cursor). told-under c _
       (λ (t : ShownTable). Ok (goes_to before (as_shown c) (least_behind (as_shown c).place (meets_cursor t (as_shown c)) t.rows))) readable
-      (λ o is may. ap Ok (went_to-shown c o is may (row_behind c.place (passes (here o) c) (here o).rows) (behind-there c o is may c.place)
-      ∙ ap (goes_to before (as_shown c)) (next-shown c o is may readable))))
+      (λ o is may. ap Ok (went_to-shown c o is may _ _ (behind c o is may readable))))
   told-moved readable (fetch le) =
       told-opened _ _ (λ (c : Cursor). told-under c _
       (λ (t : ShownTable). gives_row before t (as_shown c) le (as_shown c).place) readable
@@ -236,8 +226,7 @@ module _ (db : Database) (actor : Actor) (reading : Reading) where
   told-moved readable (fetch_next le) =
       told-opened _ _ (λ (c : Cursor). told-under c _
       (λ (t : ShownTable). gives_next before t (as_shown c) le (least_behind (as_shown c).place (meets_cursor t (as_shown c)) t.rows)) readable
-      (λ o is may. gave_next-shown c o is may le (row_behind c.place (passes (here o) c) (here o).rows) (behind-there c o is may c.place)
-      ∙ ap (gives_next before (without_stamps (here o)) (as_shown c) le) (next-shown c o is may readable)))
+      (λ o is may. gave_next-shown c o is may le _ _ (behind c o is may readable)))
   told-moved readable (get_response le) =
       told-cursor _ _ (λ (c : Cursor). told-under c _
       (λ (t : ShownTable). gives_more before (as_shown c) le (as_shown c).pending) readable

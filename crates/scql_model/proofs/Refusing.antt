@@ -22,10 +22,9 @@ use Rattle.scql_model.specs.Transactions.{own_transaction, waits, is_kept_waitin
 use Rattle.scql_model.specs.Operations.{Line, kind_of}
 use Rattle.scql_model.specs.Form.{Form, refused, refused_on, part_on, a_command, form_of}
 use Rattle.scql_model.specs.Objects.{StampedRow}
-use Rattle.scql_model.specs.Contents.{Contents}
 use Rattle.scql_model.specs.ReadingCommands.{ReadingCommand, declare, open_cursor, next, fetch, fetch_next, get_response, reading_command, Move, or_stays, rest_word, fitting, row_octets, named_among}
-use Rattle.scql_model.specs.Moves.{selected, opened, row_at, passes, went_to, gave_next, gave, gave_more, moved, move_of}
-use Rattle.scql_model.specs.Rights.{seen_named, seen_stamped}
+use Rattle.scql_model.specs.Moves.{selected, opened, rows_under, first_row, row_behind, row_at, went_to, gave_next, gave, gave_more, moved, move_of}
+use Rattle.scql_model.specs.Rights.{seen_named}
 use Rattle.scql_model.specs.Edits.{Edit}
 use Rattle.scql_model.specs.Changing.{edits_of, with_edits}
 use Rattle.scql_model.specs.Accepting.{Accepts, is_done, at_its_end, has_more, costs_a_try, AcceptsOrLeaves}
@@ -45,17 +44,16 @@ moves-went_to : (c : Cursor) (found : Option StampedRow) → Moves (went_to c fo
 moves-went_to c None = at_its_end
 moves-went_to c (Some r) = is_done
 
-moves-gave_next : (contents : Contents) (c : Cursor) (le : ℕ) (found : Option StampedRow) → IfOk (gave_next contents c le found) Moves
-moves-gave_next contents c le None = at_its_end
-moves-gave_next contents c le (Some r) =
-    of_outcome Moves (fitting le (row_octets contents.columns c.columns r.values)) _ (λ octets. accepts-rest (drop le octets))
+moves-gave_next : (c : Cursor) (le : ℕ) (found : Option StampedRow) → IfOk (gave_next c le found) Moves
+moves-gave_next c le None = at_its_end
+moves-gave_next c le (Some r) = of_outcome Moves (fitting le (row_octets r.values)) _ (λ octets. accepts-rest (drop le octets))
 
-moves-gave : (contents : Contents) (c : Cursor) (le : ℕ) (place : Place) → IfOk (gave contents c le place) Moves
-moves-gave contents c le NotOpen = tt
-moves-gave contents c le End = at_its_end
-moves-gave contents c le (At stamp) =
-    of_outcome Moves (or_refused (row_at stamp (passes contents c) contents.rows) record_not_found) _ (λ r.
-    of_outcome Moves (fitting le (row_octets contents.columns c.columns r.values)) _ (λ octets. accepts-rest (drop le octets)))
+moves-gave : (c : Cursor) (le : ℕ) (place : Place) (rows : List StampedRow) → IfOk (gave c le place rows) Moves
+moves-gave c le NotOpen rows = tt
+moves-gave c le End rows = at_its_end
+moves-gave c le (At stamp) rows =
+    of_outcome Moves (or_refused (row_at stamp rows) record_not_found) _ (λ r.
+    of_outcome Moves (fitting le (row_octets r.values)) _ (λ octets. accepts-rest (drop le octets)))
 
 moves-gave_more : (c : Cursor) (le : ℕ) (pending : List ℕ) → IfOk (gave_more c le pending) Moves
 moves-gave_more c le [] = tt
@@ -68,24 +66,19 @@ moves-moved db actor reading (declare object columns conditions) =
     of_outcome Moves (named_among contents.columns columns conditions) _ (λ _. is_done)))
 moves-moved db actor reading open_cursor =
     of_outcome Moves (or_refused reading.cursor conditions_not_satisfied) _ (λ c.
-    of_outcome Moves (or_refused (seen_stamped db actor c.object) not_found) _ (λ o.
-    of_outcome Moves (selected db actor o) _ (λ contents. moves-went_to c _)))
+    of_outcome Moves (rows_under db actor c) _ (λ rows. moves-went_to c (first_row rows)))
 moves-moved db actor reading next =
     of_outcome Moves (opened reading.cursor) _ (λ c.
-    of_outcome Moves (or_refused (seen_stamped db actor c.object) not_found) _ (λ o.
-    of_outcome Moves (selected db actor o) _ (λ contents. moves-went_to c _)))
+    of_outcome Moves (rows_under db actor c) _ (λ rows. moves-went_to c (row_behind c.place rows)))
 moves-moved db actor reading (fetch le) =
     of_outcome Moves (opened reading.cursor) _ (λ c.
-    of_outcome Moves (or_refused (seen_stamped db actor c.object) not_found) _ (λ o.
-    of_outcome Moves (selected db actor o) _ (λ contents. moves-gave contents c le c.place)))
+    of_outcome Moves (rows_under db actor c) _ (λ rows. moves-gave c le c.place rows))
 moves-moved db actor reading (fetch_next le) =
     of_outcome Moves (opened reading.cursor) _ (λ c.
-    of_outcome Moves (or_refused (seen_stamped db actor c.object) not_found) _ (λ o.
-    of_outcome Moves (selected db actor o) _ (λ contents. moves-gave_next contents c le _)))
+    of_outcome Moves (rows_under db actor c) _ (λ rows. moves-gave_next c le (row_behind c.place rows)))
 moves-moved db actor reading (get_response le) =
     of_outcome Moves (or_refused reading.cursor conditions_not_satisfied) _ (λ c.
-    of_outcome Moves (or_refused (seen_stamped db actor c.object) not_found) _ (λ o.
-    of_outcome Moves (selected db actor o) _ (λ contents. moves-gave_more c le reading.pending)))
+    of_outcome Moves (rows_under db actor c) _ (λ _. moves-gave_more c le reading.pending))
 
 -- An answer accepts the command, or leaves the machine.
 abbrev AcceptsOrStays : Machine → Answer → Type 0

@@ -11,7 +11,6 @@ use Rattle.scql_model.specs.Refusals.{provided}
 use Rattle.scql_model.specs.Commands.{Reply}
 use Rattle.scql_model.specs.Database.{are_among}
 use Rattle.scql_model.specs.Matching.{Columns, Values}
-use Rattle.scql_model.specs.Contents.{cut_to}
 
 -- the reading commands; Le is the greatest number of octets wanted, 1 to 256
 pub data ReadingCommand : Type 0 where
@@ -71,6 +70,6 @@ wanted_of columns (name ∷ names) = name ∷ names
 abbrev pub named_among : Columns → Columns → List Condition → Result (Unit {0}) StatusWord
 named_among columns named conditions = provided (are_among named columns && are_among (map (λ (c : Condition). c.column) conditions) columns) not_found
 
--- a row in an answer: its values in the wanted columns, each as its length in one octet and its octets
-abbrev pub row_octets : Columns → Columns → Values → List ℕ
-row_octets columns wanted values = flat_map spelled (cut_to columns wanted values)
+-- a row in an answer: each value as its length in one octet and its octets
+abbrev pub row_octets : Values → List ℕ
+row_octets values = flat_map spelled values

@@ -3,10 +3,11 @@ use Rattle.std.specs.Prelude.{ℕ, zero, suc, ◌+◌, Bool, true, false, List, 
 use Rattle.std.specs.List.{find}
 use Rattle.std.specs.Str.{bytes_eq}
 use Rattle.scql_base.specs.declared.words.StatusWord.{StatusWord}
-use Rattle.scql_base.specs.Words.{done, security_not_satisfied, conditions_not_satisfied, not_found, end_reached, record_not_found, end_reached, record_not_found}
+use Rattle.scql_base.specs.Words.{done, security_not_satisfied, conditions_not_satisfied, not_found, end_reached, record_not_found}
 use Rattle.scql_model.specs.Commands.{Reply}
 use Rattle.scql_model.specs.Refusals.{◌>>=◌, or_refused, provided}
 use Rattle.scql_model.specs.Matching.{Values, matches}
+use Rattle.scql_model.specs.Contents.{cut_to}
 use Rattle.scql_model.specs.ReadingCommands.{ReadingCommand, declare, open_cursor, next, fetch, fetch_next, get_response, Move, word_alone, or_stays, cut, fitting, wanted_of, named_among, row_octets}
 use Rattle.scql_model.specs.Shown.{ShownTable, ShownObject, ShownPlace, not_open, hidden, on, at_end, ShownCursor, Shown}
 
@@ -93,7 +94,7 @@ goes_to s c (Some r) = stands_at (on r.position true) s c done
 abbrev pub gives_next : Shown → ShownTable → ShownCursor → ℕ → Option PositionedRow → Result (Move Shown) StatusWord
 gives_next s t c le None = Ok (stands_at at_end s c end_reached)
 gives_next s t c le (Some r) = do
-  octets ← fitting le (row_octets t.columns c.columns r.values)
+  octets ← fitting le (row_octets (cut_to t.columns c.columns r.values))
   Ok (gives_at (on r.position true) s c le octets)
 
 -- FETCH: the row at the cursor's place is given
@@ -103,7 +104,7 @@ gives_row s t c le hidden = Err conditions_not_satisfied
 gives_row s t c le at_end = Ok (stands_at at_end s c end_reached)
 gives_row s t c le (on before there) = do
   values ← or_refused (row_on before there (meets_cursor t c) t.rows) record_not_found
-  octets ← fitting le (row_octets t.columns c.columns values)
+  octets ← fitting le (row_octets (cut_to t.columns c.columns values))
   Ok (gives_at (on before there) s c le octets)
 
 -- GET RESPONSE: what is pending is given

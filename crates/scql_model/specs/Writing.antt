@@ -17,8 +17,7 @@ use Rattle.scql_model.specs.Matching.{Columns, Values}
 use Rattle.scql_model.specs.Objects.{StampedRow, columns_of}
 use Rattle.scql_model.specs.Contents.{Contents, contents_of}
 use Rattle.scql_model.specs.Rights.{insert_privilege, update_privilege, delete_privilege, holds, seen_named, seen_stamped}
-use Rattle.scql_model.specs.ReadingCommands.{}
-use Rattle.scql_model.specs.Moves.{opened, passes, row_at}
+use Rattle.scql_model.specs.Moves.{opened, chosen, row_at}
 use Rattle.scql_model.specs.Refusals.{◌>>=◌, or_refused, provided}
 use Rattle.scql_model.specs.Edits.{Edit, of_row, making, changing, removing}
 use Rattle.scql_model.specs.Defining.{of_kind, is_table_or_view}
@@ -41,7 +40,7 @@ written_through db actor privilege cursor = do
 
 -- the row at which a cursor stands, if it is among its object's rows and meets its conditions
 abbrev pub row_at_place : Contents → Cursor → Place → Option StampedRow
-row_at_place contents cursor (At stamp) = row_at stamp (passes contents cursor) contents.rows
+row_at_place contents cursor (At stamp) = row_at stamp (chosen contents cursor)
 row_at_place contents cursor place = None
 
 -- the record of that row, which is a row of a table
