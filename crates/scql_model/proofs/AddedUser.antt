@@ -13,11 +13,12 @@ use Rattle.scql_base.specs.declared.records.User.{User}
 use Rattle.scql_base.specs.declared.records.Object.{Object}
 use Rattle.scql_base.specs.declared.records.Grant.{Grant}
 use Rattle.scql_model.specs.Records.{counter_record, user_record}
-use Rattle.scql_model.specs.Stored.{StoredRecord, is_storable}
+use Rattle.scql_model.specs.Stored.{is_storable}
 use Rattle.scql_model.specs.Rules.{AreUsers, AreObjects, AreGrants, owner, public_name, are_different, is_db_o, is_maker, user_stamped, is_made_by_maker, has_maker, has_all_tries, has_object_and_grantee}
-use Rattle.scql_model.specs.Database.{Database, IsValid, weight, stored_user, stored_object, stored_grant, stored_row}
+use Rattle.scql_model.specs.Database.{Database, IsValid, weight, stored_user}
 use Rattle.scql_model.specs.Creating.{with_user}
 use Rattle.scql_model.proofs.LongerLists.{all-weaker, all-added, rises-added, names_different-added}
+use Rattle.scql_model.proofs.RecordsOf.{behind_users, records_of-users}
 use Rattle.scql_model.proofs.Stored.{IsStored-added, below-of_kind}
 
 -- who was a maker among some users is one among more
@@ -47,13 +48,9 @@ pub record IsAddable (db : Database) (u : User) : Type 0 where
   pub maker : has_maker (db.users ++ u ∷ []) u ≡ true
   pub tries : has_all_tries u ≡ true
 
--- the records that are no users
-abbrev others : Database → List StoredRecord
-others db = map stored_object db.objects ++ (map stored_grant db.grants ++ map stored_row db.rows)
-
 -- in a valid database the next stamp is above those of all users
 pub users_below : (db : Database) → IsValid db → AllByRecursion (λ (u : User). u.stamp < db.next) db.users
-users_below db valid = below-of_kind stored_user [] (others db) db.users refl valid.stored
+users_below db valid = below-of_kind stored_user [] (behind_users db) db.users (records_of-users db) valid.stored
 
 -- the users' own rules, with one user more
 AreUsers-added : (db : Database) (u : User) → AreUsers db.users → IsAddable db u → AllByRecursion (λ (v : User). v.stamp < db.next) db.users → AreUsers (db.users ++ u ∷ [])
@@ -128,7 +125,7 @@ IsValid-with_user db u valid addable room next =
       limit = valid.limit;
       next = omega arith;
       counter = next;
-      stored = IsStored-added stored_user [] (others db) db.users u refl refl valid.stored addable.stamp (omega arith) addable.size room;
+      stored = IsStored-added stored_user [] (behind_users db) db.users u (records_of-users db) (records_of-users (with_user db u)) valid.stored addable.stamp (omega arith) addable.size room;
       users = AreUsers-added db u valid.users addable (users_below db valid);
       objects = AreObjects-more_users db.users (u ∷ []) db.objects valid.objects;
       grants = AreGrants-more_users db.users (u ∷ []) db.objects db.grants valid.grants;

@@ -1,6 +1,7 @@
 pub mod Acting
 pub mod AddedUser
 pub mod ChangedLists
+pub mod ChangedRows
 pub mod CounterSlot
 pub mod Creating
 pub mod CreatingSlots
