@@ -17,10 +17,14 @@ use Rattle.scql_base.specs.declared.records.RowRecord.{RowRecord}
 use Rattle.scql_model.specs.Objects.{columns_of, depth_of}
 use Rattle.scql_model.specs.Records.{user_record, grant_record, row_record, object_spelling, object_fits}
 
+-- no element is the same as a later one, by a test of two
+abbrev pub are_apart_by : {X : Type 0} → (X → X → Bool) → List X → Bool
+are_apart_by same [] = true
+are_apart_by same (x ∷ xs) = not (list_any (same x) xs) && are_apart_by same xs
+
 -- whether texts are different, and whether each of them is among others
 abbrev pub are_different : List (List ℕ) → Bool
-are_different [] = true
-are_different (x ∷ xs) = not (list_any (bytes_eq x) xs) && are_different xs
+are_different names = are_apart_by bytes_eq names
 
 abbrev pub are_among : List (List ℕ) → List (List ℕ) → Bool
 are_among names columns = list_all (λ name. list_any (bytes_eq name) columns) names
@@ -133,24 +137,22 @@ pub record AreObjects (users : List User) (objects : List Object) : Type 0 where
 
 -- Grants.
 
+-- its object is there, and its grantee is a user or everybody
 abbrev pub has_object_and_grantee : List User → List Object → Grant → Bool
 has_object_and_grantee users objects g =
     list_any (λ (o : Object). o.stamp == g.object) objects && ((g.grantee == 0) || list_any (λ (u : User). u.stamp == g.grantee) users)
 
+-- two grants are of one object to one grantee
 abbrev pub is_of_pair : Grant → Grant → Bool
 is_of_pair g h = (g.object == h.object) && (g.grantee == h.grantee)
-
-abbrev pub are_different_pairs : List Grant → Bool
-are_different_pairs [] = true
-are_different_pairs (g ∷ grants) = not (list_any (is_of_pair g) grants) && are_different_pairs grants
 
 pub record AreGrants (users : List User) (objects : List Object) (grants : List Grant) : Type 0 where
   -- in rising order of their stamps, each within its limits
   pub rises : Rises (λ (g : Grant). g.stamp) grants
   pub limits : list_all grant_record.fits grants ≡ true
-  -- its object is there, and its grantee is a user or everybody; no two grants are of one object to one grantee
+  -- of objects that are there to users or everybody, one of each object to each grantee
   pub parties : list_all (has_object_and_grantee users objects) grants ≡ true
-  pub pairs : are_different_pairs grants ≡ true
+  pub pairs : are_apart_by is_of_pair grants ≡ true
 
 -- Rows.
 
