@@ -17,7 +17,8 @@ use Rattle.scql_model.specs.Stored.{is_storable}
 use Rattle.scql_model.specs.Rules.{AreUsers, AreObjects, AreGrants, owner, public_name, are_different, is_db_o, is_maker, user_stamped, is_made_by_maker, has_maker, has_all_tries, has_object_and_grantee}
 use Rattle.scql_model.specs.Database.{Database, IsValid, weight, stored_user}
 use Rattle.scql_model.specs.Creating.{with_user}
-use Rattle.scql_model.proofs.LongerLists.{all-weaker, all-added, rises-added, names_different-added}
+use Rattle.scql_model.proofs.LongerLists.{all-weaker, all-added, rises-added, not_equal-sym}
+use Rattle.scql_model.proofs.Apart.{apart_by-added}
 use Rattle.scql_model.proofs.RecordsOf.{behind_users, records_of-users}
 use Rattle.scql_model.proofs.Stored.{IsStored-added, below-of_kind}
 
@@ -70,7 +71,7 @@ AreUsers-added db u are addable below = record {
     names-added : (users : List User) (u : User) → are_different (map (λ (v : User). v.name) users) ≡ true → list_any (bytes_eq u.name) (map (λ (v : User). v.name) users) ≡ false
         → are_different (map (λ (v : User). v.name) (users ++ u ∷ [])) ≡ true
     names-added users u apart none =
-        rw (map-append (λ (v : User). v.name) users (u ∷ [])) (names_different-added (map (λ (v : User). v.name) users) u.name apart none)
+        rw (map-append (λ (v : User). v.name) users (u ∷ [])) (apart_by-added bytes_eq (map (λ (v : User). v.name) users) u.name not_equal-sym apart none)
 
     none_public-added : (users : List User) (u : User) → list_any (λ (v : User). bytes_eq public_name v.name) users ≡ false → bytes_eq public_name u.name ≡ false
         → list_any (λ (v : User). bytes_eq public_name v.name) (users ++ u ∷ []) ≡ false

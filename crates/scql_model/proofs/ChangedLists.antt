@@ -1,8 +1,9 @@
 -- What holds of a list holds of it with an element in the place of that of its key, and of those elements that pass a test.
-use Rattle.std.proofs.Common.{◌≡◌, ℕ, ◌<◌, ◌≤◌, Bool, true, List, [], ◌∷◌, filter, eqb, refl, sym, ap, subst, ◌∙◌, inl, inr, arith}
+use Rattle.std.proofs.Common.{◌≡◌, ℕ, ◌<◌, ◌≤◌, Bool, true, List, [], ◌∷◌, map, filter, Some, eqb, refl, sym, ap, subst, ◌∙◌, inl, inr, arith}
 use Rattle.std.specs.Prelude.{not, if◌then◌else◌}
-use Rattle.std.specs.List.{list_all, sum_by, AllByRecursion}
+use Rattle.std.specs.List.{list_all, find, sum_by, AllByRecursion}
 use Rattle.std.proofs.lemmas.Bool.{cases_Bool, and_parts, and_from, eqb-true}
+use Rattle.std.proofs.lemmas.Option.{none-some, same_Some}
 use Rattle.std.proofs.lemmas.List.Filters.{sum_by-filter_both}
 use Rattle.std.proofs.lemmas.List.Sums.{sum_by-cons}
 use Rattle.eeprom.specs.Slots.{Rises, replaced}
@@ -43,6 +44,38 @@ list_all-replaced p key x (y ∷ ys) one all =
     let parts = and_parts (p y) (list_all p ys) all in
     let rest = list_all-replaced p key x ys one parts.1 in
     elim (cases_Bool (eqb (key y) (key x))) [ inl t ↦ rw (t, one) rest | inr e ↦ rw (e, parts.0) rest ]
+
+-- what is made of the elements stays, where it is made of the new one as of that of its key
+pub map-replaced : {X Y : Type 0} (h : X → Y) (key : X → ℕ) (x : X) (xs : List X) → AllByRecursion (λ y. key y ≡ key x → h y ≡ h x) xs → map h (replaced key x xs) ≡ map h xs
+map-replaced h key x [] same = refl
+map-replaced h key x (y ∷ ys) same =
+    elim (cases_Bool (eqb (key y) (key x))) [
+      | inl t ↦ rw t (cons (sym (same.0 (eqb-true (key y) (key x) t))) (map-replaced h key x ys same.1))
+      | inr e ↦ rw e (cons refl (map-replaced h key x ys same.1))
+    ]
+  where
+    cons : {Y : Type 0} {a b : Y} {xs ys : List Y} → a ≡ b → xs ≡ ys → a ∷ xs ≡ b ∷ ys
+    cons p q = cc
+
+each-weaker : {X : Type 0} (P Q : X → Type 0) (xs : List X) → ((x : X) → P x → Q x) → AllByRecursion P xs → AllByRecursion Q xs
+each-weaker P Q [] more all = tt
+each-weaker P Q (x ∷ xs) more all = (more x all.0, each-weaker P Q xs more all.1)
+
+found-each : {X : Type 0} (P : X → Type 0) (q : X → Bool) (xs : List X) (x : X) → AllByRecursion P xs → find q xs ≡ Some x → P x
+found-each P q [] x all found = absurd (none-some x found)
+found-each P q (y ∷ ys) x all found =
+    elim (cases_Bool (q y)) [ inl t ↦ subst P (same_Some y x (rw t at found)) all.0 | inr e ↦ found-each P q ys x all.1 (rw e at found) ]
+
+-- what was found among elements of rising keys is the one of its key
+pub found-only : {X : Type 0} (key : X → ℕ) (q : X → Bool) (xs : List X) (x : X) → Rises key xs → find q xs ≡ Some x → AllByRecursion (λ y. key y ≡ key x → y ≡ x) xs
+found-only key q [] x rises found = tt
+found-only {X} key q (y ∷ ys) x rises found =
+    elim (cases_Bool (q y)) [
+      | inl t ↦ (let is : y ≡ x = same_Some y x (rw t at found) in
+          (λ e. is, each-weaker (λ z. key y < key z) (λ z. key z ≡ key x → z ≡ x) ys (λ z above e. let same : key y ≡ key x = ap key is in absurd (omega arith)) rises.0))
+      | inr e ↦ (let above : key y < key x = found-each (λ z. key y < key z) q ys x rises.0 (rw e at found) in
+          (λ same. absurd (omega arith), found-only key q ys x rises.1 (rw e at found)))
+    ]
 
 -- fewer elements
 pub list_all-filter : {X : Type 0} (p q : X → Bool) (xs : List X) → list_all q xs ≡ true → list_all q (filter p xs) ≡ true

@@ -1,5 +1,7 @@
 pub mod Acting
 pub mod AddedUser
+pub mod Apart
+pub mod ChangedGrants
 pub mod ChangedLists
 pub mod ChangedRows
 pub mod CounterSlot

@@ -2,12 +2,11 @@
 use Rattle.std.proofs.Common.{◌≡◌, ℕ, ◌<◌, Bool, true, false, List, [], ◌∷◌, ◌++◌, map, Some, not, ◌||◌, refl, sym, subst, ap, ◌∙◌, inl, inr}
 use Rattle.std.specs.List.{list_all, list_any, find, filter, AllByRecursion}
 use Rattle.std.specs.Str.{bytes_eq}
-use Rattle.std.proofs.lemmas.Bool.{cases_Bool, and_parts, and_from, not-true, false≢true}
-use Rattle.std.proofs.lemmas.List.Folds.{list_all-append, list_any-append}
+use Rattle.std.proofs.lemmas.Bool.{cases_Bool, and_parts, false≢true}
+use Rattle.std.proofs.lemmas.List.Folds.{list_all-append}
 use Rattle.std.proofs.lemmas.Option.{none-some, same_Some}
 use Rattle.std.proofs.lemmas.Slice.Eq.{bytes_eq-Decides}
 use Rattle.eeprom.specs.Slots.{Rises}
-use Rattle.scql_model.specs.Database.{are_different}
 
 pub all-weaker : {X : Type 0} (p q : X → Bool) (xs : List X) → ((x : X) → p x ≡ true → q x ≡ true) → list_all p xs ≡ true → list_all q xs ≡ true
 all-weaker p q [] more all = refl
@@ -30,17 +29,6 @@ not_equal-sym a b f =
     elim (cases_Bool (bytes_eq b a)) [
       | inl t ↦ absurd (false≢true (sym f ∙ (bytes_eq-Decides a b).1 (sym ((bytes_eq-Decides b a).0 t))))
       | inr g ↦ g
-    ]
-
-pub names_different-added : (names : List (List ℕ)) (name : List ℕ) → are_different names ≡ true → list_any (bytes_eq name) names ≡ false → are_different (names ++ name ∷ []) ≡ true
-names_different-added [] name apart none = refl
-names_different-added (x ∷ xs) name apart none =
-    let parts = and_parts (not (list_any (bytes_eq x) xs)) (are_different xs) apart in
-    elim (cases_Bool (bytes_eq name x)) [
-      | inl t ↦ absurd (false≢true (sym (rw t at none)))
-      | inr f ↦ (let other : bytes_eq x name ≡ false = not_equal-sym name x f in
-          let none' : list_any (bytes_eq x) (xs ++ name ∷ []) ≡ false = rw (list_any-append, not-true (list_any (bytes_eq x) xs) parts.0, other) refl in
-          and_from (not (list_any (bytes_eq x) (xs ++ name ∷ []))) (are_different (xs ++ name ∷ [])) (rw none' refl) (names_different-added xs name parts.1 (rw f at none)))
     ]
 
 pub find-passes : {X : Type 0} (q : X → Bool) (xs : List X) (x : X) → find q xs ≡ Some x → q x ≡ true
