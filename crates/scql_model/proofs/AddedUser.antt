@@ -1,11 +1,10 @@
 -- A user is added to a valid database, which stays valid.
-use Rattle.std.proofs.Common.{◌≡◌, ℕ, ◌<◌, ◌≤◌, ◌+◌, Bool, true, false, List, [], ◌∷◌, ◌++◌, map, filter, ◌||◌, eqb, Option, Some, None, refl, sym, subst, arith}
+use Rattle.std.proofs.Common.{◌≡◌, ℕ, ◌<◌, ◌≤◌, ◌+◌, Bool, true, false, List, [], ◌∷◌, ◌++◌, map, filter, ◌||◌, eqb, refl, sym, subst, arith}
 use Rattle.std.specs.List.{list_all, list_any, AllByRecursion}
-use Rattle.std.specs.Option.{option_map_or, option_or}
 use Rattle.std.specs.Str.{bytes_eq}
-use Rattle.std.proofs.lemmas.Bool.{and_parts, and_from, false≢true}
+use Rattle.std.proofs.lemmas.Bool.{and_parts, and_from}
 use Rattle.std.proofs.lemmas.List.{map-append}
-use Rattle.std.proofs.lemmas.List.Folds.{list_any-append, find-append}
+use Rattle.std.proofs.lemmas.List.Folds.{list_any-append}
 use Rattle.std.proofs.lemmas.List.Elements.{filter-append}
 use Rattle.scql_base.specs.declared.words.Profile.{Profile}
 use Rattle.scql_base.specs.declared.words.Profile.TheVariants.{DbO, Dboo, Dbbu}
@@ -14,21 +13,17 @@ use Rattle.scql_base.specs.declared.records.Object.{Object}
 use Rattle.scql_base.specs.declared.records.Grant.{Grant}
 use Rattle.scql_model.specs.Records.{counter_record, user_record}
 use Rattle.scql_model.specs.Stored.{is_storable}
-use Rattle.scql_model.specs.Rules.{AreUsers, AreObjects, AreGrants, owner, public_name, are_different, is_db_o, is_maker, user_stamped, is_made_by_maker, has_maker, has_all_tries, has_object_and_grantee}
+use Rattle.scql_model.specs.Rules.{AreUsers, AreObjects, AreGrants, owner, public_name, are_different, is_db_o, is_maker, is_made_by_maker, has_maker, has_all_tries, has_object_and_grantee}
 use Rattle.scql_model.specs.Database.{Database, IsValid, weight, stored_user}
 use Rattle.scql_model.specs.Creating.{with_user}
-use Rattle.scql_model.proofs.LongerLists.{all-weaker, all-added, rises-added, not_equal-sym}
+use Rattle.scql_model.proofs.LongerLists.{all-weaker, all-added, any-more, found-more, rises-added, not_equal-sym}
 use Rattle.scql_model.proofs.Apart.{apart_by-added}
 use Rattle.scql_model.proofs.RecordsOf.{behind_users, records_of-users}
 use Rattle.scql_model.proofs.Stored.{IsStored-added, below-of_kind}
 
 -- who was a maker among some users is one among more
 pub kept_maker : (users more : List User) (stamp : ℕ) → is_made_by_maker users stamp ≡ true → is_made_by_maker (users ++ more) stamp ≡ true
-kept_maker users more stamp made = rw (find-append (λ (u : User). eqb u.stamp stamp) users more) (first_found (user_stamped users stamp) (user_stamped more stamp) made)
-  where
-    first_found : (o rest : Option User) → option_map_or (λ (u : User). is_maker u.profile) o false ≡ true → option_map_or (λ (u : User). is_maker u.profile) (option_or o rest) false ≡ true
-    first_found None rest made = absurd (false≢true made)
-    first_found (Some u) rest made = made
+kept_maker users more stamp made = found-more (λ (u : User). is_maker u.profile) (λ (u : User). eqb u.stamp stamp) users more made
 
 has_maker-more : (users more : List User) (u : User) → has_maker users u ≡ true → has_maker (users ++ more) u ≡ true
 has_maker-more users more u right = go u.profile refl right
@@ -101,9 +96,6 @@ AreGrants-more_users users more objects grants are = record {
   pairs = are.pairs;
 }
   where
-    any-more : {X : Type 0} (p : X → Bool) (xs ys : List X) → list_any p xs ≡ true → list_any p (xs ++ ys) ≡ true
-    any-more p xs ys any = rw (list_any-append, any) refl
-
     or-weaker : (a b c : Bool) → (b ≡ true → c ≡ true) → a || b ≡ true → a || c ≡ true
     or-weaker true b c more either = refl
     or-weaker false b c more either = more either

@@ -3,6 +3,7 @@ pub mod AddedUser
 pub mod Apart
 pub mod ChangedGrants
 pub mod ChangedLists
+pub mod ChangedObjects
 pub mod ChangedRows
 pub mod CounterSlot
 pub mod Creating

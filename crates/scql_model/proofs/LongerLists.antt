@@ -1,9 +1,10 @@
 -- What holds of a list holds of it with one element more.
-use Rattle.std.proofs.Common.{◌≡◌, ℕ, ◌<◌, Bool, true, false, List, [], ◌∷◌, ◌++◌, map, Some, not, ◌||◌, refl, sym, subst, ap, ◌∙◌, inl, inr}
+use Rattle.std.proofs.Common.{◌≡◌, ℕ, ◌<◌, Bool, true, false, List, [], ◌∷◌, ◌++◌, map, Option, Some, None, not, ◌||◌, refl, sym, subst, ap, ◌∙◌, inl, inr}
 use Rattle.std.specs.List.{list_all, list_any, find, filter, AllByRecursion}
+use Rattle.std.specs.Option.{option_map_or, option_or}
 use Rattle.std.specs.Str.{bytes_eq}
 use Rattle.std.proofs.lemmas.Bool.{cases_Bool, and_parts, false≢true}
-use Rattle.std.proofs.lemmas.List.Folds.{list_all-append}
+use Rattle.std.proofs.lemmas.List.Folds.{list_all-append, list_any-append, find-append}
 use Rattle.std.proofs.lemmas.Option.{none-some, same_Some}
 use Rattle.std.proofs.lemmas.Slice.Eq.{bytes_eq-Decides}
 use Rattle.eeprom.specs.Slots.{Rises}
@@ -62,3 +63,14 @@ all-filtered p r (x ∷ xs) all =
 pub any-map : {X Y : Type 0} (p : Y → Bool) (f : X → Y) (xs : List X) → list_any p (map f xs) ≡ list_any (λ x. p (f x)) xs
 any-map p f [] = refl
 any-map p f (x ∷ xs) = ap (λ rest. p (f x) || rest) (any-map p f xs)
+
+-- what is found in a list is found in a longer one
+pub found-more : {X : Type 0} (p q : X → Bool) (xs ys : List X) → option_map_or p (find q xs) false ≡ true → option_map_or p (find q (xs ++ ys)) false ≡ true
+found-more p q xs ys found = rw (find-append q xs ys) (first p (find q xs) (find q ys) found)
+  where
+    first : {X : Type 0} (p : X → Bool) (o rest : Option X) → option_map_or p o false ≡ true → option_map_or p (option_or o rest) false ≡ true
+    first p None rest found = absurd (false≢true found)
+    first p (Some x) rest found = found
+
+pub any-more : {X : Type 0} (p : X → Bool) (xs ys : List X) → list_any p xs ≡ true → list_any p (xs ++ ys) ≡ true
+any-more p xs ys any = rw (list_any-append, any) refl
