@@ -1,7 +1,7 @@
 -- What holds of a list holds of it with an element in the place of that of its key, and of those elements that pass a test.
 use Rattle.std.proofs.Common.{◌≡◌, ℕ, ◌<◌, ◌≤◌, Bool, true, List, [], ◌∷◌, map, filter, Some, eqb, refl, sym, ap, subst, ◌∙◌, inl, inr, arith}
 use Rattle.std.specs.Prelude.{not, if◌then◌else◌}
-use Rattle.std.specs.List.{list_all, find, sum_by, AllByRecursion}
+use Rattle.std.specs.List.{list_all, list_any, find, sum_by, AllByRecursion}
 use Rattle.std.proofs.lemmas.Bool.{cases_Bool, and_parts, and_from, eqb-true}
 use Rattle.std.proofs.lemmas.Option.{none-some, same_Some}
 use Rattle.std.proofs.lemmas.List.Filters.{sum_by-filter_both}
@@ -84,6 +84,23 @@ list_all-filter p q (x ∷ xs) all =
     let parts = and_parts (q x) (list_all q xs) all in
     let rest = list_all-filter p q xs parts.1 in
     elim (cases_Bool (p x)) [ inl t ↦ rw (t, parts.0) rest | inr e ↦ rw e rest ]
+
+-- a test that those who go don't pass finds the same among those who stay
+pub find-filter : {X : Type 0} (q stays : X → Bool) (xs : List X) → ((x : X) → q x ≡ true → stays x ≡ true) → find q (filter stays xs) ≡ find q xs
+find-filter q stays [] left = refl
+find-filter q stays (x ∷ xs) left =
+    elim (cases_Bool (q x)) [
+      | inl t ↦ rw (left x t, t) refl
+      | inr f ↦ elim (cases_Bool (stays x)) [ inl t ↦ rw (t, f) (find-filter q stays xs left) | inr e ↦ rw (e, f) (find-filter q stays xs left) ]
+    ]
+
+pub any-filter : {X : Type 0} (q stays : X → Bool) (xs : List X) → ((x : X) → q x ≡ true → stays x ≡ true) → list_any q (filter stays xs) ≡ list_any q xs
+any-filter q stays [] left = refl
+any-filter q stays (x ∷ xs) left =
+    elim (cases_Bool (q x)) [
+      | inl t ↦ rw (left x t, t) refl
+      | inr f ↦ elim (cases_Bool (stays x)) [ inl t ↦ rw (t, f) (any-filter q stays xs left) | inr e ↦ rw (e, f) (any-filter q stays xs left) ]
+    ]
 
 pub sum_by-filter : {X : Type 0} (p : X → Bool) (c : X → ℕ) (xs : List X) → sum_by c (filter p xs) ≤ sum_by c xs
 sum_by-filter p c xs = let both = sum_by-filter_both p (λ x. not (p x)) (λ x. refl) c xs in omega arith

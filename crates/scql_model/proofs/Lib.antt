@@ -10,6 +10,7 @@ pub mod Creating
 pub mod CreatingSlots
 pub mod CreatingWeight
 pub mod FieldLaws
+pub mod FewerObjects
 pub mod FormedCommands
 pub mod FreshCard
 pub mod Hearing
