@@ -19,7 +19,7 @@ apart_by-added same (y ∷ ys) x turned apart none =
           and_from (not (list_any (same y) (ys ++ x ∷ []))) (are_apart_by same (ys ++ x ∷ [])) (rw none' refl) (apart_by-added same ys x turned parts.1 (rw f at none)))
     ]
 
-list_any-filter : {X : Type 0} (p q : X → Bool) (xs : List X) → list_any q xs ≡ false → list_any q (filter p xs) ≡ false
+pub list_any-filter : {X : Type 0} (p q : X → Bool) (xs : List X) → list_any q xs ≡ false → list_any q (filter p xs) ≡ false
 list_any-filter p q [] none = refl
 list_any-filter p q (x ∷ xs) none =
     elim (cases_Bool (q x)) [

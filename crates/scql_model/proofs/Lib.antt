@@ -11,6 +11,7 @@ pub mod CreatingSlots
 pub mod CreatingWeight
 pub mod FieldLaws
 pub mod FewerObjects
+pub mod FewerUsers
 pub mod FormedCommands
 pub mod FreshCard
 pub mod Hearing
