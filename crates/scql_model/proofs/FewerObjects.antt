@@ -1,5 +1,5 @@
 -- A valid database stays valid without an object that no row, no grant and no view names.
-use Rattle.std.proofs.Common.{◌≡◌, ℕ, zero, suc, Bool, true, false, List, [], ◌∷◌, filter, not, Option, Some, None, option_map, refl, sym, ap, ◌∙◌}
+use Rattle.std.proofs.Common.{◌≡◌, ℕ, zero, suc, Bool, true, false, List, filter, not, Option, Some, None, option_map, refl, sym, ap, ◌∙◌}
 use Rattle.std.specs.Prelude.{nat_lt, ◌==◌, option_and_then}
 use Rattle.std.specs.List.{list_all}
 use Rattle.std.specs.Option.{option_map_or}
@@ -17,7 +17,7 @@ use Rattle.scql_model.specs.Objects.{depth_over, depth_below, depth_of}
 use Rattle.scql_model.specs.Records.{object_fits}
 use Rattle.scql_model.specs.Rules.{AreObjects, AreGrants, AreRows, are_different, is_made_by_maker, object_stamped, may_have_view, rests_on, is_founded, is_short, has_object_and_grantee, has_table}
 use Rattle.scql_model.specs.Database.{Database, IsValid, stored_object}
-use Rattle.scql_model.proofs.LongerLists.{find-passes, find-all}
+use Rattle.scql_model.proofs.LongerLists.{all-by_both, find-passes, find-all}
 use Rattle.scql_model.proofs.ChangedLists.{Rises-filter, list_all-filter, find-filter, any-filter}
 use Rattle.scql_model.proofs.Apart.{apart_by-filter, apart_by-map}
 use Rattle.scql_model.proofs.RecordsOf.{before_objects, behind_objects, records_of-objects}
@@ -107,42 +107,36 @@ AreObjects-left gone users objects elsewhere are =
       lengths = list_all-filter stays is_short objects are.lengths;
       names = apart_by-map bytes_eq name (filter stays objects) ∙ apart_by-filter (λ o p. bytes_eq (name o) (name p)) stays objects (sym (apart_by-map bytes_eq name objects) ∙ are.names);
       makers = list_all-filter stays (λ (o : Object). is_made_by_maker users o.owner) objects are.makers;
-      founded = list_all-filter stays (is_founded (without stamp_of gone objects)) objects (each objects elsewhere are.founded);
+      founded = list_all-filter stays (is_founded (without stamp_of gone objects)) objects
+          (all-by_both (λ (o : Object). not (is_view_of gone o.kind)) (is_founded objects) (is_founded (without stamp_of gone objects)) objects
+          (λ o other founded. is_founded-left gone objects o elsewhere other founded) elsewhere are.founded);
     }
-  where
-    each : (some : List Object) → list_all (λ (o : Object). not (is_view_of gone o.kind)) some ≡ true → list_all (is_founded objects) some ≡ true
-        → list_all (is_founded (without stamp_of gone objects)) some ≡ true
-    each [] there founded = refl
-    each (o ∷ some) there founded =
-        let a = and_parts (not (is_view_of gone o.kind)) (list_all (λ (o : Object). not (is_view_of gone o.kind)) some) there in
-        let b = and_parts (is_founded objects o) (list_all (is_founded objects) some) founded in
-        and_from (is_founded (without stamp_of gone objects) o) (list_all (is_founded (without stamp_of gone objects)) some) (is_founded-left gone objects o elsewhere a.0 b.0) (each some a.1 b.1)
 
 AreGrants-left : (gone : ℕ) (users : List User) (objects : List Object) (grants : List Grant) → list_all (λ (g : Grant). not (g.object == gone)) grants ≡ true → AreGrants users objects grants
     → AreGrants users (without stamp_of gone objects) grants
-AreGrants-left gone users objects grants others are = record { rises = are.rises; limits = are.limits; parties = each grants others are.parties; pairs = are.pairs }
+AreGrants-left gone users objects grants others are = record {
+  rises = are.rises;
+  limits = are.limits;
+  parties = all-by_both (λ (g : Grant). not (g.object == gone)) (has_object_and_grantee users objects) (has_object_and_grantee users (without stamp_of gone objects)) grants (one gone users objects) others are.parties;
+  pairs = are.pairs;
+}
   where
-    each : (some : List Grant) → list_all (λ (g : Grant). not (g.object == gone)) some ≡ true → list_all (has_object_and_grantee users objects) some ≡ true
-        → list_all (has_object_and_grantee users (without stamp_of gone objects)) some ≡ true
-    each [] others has = refl
-    each (g ∷ some) others has =
-        let a = and_parts (not (g.object == gone)) (list_all (λ (g : Grant). not (g.object == gone)) some) others in
-        let b = and_parts (has_object_and_grantee users objects g) (list_all (has_object_and_grantee users objects) some) has in
-        let there = any-filter (λ (o : Object). o.stamp == g.object) (λ (o : Object). not (o.stamp == gone)) objects (stays-other gone g.object (not-true (g.object == gone) a.0)) in
-        and_from (has_object_and_grantee users (without stamp_of gone objects) g) (list_all (has_object_and_grantee users (without stamp_of gone objects)) some) (rw there b.0) (each some a.1 b.1)
+    one : (gone : ℕ) (users : List User) (objects : List Object) (g : Grant) → not (g.object == gone) ≡ true → has_object_and_grantee users objects g ≡ true
+        → has_object_and_grantee users (without stamp_of gone objects) g ≡ true
+    one gone users objects g other has =
+        rw (any-filter (λ (o : Object). o.stamp == g.object) (λ (o : Object). not (o.stamp == gone)) objects (stays-other gone g.object (not-true (g.object == gone) other))) has
 
 AreRows-left : (gone limit : ℕ) (objects : List Object) (rows : List RowRecord) → list_all (λ (r : RowRecord). not (r.table == gone)) rows ≡ true → AreRows limit objects rows
     → AreRows limit (without stamp_of gone objects) rows
-AreRows-left gone limit objects rows others are = record { rises = are.rises; limits = are.limits; lengths = are.lengths; tables = each rows others are.tables }
+AreRows-left gone limit objects rows others are = record {
+  rises = are.rises;
+  limits = are.limits;
+  lengths = are.lengths;
+  tables = all-by_both (λ (r : RowRecord). not (r.table == gone)) (has_table objects) (has_table (without stamp_of gone objects)) rows (one gone objects) others are.tables;
+}
   where
-    each : (some : List RowRecord) → list_all (λ (r : RowRecord). not (r.table == gone)) some ≡ true → list_all (has_table objects) some ≡ true
-        → list_all (has_table (without stamp_of gone objects)) some ≡ true
-    each [] others has = refl
-    each (r ∷ some) others has =
-        let a = and_parts (not (r.table == gone)) (list_all (λ (r : RowRecord). not (r.table == gone)) some) others in
-        let b = and_parts (has_table objects r) (list_all (has_table objects) some) has in
-        let there = stamped-left objects gone r.table (not-true (r.table == gone) a.0) in
-        and_from (has_table (without stamp_of gone objects) r) (list_all (has_table (without stamp_of gone objects)) some) (rw there b.0) (each some a.1 b.1)
+    one : (gone : ℕ) (objects : List Object) (r : RowRecord) → not (r.table == gone) ≡ true → has_table objects r ≡ true → has_table (without stamp_of gone objects) r ≡ true
+    one gone objects r other has = rw (stamped-left objects gone r.table (not-true (r.table == gone) other)) has
 
 -- the database without the object of a stamp
 abbrev pub without_object : Database → ℕ → Database

@@ -4,7 +4,7 @@ use Rattle.std.specs.Prelude.{◌==◌}
 use Rattle.std.specs.List.{list_all}
 use Rattle.std.specs.Option.{option_map_or}
 use Rattle.std.specs.Str.{bytes_eq}
-use Rattle.std.proofs.lemmas.Bool.{cases_Bool, and_parts, and_from, not-true, eqb-true}
+use Rattle.std.proofs.lemmas.Bool.{cases_Bool, and_parts, not-true, eqb-true}
 use Rattle.eeprom.specs.Slots.{without}
 use Rattle.scql_base.specs.declared.words.Profile.{Profile}
 use Rattle.scql_base.specs.declared.words.Profile.TheVariants.{DbO, Dboo, Dbbu}
@@ -14,7 +14,7 @@ use Rattle.scql_base.specs.declared.records.Grant.{Grant}
 use Rattle.scql_model.specs.Records.{user_record}
 use Rattle.scql_model.specs.Rules.{AreUsers, AreObjects, AreGrants, owner, public_name, is_db_o, is_maker, is_made_by_maker, has_maker, has_all_tries, has_object_and_grantee}
 use Rattle.scql_model.specs.Database.{Database, IsValid, stored_user}
-use Rattle.scql_model.proofs.LongerLists.{all-filtered}
+use Rattle.scql_model.proofs.LongerLists.{all-by_both, all-filtered}
 use Rattle.scql_model.proofs.ChangedLists.{Rises-filter, list_all-filter, find-filter, any-filter}
 use Rattle.scql_model.proofs.Apart.{apart_by-filter, apart_by-map, list_any-filter}
 use Rattle.scql_model.proofs.RecordsOf.{behind_users, records_of-users}
@@ -78,40 +78,34 @@ AreUsers-left gone users other owned are =
       owner = owner_stays gone users other are.owner;
       names = apart_by-map bytes_eq name (filter stays users) ∙ apart_by-filter (λ u v. bytes_eq (name u) (name v)) stays users (sym (apart_by-map bytes_eq name users) ∙ are.names);
       none_public = list_any-filter stays (λ (u : User). bytes_eq public_name u.name) users are.none_public;
-      makers = list_all-filter stays (has_maker (left gone users)) users (each users owned are.makers);
+      makers = list_all-filter stays (has_maker (left gone users)) users
+          (all-by_both (λ (u : User). not (u.owner == gone)) (has_maker users) (has_maker (left gone users)) users (has_maker-left gone users) owned are.makers);
       tries = list_all-filter stays has_all_tries users are.tries;
     }
-  where
-    each : (some : List User) → list_all (λ (u : User). not (u.owner == gone)) some ≡ true → list_all (has_maker users) some ≡ true → list_all (has_maker (left gone users)) some ≡ true
-    each [] others has = refl
-    each (u ∷ some) others has =
-        let a = and_parts (not (u.owner == gone)) (list_all (λ (u : User). not (u.owner == gone)) some) others in
-        let b = and_parts (has_maker users u) (list_all (has_maker users) some) has in
-        and_from (has_maker (left gone users) u) (list_all (has_maker (left gone users)) some) (has_maker-left gone users u a.0 b.0) (each some a.1 b.1)
 
 AreObjects-left : (gone : ℕ) (users : List User) (objects : List Object) → list_all (λ (o : Object). not (o.owner == gone)) objects ≡ true → AreObjects users objects → AreObjects (left gone users) objects
-AreObjects-left gone users objects owned are = record { rises = are.rises; limits = are.limits; lengths = are.lengths; names = are.names; makers = each objects owned are.makers; founded = are.founded }
-  where
-    each : (some : List Object) → list_all (λ (o : Object). not (o.owner == gone)) some ≡ true → list_all (λ (o : Object). is_made_by_maker users o.owner) some ≡ true
-        → list_all (λ (o : Object). is_made_by_maker (left gone users) o.owner) some ≡ true
-    each [] others has = refl
-    each (o ∷ some) others has =
-        let a = and_parts (not (o.owner == gone)) (list_all (λ (o : Object). not (o.owner == gone)) some) others in
-        let b = and_parts (is_made_by_maker users o.owner) (list_all (λ (o : Object). is_made_by_maker users o.owner) some) has in
-        and_from (is_made_by_maker (left gone users) o.owner) (list_all (λ (o : Object). is_made_by_maker (left gone users) o.owner) some) (made_by_maker-left gone users o.owner a.0 ∙ b.0) (each some a.1 b.1)
+AreObjects-left gone users objects owned are = record {
+  rises = are.rises;
+  limits = are.limits;
+  lengths = are.lengths;
+  names = are.names;
+  makers = all-by_both (λ (o : Object). not (o.owner == gone)) (λ (o : Object). is_made_by_maker users o.owner) (λ (o : Object). is_made_by_maker (left gone users) o.owner) objects
+      (λ o other made. made_by_maker-left gone users o.owner other ∙ made) owned are.makers;
+  founded = are.founded;
+}
 
 AreGrants-left : (gone : ℕ) (users : List User) (objects : List Object) (grants : List Grant) → list_all (λ (g : Grant). not (g.grantee == gone)) grants ≡ true → AreGrants users objects grants
     → AreGrants (left gone users) objects grants
-AreGrants-left gone users objects grants others are = record { rises = are.rises; limits = are.limits; parties = each grants others are.parties; pairs = are.pairs }
+AreGrants-left gone users objects grants others are = record {
+  rises = are.rises;
+  limits = are.limits;
+  parties = all-by_both (λ (g : Grant). not (g.grantee == gone)) (has_object_and_grantee users objects) (has_object_and_grantee (left gone users) objects) grants (one gone users objects) others are.parties;
+  pairs = are.pairs;
+}
   where
-    each : (some : List Grant) → list_all (λ (g : Grant). not (g.grantee == gone)) some ≡ true → list_all (has_object_and_grantee users objects) some ≡ true
-        → list_all (has_object_and_grantee (left gone users) objects) some ≡ true
-    each [] others has = refl
-    each (g ∷ some) others has =
-        let a = and_parts (not (g.grantee == gone)) (list_all (λ (g : Grant). not (g.grantee == gone)) some) others in
-        let b = and_parts (has_object_and_grantee users objects g) (list_all (has_object_and_grantee users objects) some) has in
-        let there = any-filter (λ (u : User). u.stamp == g.grantee) (λ (u : User). not (u.stamp == gone)) users (stays-other gone g.grantee (not-true (g.grantee == gone) a.0)) in
-        and_from (has_object_and_grantee (left gone users) objects g) (list_all (has_object_and_grantee (left gone users) objects) some) (rw there b.0) (each some a.1 b.1)
+    one : (gone : ℕ) (users : List User) (objects : List Object) (g : Grant) → not (g.grantee == gone) ≡ true → has_object_and_grantee users objects g ≡ true → has_object_and_grantee (left gone users) objects g ≡ true
+    one gone users objects g other has =
+        rw (any-filter (λ (u : User). u.stamp == g.grantee) (λ (u : User). not (u.stamp == gone)) users (stays-other gone g.grantee (not-true (g.grantee == gone) other))) has
 
 -- the database without the user of a stamp
 abbrev pub without_user : Database → ℕ → Database

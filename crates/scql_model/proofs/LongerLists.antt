@@ -13,6 +13,14 @@ pub all-weaker : {X : Type 0} (p q : X → Bool) (xs : List X) → ((x : X) → 
 all-weaker p q [] more all = refl
 all-weaker p q (x ∷ xs) more all = let parts = and_parts (p x) (list_all p xs) all in rw (more x parts.0) (all-weaker p q xs more parts.1)
 
+-- what two tests say of each element
+pub all-by_both : {X : Type 0} (p q r : X → Bool) (xs : List X) → ((x : X) → p x ≡ true → q x ≡ true → r x ≡ true) → list_all p xs ≡ true → list_all q xs ≡ true → list_all r xs ≡ true
+all-by_both p q r [] both one other = refl
+all-by_both p q r (x ∷ xs) both one other =
+    let a = and_parts (p x) (list_all p xs) one in
+    let b = and_parts (q x) (list_all q xs) other in
+    rw (both x a.0 b.0) (all-by_both p q r xs both a.1 b.1)
+
 pub all-added : {X : Type 0} (p : X → Bool) (xs : List X) (x : X) → list_all p xs ≡ true → p x ≡ true → list_all p (xs ++ x ∷ []) ≡ true
 all-added p xs x all one = rw (list_all-append, all, one) refl
 
