@@ -1,7 +1,8 @@
 -- What holds of a list holds of it with an element in the place of that of its key, and of those elements that pass a test.
-use Rattle.std.proofs.Common.{◌≡◌, ℕ, ◌<◌, ◌≤◌, Bool, true, List, [], ◌∷◌, map, filter, Some, eqb, refl, sym, ap, subst, ◌∙◌, inl, inr, arith}
-use Rattle.std.specs.Prelude.{not, if◌then◌else◌}
+use Rattle.std.proofs.Common.{◌≡◌, ℕ, ◌<◌, ◌≤◌, Bool, true, false, List, [], ◌∷◌, map, filter, Some, eqb, refl, sym, ap, subst, ◌∙◌, inl, inr, arith}
+use Rattle.std.specs.Prelude.{◌||◌, not, if◌then◌else◌}
 use Rattle.std.specs.List.{list_all, list_any, find, sum_by, AllByRecursion}
+use Rattle.std.specs.Option.{option_map_or}
 use Rattle.std.proofs.lemmas.Bool.{cases_Bool, and_parts, and_from, eqb-true}
 use Rattle.std.proofs.lemmas.Option.{none-some, same_Some}
 use Rattle.std.proofs.lemmas.List.Filters.{sum_by-filter_both}
@@ -27,6 +28,10 @@ all_keys-replaced p key x [] all = refl
 all_keys-replaced p key x (y ∷ ys) all =
     let parts = and_parts (p (key y)) (list_all (λ y. p (key y)) ys) all in
     and_from (p (key (if eqb (key y) (key x) then x else y))) (list_all (λ y. p (key y)) (replaced key x ys)) (ap p (key-replaced key x y) ∙ parts.0) (all_keys-replaced p key x ys parts.1)
+
+pub any_keys-replaced : {X : Type 0} (p : ℕ → Bool) (key : X → ℕ) (x : X) (xs : List X) → list_any (λ y. p (key y)) (replaced key x xs) ≡ list_any (λ y. p (key y)) xs
+any_keys-replaced p key x [] = refl
+any_keys-replaced p key x (y ∷ ys) = rw (key-replaced key x y) (ap (λ (rest : Bool). p (key y) || rest) (any_keys-replaced p key x ys))
 
 pub Rises-replaced : {X : Type 0} (key : X → ℕ) (x : X) (xs : List X) → Rises key xs → Rises key (replaced key x xs)
 Rises-replaced key x [] rises = tt
@@ -56,6 +61,31 @@ map-replaced h key x (y ∷ ys) same =
   where
     cons : {Y : Type 0} {a b : Y} {xs ys : List Y} → a ≡ b → xs ≡ ys → a ∷ xs ≡ b ∷ ys
     cons p q = cc
+
+-- and so do the elements that pass a test, where neither does
+pub filter-replaced : {X : Type 0} (p : X → Bool) (key : X → ℕ) (x : X) (xs : List X) → p x ≡ false → AllByRecursion (λ y. key y ≡ key x → p y ≡ false) xs → filter p (replaced key x xs) ≡ filter p xs
+filter-replaced p key x [] one none = refl
+filter-replaced p key x (y ∷ ys) one none =
+    let rest = filter-replaced p key x ys one none.1 in
+    elim (cases_Bool (eqb (key y) (key x))) [
+      | inl t ↦ rw (t, one, none.0 (eqb-true (key y) (key x) t)) rest
+      | inr e ↦ rw e (elim (cases_Bool (p y)) [ inl t ↦ rw t (ap (λ (zs : List _). y ∷ zs) rest) | inr f ↦ rw f rest ])
+    ]
+
+-- and what a test says of the element of a key
+pub found-replaced : {X : Type 0} (h : X → Bool) (key : X → ℕ) (x : X) (k : ℕ) (xs : List X) → AllByRecursion (λ y. key y ≡ key x → h y ≡ h x) xs
+    → option_map_or h (find (λ y. eqb (key y) k) (replaced key x xs)) false ≡ option_map_or h (find (λ y. eqb (key y) k) xs) false
+found-replaced h key x k [] same = refl
+found-replaced h key x k (y ∷ ys) same =
+    let rest = found-replaced h key x k ys same.1 in
+    elim (cases_Bool (eqb (key y) (key x))) [
+      | inl t ↦ (let here = eqb-true (key y) (key x) t in
+          elim (cases_Bool (eqb (key x) k)) [
+            | inl u ↦ rw (t, u, here, u) (sym (same.0 here))
+            | inr f ↦ rw (t, f, here, f) rest
+          ])
+      | inr e ↦ rw e (elim (cases_Bool (eqb (key y) k)) [ inl u ↦ rw u refl | inr f ↦ rw f rest ])
+    ]
 
 each-weaker : {X : Type 0} (P Q : X → Type 0) (xs : List X) → ((x : X) → P x → Q x) → AllByRecursion P xs → AllByRecursion Q xs
 each-weaker P Q [] more all = tt

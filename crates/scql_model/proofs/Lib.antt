@@ -5,6 +5,7 @@ pub mod ChangedGrants
 pub mod ChangedLists
 pub mod ChangedObjects
 pub mod ChangedRows
+pub mod ChangedUsers
 pub mod CounterSlot
 pub mod Creating
 pub mod CreatingSlots
