@@ -1,13 +1,13 @@
 -- What holds of a list holds of it with an element in the place of that of its key, and of those elements that pass a test.
 use Rattle.std.proofs.Common.{◌≡◌, ℕ, ◌<◌, ◌≤◌, Bool, true, false, List, [], ◌∷◌, map, filter, Some, eqb, refl, sym, ap, subst, ◌∙◌, inl, inr, arith}
-use Rattle.std.specs.Prelude.{◌||◌, not, if◌then◌else◌}
+use Rattle.std.specs.Prelude.{◌==◌, ◌||◌, not, if◌then◌else◌}
 use Rattle.std.specs.List.{list_all, list_any, find, sum_by, AllByRecursion}
 use Rattle.std.specs.Option.{option_map_or}
 use Rattle.std.proofs.lemmas.Bool.{cases_Bool, and_parts, and_from, eqb-true}
 use Rattle.std.proofs.lemmas.Option.{none-some, same_Some}
 use Rattle.std.proofs.lemmas.List.Filters.{sum_by-filter_both}
 use Rattle.std.proofs.lemmas.List.Sums.{sum_by-cons}
-use Rattle.eeprom.specs.Slots.{Rises, replaced}
+use Rattle.eeprom.specs.Slots.{Rises, replaced, without}
 
 -- what stands in a place then has the key of what stood there
 key-replaced : {X : Type 0} (key : X → ℕ) (x y : X) → key (if eqb (key y) (key x) then x else y) ≡ key y
@@ -116,7 +116,7 @@ list_all-filter p q (x ∷ xs) all =
     elim (cases_Bool (p x)) [ inl t ↦ rw (t, parts.0) rest | inr e ↦ rw e rest ]
 
 -- a test that those who go don't pass finds the same among those who stay
-pub find-filter : {X : Type 0} (q stays : X → Bool) (xs : List X) → ((x : X) → q x ≡ true → stays x ≡ true) → find q (filter stays xs) ≡ find q xs
+find-filter : {X : Type 0} (q stays : X → Bool) (xs : List X) → ((x : X) → q x ≡ true → stays x ≡ true) → find q (filter stays xs) ≡ find q xs
 find-filter q stays [] left = refl
 find-filter q stays (x ∷ xs) left =
     elim (cases_Bool (q x)) [
@@ -124,13 +124,23 @@ find-filter q stays (x ∷ xs) left =
       | inr f ↦ elim (cases_Bool (stays x)) [ inl t ↦ rw (t, f) (find-filter q stays xs left) | inr e ↦ rw (e, f) (find-filter q stays xs left) ]
     ]
 
-pub any-filter : {X : Type 0} (q stays : X → Bool) (xs : List X) → ((x : X) → q x ≡ true → stays x ≡ true) → list_any q (filter stays xs) ≡ list_any q xs
+any-filter : {X : Type 0} (q stays : X → Bool) (xs : List X) → ((x : X) → q x ≡ true → stays x ≡ true) → list_any q (filter stays xs) ≡ list_any q xs
 any-filter q stays [] left = refl
 any-filter q stays (x ∷ xs) left =
     elim (cases_Bool (q x)) [
       | inl t ↦ rw (left x t, t) refl
       | inr f ↦ elim (cases_Bool (stays x)) [ inl t ↦ rw (t, f) (any-filter q stays xs left) | inr e ↦ rw (e, f) (any-filter q stays xs left) ]
     ]
+
+-- so what has another key than the one that goes is found as before
+stays-other : {X : Type 0} (key : X → ℕ) (gone k : ℕ) → (k == gone) ≡ false → (x : X) → (key x == k) ≡ true → not (key x == gone) ≡ true
+stays-other key gone k other x is = rw (eqb-true (key x) k is, other) refl
+
+pub find-without : {X : Type 0} (key : X → ℕ) (gone k : ℕ) (xs : List X) → (k == gone) ≡ false → find (λ x. key x == k) (without key gone xs) ≡ find (λ x. key x == k) xs
+find-without key gone k xs other = find-filter (λ x. key x == k) (λ x. not (key x == gone)) xs (stays-other key gone k other)
+
+pub any-without : {X : Type 0} (key : X → ℕ) (gone k : ℕ) (xs : List X) → (k == gone) ≡ false → list_any (λ x. key x == k) (without key gone xs) ≡ list_any (λ x. key x == k) xs
+any-without key gone k xs other = any-filter (λ x. key x == k) (λ x. not (key x == gone)) xs (stays-other key gone k other)
 
 pub sum_by-filter : {X : Type 0} (p : X → Bool) (c : X → ℕ) (xs : List X) → sum_by c (filter p xs) ≤ sum_by c xs
 sum_by-filter p c xs = let both = sum_by-filter_both p (λ x. not (p x)) (λ x. refl) c xs in omega arith

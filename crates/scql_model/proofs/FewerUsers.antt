@@ -4,7 +4,7 @@ use Rattle.std.specs.Prelude.{◌==◌}
 use Rattle.std.specs.List.{list_all}
 use Rattle.std.specs.Option.{option_map_or}
 use Rattle.std.specs.Str.{bytes_eq}
-use Rattle.std.proofs.lemmas.Bool.{cases_Bool, and_parts, not-true, eqb-true}
+use Rattle.std.proofs.lemmas.Bool.{cases_Bool, and_parts, not-true}
 use Rattle.eeprom.specs.Slots.{without}
 use Rattle.scql_base.specs.declared.words.Profile.{Profile}
 use Rattle.scql_base.specs.declared.words.Profile.TheVariants.{DbO, Dboo, Dbbu}
@@ -15,7 +15,7 @@ use Rattle.scql_model.specs.Records.{user_record}
 use Rattle.scql_model.specs.Rules.{AreUsers, AreObjects, AreGrants, owner, public_name, is_db_o, is_maker, is_made_by_maker, has_maker, has_all_tries, has_object_and_grantee}
 use Rattle.scql_model.specs.Database.{Database, IsValid, stored_user}
 use Rattle.scql_model.proofs.LongerLists.{all-by_both, all-filtered}
-use Rattle.scql_model.proofs.ChangedLists.{Rises-filter, list_all-filter, find-filter, any-filter}
+use Rattle.scql_model.proofs.ChangedLists.{Rises-filter, list_all-filter, find-without, any-without}
 use Rattle.scql_model.proofs.Apart.{apart_by-filter, apart_by-map, list_any-filter}
 use Rattle.scql_model.proofs.RecordsOf.{behind_users, records_of-users}
 use Rattle.scql_model.proofs.Stored.{IsStored-removed}
@@ -27,22 +27,19 @@ stamp_of u = u.stamp
 abbrev left : ℕ → List User → List User
 left gone users = without stamp_of gone users
 
-stays-other : (gone stamp : ℕ) → (stamp == gone) ≡ false → (u : User) → (u.stamp == stamp) ≡ true → not (u.stamp == gone) ≡ true
-stays-other gone stamp other u is = rw (eqb-true u.stamp stamp is, other) refl
-
 -- who was made by a maker that stays is still
-made_by_maker-left : (gone : ℕ) (users : List User) (stamp : ℕ) → not (stamp == gone) ≡ true → is_made_by_maker (left gone users) stamp ≡ is_made_by_maker users stamp
-made_by_maker-left gone users stamp other =
+made_by_maker-without : (gone : ℕ) (users : List User) (stamp : ℕ) → not (stamp == gone) ≡ true → is_made_by_maker (left gone users) stamp ≡ is_made_by_maker users stamp
+made_by_maker-without gone users stamp other =
     ap (λ (o : Option User). option_map_or (λ (u : User). is_maker u.profile) o false)
-    (find-filter (λ (u : User). u.stamp == stamp) (λ (u : User). not (u.stamp == gone)) users (stays-other gone stamp (not-true (stamp == gone) other)))
+    (find-without stamp_of gone stamp users (not-true (stamp == gone) other))
 
-has_maker-left : (gone : ℕ) (users : List User) (u : User) → not (u.owner == gone) ≡ true → has_maker users u ≡ true → has_maker (left gone users) u ≡ true
-has_maker-left gone users u other right = go u.profile refl right
+has_maker-without : (gone : ℕ) (users : List User) (u : User) → not (u.owner == gone) ≡ true → has_maker users u ≡ true → has_maker (left gone users) u ≡ true
+has_maker-without gone users u other right = go u.profile refl right
   where
     go : (p : Profile) → u.profile ≡ p → has_maker users u ≡ true → has_maker (left gone users) u ≡ true
     go DbO e right = rw e refl
     go Dboo e right = rw e (rw e at right)
-    go Dbbu e right = rw e (made_by_maker-left gone users u.owner other ∙ rw e at right)
+    go Dbbu e right = rw e (made_by_maker-without gone users u.owner other ∙ rw e at right)
 
 -- a test that implies another finds all that it did
 filter-filter : {X : Type 0} (p stays : X → Bool) (xs : List X) → list_all (λ x. not (p x) || stays x) xs ≡ true → filter p (filter stays xs) ≡ filter p xs
@@ -68,8 +65,8 @@ pub record MayGo (db : Database) (gone : ℕ) : Type 0 where
   pub no_grant : list_all (λ (g : Grant). not (g.grantee == gone)) db.grants ≡ true
 
 -- the users' own rules, and those of objects and grants that name others
-AreUsers-left : (gone : ℕ) (users : List User) → (1 == gone) ≡ false → list_all (λ (u : User). not (u.owner == gone)) users ≡ true → AreUsers users → AreUsers (left gone users)
-AreUsers-left gone users other owned are =
+AreUsers-without : (gone : ℕ) (users : List User) → (1 == gone) ≡ false → list_all (λ (u : User). not (u.owner == gone)) users ≡ true → AreUsers users → AreUsers (left gone users)
+AreUsers-without gone users other owned are =
     let stays = λ (u : User). not (u.stamp == gone) in
     let name = λ (u : User). u.name in
     record {
@@ -79,24 +76,24 @@ AreUsers-left gone users other owned are =
       names = apart_by-map bytes_eq name (filter stays users) ∙ apart_by-filter (λ u v. bytes_eq (name u) (name v)) stays users (sym (apart_by-map bytes_eq name users) ∙ are.names);
       none_public = list_any-filter stays (λ (u : User). bytes_eq public_name u.name) users are.none_public;
       makers = list_all-filter stays (has_maker (left gone users)) users
-          (all-by_both (λ (u : User). not (u.owner == gone)) (has_maker users) (has_maker (left gone users)) users (has_maker-left gone users) owned are.makers);
+          (all-by_both (λ (u : User). not (u.owner == gone)) (has_maker users) (has_maker (left gone users)) users (has_maker-without gone users) owned are.makers);
       tries = list_all-filter stays has_all_tries users are.tries;
     }
 
-AreObjects-left : (gone : ℕ) (users : List User) (objects : List Object) → list_all (λ (o : Object). not (o.owner == gone)) objects ≡ true → AreObjects users objects → AreObjects (left gone users) objects
-AreObjects-left gone users objects owned are = record {
+AreObjects-without_user : (gone : ℕ) (users : List User) (objects : List Object) → list_all (λ (o : Object). not (o.owner == gone)) objects ≡ true → AreObjects users objects → AreObjects (left gone users) objects
+AreObjects-without_user gone users objects owned are = record {
   rises = are.rises;
   limits = are.limits;
   lengths = are.lengths;
   names = are.names;
   makers = all-by_both (λ (o : Object). not (o.owner == gone)) (λ (o : Object). is_made_by_maker users o.owner) (λ (o : Object). is_made_by_maker (left gone users) o.owner) objects
-      (λ o other made. made_by_maker-left gone users o.owner other ∙ made) owned are.makers;
+      (λ o other made. made_by_maker-without gone users o.owner other ∙ made) owned are.makers;
   founded = are.founded;
 }
 
-AreGrants-left : (gone : ℕ) (users : List User) (objects : List Object) (grants : List Grant) → list_all (λ (g : Grant). not (g.grantee == gone)) grants ≡ true → AreGrants users objects grants
+AreGrants-without_user : (gone : ℕ) (users : List User) (objects : List Object) (grants : List Grant) → list_all (λ (g : Grant). not (g.grantee == gone)) grants ≡ true → AreGrants users objects grants
     → AreGrants (left gone users) objects grants
-AreGrants-left gone users objects grants others are = record {
+AreGrants-without_user gone users objects grants others are = record {
   rises = are.rises;
   limits = are.limits;
   parties = all-by_both (λ (g : Grant). not (g.grantee == gone)) (has_object_and_grantee users objects) (has_object_and_grantee (left gone users) objects) grants (one gone users objects) others are.parties;
@@ -105,7 +102,7 @@ AreGrants-left gone users objects grants others are = record {
   where
     one : (gone : ℕ) (users : List User) (objects : List Object) (g : Grant) → not (g.grantee == gone) ≡ true → has_object_and_grantee users objects g ≡ true → has_object_and_grantee (left gone users) objects g ≡ true
     one gone users objects g other has =
-        rw (any-filter (λ (u : User). u.stamp == g.grantee) (λ (u : User). not (u.stamp == gone)) users (stays-other gone g.grantee (not-true (g.grantee == gone) other))) has
+        rw (any-without stamp_of gone g.grantee users (not-true (g.grantee == gone) other)) has
 
 -- the database without the user of a stamp
 abbrev pub without_user : Database → ℕ → Database
@@ -118,8 +115,8 @@ IsValid-without_user db gone valid may = record {
   next = valid.next;
   counter = valid.counter;
   stored = IsStored-removed stored_user [] (behind_users db) db.users (λ (u : User). not (u.stamp == gone)) (records_of-users db) (records_of-users (without_user db gone)) valid.stored;
-  users = AreUsers-left gone db.users may.not_owner may.no_user valid.users;
-  objects = AreObjects-left gone db.users db.objects may.no_object valid.objects;
-  grants = AreGrants-left gone db.users db.objects db.grants may.no_grant valid.grants;
+  users = AreUsers-without gone db.users may.not_owner may.no_user valid.users;
+  objects = AreObjects-without_user gone db.users db.objects may.no_object valid.objects;
+  grants = AreGrants-without_user gone db.users db.objects db.grants may.no_grant valid.grants;
   rows = valid.rows;
 }
