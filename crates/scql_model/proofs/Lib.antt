@@ -6,18 +6,26 @@ pub mod ChangedLists
 pub mod ChangedObjects
 pub mod ChangedRows
 pub mod ChangedUsers
+pub mod ChannelsApart
+pub mod ChosenRows
+pub mod ContentsRise
 pub mod CounterSlot
 pub mod Creating
 pub mod CreatingSlots
 pub mod CreatingWeight
-pub mod FieldLaws
+pub mod Depths
 pub mod FewerObjects
 pub mod FewerUsers
+pub mod FieldLaws
 pub mod FormedCommands
+pub mod FoundAgain
 pub mod FreshCard
 pub mod Hearing
 pub mod LongerLists
+pub mod NameOrder
 pub mod Naming
+pub mod Positions
+pub mod ReadingIsShown
 pub mod RecordLaws
 pub mod RecordLengths
 pub mod RecordsOf
@@ -28,5 +36,6 @@ pub mod Spellings
 pub mod Stored
 pub mod Validity
 mod WorkedCreating
+mod WorkedReading
 mod WorkedRows
 mod WorkedValidity

@@ -13,6 +13,8 @@ pub mod Moves
 pub mod Objects
 pub mod Opens
 pub mod ReadingCommands
+pub mod ReadingLaws
+pub mod ReadingOn
 pub mod Reads
 pub mod Records
 pub mod Rights

@@ -8,6 +8,13 @@ use Rattle.scql_base.specs.declared.words.Comparison.{Comparison}
 use Rattle.scql_base.specs.declared.words.Comparison.TheVariants.{Equal, Less, Greater, AtMost, AtLeast, NotEqual}
 use Rattle.scql_base.specs.declared.condition.Condition.{Condition}
 
+-- the names of columns, and the values that a row has in them, in their order
+abbrev pub Columns : Type 0
+Columns = List (List ℕ)
+
+abbrev pub Values : Type 0
+Values = List (List ℕ)
+
 -- whether a comparison is true of two values, which compare octet by octet; a proper prefix is less
 abbrev pub compares : Comparison → List ℕ → List ℕ → Bool
 compares Equal a b = is_eq (slice_cmp nat_cmp a b)
@@ -18,15 +25,15 @@ compares AtLeast a b = is_ge (slice_cmp nat_cmp a b)
 compares NotEqual a b = is_ne (slice_cmp nat_cmp a b)
 
 -- a row's value in a column
-abbrev pub value_of : List (List ℕ) → List (List ℕ) → List ℕ → List ℕ
+abbrev pub value_of : Columns → Values → List ℕ → List ℕ
 value_of [] values column = []
 value_of (c ∷ columns) [] column = []
 value_of (c ∷ columns) (value ∷ values) column = if bytes_eq column c then value else value_of columns values column
 
 -- a row meets a condition: its column is among the columns, and the comparison is true of the row's value there
-abbrev pub meets : List (List ℕ) → List (List ℕ) → Condition → Bool
+abbrev pub meets : Columns → Values → Condition → Bool
 meets columns values c = list_any (bytes_eq c.column) columns && compares c.comparison (value_of columns values c.column) c.value
 
 -- a row meets all conditions
-abbrev pub matches : List (List ℕ) → List Condition → List (List ℕ) → Bool
+abbrev pub matches : Columns → List Condition → Values → Bool
 matches columns conditions values = list_all (meets columns values) conditions

@@ -1,5 +1,5 @@
 -- What each reading command answers, and what it makes of the cursor and the pending octets of its session.
-use Rattle.std.specs.Prelude.{ℕ, ◌+◌, ◌==◌, nat_le, ◌&&◌, Bool, true, false, List, [], ◌∷◌, Option, Some, None, Result, Ok, Err}
+use Rattle.std.specs.Prelude.{ℕ, ◌==◌, nat_lt, Bool, true, false, List, [], ◌∷◌, Option, Some, None, Result, Ok, Err}
 use Rattle.std.specs.List.{find}
 use Rattle.scql_base.specs.declared.words.Actor.{Actor}
 use Rattle.scql_base.specs.declared.words.StatusWord.{StatusWord}
@@ -12,12 +12,11 @@ use Rattle.scql_model.specs.Database.{Database}
 use Rattle.scql_model.specs.Machine.{Reading}
 use Rattle.scql_model.specs.Form.{◌>>=◌, or_refused}
 use Rattle.scql_model.specs.Rights.{select_privilege, holds, seen_named, seen_stamped}
-use Rattle.scql_model.specs.Matching.{matches}
 use Rattle.scql_model.specs.Objects.{StampedRow}
-use Rattle.scql_model.specs.Contents.{Contents, contents_of}
+use Rattle.scql_model.specs.Contents.{Contents, narrowed, contents_of}
 use Rattle.scql_model.specs.ReadingCommands.{ReadingCommand, declare, open_cursor, next, fetch, fetch_next, get_response, Move, word_alone, or_stays, provided, end_reached, record_not_found, cut, fitting, wanted_of, named_among, row_octets}
 
--- the contents of an object from which the actor may select
+-- the contents of an object, where the actor may select from it
 abbrev pub selected : Database → Actor → Object → Result Contents StatusWord
 selected db actor o = do
   _ ← provided (holds db actor o select_privilege) security_not_satisfied
@@ -35,23 +34,30 @@ opened cursor = do
   _ ← provided (is_opened c.place) conditions_not_satisfied
   Ok c
 
--- whether a row of the cursor's object meets the cursor's conditions
-abbrev pub passes : Contents → Cursor → List (List ℕ) → Bool
-passes contents c values = matches contents.columns c.conditions values
+-- the rows of a cursor's object that meet the cursor's conditions, cut to the cursor's columns
+abbrev pub chosen : Contents → Cursor → List StampedRow
+chosen contents c = narrowed c.columns c.conditions contents
 
--- the first row from a stamp on that passes
-abbrev pub first_from : ℕ → (List (List ℕ) → Bool) → List StampedRow → Option StampedRow
-first_from stamp test rows = find (λ (r : StampedRow). nat_le stamp r.stamp && test r.values) rows
+-- those rows, where the object appears to the actor, and the actor may select from it
+abbrev pub rows_under : Database → Actor → Cursor → Result (List StampedRow) StatusWord
+rows_under db actor c = do
+  o ← or_refused (seen_stamped db actor c.object) not_found
+  contents ← selected db actor o
+  Ok (chosen contents c)
 
--- the first row behind a place that passes; behind the end there is none
-abbrev pub row_behind : Place → (List (List ℕ) → Bool) → List StampedRow → Option StampedRow
-row_behind NotOpen test rows = None
-row_behind (At stamp) test rows = first_from (stamp + 1) test rows
-row_behind End test rows = None
+abbrev pub first_row : List StampedRow → Option StampedRow
+first_row [] = None
+first_row (r ∷ rows) = Some r
 
--- the row of a stamp, if it is there and passes
-abbrev pub row_at : ℕ → (List (List ℕ) → Bool) → List StampedRow → Option StampedRow
-row_at stamp test rows = find (λ (r : StampedRow). r.stamp == stamp && test r.values) rows
+-- the first row behind a place; behind the end there is none
+abbrev pub row_behind : Place → List StampedRow → Option StampedRow
+row_behind NotOpen rows = None
+row_behind (At stamp) rows = find (λ (r : StampedRow). nat_lt stamp r.stamp) rows
+row_behind End rows = None
+
+-- the row of a stamp
+abbrev pub row_at : ℕ → List StampedRow → Option StampedRow
+row_at stamp rows = find (λ (r : StampedRow). r.stamp == stamp) rows
 
 -- the cursor stands at a place, and nothing is pending
 abbrev pub moved_to : Place → Cursor → StatusWord → Move Reading
@@ -67,19 +73,19 @@ went_to c None = moved_to End c end_reached
 went_to c (Some r) = moved_to (At r.stamp) c done
 
 -- FETCH NEXT: the cursor goes to the row that was found and gives it, or goes to its end
-abbrev pub gave_next : Contents → Cursor → ℕ → Option StampedRow → Result (Move Reading) StatusWord
-gave_next contents c le None = Ok (moved_to End c end_reached)
-gave_next contents c le (Some r) = do
-  octets ← fitting le (row_octets contents.columns c.columns r.values)
+abbrev pub gave_next : Cursor → ℕ → Option StampedRow → Result (Move Reading) StatusWord
+gave_next c le None = Ok (moved_to End c end_reached)
+gave_next c le (Some r) = do
+  octets ← fitting le (row_octets r.values)
   Ok (giving (At r.stamp) c le octets)
 
 -- FETCH: the row at the cursor's place is given
-abbrev pub gave : Contents → Cursor → ℕ → Place → Result (Move Reading) StatusWord
-gave contents c le NotOpen = Err conditions_not_satisfied
-gave contents c le End = Ok (moved_to End c end_reached)
-gave contents c le (At stamp) = do
-  r ← or_refused (row_at stamp (passes contents c) contents.rows) record_not_found
-  octets ← fitting le (row_octets contents.columns c.columns r.values)
+abbrev pub gave : Cursor → ℕ → Place → List StampedRow → Result (Move Reading) StatusWord
+gave c le NotOpen rows = Err conditions_not_satisfied
+gave c le End rows = Ok (moved_to End c end_reached)
+gave c le (At stamp) rows = do
+  r ← or_refused (row_at stamp rows) record_not_found
+  octets ← fitting le (row_octets r.values)
   Ok (giving (At stamp) c le octets)
 
 -- GET RESPONSE: what is pending is given
@@ -96,28 +102,23 @@ moved db actor reading (declare object columns conditions) = do
   Ok (moved_to NotOpen (record { object = o.stamp; columns = wanted_of contents.columns columns; conditions = conditions; place = NotOpen }) done)
 moved db actor reading open_cursor = do
   c ← or_refused reading.cursor conditions_not_satisfied
-  o ← or_refused (seen_stamped db actor c.object) not_found
-  contents ← selected db actor o
-  Ok (went_to c (first_from 0 (passes contents c) contents.rows))
+  rows ← rows_under db actor c
+  Ok (went_to c (first_row rows))
 moved db actor reading next = do
   c ← opened reading.cursor
-  o ← or_refused (seen_stamped db actor c.object) not_found
-  contents ← selected db actor o
-  Ok (went_to c (row_behind c.place (passes contents c) contents.rows))
+  rows ← rows_under db actor c
+  Ok (went_to c (row_behind c.place rows))
 moved db actor reading (fetch le) = do
   c ← opened reading.cursor
-  o ← or_refused (seen_stamped db actor c.object) not_found
-  contents ← selected db actor o
-  gave contents c le c.place
+  rows ← rows_under db actor c
+  gave c le c.place rows
 moved db actor reading (fetch_next le) = do
   c ← opened reading.cursor
-  o ← or_refused (seen_stamped db actor c.object) not_found
-  contents ← selected db actor o
-  gave_next contents c le (row_behind c.place (passes contents c) contents.rows)
+  rows ← rows_under db actor c
+  gave_next c le (row_behind c.place rows)
 moved db actor reading (get_response le) = do
   c ← or_refused reading.cursor conditions_not_satisfied
-  o ← or_refused (seen_stamped db actor c.object) not_found
-  _ ← selected db actor o
+  _ ← rows_under db actor c
   gave_more c le reading.pending
 
 -- the answer to a reading command, and the cursor and pending octets after it; a refusal leaves both as they were

@@ -9,18 +9,18 @@ use Rattle.scql_base.specs.Strings.{spelled}
 use Rattle.scql_base.specs.Words.{done, not_found}
 use Rattle.scql_model.specs.Commands.{Reply}
 use Rattle.scql_model.specs.Database.{are_among}
-use Rattle.scql_model.specs.Contents.{cut_to}
+use Rattle.scql_model.specs.Matching.{Columns, Values}
 
 -- the reading commands; Le is the greatest number of octets wanted, 1 to 256
 pub data ReadingCommand : Type 0 where
-  declare : (object : List ℕ) → (columns : List (List ℕ)) → (conditions : List Condition) → ReadingCommand
+  declare : (object : List ℕ) → (columns : Columns) → (conditions : List Condition) → ReadingCommand
   open_cursor : ReadingCommand
   next : ReadingCommand
   fetch : (le : ℕ) → ReadingCommand
   fetch_next : (le : ℕ) → ReadingCommand
   get_response : (le : ℕ) → ReadingCommand
 
--- the reading command that an operation is with this Le, if it is one
+-- the reading command that an operation is with its Le, if it is one; those that give octets always have an Le
 abbrev pub reading_command : Operation → Option ℕ → Option ReadingCommand
 reading_command (DeclareCursor object columns conditions) le = Some (declare object columns conditions)
 reading_command OpenCursor le = Some open_cursor
@@ -44,11 +44,11 @@ abbrev pub or_stays : {S : Type 0} → S → Result (Move S) StatusWord → Move
 or_stays before (Ok move) = move
 or_stays before (Err word) = record { reply = word_alone word; after = before }
 
--- what is asked holds, or the command is refused
+-- what is asked holds, or else the word is the refusal
 abbrev pub provided : Bool → StatusWord → Result (Unit {0}) StatusWord
-provided holds word = if holds then Ok tt else Err word
+provided asked word = if asked then Ok tt else Err word
 
--- a cursor's end is reached; the record isn't found
+-- no row is left, or none is at the place
 abbrev pub end_reached : StatusWord
 end_reached = record { word = 0x6282 }
 
@@ -84,14 +84,14 @@ abbrev pub fitting : ℕ → List ℕ → Result (List ℕ) StatusWord
 fitting le octets = if nat_le (length octets) le || le == 256 then Ok octets else Err (wrong_le (length octets))
 
 -- the named columns, or all where none is named
-abbrev pub wanted_of : List (List ℕ) → List (List ℕ) → List (List ℕ)
+abbrev pub wanted_of : Columns → Columns → Columns
 wanted_of columns [] = columns
 wanted_of columns (name ∷ names) = name ∷ names
 
 -- the named columns and those of the conditions are among an object's
-abbrev pub named_among : List (List ℕ) → List (List ℕ) → List Condition → Result (Unit {0}) StatusWord
+abbrev pub named_among : Columns → Columns → List Condition → Result (Unit {0}) StatusWord
 named_among columns named conditions = provided (are_among named columns && are_among (map (λ (c : Condition). c.column) conditions) columns) not_found
 
--- a row in an answer: its values in the wanted columns, each as its length in one octet and its octets
-abbrev pub row_octets : List (List ℕ) → List (List ℕ) → List (List ℕ) → List ℕ
-row_octets columns wanted values = flat_map spelled (cut_to columns wanted values)
+-- a row in an answer: each value as its length in one octet and its octets
+abbrev pub row_octets : Values → List ℕ
+row_octets values = flat_map spelled values

@@ -6,7 +6,8 @@ use Rattle.scql_base.specs.declared.words.StatusWord.{StatusWord}
 use Rattle.scql_base.specs.Words.{done, security_not_satisfied, conditions_not_satisfied, not_found}
 use Rattle.scql_model.specs.Commands.{Reply}
 use Rattle.scql_model.specs.Form.{◌>>=◌, or_refused}
-use Rattle.scql_model.specs.Matching.{matches}
+use Rattle.scql_model.specs.Matching.{Values, matches}
+use Rattle.scql_model.specs.Contents.{cut_to}
 use Rattle.scql_model.specs.ReadingCommands.{ReadingCommand, declare, open_cursor, next, fetch, fetch_next, get_response, Move, word_alone, or_stays, provided, end_reached, record_not_found, cut, fitting, wanted_of, named_among, row_octets}
 use Rattle.scql_model.specs.Shown.{ShownTable, ShownObject, ShownPlace, not_open, hidden, on, at_end, ShownCursor, Shown}
 
@@ -32,48 +33,48 @@ is_opened_place hidden = true
 is_opened_place (on before there) = true
 is_opened_place at_end = true
 
-abbrev pub opened_cursor : Shown → Result ShownCursor StatusWord
-opened_cursor s = do
-  c ← or_refused s.cursor conditions_not_satisfied
+abbrev pub opened_cursor : Option ShownCursor → Result ShownCursor StatusWord
+opened_cursor cursor = do
+  c ← or_refused cursor conditions_not_satisfied
   _ ← provided (is_opened_place c.place) conditions_not_satisfied
   Ok c
 
 -- whether a row of the cursor's object meets the cursor's conditions
-abbrev pub meets_cursor : ShownTable → ShownCursor → List (List ℕ) → Bool
+abbrev pub meets_cursor : ShownTable → ShownCursor → Values → Bool
 meets_cursor t c values = matches t.columns c.conditions values
 
 -- a row at a position, counted from 0
 pub record PositionedRow : Type 0 where
   pub position : ℕ
-  pub values : List (List ℕ)
+  pub values : Values
 
 abbrev pub one_further : PositionedRow → PositionedRow
 one_further r = record r { position = suc r.position }
 
 -- the row at the least position from one on that passes
-abbrev pub least_from : ℕ → (List (List ℕ) → Bool) → List (List (List ℕ)) → Option PositionedRow
+abbrev pub least_from : ℕ → (Values → Bool) → List Values → Option PositionedRow
 least_from from test [] = None
 least_from zero test (values ∷ rows) = if test values then Some (record { position = 0; values = values }) else option_map one_further (least_from zero test rows)
 least_from (suc from) test (values ∷ rows) = option_map one_further (least_from from test rows)
 
--- the position behind one, where there is a row; else that position is free
+-- where the next row is looked for: behind the cursor's row, or at its position where that row is gone
 abbrev pub position_behind : ℕ → Bool → ℕ
 position_behind before there = if there then before + 1 else before
 
 -- the next row behind a place that passes; behind the end there is none
-abbrev pub least_behind : ShownPlace → (List (List ℕ) → Bool) → List (List (List ℕ)) → Option PositionedRow
+abbrev pub least_behind : ShownPlace → (Values → Bool) → List Values → Option PositionedRow
 least_behind not_open test rows = None
 least_behind hidden test rows = None
 least_behind (on before there) test rows = least_from (position_behind before there) test rows
 least_behind at_end test rows = None
 
 -- values, if they pass
-abbrev pub if_passes : (List (List ℕ) → Bool) → Option (List (List ℕ)) → Option (List (List ℕ))
+abbrev pub if_passes : (Values → Bool) → Option Values → Option Values
 if_passes test None = None
 if_passes test (Some values) = if test values then Some values else None
 
 -- the row at a position, if there is one and it passes
-abbrev pub row_on : ℕ → Bool → (List (List ℕ) → Bool) → List (List (List ℕ)) → Option (List (List ℕ))
+abbrev pub row_on : ℕ → Bool → (Values → Bool) → List Values → Option Values
 row_on before there test rows = if there then if_passes test (slice_get rows before) else None
 
 -- the cursor stands at a place, and nothing is pending
@@ -93,7 +94,7 @@ goes_to s c (Some r) = stands_at (on r.position true) s c done
 abbrev pub gives_next : Shown → ShownTable → ShownCursor → ℕ → Option PositionedRow → Result (Move Shown) StatusWord
 gives_next s t c le None = Ok (stands_at at_end s c end_reached)
 gives_next s t c le (Some r) = do
-  octets ← fitting le (row_octets t.columns c.columns r.values)
+  octets ← fitting le (row_octets (cut_to t.columns c.columns r.values))
   Ok (gives_at (on r.position true) s c le octets)
 
 -- FETCH: the row at the cursor's place is given
@@ -103,7 +104,7 @@ gives_row s t c le hidden = Err conditions_not_satisfied
 gives_row s t c le at_end = Ok (stands_at at_end s c end_reached)
 gives_row s t c le (on before there) = do
   values ← or_refused (row_on before there (meets_cursor t c) t.rows) record_not_found
-  octets ← fitting le (row_octets t.columns c.columns values)
+  octets ← fitting le (row_octets (cut_to t.columns c.columns values))
   Ok (gives_at (on before there) s c le octets)
 
 -- GET RESPONSE: what is pending is given
@@ -123,15 +124,15 @@ read s open_cursor = do
   t ← table_under s c
   Ok (goes_to s c (least_from 0 (meets_cursor t c) t.rows))
 read s next = do
-  c ← opened_cursor s
+  c ← opened_cursor s.cursor
   t ← table_under s c
   Ok (goes_to s c (least_behind c.place (meets_cursor t c) t.rows))
 read s (fetch le) = do
-  c ← opened_cursor s
+  c ← opened_cursor s.cursor
   t ← table_under s c
   gives_row s t c le c.place
 read s (fetch_next le) = do
-  c ← opened_cursor s
+  c ← opened_cursor s.cursor
   t ← table_under s c
   gives_next s t c le (least_behind c.place (meets_cursor t c) t.rows)
 read s (get_response le) = do

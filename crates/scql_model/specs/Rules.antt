@@ -14,7 +14,7 @@ use Rattle.scql_base.specs.declared.records.ObjectKind.{ObjectKind}
 use Rattle.scql_base.specs.declared.records.ObjectKind.TheVariants.{Table, View, Dictionary}
 use Rattle.scql_base.specs.declared.records.Grant.{Grant}
 use Rattle.scql_base.specs.declared.records.RowRecord.{RowRecord}
-use Rattle.scql_model.specs.Objects.{columns_of, depth_of}
+use Rattle.scql_model.specs.Objects.{columns_of, deepest, depth_of}
 use Rattle.scql_model.specs.Records.{user_record, grant_record, row_record, object_spelling, object_fits}
 
 -- no element is the same as a later one, by a test of two
@@ -109,9 +109,9 @@ abbrev pub is_table : ObjectKind → Bool
 is_table (Table columns) = true
 is_table kind = false
 
--- an object on which a view may rest: it stands at a depth below 4
+-- an object on which a view may rest: it doesn't stand at the greatest depth
 abbrev pub may_have_view : List Object → Object → Bool
-may_have_view objects base = option_map_or (λ depth. nat_lt depth 4) (depth_of objects base.stamp) false
+may_have_view objects base = option_map_or (λ depth. nat_lt depth deepest) (depth_of objects base.stamp) false
 
 -- the base is older, has the same owner, and may have a view; the view's columns are the base's, and so are its conditions' columns
 abbrev pub rests_on : List Object → Object → List (List ℕ) → List Condition → Object → Bool

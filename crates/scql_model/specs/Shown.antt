@@ -12,13 +12,14 @@ use Rattle.scql_base.specs.declared.records.Object.{Object}
 use Rattle.scql_model.specs.Database.{Database}
 use Rattle.scql_model.specs.Machine.{Reading}
 use Rattle.scql_model.specs.Rights.{select_privilege, holds, appears, seen_stamped}
+use Rattle.scql_model.specs.Matching.{Columns, Values}
 use Rattle.scql_model.specs.Objects.{StampedRow}
 use Rattle.scql_model.specs.Contents.{Contents, contents_of}
 
 -- columns, and the values of the rows in their order
 pub record ShownTable : Type 0 where
-  pub columns : List (List ℕ)
-  pub rows : List (List (List ℕ))
+  pub columns : Columns
+  pub rows : List Values
 
 -- an object by its name; it is closed, and shows nothing else, where the actor may not select from it
 pub record ShownObject : Type 0 where
@@ -35,7 +36,7 @@ pub data ShownPlace : Type 0 where
 -- a cursor's object is none where it is gone; what is pending is hidden where the object is gone or closed
 pub record ShownCursor : Type 0 where
   pub object : Option (List ℕ)
-  pub columns : List (List ℕ)
+  pub columns : Columns
   pub conditions : List Condition
   pub place : ShownPlace
   pub pending : Option (List ℕ)

@@ -1,0 +1,99 @@
+// Laws over the definitions. Each is the contract of a function that does nothing.
+ghost use Rattle.std.specs.Prelude.{◌≡◌, ◌≢◌, ◌+◌, ◌<◌, ◌≤◌, ◌==◌, IsSome, List, None, Some, filter, find, map, option_map, ℕ};
+ghost use Rattle.std.specs.Cmp.Lexicographic.{slice_cmp};
+ghost use Rattle.std.specs.List.Sorted.{IsSortedByKey};
+ghost use Rattle.std.specs.Ordering.{nat_cmp};
+ghost use Rattle.scql_base.specs.declared.condition.Condition.{Condition};
+ghost use Rattle.scql_base.specs.declared.records.Object.{Object};
+ghost use Rattle.scql_base.specs.declared.records.ObjectKind.TheVariants.{Dictionary, Table, View};
+ghost use Rattle.scql_base.specs.declared.records.RowRecord.{RowRecord};
+ghost use Rattle.scql_base.specs.declared.words.Actor.{Actor};
+ghost use Rattle.scql_base.specs.declared.words.Subject.{Subject};
+ghost use Rattle.scql_model.specs.Contents.{contents_of, narrowed, of_table};
+ghost use Rattle.scql_model.specs.Database.{Database, IsValid, object_stamped};
+ghost use Rattle.scql_model.specs.Dictionaries.{rows_told};
+ghost use Rattle.scql_model.specs.Machine.{Machine, Reading, base, session_of};
+ghost use Rattle.scql_model.specs.Matching.{Columns};
+ghost use Rattle.scql_model.specs.Moves.{move_of};
+ghost use Rattle.scql_model.specs.Objects.{deepest, depth_of, dictionary_columns};
+ghost use Rattle.scql_model.specs.ReadingCommands.{ReadingCommand};
+ghost use Rattle.scql_model.specs.ReadingLaws.{IsReadable, reading_after, replies_to};
+ghost use Rattle.scql_model.specs.ReadingOn.{move_on, shown_on};
+ghost use Rattle.scql_model.specs.Reads.{is_called, read_next, read_reply};
+ghost use Rattle.scql_model.specs.Rights.{seen_named};
+ghost use Rattle.scql_model.specs.Shown.{ShownObject, object_shown, shown};
+
+/// A table contains its rows, a view those rows of its base that meet its conditions, cut to its columns, and a dictionary
+/// what it tells of.
+pub fn contents_are_those_of_the_kind()
+    ensures table { (db : Database) (o : Object) (columns : Columns)
+        → object_stamped db.objects o.stamp ≡ Some o → o.kind ≡ Table columns
+        → contents_of db o.stamp ≡ record { columns = columns; rows = map of_table (filter (λ (r : RowRecord). r.table == o.stamp) db.rows) } }
+    ensures view { (db : Database) (o : Object) (base : ℕ) (columns : Columns) (conditions : List Condition)
+        → object_stamped db.objects o.stamp ≡ Some o → o.kind ≡ View base columns conditions → IsSome (depth_of db.objects o.stamp)
+        → contents_of db o.stamp ≡ record { columns = columns; rows = narrowed columns conditions (contents_of db base) } }
+    ensures dictionary { (db : Database) (o : Object) (subject : Subject)
+        → object_stamped db.objects o.stamp ≡ Some o → o.kind ≡ Dictionary subject
+        → contents_of db o.stamp ≡ record { columns = dictionary_columns subject; rows = rows_told db o.owner subject } }
+{}
+
+/// A table stands at depth 0 and a view one deeper than its base, and no view stands over one that is the deepest, or over
+/// a dictionary.
+pub fn depth_is_one_more_than_the_base_has()
+    ensures table { (objects : List Object) (o : Object) (columns : Columns)
+        → object_stamped objects o.stamp ≡ Some o → o.kind ≡ Table columns → depth_of objects o.stamp ≡ Some 0 }
+    ensures view { (objects : List Object) (o : Object) (base depth : ℕ) (columns : Columns) (conditions : List Condition)
+        → object_stamped objects o.stamp ≡ Some o → o.kind ≡ View base columns conditions
+        → depth_of objects base ≡ Some depth → depth < deepest → depth_of objects o.stamp ≡ Some (depth + 1) }
+    ensures too_deep { (objects : List Object) (o : Object) (base : ℕ) (columns : Columns) (conditions : List Condition)
+        → object_stamped objects o.stamp ≡ Some o → o.kind ≡ View base columns conditions
+        → depth_of objects base ≡ Some deepest → depth_of objects o.stamp ≡ None }
+    ensures dictionary { (objects : List Object) (o : Object) (subject : Subject)
+        → object_stamped objects o.stamp ≡ Some o → o.kind ≡ Dictionary subject → depth_of objects o.stamp ≡ None }
+    ensures most { (objects : List Object) (stamp depth : ℕ) → depth_of objects stamp ≡ Some depth → depth ≤ deepest }
+{}
+
+/// The objects that are shown stand in the order of their names, and by each name the object is shown that is seen by it.
+pub fn objects_are_shown_by_their_names()
+    ensures sorted { (db : Database) (actor : Actor) (reading : Reading)
+        → IsSortedByKey (λ (o : ShownObject). o.name) (slice_cmp nat_cmp) (shown db actor reading).objects }
+    ensures seen { (db : Database) (actor : Actor) (reading : Reading) (name : List ℕ)
+        → find (is_called name) (shown db actor reading).objects ≡ option_map (object_shown db actor) (seen_named db actor name) }
+{}
+
+/// The answer to a reading command follows from what is shown before it, and so does what is shown after it.
+pub fn reading_is_of_what_is_shown()
+    ensures valid { (db : Database) → IsValid db → IsReadable db }
+
+    ensures reply { (db : Database) (actor : Actor) (reading : Reading) (command : ReadingCommand)
+        → IsReadable db
+        → (move_of db actor reading command).reply ≡ read_reply (shown db actor reading) command }
+    ensures after { (db : Database) (actor : Actor) (reading : Reading) (command : ReadingCommand)
+        → IsReadable db
+        → shown db actor (move_of db actor reading command).after ≡ read_next (shown db actor reading) command }
+{}
+
+/// Where two cards show the same, the same reading commands in turn have the same answers, and then both show the same.
+pub fn equal_shown_gives_equal_replies()
+    ensures replies { (db other : Database) (actor another : Actor) (reading further : Reading) (commands : List ReadingCommand)
+        → IsReadable db → IsReadable other
+        → shown db actor reading ≡ shown other another further
+        → replies_to db actor reading commands ≡ replies_to other another further commands }
+    ensures after { (db other : Database) (actor another : Actor) (reading further : Reading) (commands : List ReadingCommand)
+        → IsReadable db → IsReadable other
+        → shown db actor reading ≡ shown other another further
+        → shown db actor (reading_after db actor reading commands) ≡ shown other another (reading_after other another further commands) }
+{}
+
+/// A reading command on an open channel is answered from what is shown there, and changes what is shown there and nowhere else.
+pub fn reading_is_of_its_own_channel()
+    ensures reply { (m : Machine) (channel : ℕ) (command : ReadingCommand)
+        → IsReadable (base m channel)
+        → (move_on m channel command).reply ≡ read_reply (shown_on m channel) command }
+    ensures own { (m : Machine) (channel : ℕ) (command : ReadingCommand)
+        → IsSome (session_of m channel) → IsReadable (base m channel)
+        → shown_on (move_on m channel command).after channel ≡ read_next (shown_on m channel) command }
+    ensures others { (m : Machine) (channel other : ℕ) (command : ReadingCommand)
+        → other ≢ channel
+        → shown_on (move_on m channel command).after other ≡ shown_on m other }
+{}
