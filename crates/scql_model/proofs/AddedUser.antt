@@ -1,11 +1,10 @@
 -- A user is added to a valid database, which stays valid.
-use Rattle.std.proofs.Common.{◌≡◌, ℕ, ◌<◌, ◌≤◌, ◌+◌, Bool, true, false, List, [], ◌∷◌, ◌++◌, map, filter, ◌||◌, eqb, Option, Some, None, refl, sym, subst, arith}
+use Rattle.std.proofs.Common.{◌≡◌, ℕ, ◌<◌, ◌≤◌, ◌+◌, Bool, true, false, List, [], ◌∷◌, ◌++◌, map, filter, ◌||◌, eqb, refl, sym, subst, arith}
 use Rattle.std.specs.List.{list_all, list_any, AllByRecursion}
-use Rattle.std.specs.Option.{option_map_or, option_or}
 use Rattle.std.specs.Str.{bytes_eq}
-use Rattle.std.proofs.lemmas.Bool.{and_parts, and_from, false≢true}
+use Rattle.std.proofs.lemmas.Bool.{and_parts, and_from}
 use Rattle.std.proofs.lemmas.List.{map-append}
-use Rattle.std.proofs.lemmas.List.Folds.{list_any-append, find-append}
+use Rattle.std.proofs.lemmas.List.Folds.{list_any-append}
 use Rattle.std.proofs.lemmas.List.Elements.{filter-append}
 use Rattle.scql_base.specs.declared.words.Profile.{Profile}
 use Rattle.scql_base.specs.declared.words.Profile.TheVariants.{DbO, Dboo, Dbbu}
@@ -13,20 +12,18 @@ use Rattle.scql_base.specs.declared.records.User.{User}
 use Rattle.scql_base.specs.declared.records.Object.{Object}
 use Rattle.scql_base.specs.declared.records.Grant.{Grant}
 use Rattle.scql_model.specs.Records.{counter_record, user_record}
-use Rattle.scql_model.specs.Stored.{StoredRecord, is_storable}
-use Rattle.scql_model.specs.Rules.{AreUsers, AreObjects, AreGrants, owner, public_name, are_different, is_db_o, is_maker, user_stamped, is_made_by_maker, has_maker, has_all_tries, has_object_and_grantee}
-use Rattle.scql_model.specs.Database.{Database, IsValid, weight, stored_user, stored_object, stored_grant, stored_row}
+use Rattle.scql_model.specs.Stored.{is_storable}
+use Rattle.scql_model.specs.Rules.{AreUsers, AreObjects, AreGrants, owner, public_name, are_different, is_db_o, is_maker, is_made_by_maker, has_maker, has_all_tries, has_object_and_grantee}
+use Rattle.scql_model.specs.Database.{Database, IsValid, weight, stored_user}
 use Rattle.scql_model.specs.Creating.{with_user}
-use Rattle.scql_model.proofs.LongerLists.{all-weaker, all-added, rises-added, names_different-added}
+use Rattle.scql_model.proofs.LongerLists.{all-weaker, all-added, any-more, found-more, rises-added, not_equal-sym}
+use Rattle.scql_model.proofs.Apart.{apart_by-added}
+use Rattle.scql_model.proofs.RecordsOf.{behind_users, records_of-users}
 use Rattle.scql_model.proofs.Stored.{IsStored-added, below-of_kind}
 
 -- who was a maker among some users is one among more
 pub kept_maker : (users more : List User) (stamp : ℕ) → is_made_by_maker users stamp ≡ true → is_made_by_maker (users ++ more) stamp ≡ true
-kept_maker users more stamp made = rw (find-append (λ (u : User). eqb u.stamp stamp) users more) (first_found (user_stamped users stamp) (user_stamped more stamp) made)
-  where
-    first_found : (o rest : Option User) → option_map_or (λ (u : User). is_maker u.profile) o false ≡ true → option_map_or (λ (u : User). is_maker u.profile) (option_or o rest) false ≡ true
-    first_found None rest made = absurd (false≢true made)
-    first_found (Some u) rest made = made
+kept_maker users more stamp made = found-more (λ (u : User). is_maker u.profile) (λ (u : User). eqb u.stamp stamp) users more made
 
 has_maker-more : (users more : List User) (u : User) → has_maker users u ≡ true → has_maker (users ++ more) u ≡ true
 has_maker-more users more u right = go u.profile refl right
@@ -47,13 +44,9 @@ pub record IsAddable (db : Database) (u : User) : Type 0 where
   pub maker : has_maker (db.users ++ u ∷ []) u ≡ true
   pub tries : has_all_tries u ≡ true
 
--- the records that are no users
-abbrev others : Database → List StoredRecord
-others db = map stored_object db.objects ++ (map stored_grant db.grants ++ map stored_row db.rows)
-
 -- in a valid database the next stamp is above those of all users
 pub users_below : (db : Database) → IsValid db → AllByRecursion (λ (u : User). u.stamp < db.next) db.users
-users_below db valid = below-of_kind stored_user [] (others db) db.users refl valid.stored
+users_below db valid = below-of_kind stored_user [] (behind_users db) db.users (records_of-users db) valid.stored
 
 -- the users' own rules, with one user more
 AreUsers-added : (db : Database) (u : User) → AreUsers db.users → IsAddable db u → AllByRecursion (λ (v : User). v.stamp < db.next) db.users → AreUsers (db.users ++ u ∷ [])
@@ -73,7 +66,7 @@ AreUsers-added db u are addable below = record {
     names-added : (users : List User) (u : User) → are_different (map (λ (v : User). v.name) users) ≡ true → list_any (bytes_eq u.name) (map (λ (v : User). v.name) users) ≡ false
         → are_different (map (λ (v : User). v.name) (users ++ u ∷ [])) ≡ true
     names-added users u apart none =
-        rw (map-append (λ (v : User). v.name) users (u ∷ [])) (names_different-added (map (λ (v : User). v.name) users) u.name apart none)
+        rw (map-append (λ (v : User). v.name) users (u ∷ [])) (apart_by-added bytes_eq (map (λ (v : User). v.name) users) u.name not_equal-sym apart none)
 
     none_public-added : (users : List User) (u : User) → list_any (λ (v : User). bytes_eq public_name v.name) users ≡ false → bytes_eq public_name u.name ≡ false
         → list_any (λ (v : User). bytes_eq public_name v.name) (users ++ u ∷ []) ≡ false
@@ -103,9 +96,6 @@ AreGrants-more_users users more objects grants are = record {
   pairs = are.pairs;
 }
   where
-    any-more : {X : Type 0} (p : X → Bool) (xs ys : List X) → list_any p xs ≡ true → list_any p (xs ++ ys) ≡ true
-    any-more p xs ys any = rw (list_any-append, any) refl
-
     or-weaker : (a b c : Bool) → (b ≡ true → c ≡ true) → a || b ≡ true → a || c ≡ true
     or-weaker true b c more either = refl
     or-weaker false b c more either = more either
@@ -128,7 +118,7 @@ IsValid-with_user db u valid addable room next =
       limit = valid.limit;
       next = omega arith;
       counter = next;
-      stored = IsStored-added stored_user [] (others db) db.users u refl refl valid.stored addable.stamp (omega arith) addable.size room;
+      stored = IsStored-added stored_user [] (behind_users db) db.users u (records_of-users db) (records_of-users (with_user db u)) valid.stored addable.stamp (omega arith) addable.size room;
       users = AreUsers-added db u valid.users addable (users_below db valid);
       objects = AreObjects-more_users db.users (u ∷ []) db.objects valid.objects;
       grants = AreGrants-more_users db.users (u ∷ []) db.objects db.grants valid.grants;

@@ -1,20 +1,21 @@
 -- The cells that a new user takes.
-use Rattle.std.proofs.Common.{◌≡◌, ℕ, ◌≤◌, ◌+◌, true, List, [], ◌++◌, length, map, ap, ◌∙◌, arith}
+use Rattle.std.proofs.Common.{◌≡◌, ℕ, ◌≤◌, ◌+◌, true, List, [], length, ap, ◌∙◌, arith}
 use Rattle.std.specs.Prelude.{nat_lt}
 use Rattle.eeprom.specs.StoreOf.{cells_for}
 use Rattle.scql_base.specs.Name.{is_name}
 use Rattle.scql_base.specs.declared.records.User.{User}
 use Rattle.scql_model.specs.Records.{user_record}
 use Rattle.scql_model.specs.Stored.{cells_for_octets}
-use Rattle.scql_model.specs.Database.{Database, weight, stored_user, stored_object, stored_grant, stored_row}
+use Rattle.scql_model.specs.Database.{Database, weight, stored_user}
 use Rattle.scql_model.specs.Creating.{with_user, is_overfull}
 use Rattle.scql_model.proofs.Creating.{user-size, name-size}
+use Rattle.scql_model.proofs.RecordsOf.{behind_users}
 use Rattle.scql_model.proofs.Stored.{cells_of_records-added}
 
 -- a user adds its own cells alone, since the counter takes one cell whatever the next stamp
 pub weight-with_user : (db : Database) (u : User) → weight (with_user db u) ≡ weight db + cells_for_octets (user_record.spell u)
 weight-with_user db u =
-    let more = cells_of_records-added stored_user [] (map stored_object db.objects ++ (map stored_grant db.grants ++ map stored_row db.rows)) db.users u in
+    let more = cells_of_records-added stored_user [] (behind_users db) db.users u in
     omega arith
 
 -- so the room for a user is known before it is made

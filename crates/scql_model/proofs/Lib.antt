@@ -1,9 +1,15 @@
 pub mod Acting
 pub mod AddedUser
+pub mod Apart
 pub mod Assigning
 pub mod ChangeLaws
+pub mod ChangedGrants
 pub mod ChangedLists
+pub mod ChangedObjects
+pub mod ChangedRows
+pub mod ChangedUsers
 pub mod ChangingSessions
+pub mod ChannelsApart
 pub mod ChosenRows
 pub mod ContentsRise
 pub mod CounterSlot
@@ -12,6 +18,8 @@ pub mod CreatingSlots
 pub mod CreatingWeight
 pub mod Depths
 pub mod EditLaws
+pub mod FewerObjects
+pub mod FewerUsers
 pub mod FieldLaws
 pub mod FormedCommands
 pub mod FoundAgain

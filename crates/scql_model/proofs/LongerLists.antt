@@ -1,17 +1,25 @@
 -- What holds of a list holds of it with one element more.
-use Rattle.std.proofs.Common.{◌≡◌, ℕ, ◌<◌, Bool, true, false, List, [], ◌∷◌, ◌++◌, map, Some, not, ◌||◌, refl, sym, subst, ap, ◌∙◌, inl, inr}
+use Rattle.std.proofs.Common.{◌≡◌, ℕ, ◌<◌, Bool, true, false, List, [], ◌∷◌, ◌++◌, map, Option, Some, None, not, ◌||◌, refl, sym, subst, ap, ◌∙◌, inl, inr}
 use Rattle.std.specs.List.{list_all, list_any, find, filter, AllByRecursion}
+use Rattle.std.specs.Option.{option_map_or, option_or}
 use Rattle.std.specs.Str.{bytes_eq}
-use Rattle.std.proofs.lemmas.Bool.{cases_Bool, and_parts, and_from, not-true, false≢true}
-use Rattle.std.proofs.lemmas.List.Folds.{list_all-append, list_any-append}
+use Rattle.std.proofs.lemmas.Bool.{cases_Bool, and_parts, false≢true}
+use Rattle.std.proofs.lemmas.List.Folds.{list_all-append, list_any-append, find-append}
 use Rattle.std.proofs.lemmas.Option.{none-some, same_Some}
 use Rattle.std.proofs.lemmas.Slice.Eq.{bytes_eq-Decides}
 use Rattle.eeprom.specs.Slots.{Rises}
-use Rattle.scql_model.specs.Database.{are_different}
 
 pub all-weaker : {X : Type 0} (p q : X → Bool) (xs : List X) → ((x : X) → p x ≡ true → q x ≡ true) → list_all p xs ≡ true → list_all q xs ≡ true
 all-weaker p q [] more all = refl
 all-weaker p q (x ∷ xs) more all = let parts = and_parts (p x) (list_all p xs) all in rw (more x parts.0) (all-weaker p q xs more parts.1)
+
+-- what two tests say of each element
+pub all-by_both : {X : Type 0} (p q r : X → Bool) (xs : List X) → ((x : X) → p x ≡ true → q x ≡ true → r x ≡ true) → list_all p xs ≡ true → list_all q xs ≡ true → list_all r xs ≡ true
+all-by_both p q r [] both one other = refl
+all-by_both p q r (x ∷ xs) both one other =
+    let a = and_parts (p x) (list_all p xs) one in
+    let b = and_parts (q x) (list_all q xs) other in
+    rw (both x a.0 b.0) (all-by_both p q r xs both a.1 b.1)
 
 pub all-added : {X : Type 0} (p : X → Bool) (xs : List X) (x : X) → list_all p xs ≡ true → p x ≡ true → list_all p (xs ++ x ∷ []) ≡ true
 all-added p xs x all one = rw (list_all-append, all, one) refl
@@ -30,17 +38,6 @@ not_equal-sym a b f =
     elim (cases_Bool (bytes_eq b a)) [
       | inl t ↦ absurd (false≢true (sym f ∙ (bytes_eq-Decides a b).1 (sym ((bytes_eq-Decides b a).0 t))))
       | inr g ↦ g
-    ]
-
-pub names_different-added : (names : List (List ℕ)) (name : List ℕ) → are_different names ≡ true → list_any (bytes_eq name) names ≡ false → are_different (names ++ name ∷ []) ≡ true
-names_different-added [] name apart none = refl
-names_different-added (x ∷ xs) name apart none =
-    let parts = and_parts (not (list_any (bytes_eq x) xs)) (are_different xs) apart in
-    elim (cases_Bool (bytes_eq name x)) [
-      | inl t ↦ absurd (false≢true (sym (rw t at none)))
-      | inr f ↦ (let other : bytes_eq x name ≡ false = not_equal-sym name x f in
-          let none' : list_any (bytes_eq x) (xs ++ name ∷ []) ≡ false = rw (list_any-append, not-true (list_any (bytes_eq x) xs) parts.0, other) refl in
-          and_from (not (list_any (bytes_eq x) (xs ++ name ∷ []))) (are_different (xs ++ name ∷ [])) (rw none' refl) (names_different-added xs name parts.1 (rw f at none)))
     ]
 
 pub find-passes : {X : Type 0} (q : X → Bool) (xs : List X) (x : X) → find q xs ≡ Some x → q x ≡ true
@@ -74,3 +71,14 @@ all-filtered p r (x ∷ xs) all =
 pub any-map : {X Y : Type 0} (p : Y → Bool) (f : X → Y) (xs : List X) → list_any p (map f xs) ≡ list_any (λ x. p (f x)) xs
 any-map p f [] = refl
 any-map p f (x ∷ xs) = ap (λ rest. p (f x) || rest) (any-map p f xs)
+
+-- what is found in a list is found in a longer one
+pub found-more : {X : Type 0} (p q : X → Bool) (xs ys : List X) → option_map_or p (find q xs) false ≡ true → option_map_or p (find q (xs ++ ys)) false ≡ true
+found-more p q xs ys found = rw (find-append q xs ys) (first p (find q xs) (find q ys) found)
+  where
+    first : {X : Type 0} (p : X → Bool) (o rest : Option X) → option_map_or p o false ≡ true → option_map_or p (option_or o rest) false ≡ true
+    first p None rest found = absurd (false≢true found)
+    first p (Some x) rest found = found
+
+pub any-more : {X : Type 0} (p : X → Bool) (xs ys : List X) → list_any p xs ≡ true → list_any p (xs ++ ys) ≡ true
+any-more p xs ys any = rw (list_any-append, any) refl

@@ -38,7 +38,7 @@ all-none p (x ∷ xs) none =
     elim (cases_Bool (p x)) [ inl t ↦ absurd (false≢true (sym (rw t at none))) | inr f ↦ rw f (all-none p xs (rw f at none)) ]
 
 -- a user within its limits has a length that a store takes
-storable-fitting : (u : User) → user_record.fits u ≡ true → is_storable (stored_user u) ≡ true
+pub storable-fitting : (u : User) → user_record.fits u ≡ true → is_storable (stored_user u) ≡ true
 storable-fitting u fits = user-short u (parts u fits).0 (parts u fits).1
   where
     parts : (u : User) → user_record.fits u ≡ true → (is_name u.name ≡ true) × (is_secret u.secret ≡ true)

@@ -20,6 +20,7 @@ pub record Database : Type 0 where
   pub grants : List Grant
   pub rows : List RowRecord
 
+-- the database with which a card is made: OWNER alone
 abbrev pub fresh : ℕ → Database
 fresh n = record { cells = n; limit = 240; next = 2; users = owner ∷ []; objects = []; grants = []; rows = [] }
 
@@ -36,7 +37,7 @@ stored_grant g = record { stamp = g.stamp; octets = grant_record.spell g }
 abbrev pub stored_row : RowRecord → StoredRecord
 stored_row r = record { stamp = r.stamp; octets = row_record.spell r }
 
--- all records but the counter
+-- all records but the counter, and their stamps
 abbrev pub records_of : Database → List StoredRecord
 records_of db = map stored_user db.users ++ (map stored_object db.objects ++ (map stored_grant db.grants ++ map stored_row db.rows))
 
@@ -50,15 +51,16 @@ counter_cells db = cells_for_octets (counter_record.spell db.next)
 abbrev pub weight : Database → ℕ
 weight db = counter_cells db + cells_of_records (records_of db)
 
+-- A database that a card may hold.
 pub record IsValid (db : Database) : Type 0 where
   -- a card has 16 to 2,048 cells
   pub cells : (16 ≤ db.cells) × (db.cells ≤ 2048)
   -- a row has at most 240 octets, or on a migrated card 1,020
   pub limit : (db.limit == 240 || db.limit == 1020) ≡ true
-  -- the next stamp is behind OWNER's, and is a number of four octets
+  -- the next stamp is at least 2, since OWNER has stamp 1, and a number of four octets
   pub next : 2 ≤ db.next
   pub counter : counter_record.fits db.next ≡ true
-  -- the records have room, lengths, and stamps of their own
+  -- the records have room, and stamps of their own
   pub stored : IsStored db.cells (counter_cells db) db.next (records_of db)
   -- and each kind meets its rules
   pub users : AreUsers db.users

@@ -14,14 +14,19 @@ use Rattle.scql_base.specs.declared.records.ObjectKind.{ObjectKind}
 use Rattle.scql_base.specs.declared.records.ObjectKind.TheVariants.{Table, View, Dictionary}
 use Rattle.scql_base.specs.declared.records.Grant.{Grant}
 use Rattle.scql_base.specs.declared.records.RowRecord.{RowRecord}
-use Rattle.scql_model.specs.Objects.{columns_of, depth_of}
+use Rattle.scql_model.specs.Objects.{columns_of, deepest, depth_of}
 use Rattle.scql_model.specs.Records.{user_record, grant_record, row_record, object_spelling, object_fits}
 
--- whether texts are different, and whether each of them is among others
-abbrev pub are_different : List (List ℕ) → Bool
-are_different [] = true
-are_different (x ∷ xs) = not (list_any (bytes_eq x) xs) && are_different xs
+-- no element is the same as a later one, by a test of two
+abbrev pub are_apart_by : {X : Type 0} → (X → X → Bool) → List X → Bool
+are_apart_by same [] = true
+are_apart_by same (x ∷ xs) = not (list_any (same x) xs) && are_apart_by same xs
 
+-- whether texts are different
+abbrev pub are_different : List (List ℕ) → Bool
+are_different names = are_apart_by bytes_eq names
+
+-- whether each name is that of a column
 abbrev pub are_among : List (List ℕ) → List (List ℕ) → Bool
 are_among names columns = list_all (λ name. list_any (bytes_eq name) columns) names
 
@@ -38,6 +43,7 @@ owner = record { stamp = 1; name = owner_name; profile = DbO; owner = 1; secret 
 abbrev pub public_name : List ℕ
 public_name = 0x50 ∷ 0x55 ∷ 0x42 ∷ 0x4C ∷ 0x49 ∷ 0x43 ∷ []
 
+-- the user of a stamp, and that of a name
 abbrev pub user_stamped : List User → ℕ → Option User
 user_stamped users stamp = find (λ (u : User). u.stamp == stamp) users
 
@@ -53,6 +59,7 @@ is_maker DbO = true
 is_maker Dboo = true
 is_maker Dbbu = false
 
+-- a user of profile 01
 abbrev pub is_db_o : User → Bool
 is_db_o u = is_of u.profile
   where
@@ -60,6 +67,7 @@ is_db_o u = is_of u.profile
     is_of DbO = true
     is_of p = false
 
+-- the owner of this stamp is a user of profile 01 or 02
 abbrev pub is_made_by_maker : List User → ℕ → Bool
 is_made_by_maker users stamp = option_map_or (λ (u : User). is_maker u.profile) (user_stamped users stamp) false
 
@@ -72,9 +80,11 @@ has_maker users u = is_right u.profile
     is_right Dboo = u.owner == 1
     is_right Dbbu = is_made_by_maker users u.owner
 
+-- a user without a secret has three tries
 abbrev pub has_all_tries : User → Bool
 has_all_tries u = not (length u.secret == 0) || (u.tries == 3)
 
+-- These are the users of a valid database.
 pub record AreUsers (users : List User) : Type 0 where
   -- in rising order of their stamps, each within its limits
   pub rises : Rises (λ (u : User). u.stamp) users
@@ -84,22 +94,24 @@ pub record AreUsers (users : List User) : Type 0 where
   -- their names are different, and none is PUBLIC
   pub names : are_different (map (λ (u : User). u.name) users) ≡ true
   pub none_public : list_any (λ (u : User). bytes_eq public_name u.name) users ≡ false
-  -- who owns a user may have made it; a user without a secret has all tries
+  -- each is owned by one who may have made it, and has all tries where it has no secret
   pub makers : list_all (has_maker users) users ≡ true
   pub tries : list_all has_all_tries users ≡ true
 
 -- Objects.
 
+-- the object of a stamp
 abbrev pub object_stamped : List Object → ℕ → Option Object
 object_stamped objects stamp = find (λ (o : Object). o.stamp == stamp) objects
 
+-- an object is a table
 abbrev pub is_table : ObjectKind → Bool
 is_table (Table columns) = true
 is_table kind = false
 
--- an object on which a view may rest: it stands at a depth below 4
+-- an object on which a view may rest: it doesn't stand at the greatest depth
 abbrev pub may_have_view : List Object → Object → Bool
-may_have_view objects base = option_map_or (λ depth. nat_lt depth 4) (depth_of objects base.stamp) false
+may_have_view objects base = option_map_or (λ depth. nat_lt depth deepest) (depth_of objects base.stamp) false
 
 -- the base is older, has the same owner, and may have a view; the view's columns are the base's, and so are its conditions' columns
 abbrev pub rests_on : List Object → Object → List (List ℕ) → List Condition → Object → Bool
@@ -107,7 +119,7 @@ rests_on objects o columns conditions base =
     nat_lt base.stamp o.stamp && (base.owner == o.owner) && may_have_view objects base
     && are_among columns (columns_of base.kind) && are_among (map (λ (c : Condition). c.column) conditions) (columns_of base.kind)
 
--- a table's columns are different; so are those of a view, which rests on a base
+-- a table's columns are different; so are a view's, and it rests on a base that is there
 abbrev pub is_founded : List Object → Object → Bool
 is_founded objects o = is_right o.kind
   where
@@ -117,10 +129,11 @@ is_founded objects o = is_right o.kind
         are_different columns && option_map_or (rests_on objects o columns conditions) (object_stamped objects base) false
     is_right (Dictionary subject) = true
 
--- a record that is no row's has at most 512 octets; only a view's could have more
+-- a record has at most 512 octets, as each has that is no row's; of objects only a view could have more
 abbrev pub is_short : Object → Bool
 is_short o = nat_le (length (object_spelling o)) 512
 
+-- These are the objects of a valid database with these users.
 pub record AreObjects (users : List User) (objects : List Object) : Type 0 where
   -- in rising order of their stamps, each within its limits
   pub rises : Rises (λ (o : Object). o.stamp) objects
@@ -133,24 +146,23 @@ pub record AreObjects (users : List User) (objects : List Object) : Type 0 where
 
 -- Grants.
 
+-- its object is there, and its grantee is a user or everybody
 abbrev pub has_object_and_grantee : List User → List Object → Grant → Bool
 has_object_and_grantee users objects g =
     list_any (λ (o : Object). o.stamp == g.object) objects && ((g.grantee == 0) || list_any (λ (u : User). u.stamp == g.grantee) users)
 
+-- two grants are of one object to one grantee
 abbrev pub is_of_pair : Grant → Grant → Bool
 is_of_pair g h = (g.object == h.object) && (g.grantee == h.grantee)
 
-abbrev pub are_different_pairs : List Grant → Bool
-are_different_pairs [] = true
-are_different_pairs (g ∷ grants) = not (list_any (is_of_pair g) grants) && are_different_pairs grants
-
+-- These are the grants of a valid database with these users and objects.
 pub record AreGrants (users : List User) (objects : List Object) (grants : List Grant) : Type 0 where
   -- in rising order of their stamps, each within its limits
   pub rises : Rises (λ (g : Grant). g.stamp) grants
   pub limits : list_all grant_record.fits grants ≡ true
-  -- its object is there, and its grantee is a user or everybody; no two grants are of one object to one grantee
+  -- what each grants is there, and to whom; no two are of one object to one grantee
   pub parties : list_all (has_object_and_grantee users objects) grants ≡ true
-  pub pairs : are_different_pairs grants ≡ true
+  pub pairs : are_apart_by is_of_pair grants ≡ true
 
 -- Rows.
 
@@ -158,6 +170,7 @@ pub record AreGrants (users : List User) (objects : List Object) (grants : List 
 abbrev pub fits_table : RowRecord → Object → Bool
 fits_table r o = is_table o.kind && nat_lt o.stamp r.stamp && (length (columns_of o.kind) == length r.row)
 
+-- the row's table is there and fits it
 abbrev pub has_table : List Object → RowRecord → Bool
 has_table objects r = option_map_or (fits_table r) (object_stamped objects r.table) false
 
@@ -165,10 +178,11 @@ has_table objects r = option_map_or (fits_table r) (object_stamped objects r.tab
 abbrev pub is_within_limit : ℕ → RowRecord → Bool
 is_within_limit limit r = nat_le (row_size r.row) limit
 
+-- These are the rows of a valid database with these objects, on a card with this limit.
 pub record AreRows (limit : ℕ) (objects : List Object) (rows : List RowRecord) : Type 0 where
-  -- in rising order of their stamps, each within its limits and the card's
+  -- in rising order of their stamps, each within the limits of a row and the card's
   pub rises : Rises (λ (r : RowRecord). r.stamp) rows
   pub limits : list_all row_record.fits rows ≡ true
   pub lengths : list_all (is_within_limit limit) rows ≡ true
-  -- each row's table is there
+  -- each in a table
   pub tables : list_all (has_table objects) rows ≡ true

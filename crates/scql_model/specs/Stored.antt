@@ -1,4 +1,4 @@
--- What the records of a database must meet, of whatever kind: they have room, a length, and a stamp of their own.
+-- What the records of a database must meet, of whatever kind: they have room, a length that a store takes, and stamps of their own.
 use Rattle.std.specs.Prelude.{◌≡◌, ℕ, ◌+◌, ◌≤◌, nat_le, nat_lt, ◌&&◌, Bool, true, List, length}
 use Rattle.std.specs.List.{list_all, sum_by}
 use Rattle.eeprom.specs.StoreOf.{cells_for}
@@ -9,7 +9,7 @@ pub record StoredRecord : Type 0 where
   pub stamp : ℕ
   pub octets : List ℕ
 
--- how many cells octets take, and how many all of some records
+-- how many cells a record of these octets takes, and how many some records take together
 abbrev pub cells_for_octets : List ℕ → ℕ
 cells_for_octets octets = cells_for (length octets)
 
@@ -20,11 +20,11 @@ cells_of_records records = sum_by (λ (r : StoredRecord). cells_for_octets r.oct
 abbrev pub is_storable : StoredRecord → Bool
 is_storable r = nat_le 1 (length r.octets) && nat_le (length r.octets) 1029
 
--- a stamp is given out where it is at least 1 and below the next
+-- its stamp was given out: it is at least 1 and below the next
 abbrev pub is_given_out : ℕ → StoredRecord → Bool
 is_given_out next r = nat_le 1 r.stamp && nat_lt r.stamp next
 
--- The records are stored in so many cells beside a counter, which takes some of them and gives out the next stamp.
+-- The records stand in so many cells beside a counter, which takes some of the cells and gives out the next stamp.
 pub record IsStored (cells counter_cells next : ℕ) (records : List StoredRecord) : Type 0 where
   -- the counter and all records have room
   pub room : counter_cells + cells_of_records records ≤ cells
