@@ -3,12 +3,13 @@ ghost use Rattle.std.specs.Prelude.{◌≡◌, ◌+◌, ◌*◌, ◌≤◌, ◌<
 ghost use Rattle.std.specs.List.{flat_map};
 ghost use Rattle.arrayvec.specs.ArrayVec.{array_vec_len};
 ghost use Rattle.eeprom.specs.Chip.{Becomes};
+ghost use Rattle.eeprom.specs.Frame.{HasRoom, Reads};
 ghost use Rattle.eeprom.specs.StoreOf.{chain_of, number_at, cell_place, payload_of};
 ghost use Rattle.cell_store.specs.Cells.{kept, StandsFor};
 ghost use Rattle.cell_store.specs.Claims.{TakesChain, HasRecord, HasNoRecord};
 ghost use Rattle.cell_store.specs.Claiming.{ClaimsCell, IsTakenCell, record_cells};
 ghost use Rattle.cell_store.specs.Reading.{Appends, ReadsAtMost, ReadsCells};
-ghost use Rattle.cell_store.specs.CountsFaults.{CountsClaimFaults};
+ghost use Rattle.cell_store.specs.Faults.{is_claim_fault};
 
 use crate::ClaimRefusal;
 use crate::chain::{Payload, read_cell};
@@ -28,7 +29,7 @@ pub fn claim_cells<B: Eeprom>(
 ) -> Result<u16, ClaimRefusal>
     requires few { 16 ≤ cells }
     requires many { cells ≤ 2048 }
-    requires room { 70 * cells + 34 ≤ (B.chip bench.old).still.size }
+    requires room { HasRoom cells (B.chip bench.old) }
     requires used { length used.old ≡ 2 * cells }
     requires links { length links.old ≡ 2 * cells }
     ensures takes { IfOk result (λ count. TakesChain (kept cells used.old links.old) (kept cells used.new links.new) first count) }
@@ -43,8 +44,7 @@ pub fn claim_cells<B: Eeprom>(
     ensures bad_chain { IsErrOf result ClaimRefusal.BadChain → IfSome (B.chip bench.old).image (HasNoRecord (kept cells used.old links.old) first) }
     ensures used { length used.new ≡ length used.old }
     ensures links { length links.new ≡ length links.old }
-    ensures same { B.chip bench.new ≡ B.chip bench.old }
-    ensures cause { CountsClaimFaults (B.faults bench.old) (B.faults bench.new) result }
+    ensures frame { Reads is_claim_fault B.chip B.faults bench.old bench.new result }
 {
     payload.clear();
     let mut next = claim_cell(bench, cells, used, links, first, payload)?;
@@ -71,7 +71,7 @@ fn claim_cell<B: Eeprom>(
     payload: &mut Payload,
 ) -> Result<u16, ClaimRefusal>
     requires many { cells ≤ 2048 }
-    requires room { 70 * cells + 34 ≤ (B.chip bench.old).still.size }
+    requires room { HasRoom cells (B.chip bench.old) }
     requires used { length used.old ≡ 2 * cells }
     requires links { length links.old ≡ 2 * cells }
     requires fits { array_vec_len payload.old + 30 ≤ 540 }
@@ -84,8 +84,7 @@ fn claim_cell<B: Eeprom>(
     ensures taken { IsErrOf result ClaimRefusal.BadChain → IsTakenCell (kept cells used.old links.old) cell }
     ensures used { length used.new ≡ length used.old }
     ensures links { length links.new ≡ length links.old }
-    ensures same { B.chip bench.new ≡ B.chip bench.old }
-    ensures cause { CountsClaimFaults (B.faults bench.old) (B.faults bench.new) result }
+    ensures frame { Reads is_claim_fault B.chip B.faults bench.old bench.new result }
 {
     let place = cell as usize;
     if place >= used.len() || used[place] {

@@ -3,6 +3,7 @@ ghost use Rattle.std.specs.Prelude.{◌≡◌, ◌+◌, ◌*◌, ◌≤◌, ◌<
 ghost use Rattle.arrayvec.specs.ArrayVec.{array_vec_len};
 ghost use Rattle.eeprom.specs.Chip.{Becomes, RisesBy};
 ghost use Rattle.eeprom.specs.Fault.{Counts};
+ghost use Rattle.eeprom.specs.Frame.{HasRoom};
 ghost use Rattle.eeprom.specs.StoreOf.{number_at, record_in, two_octets};
 ghost use Rattle.cell_store.specs.Marks.{unmarked};
 ghost use Rattle.cell_store.specs.Placed.{IsLaid, IsPlaced, KeepsMarked};
@@ -97,7 +98,7 @@ pub fn write_cells<B: Eeprom>(
     count: u16,
 ) -> Result<u16, EepromFault>
     requires many { cells ≤ 2048 }
-    requires room { 70 * cells + 34 ≤ (B.chip bench.old).still.size }
+    requires room { HasRoom cells (B.chip bench.old) }
     requires marks { length marks.old ≡ 2 * cells }
     requires links { length links.old ≡ 2 * cells }
     requires payload { 30 * count ≤ length payload.now }

@@ -1,7 +1,8 @@
 // The cells of an EEPROM, of which it is kept in memory which are used, and how these are linked.
 ghost use Rattle.std.specs.Prelude.{◌≡◌, ◌↔◌, ◌+◌, ◌*◌, ◌≤◌, ◌<◌, ℕ, List, false, Some, length, is_some, replicate, IfSome, IfOk, OnOk, IsErrOf};
 ghost use Rattle.eeprom.specs.Chip.{Becomes, RisesBy};
-ghost use Rattle.eeprom.specs.Fault.{Counts};
+ghost use Rattle.eeprom.specs.Fault.{CountsFaults, each_error};
+ghost use Rattle.eeprom.specs.Frame.{HasRoom, Reads};
 ghost use Rattle.eeprom.specs.StoreOf.{slot_of};
 ghost use Rattle.eeprom.specs.StoreOf as image;
 ghost use Rattle.cell_store.specs.Marks.{StaysMarked, unmarked};
@@ -11,7 +12,7 @@ ghost use Rattle.cell_store.specs.Claims.{TakesChain, HasRecord, HasNoRecord};
 ghost use Rattle.cell_store.specs.Writing.{IsWritten, KeepsChains};
 ghost use Rattle.cell_store.specs.Placed.{KeepsMarked};
 ghost use Rattle.cell_store.specs.Reading.{ReadsAtMost, ReadsCells, ReadsRecord};
-ghost use Rattle.cell_store.specs.CountsFaults.{CountsClaimFaults, CountsWriteFaults};
+ghost use Rattle.cell_store.specs.Faults.{is_claim_fault, is_write_fault};
 
 use crate::chain::{Payload, RecordOctets, copy_record, read_record};
 use crate::claims::claim_cells;
@@ -69,7 +70,7 @@ impl CellStore {
     /// Claims the chain that begins at a cell, which the image has a record in, and answers how many cells it has.
     /// After a refusal the store of cells isn't to be used again.
     pub fn claim_chain<B: Eeprom>(&mut self, bench: &mut B, first: u16) -> Result<u16, ClaimRefusal>
-        requires room { 70 * self.old.cells + 34 ≤ (B.chip bench.old).still.size }
+        requires room { HasRoom self.old.cells (B.chip bench.old) }
         ensures takes { IfOk result (λ count. TakesChain self.old self.new first count) }
         ensures some { IfOk result (λ count. 1 ≤ count) }
         ensures stands { OnOk result (IfSome (B.chip bench.old).image (λ image. StandsFor self.old image → StandsFor self.new image)) }
@@ -77,8 +78,7 @@ impl CellStore {
         ensures octets_read { IfOk result (λ count. Becomes (ReadsCells count) (B.octets_read bench.old) (B.octets_read bench.new)) }
         ensures most_read { Becomes (ReadsAtMost (CELL * LONGEST)) (B.octets_read bench.old) (B.octets_read bench.new) }
         ensures bad_chain { IsErrOf result ClaimRefusal.BadChain → IfSome (B.chip bench.old).image (HasNoRecord self.old first) }
-        ensures same { B.chip bench.new ≡ B.chip bench.old }
-        ensures cause { CountsClaimFaults (B.faults bench.old) (B.faults bench.new) result }
+        ensures frame { Reads is_claim_fault B.chip B.faults bench.old bench.new result }
     {
         self.claim_record(bench, first, &mut RecordOctets::new())
     }
@@ -91,7 +91,7 @@ impl CellStore {
         first: u16,
         out: &mut RecordOctets,
     ) -> Result<u16, ClaimRefusal>
-        requires room { 70 * self.old.cells + 34 ≤ (B.chip bench.old).still.size }
+        requires room { HasRoom self.old.cells (B.chip bench.old) }
         ensures takes { IfOk result (λ count. TakesChain self.old self.new first count) }
         ensures stands { OnOk result (IfSome (B.chip bench.old).image (λ image. StandsFor self.old image → StandsFor self.new image)) }
         ensures record { OnOk result (IfSome (B.chip bench.old).image (HasRecord self.new first)) }
@@ -102,8 +102,7 @@ impl CellStore {
         ensures octets_read { IfOk result (λ count. Becomes (ReadsCells count) (B.octets_read bench.old) (B.octets_read bench.new)) }
         ensures most_read { Becomes (ReadsAtMost (CELL * LONGEST)) (B.octets_read bench.old) (B.octets_read bench.new) }
         ensures bad_chain { IsErrOf result ClaimRefusal.BadChain → IfSome (B.chip bench.old).image (HasNoRecord self.old first) }
-        ensures same { B.chip bench.new ≡ B.chip bench.old }
-        ensures cause { CountsClaimFaults (B.faults bench.old) (B.faults bench.new) result }
+        ensures frame { Reads is_claim_fault B.chip B.faults bench.old bench.new result }
     {
         let used = self.used.as_mut_slice();
         let links = self.links.as_mut_slice();
@@ -121,7 +120,7 @@ impl CellStore {
     ) -> Result<u16, CellRefusal>
         requires some { 1 ≤ length octets.now }
         requires most { length octets.now ≤ 512 }
-        requires room { 70 * self.old.cells + 34 ≤ (B.chip bench.old).still.size }
+        requires room { HasRoom self.old.cells (B.chip bench.old) }
         ensures takes { IfOk result (λ first. TakesChain self.old self.new first (image.cells_for (length octets.now))) }
         ensures written { IfOk result (λ first. Becomes (IsWritten self.old self.new first octets.now) (B.chip bench.old).image (B.chip bench.new).image) }
         ensures no_cell { IsErrOf result CellRefusal.NoCell ↔ (unmarked self.old.used < image.cells_for (length octets.now)) }
@@ -131,7 +130,7 @@ impl CellStore {
         ensures told { OnOk result (is_some (B.chip bench.new).image ≡ is_some (B.chip bench.old).image) }
         ensures octets_written { OnOk result (Becomes (RisesBy (32 * image.cells_for (length octets.now))) (B.chip bench.old).written (B.chip bench.new).written) }
         ensures moments { KeepsMarked self.old.used self.old.cells (B.chip bench.old) (B.chip bench.new) }
-        ensures cause { CountsWriteFaults (B.faults bench.old) (B.faults bench.new) result }
+        ensures cause { CountsFaults is_write_fault (B.faults bench.old) (B.faults bench.new) result }
     {
         let count = cells_for(octets.len());
         if count as usize > count_free(self.used.as_slice()) {
@@ -160,13 +159,12 @@ impl CellStore {
         first: u16,
         out: &mut RecordOctets,
     ) -> Result<(), EepromFault>
-        requires room { 70 * self.now.cells + 34 ≤ (B.chip bench.old).still.size }
+        requires room { HasRoom self.now.cells (B.chip bench.old) }
         ensures record { OnOk result (IfSome (B.chip bench.old).image (λ image. (chain : List ℕ) → IsRecordChain image self.now.cells first chain
             → slot_of image self.now.cells chain ≡ Some out.new.items)) }
         ensures octets_read { OnOk result (IfSome (B.chip bench.old).image (λ image. (chain : List ℕ) → IsRecordChain image self.now.cells first chain
             → Becomes (ReadsRecord (Some out.new.items)) (B.octets_read bench.old) (B.octets_read bench.new))) }
-        ensures same { B.chip bench.new ≡ B.chip bench.old }
-        ensures cause { Counts (B.faults bench.old) (B.faults bench.new) result }
+        ensures frame { Reads each_error B.chip B.faults bench.old bench.new result }
     {
         read_record(bench, self.cells, first, out)
     }

@@ -1,6 +1,7 @@
 -- A store that is being opened: its slots are claimed one after another.
 use Rattle.std.specs.Prelude.{◌≡◌, ℕ, ◌+◌, ◌*◌, ◌<◌, ◌≤◌, Bool, true, List, [], ◌∷◌, length, take, Option, Some, None, IsSome, IfSome}
-use Rattle.eeprom.specs.Chip.{RisesBy}
+use Rattle.eeprom.specs.Chip.{Chip, RisesBy}
+use Rattle.eeprom.specs.Frame.{HasRoom}
 use Rattle.eeprom.specs.StoreOf.{Slots, slots_at, chain_of, is_record, slot_of, weight_of}
 use Rattle.cell_store.specs.Cells.{Cells, IsInRange, kept, AreLinksOf}
 use Rattle.cell_store.specs.Claims.{TakesChain}
@@ -32,6 +33,11 @@ pub record StandsSoFar (held : HeldSoFar) (image : List ℕ) : Type 0 where
   pub begins : BeginsAs held.cells held.selector held.firsts image
   pub links : AreLinksOf image held.cells held.used held.links
   pub claimed : IsSome (slots_so_far held image)
+
+-- the EEPROM has room for the store, and its image, where told, has what was opened so far
+pub record IsOverSoFar (held : HeldSoFar) (chip : Chip) : Type 0 where
+  pub room : HasRoom held.cells chip
+  pub stands : IfSome chip.image (StandsSoFar held)
 
 -- these slots are claimed, and their chains have so many cells
 pub record ClaimedSoFar (store : Cells) (firsts : List ℕ) (weight : ℕ) : Type 0 where
