@@ -20,7 +20,7 @@ pub record Kept : Type 0 where
 unfoldable pub committed_slots : Held → Option (List ℕ) → Option Slots
 committed_slots store image = option_and_then (contents store Committed) image
 
--- The card answers, no transaction is begun, and the EEPROM is its store's.
+-- The card answers, no transaction is begun, and its store is over the EEPROM.
 pub record IsReady (card : Kept) (chip : Chip) : Type 0 where
   pub live : IsTrue card.live
   pub idle : card.store.begun ≡ false

@@ -5,19 +5,19 @@ ghost use Rattle.arrayvec.specs.ArrayVec.{array_vec_len};
 ghost use Rattle.eeprom.specs.Chip.{Becomes};
 ghost use Rattle.eeprom.specs.Fault.{each_error};
 ghost use Rattle.eeprom.specs.Frame.{HasRoom, Reads};
-ghost use Rattle.eeprom.specs.StoreOf.{chain_of, payload_of, slot_of, record_in, number_at, cell_place};
+ghost use Rattle.eeprom.specs.StoreOf.{chain_of, payload_of, slot_of, record_in, number_at, cell_place, piece_size, longest_record, longest_chain};
 ghost use Rattle.cell_store.specs.Chains.{IsRecordChain};
 ghost use Rattle.cell_store.specs.Reading.{Appends, ReadsCells, ReadsRecord};
 
-use crate::layout::{CELL, LINK, LONGEST, cell_place, number_of};
+use crate::layout::{CELL, LARGEST, LINK, LONGEST, LONGEST_RECORD, cell_place, number_of};
 use arrayvec::ArrayVec;
 use eeprom::{Eeprom, EepromFault};
 
 /// The octets of a record.
-pub type RecordOctets = ArrayVec<u8, 512>;
+pub type RecordOctets = ArrayVec<u8, LONGEST_RECORD>;
 
 /// The payload of the longest chain.
-pub type Payload = ArrayVec<u8, 540>;
+pub type Payload = ArrayVec<u8, LARGEST>;
 
 /// Reads the record whose chain begins at `first`.
 pub fn read_record<B: Eeprom>(
@@ -49,9 +49,9 @@ fn read_payload<B: Eeprom>(
     requires many { cells ≤ 2048 }
     requires room { HasRoom cells (B.chip bench.old) }
     ensures payload { OnOk result (IfSome (B.chip bench.old).image (λ image. (chain : List ℕ) → chain_of image cells (2 * cells) first ≡ Some chain
-        → length chain ≤ LONGEST → payload.new.items ≡ flat_map (payload_of image cells) chain)) }
+        → length chain ≤ longest_chain → payload.new.items ≡ flat_map (payload_of image cells) chain)) }
     ensures octets_read { OnOk result (IfSome (B.chip bench.old).image (λ image. (chain : List ℕ) → chain_of image cells (2 * cells) first ≡ Some chain
-        → length chain ≤ LONGEST → Becomes (ReadsCells (length chain)) (B.octets_read bench.old) (B.octets_read bench.new))) }
+        → length chain ≤ longest_chain → Becomes (ReadsCells (length chain)) (B.octets_read bench.old) (B.octets_read bench.new))) }
     ensures frame { Reads each_error B.chip B.faults bench.old bench.new result }
 {
     payload.clear();
@@ -75,10 +75,10 @@ pub fn read_cell<B: Eeprom>(
     requires many { cells ≤ 2048 }
     requires inside { cell < 2 * cells }
     requires room { HasRoom cells (B.chip bench.old) }
-    requires fits { array_vec_len payload.old + 30 ≤ 540 }
+    requires fits { array_vec_len payload.old + piece_size ≤ piece_size * longest_chain }
     ensures link { IfOk result (λ next. IfSome (B.chip bench.old).image (λ image. next ≡ number_at image (cell_place cells cell))) }
     ensures payload { OnOk result (IfSome (B.chip bench.old).image (λ image. payload.new.items ≡ payload.old.items ++ payload_of image cells cell)) }
-    ensures appends { OnOk result (Appends 30 payload.old.items payload.new.items) }
+    ensures appends { OnOk result (Appends piece_size payload.old.items payload.new.items) }
     ensures octets_read { Becomes (ReadsCells 1) (B.octets_read bench.old) (B.octets_read bench.new) }
     ensures frame { Reads each_error B.chip B.faults bench.old bench.new result }
 {
@@ -99,7 +99,7 @@ pub fn append<const CAP: usize>(out: &mut ArrayVec<u8, CAP>, octets: &[u8])
 
 /// Copies the record out of a chain's payload, where one is there.
 pub fn copy_record(payload: &[u8], out: &mut RecordOctets)
-    ensures record { number_at payload.now 0 ≤ 512 → 2 + number_at payload.now 0 ≤ length payload.now → out.new.items ≡ record_in payload.now }
+    ensures record { number_at payload.now 0 ≤ longest_record → 2 + number_at payload.now 0 ≤ length payload.now → out.new.items ≡ record_in payload.now }
 {
     out.clear();
     let [high, low, rest @ ..] = payload else {

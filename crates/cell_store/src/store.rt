@@ -3,7 +3,7 @@ ghost use Rattle.std.specs.Prelude.{◌≡◌, ◌↔◌, ◌+◌, ◌*◌, ◌�
 ghost use Rattle.eeprom.specs.Chip.{Becomes, RisesBy};
 ghost use Rattle.eeprom.specs.Fault.{CountsFaults, each_error};
 ghost use Rattle.eeprom.specs.Frame.{HasRoom, Reads};
-ghost use Rattle.eeprom.specs.StoreOf.{slot_of};
+ghost use Rattle.eeprom.specs.StoreOf.{slot_of, cell_size, longest_record, longest_chain};
 ghost use Rattle.eeprom.specs.StoreOf as image;
 ghost use Rattle.cell_store.specs.Marks.{StaysMarked, unmarked};
 ghost use Rattle.cell_store.specs.Chains.{IsRecordChain, steps};
@@ -16,7 +16,7 @@ ghost use Rattle.cell_store.specs.Faults.{is_claim_fault, is_write_fault};
 
 use crate::chain::{Payload, RecordOctets, copy_record, read_record};
 use crate::claims::claim_cells;
-use crate::layout::{CELL, CELLS, LONGEST, NO_CELL};
+use crate::layout::{CELLS, LONGEST, NO_CELL, PIECE};
 use crate::marks::count_free;
 use crate::placing::{payload_of_record, write_cells};
 use crate::{CellRefusal, ClaimRefusal};
@@ -76,7 +76,7 @@ impl CellStore {
         ensures stands { OnOk result (IfSome (B.chip bench.old).image (λ image. StandsFor self.old image → StandsFor self.new image)) }
         ensures record { OnOk result (IfSome (B.chip bench.old).image (HasRecord self.new first)) }
         ensures octets_read { IfOk result (λ count. Becomes (ReadsCells count) (B.octets_read bench.old) (B.octets_read bench.new)) }
-        ensures most_read { Becomes (ReadsAtMost (CELL * LONGEST)) (B.octets_read bench.old) (B.octets_read bench.new) }
+        ensures most_read { Becomes (ReadsAtMost (cell_size * longest_chain)) (B.octets_read bench.old) (B.octets_read bench.new) }
         ensures bad_chain { IsErrOf result ClaimRefusal.BadChain → IfSome (B.chip bench.old).image (HasNoRecord self.old first) }
         ensures frame { Reads is_claim_fault B.chip B.faults bench.old bench.new result }
     {
@@ -100,7 +100,7 @@ impl CellStore {
         ensures some { OnOk result (1 ≤ length out.new.items) }
         ensures count { IfOk result (λ count. count ≡ image.cells_for (length out.new.items)) }
         ensures octets_read { IfOk result (λ count. Becomes (ReadsCells count) (B.octets_read bench.old) (B.octets_read bench.new)) }
-        ensures most_read { Becomes (ReadsAtMost (CELL * LONGEST)) (B.octets_read bench.old) (B.octets_read bench.new) }
+        ensures most_read { Becomes (ReadsAtMost (cell_size * longest_chain)) (B.octets_read bench.old) (B.octets_read bench.new) }
         ensures bad_chain { IsErrOf result ClaimRefusal.BadChain → IfSome (B.chip bench.old).image (HasNoRecord self.old first) }
         ensures frame { Reads is_claim_fault B.chip B.faults bench.old bench.new result }
     {
@@ -119,7 +119,7 @@ impl CellStore {
         octets: &[u8],
     ) -> Result<u16, CellRefusal>
         requires some { 1 ≤ length octets.now }
-        requires most { length octets.now ≤ 512 }
+        requires most { length octets.now ≤ longest_record }
         requires room { HasRoom self.old.cells (B.chip bench.old) }
         ensures takes { IfOk result (λ first. TakesChain self.old self.new first (image.cells_for (length octets.now))) }
         ensures written { IfOk result (λ first. Becomes (IsWritten self.old self.new first octets.now) (B.chip bench.old).image (B.chip bench.new).image) }
@@ -128,7 +128,7 @@ impl CellStore {
         ensures fault { IsErrOf result CellRefusal.Fault → KeepsChains self.old self.new }
         ensures there { IfOk result (λ first. first < 2 * self.old.cells) }
         ensures told { OnOk result (is_some (B.chip bench.new).image ≡ is_some (B.chip bench.old).image) }
-        ensures octets_written { OnOk result (Becomes (RisesBy (32 * image.cells_for (length octets.now))) (B.chip bench.old).written (B.chip bench.new).written) }
+        ensures octets_written { OnOk result (Becomes (RisesBy (cell_size * image.cells_for (length octets.now))) (B.chip bench.old).written (B.chip bench.new).written) }
         ensures moments { KeepsMarked self.old.used self.old.cells (B.chip bench.old) (B.chip bench.new) }
         ensures cause { CountsFaults is_write_fault (B.faults bench.old) (B.faults bench.new) result }
     {
@@ -197,8 +197,8 @@ impl CellStore {
     /// How many cells the used chain has that begins at a cell.
     pub fn length_of_chain(&self, first: u16) -> u16
         ensures chain { (chain : List ℕ) → IsUsedChain self.now first chain → result ≡ length chain }
-        ensures length { result ≡ steps self.now.links LONGEST first }
-        ensures most { result ≤ LONGEST }
+        ensures length { result ≡ steps self.now.links longest_chain first }
+        ensures most { result ≤ longest_chain }
     {
         let mut cell = first as usize;
         for count in 0..LONGEST {
@@ -213,8 +213,8 @@ impl CellStore {
 
 /// The cells of a record with so many octets.
 pub fn cells_for(size: usize) -> u16
-    requires most { size ≤ 512 }
+    requires most { size ≤ longest_record }
     ensures { result ≡ image.cells_for size }
 {
-    ((size + 31) / 30) as u16
+    ((size + 31) / PIECE) as u16
 }

@@ -24,12 +24,19 @@ two_octets number = (number / 256) ∷ (number % 256) ∷ []
 abbrev pub directory : List ℕ → ℕ → List ℕ
 directory image n = numbers_at image (32 + 2 * n * (slice_index image 8 % 2)) n
 
--- where a cell of 32 octets begins: two octets for the next cell, 65,535 for none, and 30 of payload
+-- how many octets a cell has, and how many of them are payload
+abbrev pub cell_size : ℕ
+cell_size = 32
+
+abbrev pub piece_size : ℕ
+piece_size = 30
+
+-- where a cell begins: two octets for the next cell, 65,535 for none, and then the payload
 abbrev pub cell_place : ℕ → ℕ → ℕ
-cell_place n cell = 34 + 6 * n + 32 * cell
+cell_place n cell = 34 + 6 * n + cell_size * cell
 
 abbrev pub payload_of : List ℕ → ℕ → ℕ → List ℕ
-payload_of image n cell = slice_range image (cell_place n cell + 2) (cell_place n cell + 32)
+payload_of image n cell = slice_range image (cell_place n cell + 2) (cell_place n cell + cell_size)
 
 -- the cells from this one on, linked in order, where they end within so many
 abbrev pub chain_of : List ℕ → ℕ → ℕ → ℕ → Option (List ℕ)
@@ -46,7 +53,7 @@ chains_of image n (first ∷ rest) =
 
 -- the least whole number of cells that hold a record of this length and the two octets of its length
 abbrev pub cells_for : ℕ → ℕ
-cells_for size = (size + 31) / 30
+cells_for size = (size + 31) / piece_size
 
 -- the cells of the record in a slot, and of the records in all slots
 abbrev pub cells_of : Option (List ℕ) → ℕ
@@ -64,7 +71,7 @@ abbrev pub slot_of : List ℕ → ℕ → List ℕ → Option (List ℕ)
 slot_of image n [] = None
 slot_of image n (cell ∷ cells) = Some (record_in (flat_map (payload_of image n) (cell ∷ cells)))
 
--- the most octets of a record, and the most cells of its chain
+-- how many octets a record has at most, and how many cells its chain
 abbrev pub longest_record : ℕ
 longest_record = 512
 

@@ -3,7 +3,7 @@
 ghost use Rattle.std.specs.Prelude.{◌≡◌, ◌≢◌, ◌+◌, ◌*◌, ◌≤◌, ◌<◌, ◌++◌, [], ◌∷◌, None, length, option_map, IfSome, IfOk, IsErrOf, OnOk};
 ghost use Rattle.eeprom.specs.Chip.{Becomes, RisesBy};
 ghost use Rattle.eeprom.specs.Frame.{HasRoom, Reads};
-ghost use Rattle.eeprom.specs.StoreOf.{store_of, cells_of};
+ghost use Rattle.eeprom.specs.StoreOf.{store_of, cells_of, cell_size, longest_chain};
 ghost use Rattle.cell_store.specs.Reading.{ReadsAtMost, ReadsCells};
 ghost use Rattle.cell_store.specs.Claims.{HasNoRecord};
 ghost use Rattle.cell_store.specs.Cells.{StandsFor};
@@ -99,7 +99,7 @@ impl Opening {
         ensures few { IfOk result (λ next. next.weight ≤ next.cells) }
         ensures cells { IfOk result (λ next. next.cells ≡ self.cells) }
         ensures octets_read { OnOk result (Becomes (ReadsCells (cells_of (slot_with out.new.items))) (B.octets_read bench.old) (B.octets_read bench.new)) }
-        ensures most_read { Becomes (ReadsAtMost (32 * 18)) (B.octets_read bench.old) (B.octets_read bench.new) }
+        ensures most_read { Becomes (ReadsAtMost (cell_size * longest_chain)) (B.octets_read bench.old) (B.octets_read bench.new) }
         ensures no_memory_taken { ¬ (IsErrOf result OpenRefusal.NoMemory) }
         ensures not_a_card { IsErrOf result OpenRefusal.NotACard → IfSome (B.chip bench.old).image (λ image. store_of image ≡ None) }
         ensures frame { Reads is_open_fault B.chip B.faults bench.old bench.new result }
@@ -141,7 +141,7 @@ fn claim_slot<B: Eeprom>(
     ensures stands { OnOk result (IfSome (B.chip bench.old).image (λ image. StandsFor chains.old image → StandsFor chains.new image)) }
     ensures count { IfOk result (λ count. count ≡ cells_of (slot_with out.new.items)) }
     ensures octets_read { IfOk result (λ count. Becomes (ReadsCells count) (B.octets_read bench.old) (B.octets_read bench.new)) }
-    ensures most_read { Becomes (ReadsAtMost (32 * 18)) (B.octets_read bench.old) (B.octets_read bench.new) }
+    ensures most_read { Becomes (ReadsAtMost (cell_size * longest_chain)) (B.octets_read bench.old) (B.octets_read bench.new) }
     ensures bad_chain { IsErrOf result ClaimRefusal.BadChain → (first ≢ 65535) × IfSome (B.chip bench.old).image (HasNoRecord chains.old first) }
     ensures frame { Reads is_claim_fault B.chip B.faults bench.old bench.new result }
 {

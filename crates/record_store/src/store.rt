@@ -3,7 +3,7 @@ ghost use Rattle.std.specs.Prelude.{◌≡◌, ◌+◌, ◌*◌, ◌≤◌, ◌<
 ghost use Rattle.eeprom.specs.Chip.{Becomes, RisesBy, Keeps};
 ghost use Rattle.eeprom.specs.Fault.{Counts, CountsFaults, each_error};
 ghost use Rattle.eeprom.specs.Frame.{Reads};
-ghost use Rattle.eeprom.specs.StoreOf.{Slots, store_of};
+ghost use Rattle.eeprom.specs.StoreOf.{Slots, store_of, cell_size, longest_record};
 ghost use Rattle.eeprom.specs.StoreOf as image;
 ghost use Rattle.record_store.specs.Held.{firsts, contents, record_at, StandsFor, IsOver};
 ghost use Rattle.record_store.specs.Opening.{StandsSoFar, ReadsStore, most_octets, slots_so_far};
@@ -160,7 +160,7 @@ impl Store {
         requires begun { IsTrue self.old.begun }
         requires slot { IfSome slot (λ slot. slot < self.old.cells) }
         requires some { 1 ≤ length octets.now }
-        requires most { length octets.now ≤ 512 }
+        requires most { length octets.now ≤ longest_record }
         requires over { IsOver self.old (B.chip bench.old) }
         ensures named { IfOk result (λ found. IfSome slot (λ slot. found ≡ slot)) }
         ensures empty { IfOk result (λ found. slot ≡ None → IfSome (B.chip bench.old).image (λ image. record_at self.old Working found image ≡ None)) }
@@ -172,7 +172,7 @@ impl Store {
         ensures told { OnOk result (is_some (B.chip bench.new).image ≡ is_some (B.chip bench.old).image) }
         ensures begun { OnOk result (self.new.begun ≡ self.old.begun) }
         ensures cells { OnOk result (self.new.cells ≡ self.old.cells) }
-        ensures octets_written { OnOk result (Becomes (RisesBy (32 * image.cells_for (length octets.now))) (B.chip bench.old).written (B.chip bench.new).written) }
+        ensures octets_written { OnOk result (Becomes (RisesBy (cell_size * image.cells_for (length octets.now))) (B.chip bench.old).written (B.chip bench.new).written) }
         ensures moments { Keeps store_of (B.chip bench.old) (B.chip bench.new) }
         ensures cause { CountsFaults is_put_fault (B.faults bench.old) (B.faults bench.new) result }
     {
