@@ -15,7 +15,7 @@ use Rattle.card.specs.Answering.{LeavesOneOf}
 pub Opens-at : (card : Kept) (chip : Chip) (m : Machine) → IsReady card chip → IsAt card chip m → (image : List ℕ) → chip.image ≡ Some image → Opens image m.committed
 unfolding committed_slots
 Opens-at card chip m ready at image told =
-    let stands : StandsFor card.store image = subst (λ (o : Option (List ℕ)). IfSome o (StandsFor card.store)) told ready.stands in
+    let stands : StandsFor card.store image = subst (λ (o : Option (List ℕ)). IfSome o (StandsFor card.store)) told ready.over.stands in
     let stored : contents card.store Committed image ≡ Some at.slots = subst (λ (o : Option (List ℕ)). committed_slots card.store o ≡ Some at.slots) told at.committed in
     record { slots = at.slots; stored = store_of-stands card.store image stands ∙ stored; holds = at.holds; valid = at.valid }
 

@@ -151,7 +151,7 @@ module _ (card : Kept) (old : Chip) (m : Machine) (at : IsAt card old m) (ready 
 
   size_told : (was : List ℕ) → old.image ≡ Some was → length at.slots ≡ card.store.cells
   size_told was told =
-      let stands : StandsFor card.store was = subst (λ (o : Option (List ℕ)). IfSome o (StandsFor card.store)) told ready.stands in
+      let stands : StandsFor card.store was = subst (λ (o : Option (List ℕ)). IfSome o (StandsFor card.store)) told ready.over.stands in
       subst (λ (o : Option Slots). IfSome o (λ slots. length slots ≡ card.store.cells)) (slots_told was told) (length-committed card.store was stands)
 
   -- slots to which both records are added hold the new database

@@ -1,10 +1,10 @@
 -- A record that is added and one that is changed, committed together.
-use Rattle.std.specs.Prelude.{◌≡◌, ◌⊎◌, ℕ, ◌+◌, ◌*◌, ◌<◌, ◌≤◌, List, length, Option, Some, None, is_some, Result, OnOk, IsErrOf, IfSome, option_map, slice_set, slice_index_or}
+use Rattle.std.specs.Prelude.{◌≡◌, ◌⊎◌, ℕ, ◌+◌, ◌<◌, ◌≤◌, List, length, Option, Some, None, is_some, Result, OnOk, IsErrOf, IfSome, option_map, slice_set, slice_index_or}
 use Rattle.eeprom.specs.Chip.{Chip, Becomes, LeavesOf}
 use Rattle.record_store.specs.declared.refusal.StoreRefusal.{StoreRefusal}
 use Rattle.record_store.specs.declared.refusal.StoreRefusal.TheVariants.{Full, Fault}
-use Rattle.eeprom.specs.StoreOf.{Slots, store_of, cells_for}
-use Rattle.record_store.specs.Held.{Held, contents, StandsFor}
+use Rattle.eeprom.specs.StoreOf.{Slots, store_of, cells_for, longest_record}
+use Rattle.record_store.specs.Held.{Held, contents, StandsFor, IsOver}
 use Rattle.eeprom.specs.StoreOf.{weight_of}
 use Rattle.record_store.specs.declared.side.Side.TheVariants.{Committed}
 
@@ -43,13 +43,12 @@ HasNoRoom cells added slots = cells < weight_of slots + cells_for (length added)
 abbrev pub IfCommitted : Held → Option (List ℕ) → (Slots → Type 0) → Type 0
 IfCommitted store image P = IfSome image (λ image. IfSome (contents store Committed image) P)
 
--- Two records may be written: the EEPROM has room for the store and has its image, and what is changed is as long as what was there.
+-- Two records may be written: the store is over the EEPROM, and what is changed is as long as what was there.
 pub record MayAdd (store : Held) (chip : Chip) (added : List ℕ) (slot : ℕ) (changed : List ℕ) : Type 0 where
-  pub room : 70 * store.cells + 34 ≤ chip.still.size
-  pub stands : IfSome chip.image (StandsFor store)
+  pub over : IsOver store chip
   pub inside : slot < store.cells
-  pub added_size : (1 ≤ length added) × (length added ≤ 512)
-  pub changed_size : (1 ≤ length changed) × (length changed ≤ 512)
+  pub added_size : (1 ≤ length added) × (length added ≤ longest_record)
+  pub changed_size : (1 ≤ length changed) × (length changed ≤ longest_record)
   pub as_long : IfCommitted store chip.image (IsAsLong slot changed)
 
 -- What becomes of a store and its EEPROM where both are to be committed: they are, or there was no room for the one that is added, or a device failed.

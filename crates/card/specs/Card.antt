@@ -1,8 +1,8 @@
 -- What a card keeps in memory, and at which machine it is together with its EEPROM.
-use Rattle.std.specs.Prelude.{◌≡◌, ℕ, ◌+◌, ◌*◌, ◌≤◌, Bool, false, List, Option, Some, None, option_and_then, IsTrue, IfSome}
+use Rattle.std.specs.Prelude.{◌≡◌, ℕ, Bool, false, List, Option, Some, None, option_and_then, IsTrue}
 use Rattle.eeprom.specs.Chip.{Chip}
 use Rattle.eeprom.specs.StoreOf.{Slots}
-use Rattle.record_store.specs.Held.{Held, contents, StandsFor}
+use Rattle.record_store.specs.Held.{Held, contents, IsOver}
 use Rattle.record_store.specs.declared.side.Side.TheVariants.{Committed}
 use Rattle.scql_model.specs.Database.{IsValid, owner}
 use Rattle.scql_model.specs.Records.{counter_record, user_record}
@@ -20,12 +20,11 @@ pub record Kept : Type 0 where
 unfoldable pub committed_slots : Held → Option (List ℕ) → Option Slots
 committed_slots store image = option_and_then (contents store Committed) image
 
--- The card answers, no transaction is begun, its EEPROM has room for it, and the image, where told, is one that its store stands for.
+-- The card answers, no transaction is begun, and its store is over the EEPROM.
 pub record IsReady (card : Kept) (chip : Chip) : Type 0 where
   pub live : IsTrue card.live
   pub idle : card.store.begun ≡ false
-  pub room : 70 * card.store.cells + 34 ≤ chip.still.size
-  pub stands : IfSome chip.image (StandsFor card.store)
+  pub over : IsOver card.store chip
 
 -- Card and EEPROM are at this machine: the image is told, its committed records are those of the machine's database, and the sessions are the machine's.
 pub record IsAt (card : Kept) (chip : Chip) (m : Machine) : Type 0 where

@@ -1,6 +1,7 @@
 // A record added to a store and another one changed, in one commit.
 ghost use Rattle.std.specs.Prelude.{◌≡◌, ℕ, List, false, IsTrue, IsErrOf, OnOk};
-ghost use Rattle.record_store.specs.CountsFaults.{CountsPutFaults};
+ghost use Rattle.eeprom.specs.Fault.{CountsFaults};
+ghost use Rattle.record_store.specs.Faults.{is_put_fault};
 ghost use Rattle.record_store.specs.Held.{contents};
 ghost use Rattle.record_store.specs.declared.side.Side.TheVariants.{Committed, Working};
 ghost use Rattle.card.specs.Adding.{MayAdd, Adds, IfCommitted};
@@ -23,7 +24,7 @@ pub(crate) fn add_and_change<B: Eeprom>(
     ensures unchanged { IsErrOf result StoreRefusal.Full → IfCommitted store.old (B.chip bench.old).image
         (λ slots. (B.chip bench.new ≡ B.chip bench.old) × ((image : List ℕ) → contents store.new Committed image ≡ contents store.old Committed image)) }
     ensures idle { ¬ IsErrOf result StoreRefusal.Fault → store.new.begun ≡ false }
-    ensures cause { CountsPutFaults (B.faults bench.old) (B.faults bench.new) result }
+    ensures cause { CountsFaults is_put_fault (B.faults bench.old) (B.faults bench.new) result }
 {
     store.begin();
     let written = write_both(store, bench, added, slot, changed);
@@ -49,7 +50,7 @@ fn write_both<B: Eeprom>(
         (λ slots. (B.chip bench.new ≡ B.chip bench.old) × (store.new ≡ store.old)) }
     ensures begun { IsErrOf result StoreRefusal.Full → IsTrue store.new.begun }
     ensures idle { OnOk result (store.new.begun ≡ false) }
-    ensures cause { CountsPutFaults (B.faults bench.old) (B.faults bench.new) result }
+    ensures cause { CountsFaults is_put_fault (B.faults bench.old) (B.faults bench.new) result }
 {
     store.put(bench, None, added)?;
     store.put(bench, Some(slot), changed)?;

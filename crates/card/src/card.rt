@@ -2,6 +2,7 @@
 ghost use Rattle.std.specs.Prelude.{◌≡◌, ◌≢◌, ◌↔◌, ℕ, List, slice_get, ◌<◌, ◌≤◌, ◌+◌, ◌*◌, [], ◌∷◌, Some, None, true, false, map, is_some, length, option_map, IfSome, IfOk, OnOk, IsTrue, IsErrOf};
 ghost use Rattle.eeprom.specs.Chip.{Chip, Becomes};
 ghost use Rattle.eeprom.specs.Fault.{Counts, Rose};
+ghost use Rattle.eeprom.specs.StoreOf.{image_size};
 ghost use Rattle.cell_store.specs.Reading.{ReadsAtMost};
 ghost use Rattle.record_store.specs.Held.{StandsFor};
 ghost use Rattle.record_store.specs.Opening.{most_octets};
@@ -74,7 +75,7 @@ impl Card {
         ensures fresh { OnOk result (IfSome (B.chip bench.new).image (λ image. Opens image (fresh n))) }
         ensures still { (B.chip bench.new).still ≡ (B.chip bench.old).still }
         ensures moments { LeavesMade n (B.chip bench.old) (B.chip bench.new) }
-        ensures too_small { IsErrOf result FormatRefusal.TooSmall ↔ ((B.chip bench.old).still.size < 70 * n + 34) }
+        ensures too_small { IsErrOf result FormatRefusal.TooSmall ↔ ((B.chip bench.old).still.size < image_size n) }
         ensures unchanged { IsErrOf result FormatRefusal.TooSmall → bench.new ≡ bench.old }
         ensures fault { IsErrOf result FormatRefusal.Fault → Rose (B.faults bench.old) (B.faults bench.new) }
         ensures quiet { OnOk result (B.faults bench.new ≡ B.faults bench.old) }

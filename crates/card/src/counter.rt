@@ -1,9 +1,10 @@
 // The counter of stamps in the slots of a store.
 ghost use Rattle.std.specs.Prelude.{◌≡◌, ◌<◌, ◌≤◌, ◌+◌, ◌*◌, Some, None, true, IfSome, IfNone, IfOk, option_map, slice_index_or};
 ghost use Rattle.std.specs.List.{find, filter_map};
-ghost use Rattle.eeprom.specs.Fault.{Counts};
+ghost use Rattle.eeprom.specs.Fault.{each_error};
+ghost use Rattle.eeprom.specs.Frame.{Reads};
 ghost use Rattle.eeprom.specs.Slots.{in_slot};
-ghost use Rattle.record_store.specs.Held.{StandsFor};
+ghost use Rattle.record_store.specs.Held.{IsOver};
 ghost use Rattle.scql_model.specs.Records as records;
 ghost use Rattle.card.specs.Users.{next_of};
 ghost use Rattle.card.specs.Card.{committed_slots};
@@ -24,15 +25,13 @@ pub(crate) fn find_counter<B: Eeprom>(
     store: &Store,
     bench: &mut B,
 ) -> Result<Option<CounterSlot>, EepromFault>
-    requires stands { IfSome (B.chip bench.old).image (StandsFor store.now) }
-    requires room { 70 * store.now.cells + 34 ≤ (B.chip bench.old).still.size }
+    requires over { IsOver store.now (B.chip bench.old) }
     ensures there { IfOk result (λ found. IfSome found (λ found. found.slot < store.now.cells)) }
     ensures counter { IfOk result (λ found. IfSome found (λ found. IfSome (committed_slots store.now (B.chip bench.old).image)
         (λ slots. Some (next_of found.counter) ≡ in_slot records.counter_in (slice_index_or slots found.slot None)))) }
     ensures none { IfOk result (λ found. IfNone found (IfSome (committed_slots store.now (B.chip bench.old).image)
         (λ slots. None ≡ find (λ _. true) (filter_map (in_slot records.counter_in) slots)))) }
-    ensures same { B.chip bench.new ≡ B.chip bench.old }
-    ensures cause { Counts (B.faults bench.old) (B.faults bench.new) result }
+    ensures frame { Reads each_error B.chip B.faults bench.old bench.new result }
 {
     let mut octets = RecordOctets::new();
     for slot in 0..store.cells() {
@@ -51,13 +50,11 @@ fn counter_at<B: Eeprom>(
     slot: u16,
     octets: &mut RecordOctets,
 ) -> Result<Option<Counter>, EepromFault>
-    requires stands { IfSome (B.chip bench.old).image (StandsFor store.now) }
-    requires room { 70 * store.now.cells + 34 ≤ (B.chip bench.old).still.size }
+    requires over { IsOver store.now (B.chip bench.old) }
     requires slot { slot < store.now.cells }
     ensures counter { IfOk result (λ counter. IfSome (committed_slots store.now (B.chip bench.old).image)
         (λ slots. option_map next_of counter ≡ in_slot records.counter_in (slice_index_or slots slot None))) }
-    ensures same { B.chip bench.new ≡ B.chip bench.old }
-    ensures cause { Counts (B.faults bench.old) (B.faults bench.new) result }
+    ensures frame { Reads each_error B.chip B.faults bench.old bench.new result }
 {
     if store.get(bench, Side::Committed, slot, octets)? {
         Ok(Counter::decode(octets))

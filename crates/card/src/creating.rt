@@ -1,9 +1,10 @@
 // CREATE USER: what is to be made, or the word that refuses it.
 ghost use Rattle.std.specs.Prelude.{◌≡◌, ◌≢◌, ◌<◌, ◌≤◌, ◌+◌, ◌*◌, Some, None, true, IfSome, IfOk, is_some, slice_index_or, if◌then◌else◌};
-ghost use Rattle.eeprom.specs.Fault.{Counts};
+ghost use Rattle.eeprom.specs.Fault.{each_error};
+ghost use Rattle.eeprom.specs.Frame.{Reads};
 ghost use Rattle.eeprom.specs.Slots.{in_slot};
 ghost use Rattle.eeprom.specs.StoreOf.{Slots};
-ghost use Rattle.record_store.specs.Held.{StandsFor};
+ghost use Rattle.record_store.specs.Held.{IsOver};
 ghost use Rattle.scql_model.specs.Records as records;
 ghost use Rattle.scql_model.specs.Database.{Database, IsValid};
 ghost use Rattle.scql_model.specs.Opens.{Holds};
@@ -43,14 +44,12 @@ pub(crate) fn prepare_user<B: Eeprom>(
     profile: Profile,
     secret: &Octets<8>,
 ) -> Result<Prepared, EepromFault>
-    requires stands { IfSome (B.chip bench.old).image (StandsFor store.now) }
-    requires room { 70 * store.now.cells + 34 ≤ (B.chip bench.old).still.size }
+    requires over { IsOver store.now (B.chip bench.old) }
     ensures prepares { (slots : Slots) (db : Database) → committed_slots store.now (B.chip bench.old).image ≡ Some slots → Holds slots db → IsValid db
         → IsAsked db actor name.now profile secret.now → IfOk result (Prepares db actor name.now profile secret.now slots) }
     ensures ready { IfOk result (IfReady (λ addition. (addition.counter_slot < store.now.cells) × (addition.user.stamp < 4294967295))) }
     ensures counter { IfOk result (IfReady (λ addition. IfSome (committed_slots store.now (B.chip bench.old).image) (IsCounter addition.counter_slot))) }
-    ensures same { B.chip bench.new ≡ B.chip bench.old }
-    ensures cause { Counts (B.faults bench.old) (B.faults bench.new) result }
+    ensures frame { Reads each_error B.chip B.faults bench.old bench.new result }
 {
     let Some(owner) = owner_for(actor, profile) else {
         return Ok(Prepared::Refused(StatusWord::SECURITY_NOT_SATISFIED));
@@ -104,12 +103,10 @@ fn owner_for(actor: Actor, profile: Profile) -> Option<u32>
 
 // Whether a user has the name, or it is PUBLIC.
 fn is_taken<B: Eeprom>(store: &Store, bench: &mut B, name: &Name) -> Result<bool, EepromFault>
-    requires stands { IfSome (B.chip bench.old).image (StandsFor store.now) }
-    requires room { 70 * store.now.cells + 34 ≤ (B.chip bench.old).still.size }
+    requires over { IsOver store.now (B.chip bench.old) }
     ensures taken { (slots : Slots) (db : Database) → committed_slots store.now (B.chip bench.old).image ≡ Some slots → Holds slots db → IsValid db
         → IfOk result (λ taken. taken ≡ model.is_taken db name.now) }
-    ensures same { B.chip bench.new ≡ B.chip bench.old }
-    ensures cause { Counts (B.faults bench.old) (B.faults bench.new) result }
+    ensures frame { Reads each_error B.chip B.faults bench.old bench.new result }
 {
     if name.octets() == PUBLIC {
         return Ok(true);

@@ -1,11 +1,12 @@
 // The records of a store, gathered as it is opened: one counter, and users of different stamps.
 ghost use Rattle.std.specs.Prelude.{◌≡◌, ◌≢◌, OnErr, ◌+◌, ◌*◌, ◌≤◌, [], ◌∷◌, ◌++◌, Some, None, false, IfSome, IfOk, OnOk, IsErrOf, count_by};
 ghost use Rattle.eeprom.specs.Chip.{Becomes};
+ghost use Rattle.eeprom.specs.Frame.{Reads};
 ghost use Rattle.eeprom.specs.StoreOf.{Slots, store_of};
 ghost use Rattle.eeprom.specs.Slots.{has, place};
 ghost use Rattle.cell_store.specs.Reading.{ReadsAtMost};
-ghost use Rattle.record_store.specs.CountsFaults.{CountsFaults};
-ghost use Rattle.record_store.specs.Held.{StandsFor, contents};
+ghost use Rattle.record_store.specs.Faults.{is_open_fault};
+ghost use Rattle.record_store.specs.Held.{IsOver, contents};
 ghost use Rattle.record_store.specs.Opening.{ReadsStore, most_octets, slot_with};
 ghost use Rattle.record_store.specs.declared.side.Side.TheVariants.{Committed};
 ghost use Rattle.scql_base.specs.declared.records.User.{User};
@@ -42,10 +43,9 @@ struct Found {
 
 /// Opens a store, and gathers the record of each slot as it is claimed. There is one counter, and no two users have one stamp.
 pub(crate) fn open_records<B: Eeprom>(alloc: Global, bench: &mut B) -> Result<Opened, OpenRefusal>
-    ensures stands { IfOk result (λ opened. IfSome (B.chip bench.old).image (StandsFor opened.store)) }
+    ensures over { IfOk result (λ opened. IsOver opened.store (B.chip bench.old)) }
     ensures stored { IfOk result (λ opened. IfSome (B.chip bench.old).image (λ image. store_of image ≡ contents opened.store Committed image)) }
     ensures idle { IfOk result (λ opened. opened.store.begun ≡ false) }
-    ensures room { IfOk result (λ opened. 70 * opened.store.cells + 34 ≤ (B.chip bench.old).still.size) }
     ensures gathers { IfOk result (λ opened. IfSome (B.chip bench.old).image (λ image. (slots : Slots) → store_of image ≡ Some slots
         → Gathers slots (opened.records.next ∷ []) (users_of opened.records.users))) }
     ensures by_stamp { IfOk result (λ opened. AreByStamp opened.records.users.entries) }
@@ -53,8 +53,7 @@ pub(crate) fn open_records<B: Eeprom>(alloc: Global, bench: &mut B) -> Result<Op
         → Becomes (ReadsStore opened.store.cells slots) (B.octets_read bench.old) (B.octets_read bench.new))) }
     ensures most_read { Becomes (ReadsAtMost most_octets) (B.octets_read bench.old) (B.octets_read bench.new) }
     ensures not_a_card { IsErrOf result OpenRefusal.NotACard → IfSome (B.chip bench.old).image (λ image. (slots : Slots) → store_of image ≡ Some slots → HoldNone slots) }
-    ensures same { B.chip bench.new ≡ B.chip bench.old }
-    ensures cause { CountsFaults (B.faults bench.old) (B.faults bench.new) result }
+    ensures frame { Reads is_open_fault B.chip B.faults bench.old bench.new result }
 {
     let mut opening = Opening::new(alloc, bench)?;
     let mut octets = RecordOctets::new();

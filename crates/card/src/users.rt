@@ -1,9 +1,10 @@
 // The users' records in the slots of a store.
 ghost use Rattle.std.specs.Prelude.{◌≡◌, ◌<◌, ◌≤◌, ◌+◌, ◌*◌, Option, None, IfSome, IfOk, option_map, slice_index_or};
 ghost use Rattle.std.specs.List.{find, filter_map};
-ghost use Rattle.eeprom.specs.Fault.{Counts};
+ghost use Rattle.eeprom.specs.Fault.{each_error};
+ghost use Rattle.eeprom.specs.Frame.{Reads};
 ghost use Rattle.eeprom.specs.Slots.{in_slot};
-ghost use Rattle.record_store.specs.Held.{StandsFor};
+ghost use Rattle.record_store.specs.Held.{IsOver};
 ghost use Rattle.scql_model.specs.Records as records;
 ghost use Rattle.card.specs.Users.{is_wanted};
 ghost use Rattle.card.specs.Card.{committed_slots};
@@ -26,12 +27,10 @@ pub(crate) fn find_user<B: Eeprom>(
     bench: &mut B,
     wanted: Wanted<'_>,
 ) -> Result<Option<User>, EepromFault>
-    requires stands { IfSome (B.chip bench.old).image (StandsFor store.now) }
-    requires room { 70 * store.now.cells + 34 ≤ (B.chip bench.old).still.size }
+    requires over { IsOver store.now (B.chip bench.old) }
     ensures user { IfOk result (λ user. IfSome (committed_slots store.now (B.chip bench.old).image)
         (λ slots. user ≡ find (is_wanted wanted.entry) (filter_map (in_slot records.user_in) slots))) }
-    ensures same { B.chip bench.new ≡ B.chip bench.old }
-    ensures cause { Counts (B.faults bench.old) (B.faults bench.new) result }
+    ensures frame { Reads each_error B.chip B.faults bench.old bench.new result }
 {
     let mut octets = RecordOctets::new();
     for slot in 0..store.cells() {
@@ -52,13 +51,11 @@ fn user_in<B: Eeprom>(
     slot: u16,
     octets: &mut RecordOctets,
 ) -> Result<Option<User>, EepromFault>
-    requires stands { IfSome (B.chip bench.old).image (StandsFor store.now) }
-    requires room { 70 * store.now.cells + 34 ≤ (B.chip bench.old).still.size }
+    requires over { IsOver store.now (B.chip bench.old) }
     requires slot { slot < store.now.cells }
     ensures user { IfOk result (λ user. IfSome (committed_slots store.now (B.chip bench.old).image)
         (λ slots. user ≡ in_slot records.user_in (slice_index_or slots slot None))) }
-    ensures same { B.chip bench.new ≡ B.chip bench.old }
-    ensures cause { Counts (B.faults bench.old) (B.faults bench.new) result }
+    ensures frame { Reads each_error B.chip B.faults bench.old bench.new result }
 {
     if store.get(bench, Side::Committed, slot, octets)? {
         Ok(decode_user(octets))

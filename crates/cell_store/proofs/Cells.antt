@@ -4,7 +4,7 @@ use Rattle.std.specs.List.{AllByRecursion, list_any}
 use Rattle.std.proofs.lemmas.Bool.Decides.{nat_tests}
 use Rattle.std.proofs.lemmas.List.{drop-take, get_or-set_same, get_or-set_other}
 use Rattle.eeprom.specs.Image.{overwrite, IsTorn}
-use Rattle.eeprom.specs.StoreOf.{chain_of, cell_place, payload_of, number_at}
+use Rattle.eeprom.specs.StoreOf.{chain_of, cell_place, payload_of, number_at, image_size}
 use Rattle.cell_store.specs.Cells.{link_in}
 use Rattle.cell_store.specs.Chains.{AreLinked}
 use Rattle.cell_store.specs.Marks.{IsFreeRun, StaysMarked, is_marked}
@@ -62,7 +62,7 @@ pub Keeping-torn : (marks : List Bool) (n at count : ℕ) (was left : List ℕ) 
 Keeping-torn marks n at count was left inside room run torn = rw (torn.is) (record {
   size = length-overwrite was (cell_place n at) torn.octets (omega (arith, torn.count_is));
   front = take-overwrite (34 + 6 * n) (cell_place n at) was torn.octets (omega arith) (omega arith);
-  behind = drop-overwrite (34 + 70 * n) (cell_place n at) was torn.octets (omega (arith, torn.count_is)) (omega (arith, torn.count_is));
+  behind = drop-overwrite (image_size n) (cell_place n at) was torn.octets (omega (arith, torn.count_is)) (omega (arith, torn.count_is));
   cells = λ cell is. cell-apart was torn.octets n at count cell (outside-run marks at count cell run is) torn.count_is inside room;
 })
 

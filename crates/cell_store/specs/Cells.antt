@@ -1,7 +1,7 @@
 -- What a store of cells keeps in memory, and of which images it speaks.
 use Rattle.std.specs.Prelude.{◌≡◌, ℕ, ◌*◌, ◌≤◌, Bool, true, false, List, length, replicate, slice_index}
 use Rattle.std.specs.List.{AllByRecursion}
-use Rattle.eeprom.specs.StoreOf.{number_at, cell_place}
+use Rattle.eeprom.specs.StoreOf.{number_at, cell_place, longest_chain}
 use Rattle.cell_store.specs.Marks.{is_marked}
 use Rattle.cell_store.specs.Chains.{AreLinked, with_unmarked}
 
@@ -34,7 +34,7 @@ link_in links cell = slice_index links cell
 pub record IsUsedChain (store : Cells) (first : ℕ) (chain : List ℕ) : Type 0 where
   pub linked : AreLinked (link_in store.links) (length store.links) first chain
   pub used : AllByRecursion (λ cell. is_marked store.used cell ≡ true) chain
-  pub short : length chain ≤ 18
+  pub short : length chain ≤ longest_chain
 
 -- the image links each of these cells as it is linked in memory
 abbrev pub AreLinksOf : List ℕ → ℕ → List Bool → List ℕ → Type 0

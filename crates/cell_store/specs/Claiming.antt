@@ -1,6 +1,6 @@
 -- A claim of one cell of a chain, and how many cells the chain of a record has.
 use Rattle.std.specs.Prelude.{◌≡◌, ℕ, ◌*◌, ◌<◌, ◌&&◌, nat_le, true, false, List, set, Option, Some, None, if◌then◌else◌}
-use Rattle.eeprom.specs.StoreOf.{cells_for, number_at}
+use Rattle.eeprom.specs.StoreOf.{cells_for, number_at, longest_record}
 use Rattle.cell_store.specs.Marks.{is_marked}
 use Rattle.cell_store.specs.Cells.{Cells}
 
@@ -17,4 +17,4 @@ IsTakenCell store cell = cell < 2 * store.cells → is_marked store.used cell �
 
 -- how many cells the record has that begins a payload, where its length is one that a record may have
 abbrev pub record_cells : List ℕ → Option ℕ
-record_cells payload = let size = number_at payload 0 in if nat_le 1 size && nat_le size 512 then Some (cells_for size) else None
+record_cells payload = let size = number_at payload 0 in if nat_le 1 size && nat_le size longest_record then Some (cells_for size) else None

@@ -1,5 +1,6 @@
 -- What becomes of a store of cells where a chain of free cells is taken, claimed of an image or newly written.
 use Rattle.std.specs.Prelude.{◌≡◌, ℕ, ◌≤◌, List, length}
+use Rattle.eeprom.specs.StoreOf.{longest_chain}
 use Rattle.cell_store.specs.Chains.{AreLinked, AreFree, with_marked, IsRecordChain}
 use Rattle.cell_store.specs.Cells.{Cells, link_in, StayLinked}
 
@@ -9,7 +10,7 @@ pub record TakesChain (old new : Cells) (first count : ℕ) : Type 0 where
   pub linked : AreLinked (link_in new.links) (length new.links) first chain
   pub free : AreFree old.used chain
   pub count_is : length chain ≡ count
-  pub short : count ≤ 18
+  pub short : count ≤ longest_chain
   pub used : new.used ≡ with_marked old.used chain
   pub stay : StayLinked old.used old.links new.links
   pub cells : new.cells ≡ old.cells

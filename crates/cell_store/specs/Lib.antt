@@ -2,7 +2,7 @@ pub mod Cells
 pub mod Chains
 pub mod Claiming
 pub mod Claims
-pub mod CountsFaults
+pub mod Faults
 pub mod Marks
 pub mod Placed
 pub mod Reading

@@ -2,7 +2,7 @@
 use Rattle.std.specs.Prelude.{◌≡◌, ℕ, ◌+◌, ◌*◌, ◌<◌, ◌≤◌, Bool, true, false, List, length, take, drop, Some, slice_index, slice_range}
 use Rattle.std.specs.List.{flat_map, AllByRecursion}
 use Rattle.eeprom.specs.Chip.{Chip, LeavesOf}
-use Rattle.eeprom.specs.StoreOf.{chain_of, cell_place, payload_of, number_at, is_distinct}
+use Rattle.eeprom.specs.StoreOf.{chain_of, cell_place, payload_of, number_at, is_distinct, piece_size, image_size}
 use Rattle.cell_store.specs.Marks.{is_marked}
 use Rattle.cell_store.specs.Chains.{AreLinked, AreFree, with_marked}
 use Rattle.cell_store.specs.Cells.{link_in, StayLinked}
@@ -16,7 +16,7 @@ pub record SameCell (left was : List ℕ) (n cell : ℕ) : Type 0 where
 pub record Keeping (marks : List Bool) (n : ℕ) (left was : List ℕ) : Type 0 where
   pub size : length left ≡ length was
   pub front : take (34 + 6 * n) left ≡ take (34 + 6 * n) was
-  pub behind : drop (34 + 70 * n) left ≡ drop (34 + 70 * n) was
+  pub behind : drop (image_size n) left ≡ drop (image_size n) was
   pub cells : (cell : ℕ) → is_marked marks cell ≡ true → SameCell left was n cell
 
 -- a cell that was taken for the chain
@@ -25,12 +25,12 @@ pub record IsTaken (n : ℕ) (start marks : List Bool) (cell : ℕ) : Type 0 whe
   pub free : is_marked start cell ≡ false
   pub now : is_marked marks cell ≡ true
 
--- from this cell on the image has a chain with the payload from a piece of 30 octets on
+-- from this cell on the image has a chain with the payload from a piece of it on
 pub record Placed (n : ℕ) (start marks : List Bool) (payload : List ℕ) (piece count first : ℕ) (image : List ℕ) : Type 0 where
   pub chain : List ℕ
   pub of : (most : ℕ) → length chain ≤ most → chain_of image n most first ≡ Some chain
   pub cells : length chain + piece ≡ count
-  pub octets : flat_map (payload_of image n) chain ≡ slice_range payload (30 * piece) (30 * count)
+  pub octets : flat_map (payload_of image n) chain ≡ slice_range payload (piece_size * piece) (piece_size * count)
   pub taken : AllByRecursion (IsTaken n start marks) chain
   pub distinct : is_distinct chain ≡ true
 

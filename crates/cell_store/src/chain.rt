@@ -3,20 +3,21 @@ ghost use Rattle.std.specs.Prelude.{◌≡◌, ◌+◌, ◌*◌, ◌<◌, ◌≤
 ghost use Rattle.std.specs.List.{flat_map};
 ghost use Rattle.arrayvec.specs.ArrayVec.{array_vec_len};
 ghost use Rattle.eeprom.specs.Chip.{Becomes};
-ghost use Rattle.eeprom.specs.Fault.{Counts};
-ghost use Rattle.eeprom.specs.StoreOf.{chain_of, payload_of, slot_of, record_in, number_at, cell_place};
+ghost use Rattle.eeprom.specs.Fault.{each_error};
+ghost use Rattle.eeprom.specs.Frame.{HasRoom, Reads};
+ghost use Rattle.eeprom.specs.StoreOf.{chain_of, payload_of, slot_of, record_in, number_at, cell_place, piece_size, longest_record, longest_chain};
 ghost use Rattle.cell_store.specs.Chains.{IsRecordChain};
 ghost use Rattle.cell_store.specs.Reading.{Appends, ReadsCells, ReadsRecord};
 
-use crate::layout::{CELL, LINK, LONGEST, cell_place, number_of};
+use crate::layout::{CELL, LARGEST, LINK, LONGEST, LONGEST_RECORD, cell_place, number_of};
 use arrayvec::ArrayVec;
 use eeprom::{Eeprom, EepromFault};
 
 /// The octets of a record.
-pub type RecordOctets = ArrayVec<u8, 512>;
+pub type RecordOctets = ArrayVec<u8, LONGEST_RECORD>;
 
 /// The payload of the longest chain.
-pub type Payload = ArrayVec<u8, 540>;
+pub type Payload = ArrayVec<u8, LARGEST>;
 
 /// Reads the record whose chain begins at `first`.
 pub fn read_record<B: Eeprom>(
@@ -26,12 +27,11 @@ pub fn read_record<B: Eeprom>(
     out: &mut RecordOctets,
 ) -> Result<(), EepromFault>
     requires many { cells ≤ 2048 }
-    requires room { 70 * cells + 34 ≤ (B.chip bench.old).still.size }
+    requires room { HasRoom cells (B.chip bench.old) }
     ensures record { OnOk result (IfSome (B.chip bench.old).image (λ image. (chain : List ℕ) → IsRecordChain image cells first chain → slot_of image cells chain ≡ Some out.new.items)) }
     ensures octets_read { OnOk result (IfSome (B.chip bench.old).image (λ image. (chain : List ℕ) → IsRecordChain image cells first chain
         → Becomes (ReadsRecord (Some out.new.items)) (B.octets_read bench.old) (B.octets_read bench.new))) }
-    ensures same { B.chip bench.new ≡ B.chip bench.old }
-    ensures cause { Counts (B.faults bench.old) (B.faults bench.new) result }
+    ensures frame { Reads each_error B.chip B.faults bench.old bench.new result }
 {
     let mut payload = Payload::new();
     read_payload(bench, cells, first, &mut payload)?;
@@ -47,13 +47,12 @@ fn read_payload<B: Eeprom>(
     payload: &mut Payload,
 ) -> Result<(), EepromFault>
     requires many { cells ≤ 2048 }
-    requires room { 70 * cells + 34 ≤ (B.chip bench.old).still.size }
+    requires room { HasRoom cells (B.chip bench.old) }
     ensures payload { OnOk result (IfSome (B.chip bench.old).image (λ image. (chain : List ℕ) → chain_of image cells (2 * cells) first ≡ Some chain
-        → length chain ≤ LONGEST → payload.new.items ≡ flat_map (payload_of image cells) chain)) }
+        → length chain ≤ longest_chain → payload.new.items ≡ flat_map (payload_of image cells) chain)) }
     ensures octets_read { OnOk result (IfSome (B.chip bench.old).image (λ image. (chain : List ℕ) → chain_of image cells (2 * cells) first ≡ Some chain
-        → length chain ≤ LONGEST → Becomes (ReadsCells (length chain)) (B.octets_read bench.old) (B.octets_read bench.new))) }
-    ensures same { B.chip bench.new ≡ B.chip bench.old }
-    ensures cause { Counts (B.faults bench.old) (B.faults bench.new) result }
+        → length chain ≤ longest_chain → Becomes (ReadsCells (length chain)) (B.octets_read bench.old) (B.octets_read bench.new))) }
+    ensures frame { Reads each_error B.chip B.faults bench.old bench.new result }
 {
     payload.clear();
     let mut cell = first;
@@ -75,14 +74,13 @@ pub fn read_cell<B: Eeprom>(
 ) -> Result<u16, EepromFault>
     requires many { cells ≤ 2048 }
     requires inside { cell < 2 * cells }
-    requires room { 70 * cells + 34 ≤ (B.chip bench.old).still.size }
-    requires fits { array_vec_len payload.old + 30 ≤ 540 }
+    requires room { HasRoom cells (B.chip bench.old) }
+    requires fits { array_vec_len payload.old + piece_size ≤ piece_size * longest_chain }
     ensures link { IfOk result (λ next. IfSome (B.chip bench.old).image (λ image. next ≡ number_at image (cell_place cells cell))) }
     ensures payload { OnOk result (IfSome (B.chip bench.old).image (λ image. payload.new.items ≡ payload.old.items ++ payload_of image cells cell)) }
-    ensures appends { OnOk result (Appends 30 payload.old.items payload.new.items) }
+    ensures appends { OnOk result (Appends piece_size payload.old.items payload.new.items) }
     ensures octets_read { Becomes (ReadsCells 1) (B.octets_read bench.old) (B.octets_read bench.new) }
-    ensures same { B.chip bench.new ≡ B.chip bench.old }
-    ensures cause { Counts (B.faults bench.old) (B.faults bench.new) result }
+    ensures frame { Reads each_error B.chip B.faults bench.old bench.new result }
 {
     let mut octets = [0; CELL];
     bench.read(cell_place(cells, cell), &mut octets)?;
@@ -101,7 +99,7 @@ pub fn append<const CAP: usize>(out: &mut ArrayVec<u8, CAP>, octets: &[u8])
 
 /// Copies the record out of a chain's payload, where one is there.
 pub fn copy_record(payload: &[u8], out: &mut RecordOctets)
-    ensures record { number_at payload.now 0 ≤ 512 → 2 + number_at payload.now 0 ≤ length payload.now → out.new.items ≡ record_in payload.now }
+    ensures record { number_at payload.now 0 ≤ longest_record → 2 + number_at payload.now 0 ≤ length payload.now → out.new.items ≡ record_in payload.now }
 {
     out.clear();
     let [high, low, rest @ ..] = payload else {

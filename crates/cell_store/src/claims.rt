@@ -3,16 +3,17 @@ ghost use Rattle.std.specs.Prelude.{◌≡◌, ◌+◌, ◌*◌, ◌≤◌, ◌<
 ghost use Rattle.std.specs.List.{flat_map};
 ghost use Rattle.arrayvec.specs.ArrayVec.{array_vec_len};
 ghost use Rattle.eeprom.specs.Chip.{Becomes};
-ghost use Rattle.eeprom.specs.StoreOf.{chain_of, number_at, cell_place, payload_of};
+ghost use Rattle.eeprom.specs.Frame.{HasRoom, Reads};
+ghost use Rattle.eeprom.specs.StoreOf.{chain_of, number_at, cell_place, payload_of, cell_size, piece_size, longest_chain};
 ghost use Rattle.cell_store.specs.Cells.{kept, StandsFor};
 ghost use Rattle.cell_store.specs.Claims.{TakesChain, HasRecord, HasNoRecord};
 ghost use Rattle.cell_store.specs.Claiming.{ClaimsCell, IsTakenCell, record_cells};
 ghost use Rattle.cell_store.specs.Reading.{Appends, ReadsAtMost, ReadsCells};
-ghost use Rattle.cell_store.specs.CountsFaults.{CountsClaimFaults};
+ghost use Rattle.cell_store.specs.Faults.{is_claim_fault};
 
 use crate::ClaimRefusal;
 use crate::chain::{Payload, read_cell};
-use crate::layout::{CELL, LONGEST, NO_CELL, number_of};
+use crate::layout::{LONGEST_RECORD, NO_CELL, number_of};
 use crate::store::cells_for;
 use eeprom::Eeprom;
 
@@ -28,23 +29,22 @@ pub fn claim_cells<B: Eeprom>(
 ) -> Result<u16, ClaimRefusal>
     requires few { 16 ≤ cells }
     requires many { cells ≤ 2048 }
-    requires room { 70 * cells + 34 ≤ (B.chip bench.old).still.size }
+    requires room { HasRoom cells (B.chip bench.old) }
     requires used { length used.old ≡ 2 * cells }
     requires links { length links.old ≡ 2 * cells }
     ensures takes { IfOk result (λ count. TakesChain (kept cells used.old links.old) (kept cells used.new links.new) first count) }
     ensures stands { OnOk result (IfSome (B.chip bench.old).image (λ image. StandsFor (kept cells used.old links.old) image → StandsFor (kept cells used.new links.new) image)) }
     ensures record { OnOk result (IfSome (B.chip bench.old).image (HasRecord (kept cells used.new links.new) first)) }
     ensures payload { OnOk result (IfSome (B.chip bench.old).image (λ image. (chain : List ℕ) → chain_of image cells (2 * cells) first ≡ Some chain
-        → length chain ≤ LONGEST → payload.new.items ≡ flat_map (payload_of image cells) chain)) }
+        → length chain ≤ longest_chain → payload.new.items ≡ flat_map (payload_of image cells) chain)) }
     ensures count { IfOk result (λ count. record_cells payload.new.items ≡ Some count) }
-    ensures size { IfOk result (λ count. length payload.new.items ≡ 30 * count) }
+    ensures size { IfOk result (λ count. length payload.new.items ≡ piece_size * count) }
     ensures octets_read { IfOk result (λ count. Becomes (ReadsCells count) (B.octets_read bench.old) (B.octets_read bench.new)) }
-    ensures most_read { Becomes (ReadsAtMost (CELL * LONGEST)) (B.octets_read bench.old) (B.octets_read bench.new) }
+    ensures most_read { Becomes (ReadsAtMost (cell_size * longest_chain)) (B.octets_read bench.old) (B.octets_read bench.new) }
     ensures bad_chain { IsErrOf result ClaimRefusal.BadChain → IfSome (B.chip bench.old).image (HasNoRecord (kept cells used.old links.old) first) }
     ensures used { length used.new ≡ length used.old }
     ensures links { length links.new ≡ length links.old }
-    ensures same { B.chip bench.new ≡ B.chip bench.old }
-    ensures cause { CountsClaimFaults (B.faults bench.old) (B.faults bench.new) result }
+    ensures frame { Reads is_claim_fault B.chip B.faults bench.old bench.new result }
 {
     payload.clear();
     let mut next = claim_cell(bench, cells, used, links, first, payload)?;
@@ -71,21 +71,20 @@ fn claim_cell<B: Eeprom>(
     payload: &mut Payload,
 ) -> Result<u16, ClaimRefusal>
     requires many { cells ≤ 2048 }
-    requires room { 70 * cells + 34 ≤ (B.chip bench.old).still.size }
+    requires room { HasRoom cells (B.chip bench.old) }
     requires used { length used.old ≡ 2 * cells }
     requires links { length links.old ≡ 2 * cells }
-    requires fits { array_vec_len payload.old + 30 ≤ 540 }
+    requires fits { array_vec_len payload.old + piece_size ≤ piece_size * longest_chain }
     ensures claims { IfOk result (λ next. ClaimsCell (kept cells used.old links.old) (kept cells used.new links.new) cell next) }
     ensures link { IfOk result (λ next. IfSome (B.chip bench.old).image (λ image. next ≡ number_at image (cell_place cells cell))) }
     ensures payload { OnOk result (IfSome (B.chip bench.old).image (λ image. payload.new.items ≡ payload.old.items ++ payload_of image cells cell)) }
-    ensures appends { OnOk result (Appends 30 payload.old.items payload.new.items) }
+    ensures appends { OnOk result (Appends piece_size payload.old.items payload.new.items) }
     ensures octets_read { OnOk result (Becomes (ReadsCells 1) (B.octets_read bench.old) (B.octets_read bench.new)) }
-    ensures most_read { Becomes (ReadsAtMost CELL) (B.octets_read bench.old) (B.octets_read bench.new) }
+    ensures most_read { Becomes (ReadsAtMost cell_size) (B.octets_read bench.old) (B.octets_read bench.new) }
     ensures taken { IsErrOf result ClaimRefusal.BadChain → IsTakenCell (kept cells used.old links.old) cell }
     ensures used { length used.new ≡ length used.old }
     ensures links { length links.new ≡ length links.old }
-    ensures same { B.chip bench.new ≡ B.chip bench.old }
-    ensures cause { CountsClaimFaults (B.faults bench.old) (B.faults bench.new) result }
+    ensures frame { Reads is_claim_fault B.chip B.faults bench.old bench.new result }
 {
     let place = cell as usize;
     if place >= used.len() || used[place] {
@@ -102,9 +101,9 @@ fn record_cells(payload: &[u8]) -> Option<u16>
     requires some { 2 ≤ length payload.now }
     ensures { result ≡ record_cells payload.now }
 {
-    let size = number_of(payload[0], payload[1]);
-    if 1 <= size && size <= 512 {
-        Some(cells_for(size as usize))
+    let size = number_of(payload[0], payload[1]) as usize;
+    if 1 <= size && size <= LONGEST_RECORD {
+        Some(cells_for(size))
     } else {
         None
     }

@@ -11,8 +11,16 @@ pub const CELL: usize = 32;
 
 pub const LINK: usize = 2;
 
-/// How many cells a record has at most.
+/// The octets of payload in a cell.
+pub const PIECE: usize = 30;
+
+/// How many octets a record has at most, and how many cells its chain.
+pub const LONGEST_RECORD: usize = 512;
+
 pub const LONGEST: u16 = 18;
+
+/// The payload of the longest chain.
+pub const LARGEST: usize = 540;
 
 /// The cells of the largest store.
 pub const CELLS: usize = 4096;

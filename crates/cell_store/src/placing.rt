@@ -3,33 +3,28 @@ ghost use Rattle.std.specs.Prelude.{◌≡◌, ◌+◌, ◌*◌, ◌≤◌, ◌<
 ghost use Rattle.arrayvec.specs.ArrayVec.{array_vec_len};
 ghost use Rattle.eeprom.specs.Chip.{Becomes, RisesBy};
 ghost use Rattle.eeprom.specs.Fault.{Counts};
-ghost use Rattle.eeprom.specs.StoreOf.{number_at, record_in, two_octets};
+ghost use Rattle.eeprom.specs.Frame.{HasRoom};
+ghost use Rattle.eeprom.specs.StoreOf.{number_at, record_in, two_octets, cell_size, piece_size, longest_record, longest_chain};
 ghost use Rattle.cell_store.specs.Marks.{unmarked};
 ghost use Rattle.cell_store.specs.Placed.{IsLaid, IsPlaced, KeepsMarked};
 ghost use Rattle.cell_store.specs.Cells.{StayLinked};
 ghost use Rattle.cell_store.specs.Runs as runs;
 
 use crate::chain::{Payload, append};
-use crate::layout::{LONGEST, NO_CELL, cell_place, octets_of};
+use crate::layout::{LARGEST, LONGEST, NO_CELL, PIECE, cell_place, octets_of};
 use crate::marks::{Run, find_run};
 use arrayvec::ArrayVec;
 use eeprom::{Eeprom, EepromFault};
-
-/// The octets of payload in a cell.
-const PIECE: usize = 30;
-
-/// The payload of the longest chain.
-const LARGEST: usize = 540;
 
 /// The octets of the cells of the longest chain.
 type RunOctets = ArrayVec<u8, 576>;
 
 /// The payload of a record, with what is left over empty.
 pub fn payload_of_record(octets: &[u8]) -> Payload
-    requires fits { length octets.now ≤ 512 }
+    requires fits { length octets.now ≤ longest_record }
     ensures number { number_at result.items 0 ≡ length octets.now }
     ensures record { record_in result.items ≡ octets.now }
-    ensures size { length result.items ≡ 540 }
+    ensures size { length result.items ≡ piece_size * longest_chain }
 {
     let mut payload = Payload::new();
     append(&mut payload, &octets_of(octets.len() as u16));
@@ -40,11 +35,11 @@ pub fn payload_of_record(octets: &[u8]) -> Payload
 
 /// The octets of a run's cells, which have the payload from a piece on, and come before the cell `after`.
 fn run_octets(run: Run, after: u16, payload: &[u8], piece: u16) -> RunOctets
-    requires most { run.count ≤ LONGEST }
+    requires most { run.count ≤ longest_chain }
     requires there { run.cell + run.count ≤ 4096 }
-    requires payload { 30 * (piece + run.count) ≤ length payload.now }
+    requires payload { piece_size * (piece + run.count) ≤ length payload.now }
     ensures octets { result.items ≡ runs.run_octets run.cell run.count after payload.now piece }
-    ensures size { length result.items ≡ 32 * run.count }
+    ensures size { length result.items ≡ cell_size * run.count }
 {
     let mut octets = RunOctets::new();
     for step in 0..run.count {
@@ -61,8 +56,8 @@ fn run_octets(run: Run, after: u16, payload: &[u8], piece: u16) -> RunOctets
 
 /// A cell's octets behind those of others: the number of the next cell, and a piece of payload.
 fn push_cell(octets: &mut RunOctets, next: u16, piece: &[u8])
-    requires size { length piece.now ≡ 30 }
-    requires room { array_vec_len octets.old + 32 ≤ 576 }
+    requires size { length piece.now ≡ piece_size }
+    requires room { array_vec_len octets.old + cell_size ≤ cell_size * longest_chain }
     ensures octets { octets.new.items ≡ octets.old.items ++ (two_octets next ++ piece.now) }
 {
     append(octets, &octets_of(next));
@@ -97,10 +92,10 @@ pub fn write_cells<B: Eeprom>(
     count: u16,
 ) -> Result<u16, EepromFault>
     requires many { cells ≤ 2048 }
-    requires room { 70 * cells + 34 ≤ (B.chip bench.old).still.size }
+    requires room { HasRoom cells (B.chip bench.old) }
     requires marks { length marks.old ≡ 2 * cells }
     requires links { length links.old ≡ 2 * cells }
-    requires payload { 30 * count ≤ length payload.now }
+    requires payload { piece_size * count ≤ length payload.now }
     requires some { 1 ≤ count }
     requires free { count ≤ unmarked marks.old }
     ensures placed { IfOk result (λ first. Becomes (IsPlaced cells marks.old marks.new payload.now 0 count first links.new) (B.chip bench.old).image (B.chip bench.new).image) }
@@ -109,7 +104,7 @@ pub fn write_cells<B: Eeprom>(
     ensures there { IfOk result (λ first. first < 2 * cells) }
     ensures told { OnOk result (is_some (B.chip bench.new).image ≡ is_some (B.chip bench.old).image) }
     ensures links { length links.new ≡ length links.old }
-    ensures octets_written { OnOk result (Becomes (RisesBy (32 * count)) (B.chip bench.old).written (B.chip bench.new).written) }
+    ensures octets_written { OnOk result (Becomes (RisesBy (cell_size * count)) (B.chip bench.old).written (B.chip bench.new).written) }
     ensures moments { KeepsMarked marks.old cells (B.chip bench.old) (B.chip bench.new) }
     ensures cause { Counts (B.faults bench.old) (B.faults bench.new) result }
 {

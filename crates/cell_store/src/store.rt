@@ -1,8 +1,9 @@
 // The cells of an EEPROM, of which it is kept in memory which are used, and how these are linked.
 ghost use Rattle.std.specs.Prelude.{◌≡◌, ◌↔◌, ◌+◌, ◌*◌, ◌≤◌, ◌<◌, ℕ, List, false, Some, length, is_some, replicate, IfSome, IfOk, OnOk, IsErrOf};
 ghost use Rattle.eeprom.specs.Chip.{Becomes, RisesBy};
-ghost use Rattle.eeprom.specs.Fault.{Counts};
-ghost use Rattle.eeprom.specs.StoreOf.{slot_of};
+ghost use Rattle.eeprom.specs.Fault.{CountsFaults, each_error};
+ghost use Rattle.eeprom.specs.Frame.{HasRoom, Reads};
+ghost use Rattle.eeprom.specs.StoreOf.{slot_of, cell_size, longest_record, longest_chain};
 ghost use Rattle.eeprom.specs.StoreOf as image;
 ghost use Rattle.cell_store.specs.Marks.{StaysMarked, unmarked};
 ghost use Rattle.cell_store.specs.Chains.{IsRecordChain, steps};
@@ -11,11 +12,11 @@ ghost use Rattle.cell_store.specs.Claims.{TakesChain, HasRecord, HasNoRecord};
 ghost use Rattle.cell_store.specs.Writing.{IsWritten, KeepsChains};
 ghost use Rattle.cell_store.specs.Placed.{KeepsMarked};
 ghost use Rattle.cell_store.specs.Reading.{ReadsAtMost, ReadsCells, ReadsRecord};
-ghost use Rattle.cell_store.specs.CountsFaults.{CountsClaimFaults, CountsWriteFaults};
+ghost use Rattle.cell_store.specs.Faults.{is_claim_fault, is_write_fault};
 
 use crate::chain::{Payload, RecordOctets, copy_record, read_record};
 use crate::claims::claim_cells;
-use crate::layout::{CELL, CELLS, LONGEST, NO_CELL};
+use crate::layout::{CELLS, LONGEST, NO_CELL, PIECE};
 use crate::marks::count_free;
 use crate::placing::{payload_of_record, write_cells};
 use crate::{CellRefusal, ClaimRefusal};
@@ -69,16 +70,15 @@ impl CellStore {
     /// Claims the chain that begins at a cell, which the image has a record in, and answers how many cells it has.
     /// After a refusal the store of cells isn't to be used again.
     pub fn claim_chain<B: Eeprom>(&mut self, bench: &mut B, first: u16) -> Result<u16, ClaimRefusal>
-        requires room { 70 * self.old.cells + 34 ≤ (B.chip bench.old).still.size }
+        requires room { HasRoom self.old.cells (B.chip bench.old) }
         ensures takes { IfOk result (λ count. TakesChain self.old self.new first count) }
         ensures some { IfOk result (λ count. 1 ≤ count) }
         ensures stands { OnOk result (IfSome (B.chip bench.old).image (λ image. StandsFor self.old image → StandsFor self.new image)) }
         ensures record { OnOk result (IfSome (B.chip bench.old).image (HasRecord self.new first)) }
         ensures octets_read { IfOk result (λ count. Becomes (ReadsCells count) (B.octets_read bench.old) (B.octets_read bench.new)) }
-        ensures most_read { Becomes (ReadsAtMost (CELL * LONGEST)) (B.octets_read bench.old) (B.octets_read bench.new) }
+        ensures most_read { Becomes (ReadsAtMost (cell_size * longest_chain)) (B.octets_read bench.old) (B.octets_read bench.new) }
         ensures bad_chain { IsErrOf result ClaimRefusal.BadChain → IfSome (B.chip bench.old).image (HasNoRecord self.old first) }
-        ensures same { B.chip bench.new ≡ B.chip bench.old }
-        ensures cause { CountsClaimFaults (B.faults bench.old) (B.faults bench.new) result }
+        ensures frame { Reads is_claim_fault B.chip B.faults bench.old bench.new result }
     {
         self.claim_record(bench, first, &mut RecordOctets::new())
     }
@@ -91,7 +91,7 @@ impl CellStore {
         first: u16,
         out: &mut RecordOctets,
     ) -> Result<u16, ClaimRefusal>
-        requires room { 70 * self.old.cells + 34 ≤ (B.chip bench.old).still.size }
+        requires room { HasRoom self.old.cells (B.chip bench.old) }
         ensures takes { IfOk result (λ count. TakesChain self.old self.new first count) }
         ensures stands { OnOk result (IfSome (B.chip bench.old).image (λ image. StandsFor self.old image → StandsFor self.new image)) }
         ensures record { OnOk result (IfSome (B.chip bench.old).image (HasRecord self.new first)) }
@@ -100,10 +100,9 @@ impl CellStore {
         ensures some { OnOk result (1 ≤ length out.new.items) }
         ensures count { IfOk result (λ count. count ≡ image.cells_for (length out.new.items)) }
         ensures octets_read { IfOk result (λ count. Becomes (ReadsCells count) (B.octets_read bench.old) (B.octets_read bench.new)) }
-        ensures most_read { Becomes (ReadsAtMost (CELL * LONGEST)) (B.octets_read bench.old) (B.octets_read bench.new) }
+        ensures most_read { Becomes (ReadsAtMost (cell_size * longest_chain)) (B.octets_read bench.old) (B.octets_read bench.new) }
         ensures bad_chain { IsErrOf result ClaimRefusal.BadChain → IfSome (B.chip bench.old).image (HasNoRecord self.old first) }
-        ensures same { B.chip bench.new ≡ B.chip bench.old }
-        ensures cause { CountsClaimFaults (B.faults bench.old) (B.faults bench.new) result }
+        ensures frame { Reads is_claim_fault B.chip B.faults bench.old bench.new result }
     {
         let used = self.used.as_mut_slice();
         let links = self.links.as_mut_slice();
@@ -120,8 +119,8 @@ impl CellStore {
         octets: &[u8],
     ) -> Result<u16, CellRefusal>
         requires some { 1 ≤ length octets.now }
-        requires most { length octets.now ≤ 512 }
-        requires room { 70 * self.old.cells + 34 ≤ (B.chip bench.old).still.size }
+        requires most { length octets.now ≤ longest_record }
+        requires room { HasRoom self.old.cells (B.chip bench.old) }
         ensures takes { IfOk result (λ first. TakesChain self.old self.new first (image.cells_for (length octets.now))) }
         ensures written { IfOk result (λ first. Becomes (IsWritten self.old self.new first octets.now) (B.chip bench.old).image (B.chip bench.new).image) }
         ensures no_cell { IsErrOf result CellRefusal.NoCell ↔ (unmarked self.old.used < image.cells_for (length octets.now)) }
@@ -129,9 +128,9 @@ impl CellStore {
         ensures fault { IsErrOf result CellRefusal.Fault → KeepsChains self.old self.new }
         ensures there { IfOk result (λ first. first < 2 * self.old.cells) }
         ensures told { OnOk result (is_some (B.chip bench.new).image ≡ is_some (B.chip bench.old).image) }
-        ensures octets_written { OnOk result (Becomes (RisesBy (32 * image.cells_for (length octets.now))) (B.chip bench.old).written (B.chip bench.new).written) }
+        ensures octets_written { OnOk result (Becomes (RisesBy (cell_size * image.cells_for (length octets.now))) (B.chip bench.old).written (B.chip bench.new).written) }
         ensures moments { KeepsMarked self.old.used self.old.cells (B.chip bench.old) (B.chip bench.new) }
-        ensures cause { CountsWriteFaults (B.faults bench.old) (B.faults bench.new) result }
+        ensures cause { CountsFaults is_write_fault (B.faults bench.old) (B.faults bench.new) result }
     {
         let count = cells_for(octets.len());
         if count as usize > count_free(self.used.as_slice()) {
@@ -160,13 +159,12 @@ impl CellStore {
         first: u16,
         out: &mut RecordOctets,
     ) -> Result<(), EepromFault>
-        requires room { 70 * self.now.cells + 34 ≤ (B.chip bench.old).still.size }
+        requires room { HasRoom self.now.cells (B.chip bench.old) }
         ensures record { OnOk result (IfSome (B.chip bench.old).image (λ image. (chain : List ℕ) → IsRecordChain image self.now.cells first chain
             → slot_of image self.now.cells chain ≡ Some out.new.items)) }
         ensures octets_read { OnOk result (IfSome (B.chip bench.old).image (λ image. (chain : List ℕ) → IsRecordChain image self.now.cells first chain
             → Becomes (ReadsRecord (Some out.new.items)) (B.octets_read bench.old) (B.octets_read bench.new))) }
-        ensures same { B.chip bench.new ≡ B.chip bench.old }
-        ensures cause { Counts (B.faults bench.old) (B.faults bench.new) result }
+        ensures frame { Reads each_error B.chip B.faults bench.old bench.new result }
     {
         read_record(bench, self.cells, first, out)
     }
@@ -199,8 +197,8 @@ impl CellStore {
     /// How many cells the used chain has that begins at a cell.
     pub fn length_of_chain(&self, first: u16) -> u16
         ensures chain { (chain : List ℕ) → IsUsedChain self.now first chain → result ≡ length chain }
-        ensures length { result ≡ steps self.now.links LONGEST first }
-        ensures most { result ≤ LONGEST }
+        ensures length { result ≡ steps self.now.links longest_chain first }
+        ensures most { result ≤ longest_chain }
     {
         let mut cell = first as usize;
         for count in 0..LONGEST {
@@ -215,8 +213,8 @@ impl CellStore {
 
 /// The cells of a record with so many octets.
 pub fn cells_for(size: usize) -> u16
-    requires most { size ≤ 512 }
+    requires most { size ≤ longest_record }
     ensures { result ≡ image.cells_for size }
 {
-    ((size + 31) / 30) as u16
+    ((size + 31) / PIECE) as u16
 }

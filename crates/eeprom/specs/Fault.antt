@@ -1,10 +1,22 @@
 -- Counts of faults of a device, which tell that a fault was the device's.
-use Rattle.std.specs.Prelude.{◌≡◌, ◌⊎◌, ℕ, ◌<◌, ◌≤◌, Result, MatchResult}
+use Rattle.std.specs.Prelude.{◌≡◌, ◌⊎◌, ℕ, ◌<◌, ◌≤◌, Bool, true, false, Result, MatchResult}
 
 -- the count rose, or stands at the last value of a u64
 abbrev pub Rose : ℕ → ℕ → Type 0
 Rose before after = (before < after) ⊎ (18446744073709551615 ≤ after)
 
--- a count never falls; it stays where a call answers Ok and rises where it answers Err
+-- an error that is a fault raises the count, and any other error leaves it
+abbrev pub CountsError : Bool → ℕ → ℕ → Type 0
+CountsError true before after = Rose before after
+CountsError false before after = after ≡ before
+
+-- a count never falls; it stays where a call answers Ok, and an error of it is counted where it is a fault
+abbrev pub CountsFaults : {T E : Type 0} → (E → Bool) → ℕ → ℕ → Result T E → Type 0
+CountsFaults is_fault before after result = (before ≤ after) × MatchResult result (λ _. after ≡ before) (λ error. CountsError (is_fault error) before after)
+
+-- a device's own errors are all faults
+abbrev pub each_error : {E : Type 0} → E → Bool
+each_error error = true
+
 abbrev pub Counts : {T E : Type 0} → ℕ → ℕ → Result T E → Type 0
-Counts before after result = (before ≤ after) × MatchResult result (λ _. after ≡ before) (λ _. Rose before after)
+Counts before after result = CountsFaults each_error before after result

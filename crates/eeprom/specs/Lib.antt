@@ -1,5 +1,6 @@
 pub mod Chip
 pub mod Fault
+pub mod Frame
 pub mod Image
 pub mod Input
 pub mod MemBench

@@ -24,12 +24,19 @@ two_octets number = (number / 256) ∷ (number % 256) ∷ []
 abbrev pub directory : List ℕ → ℕ → List ℕ
 directory image n = numbers_at image (32 + 2 * n * (slice_index image 8 % 2)) n
 
--- where a cell of 32 octets begins: two octets for the next cell, 65,535 for none, and 30 of payload
+-- how many octets a cell has, and how many of them are payload
+abbrev pub cell_size : ℕ
+cell_size = 32
+
+abbrev pub piece_size : ℕ
+piece_size = 30
+
+-- where a cell begins: two octets for the next cell, 65,535 for none, and then the payload
 abbrev pub cell_place : ℕ → ℕ → ℕ
-cell_place n cell = 34 + 6 * n + 32 * cell
+cell_place n cell = 34 + 6 * n + cell_size * cell
 
 abbrev pub payload_of : List ℕ → ℕ → ℕ → List ℕ
-payload_of image n cell = slice_range image (cell_place n cell + 2) (cell_place n cell + 32)
+payload_of image n cell = slice_range image (cell_place n cell + 2) (cell_place n cell + cell_size)
 
 -- the cells from this one on, linked in order, where they end within so many
 abbrev pub chain_of : List ℕ → ℕ → ℕ → ℕ → Option (List ℕ)
@@ -46,7 +53,7 @@ chains_of image n (first ∷ rest) =
 
 -- the least whole number of cells that hold a record of this length and the two octets of its length
 abbrev pub cells_for : ℕ → ℕ
-cells_for size = (size + 31) / 30
+cells_for size = (size + 31) / piece_size
 
 -- the cells of the record in a slot, and of the records in all slots
 abbrev pub cells_of : Option (List ℕ) → ℕ
@@ -64,12 +71,19 @@ abbrev pub slot_of : List ℕ → ℕ → List ℕ → Option (List ℕ)
 slot_of image n [] = None
 slot_of image n (cell ∷ cells) = Some (record_in (flat_map (payload_of image n) (cell ∷ cells)))
 
+-- how many octets a record has at most, and how many cells its chain
+abbrev pub longest_record : ℕ
+longest_record = 512
+
+abbrev pub longest_chain : ℕ
+longest_chain = 18
+
 -- a chain has a record of 1 to 512 octets, and exactly its cells
 abbrev pub is_record : List ℕ → ℕ → List ℕ → Bool
 is_record image n [] = true
 is_record image n (cell ∷ cells) =
     let size = number_at (payload_of image n cell) 0 in
-    nat_le 1 size && nat_le size 512 && (length (cell ∷ cells) == cells_for size)
+    nat_le 1 size && nat_le size longest_record && (length (cell ∷ cells) == cells_for size)
 
 abbrev pub is_distinct : List ℕ → Bool
 is_distinct [] = true
@@ -89,11 +103,15 @@ abbrev pub starts_with_magic : List ℕ → Bool
 starts_with_magic (a ∷ b ∷ c ∷ d ∷ rest) = (a == 0x53) && (b == 0x43) && (c == 0x51) && (d == 0x4C)
 starts_with_magic image = false
 
+-- how many octets an image has at least that has so many cells for its records: the last cell ends there
+abbrev pub image_size : ℕ → ℕ
+image_size n = 70 * n + 34
+
 -- these first octets say format 1 with an even version, and a number of cells that an image of this size has room for
 abbrev pub is_header : List ℕ → ℕ → Bool
 is_header octets size =
     let n = number_at octets 6 in
-    (slice_index octets 4 == 1) && (slice_index octets 5 % 2 == 0) && nat_le 16 n && nat_le n 2048 && nat_le (70 * n + 34) size
+    (slice_index octets 4 == 1) && (slice_index octets 5 % 2 == 0) && nat_le 16 n && nat_le n 2048 && nat_le (image_size n) size
 
 -- those of the image do
 abbrev pub has_header : List ℕ → Bool

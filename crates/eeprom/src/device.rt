@@ -1,7 +1,8 @@
 // The EEPROM of a card, and the bench that has one together with the outlet of the card's answers.
 ghost use Rattle.std.specs.Prelude.{◌≡◌, ◌<◌, ◌≤◌, ◌+◌, ◌^◌, ℕ, List, Option, length, slice_range, option_map, IfSome, OnOk};
 ghost use Rattle.eeprom.specs.Chip.{Chip, Becomes, RisesBy, Writes, Gives};
-ghost use Rattle.eeprom.specs.Fault.{Counts};
+ghost use Rattle.eeprom.specs.Fault.{Counts, each_error};
+ghost use Rattle.eeprom.specs.Frame.{Reads};
 ghost use Rattle.eeprom.specs.Image.{overwrite};
 
 use crate::{EepromFault, Outlet};
@@ -25,9 +26,8 @@ pub trait Eeprom {
     fn read(&mut self, at: usize, into: &mut [u8]) -> Result<(), EepromFault>
         requires { at + length into.old ≤ (chip self.old).still.size }
         ensures octets { OnOk result (IfSome (chip self.old).image (λ image. into.new ≡ slice_range image at (at + length into.old))) }
-        ensures same { chip self.new ≡ chip self.old }
-        ensures read { Becomes (RisesBy (length into.old)) (octets_read self.old) (octets_read self.new) }
-        ensures cause { Counts (faults self.old) (faults self.new) result };
+        ensures frame { Reads each_error chip faults self.old self.new result }
+        ensures read { Becomes (RisesBy (length into.old)) (octets_read self.old) (octets_read self.new) };
 
     /// Writes octets from `at` on. Where it fails, or where power is lost meanwhile, the range may hold anything.
     fn write(&mut self, at: usize, from: &[u8]) -> Result<(), EepromFault>

@@ -100,7 +100,8 @@ impl SteadyBench {
 impl Eeprom for SteadyBench {
     ghost use Rattle.std.specs.Prelude.{◌≡◌, ◌<◌, ◌≤◌, ◌+◌, ◌-◌, length, slice_range, option_map, Some, IfSome, OnOk, IsOk, refl};
     ghost use Rattle.eeprom.specs.Chip.{Becomes, RisesBy, Writes, writing};
-    ghost use Rattle.eeprom.specs.Fault.{Counts};
+    ghost use Rattle.eeprom.specs.Fault.{Counts, each_error};
+    ghost use Rattle.eeprom.specs.Frame.{Reads};
     ghost use Rattle.eeprom.specs.Image.{overwrite};
     ghost use Rattle.eeprom.specs.SteadyBench.{chip_of, octets_read_of, room_for_writes, room_for_output, ToldWithin, TellsStretch, small_of, clocked_of};
 
@@ -118,10 +119,9 @@ impl Eeprom for SteadyBench {
         requires { at + length into.old ≤ (chip_of self.old).still.size }
         ensures succeeds { IsOk result }
         ensures octets { OnOk result (IfSome (chip_of self.old).image (λ image. into.new ≡ slice_range image at (at + length into.old))) }
-        ensures same { chip_of self.new ≡ chip_of self.old }
+        ensures frame { Reads each_error chip_of (λ _. 0) self.old self.new result }
         ensures room { (room_for_writes self.new ≡ room_for_writes self.old) × (room_for_output self.new ≡ room_for_output self.old) }
         ensures read { Becomes (RisesBy (length into.old)) (octets_read_of self.old) (octets_read_of self.new) }
-        ensures cause { Counts 0 0 result }
     {
         self.octets_read = self.octets_read.saturating_add(into.len() as u128);
         into.copy_from_slice(&self.image[at..at + into.len()]);

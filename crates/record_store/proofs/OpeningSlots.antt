@@ -5,7 +5,7 @@ use Rattle.std.proofs.lemmas.Bool.Decides.{nat_tests}
 use Rattle.std.proofs.lemmas.List.{map-append, take-map, take_all, take_more}
 use Rattle.std.proofs.lemmas.List.Folds.{list_all-append}
 use Rattle.std.proofs.lemmas.Option.{same_Some}
-use Rattle.eeprom.specs.Chip.{Becomes, RisesBy}
+use Rattle.eeprom.specs.Chip.{Chip, Becomes, RisesBy}
 use Rattle.eeprom.specs.StoreOf.{Slots, numbers_at, chain_of, chains_of, is_record, slot_of, slots_at, store_of, directory, are_apart, cells_for, cells_of, weight_of}
 use Rattle.cell_store.specs.Cells.{Cells, StandsFor, all_free, kept}
 use Rattle.cell_store.specs.Chains.{AreFree, IsRecordChain, is_among}
@@ -14,8 +14,8 @@ use Rattle.cell_store.proofs.Chains.{chain-empty, chains-push, chains-take}
 use Rattle.cell_store.proofs.Placements.{nowhere}
 use Rattle.record_store.specs.Header.{IsHeaderOf}
 use Rattle.record_store.specs.declared.header.Header.{Header}
-use Rattle.record_store.specs.Held.{Held, contents, StandsFor as HeldStandsFor}
-use Rattle.record_store.specs.Opening.{HeldSoFar, StandsSoFar, IsSoundSoFar, TakesSlot, IsSlot, ReadsStore, front_octets, slots_so_far, slot_with}
+use Rattle.record_store.specs.Held.{Held, IsOver, contents, StandsFor as HeldStandsFor}
+use Rattle.record_store.specs.Opening.{HeldSoFar, IsOverSoFar, StandsSoFar, IsSoundSoFar, TakesSlot, IsSlot, ReadsStore, front_octets, slots_so_far, slot_with}
 use Rattle.record_store.specs.Sound.{Claimed, IsSound, cells_in}
 use Rattle.record_store.specs.declared.side.Side.TheVariants.{Committed}
 use Rattle.record_store.proofs.ClaimedSlots.{all_free-range, claimed-start, stands-start, Claims, cells-more, claims-so_far, claims-record, claims-refused, claims-over, claimed-more, distinct-more, marked-claimed, takes-range}
@@ -25,12 +25,11 @@ use Rattle.record_store.proofs.Weights.{store-begins, slots-chains, some-slots, 
 abbrev pub ReadsSoFar : HeldSoFar → ℕ → ℕ → Type 0
 ReadsSoFar held = RisesBy (front_octets held.cells + 32 * held.weight)
 
--- What holds before each slot is claimed, of so many cells in an EEPROM of this size, where so many octets had been read before and now.
-pub record IsOpening (held : HeldSoFar) (slot cells size : ℕ) (image : Option (List ℕ)) (before now : Option ℕ) : Type 0 where
+-- What holds before each slot is claimed, of so many cells over this EEPROM, where so many octets had been read before and now.
+pub record IsOpening (held : HeldSoFar) (slot cells : ℕ) (chip : Chip) (before now : Option ℕ) : Type 0 where
   pub claimed : held.claimed ≡ slot
   pub cells_are : held.cells ≡ cells
-  pub room : 70 * held.cells + 34 ≤ size
-  pub stands : IfSome image (StandsSoFar held)
+  pub over : IsOverSoFar held chip
   pub few : held.weight ≤ held.cells
   pub read : Becomes (ReadsSoFar held) before now
 
@@ -241,9 +240,12 @@ result-count (Ok count) octets is some = is ∙ cells-with octets some
 result-count (Err e) octets is some = tt
 
 -- what is said of an opened store, where its image is told
-pub finished-stands : (held : HeldSoFar) (store : Held) (image : Option (List ℕ)) → ((image : List ℕ) → StandsSoFar held image → HeldStandsFor store image) → IfSome image (StandsSoFar held) → IfSome image (HeldStandsFor store)
+finished-stands : (held : HeldSoFar) (store : Held) (image : Option (List ℕ)) → ((image : List ℕ) → StandsSoFar held image → HeldStandsFor store image) → IfSome image (StandsSoFar held) → IfSome image (HeldStandsFor store)
 finished-stands held store None finished stands = tt
 finished-stands held store (Some image) finished stands = finished image stands
+
+pub finished-over : (held : HeldSoFar) (store : Held) (chip : Chip) → ((image : List ℕ) → StandsSoFar held image → HeldStandsFor store image) → store.cells ≡ held.cells → IsOverSoFar held chip → IsOver store chip
+finished-over held store chip finished cells over = record { room = rw cells over.room; stands = finished-stands held store chip.image finished over.stands }
 
 pub finished-opened : (held : HeldSoFar) (store : Held) (image : Option (List ℕ)) → ((image : List ℕ) → StandsSoFar held image → store_of image ≡ contents store Committed image) → IfSome image (StandsSoFar held) → IfSome image (λ image. store_of image ≡ contents store Committed image)
 finished-opened held store None opened stands = tt

@@ -1,6 +1,6 @@
 -- What the first octets of an image say.
-use Rattle.std.specs.Prelude.{◌≡◌, ℕ, ◌+◌, ◌*◌, ◌%◌, ◌≤◌, ◌<◌, ◌&&◌, Bool, true, List, slice_index}
-use Rattle.eeprom.specs.StoreOf.{number_at, starts_with_magic, is_header, has_header}
+use Rattle.std.specs.Prelude.{◌≡◌, ℕ, ◌%◌, ◌≤◌, ◌<◌, ◌&&◌, Bool, true, List, slice_index}
+use Rattle.eeprom.specs.StoreOf.{number_at, starts_with_magic, is_header, has_header, image_size}
 use Rattle.record_store.specs.declared.header.Header.{Header}
 
 -- they are those of a store in an image of this size
@@ -12,7 +12,7 @@ pub record IsHeader (size : ℕ) (header : Header) : Type 0 where
   pub few : 16 ≤ header.cells
   pub many : header.cells ≤ 2048
   pub selector : header.selector < 2
-  pub room : 70 * header.cells + 34 ≤ size
+  pub room : image_size header.cells ≤ size
 
 -- the header of this image
 pub record IsHeaderOf (image : List ℕ) (header : Header) : Type 0 where

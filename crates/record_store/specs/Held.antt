@@ -1,5 +1,7 @@
 -- What a store holds in memory, and of which images it speaks.
-use Rattle.std.specs.Prelude.{◌≡◌, ℕ, ◌%◌, Bool, true, if◌then◌else◌, List, Option, None, IsSome, option_and_then, slice_index, slice_index_or}
+use Rattle.std.specs.Prelude.{◌≡◌, ℕ, ◌%◌, Bool, true, if◌then◌else◌, List, Option, None, IsSome, IfSome, option_and_then, slice_index, slice_index_or}
+use Rattle.eeprom.specs.Chip.{Chip}
+use Rattle.eeprom.specs.Frame.{HasRoom}
 use Rattle.eeprom.specs.StoreOf.{Slots, slots_at, starts_with_magic, has_header, number_at, directory}
 use Rattle.cell_store.specs.Cells.{Cells, kept, AreLinksOf}
 use Rattle.record_store.specs.declared.side.Side.{Side}
@@ -46,3 +48,8 @@ pub record StandsFor (held : Held) (image : List ℕ) : Type 0 where
   pub links : AreLinksOf image held.cells held.used held.links
   pub committed : IsSome (contents held Committed image)
   pub working : IsSome (contents held Working image)
+
+-- the EEPROM has room for the store that is held, and its image, where told, has that store
+pub record IsOver (held : Held) (chip : Chip) : Type 0 where
+  pub room : HasRoom held.cells chip
+  pub stands : IfSome chip.image (StandsFor held)

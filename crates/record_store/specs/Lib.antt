@@ -1,5 +1,5 @@
 pub mod Appends
-pub mod CountsFaults
+pub mod Faults
 pub mod FreshImage
 pub mod Header
 pub mod Held

@@ -1,7 +1,8 @@
 -- A store that is being opened: its slots are claimed one after another.
 use Rattle.std.specs.Prelude.{◌≡◌, ℕ, ◌+◌, ◌*◌, ◌<◌, ◌≤◌, Bool, true, List, [], ◌∷◌, length, take, Option, Some, None, IsSome, IfSome}
-use Rattle.eeprom.specs.Chip.{RisesBy}
-use Rattle.eeprom.specs.StoreOf.{Slots, slots_at, chain_of, is_record, slot_of, weight_of}
+use Rattle.eeprom.specs.Chip.{Chip, RisesBy}
+use Rattle.eeprom.specs.Frame.{HasRoom}
+use Rattle.eeprom.specs.StoreOf.{Slots, slots_at, chain_of, is_record, slot_of, weight_of, cell_size, longest_chain}
 use Rattle.cell_store.specs.Cells.{Cells, IsInRange, kept, AreLinksOf}
 use Rattle.cell_store.specs.Claims.{TakesChain}
 use Rattle.record_store.specs.Held.{BeginsAs}
@@ -33,6 +34,11 @@ pub record StandsSoFar (held : HeldSoFar) (image : List ℕ) : Type 0 where
   pub links : AreLinksOf image held.cells held.used held.links
   pub claimed : IsSome (slots_so_far held image)
 
+-- the EEPROM has room for the store, and its image, where told, has what was opened so far
+pub record IsOverSoFar (held : HeldSoFar) (chip : Chip) : Type 0 where
+  pub room : HasRoom held.cells chip
+  pub stands : IfSome chip.image (StandsSoFar held)
+
 -- these slots are claimed, and their chains have so many cells
 pub record ClaimedSoFar (store : Cells) (firsts : List ℕ) (weight : ℕ) : Type 0 where
   pub slots : Claimed store firsts
@@ -63,8 +69,8 @@ front_octets n = 9 + 2 * n
 
 -- these are read where a store is opened, and as many as the cells of its records have
 abbrev pub ReadsStore : ℕ → Slots → ℕ → ℕ → Type 0
-ReadsStore n slots = RisesBy (front_octets n + 32 * weight_of slots)
+ReadsStore n slots = RisesBy (front_octets n + cell_size * weight_of slots)
 
 -- so many are read at the most of any image: a store is refused as soon as the chains have more cells than it may have
 abbrev pub most_octets : ℕ
-most_octets = front_octets 2048 + 32 * (2048 + 18)
+most_octets = front_octets 2048 + cell_size * (2048 + longest_chain)

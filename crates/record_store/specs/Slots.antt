@@ -1,7 +1,7 @@
 -- Slots by the first cells of their chains.
 use Rattle.std.specs.Prelude.{◌≡◌, ◌≢◌, ℕ, ◌+◌, ◌<◌, true, List, [], get_or, slice_index, take, drop, sum_by}
 use Rattle.std.specs.List.{AllByRecursion}
-use Rattle.eeprom.specs.StoreOf.{is_distinct}
+use Rattle.eeprom.specs.StoreOf.{is_distinct, longest_chain}
 use Rattle.cell_store.specs.Cells.{Cells}
 use Rattle.cell_store.specs.Chains.{is_among, steps}
 use Rattle.cell_store.specs.Marks.{is_marked}
@@ -9,7 +9,7 @@ use Rattle.record_store.specs.Sound.{AreChains, cells_in}
 
 -- the cells of the chains that begin at these, without that of a slot
 abbrev pub steps_without : List ℕ → List ℕ → ℕ → ℕ
-steps_without links firsts slot = sum_by (steps links 18) (take slot firsts) + sum_by (steps links 18) (drop (slot + 1) firsts)
+steps_without links firsts slot = sum_by (steps links longest_chain) (take slot firsts) + sum_by (steps links longest_chain) (drop (slot + 1) firsts)
 
 -- used chains that begin at these cells, of which no two have a cell in common
 pub record AreUsedChains (store : Cells) (firsts : List ℕ) (chains : List (List ℕ)) : Type 0 where

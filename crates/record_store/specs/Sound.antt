@@ -1,7 +1,7 @@
 -- What holds of each store in memory, whatever an EEPROM tells: which chains its slots have, and that no other cells are used.
 use Rattle.std.specs.Prelude.{◌≡◌, ◌⊎◌, ℕ, ◌<◌, ◌≤◌, ◌||◌, true, false, List, [], ◌∷◌, length, get_or, slice_index}
 use Rattle.std.specs.List.{flat_map}
-use Rattle.eeprom.specs.StoreOf.{is_distinct}
+use Rattle.eeprom.specs.StoreOf.{is_distinct, longest_chain}
 use Rattle.cell_store.specs.Cells.{Cells, IsInRange, link_in}
 use Rattle.cell_store.specs.Chains.{AreLinked, is_among}
 use Rattle.cell_store.specs.Marks.{is_marked}
@@ -13,7 +13,7 @@ abbrev pub AreChains : List ℕ → List ℕ → List (List ℕ) → Type 0
 AreChains links [] [] = Unit {0}
 AreChains links [] (chain ∷ chains) = ⊥
 AreChains links (first ∷ firsts) [] = ⊥
-AreChains links (first ∷ firsts) (chain ∷ chains) = AreLinked (link_in links) (length links) first chain × (length chain ≤ 18) × AreChains links firsts chains
+AreChains links (first ∷ firsts) (chain ∷ chains) = AreLinked (link_in links) (length links) first chain × (length chain ≤ longest_chain) × AreChains links firsts chains
 
 -- the cells of chains, one chain behind another
 abbrev pub cells_in : List (List ℕ) → List ℕ

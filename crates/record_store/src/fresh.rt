@@ -1,10 +1,12 @@
 // Formatting: a new store of two records.
 ghost use Rattle.std.specs.Prelude.{◌≡◌, ◌+◌, ◌*◌, ◌-◌, ◌≤◌, ◌<◌, ◌↔◌, length, take, drop, false, Some, option_map, OnOk, IsErrOf, IfSome};
 ghost use Rattle.eeprom.specs.Chip.{Keeps};
-ghost use Rattle.eeprom.specs.Fault.{Counts, Rose};
+ghost use Rattle.eeprom.specs.Fault.{Counts, CountsFaults};
+ghost use Rattle.eeprom.specs.Frame.{HasRoom};
 ghost use Rattle.eeprom.specs.Image.{overwrite};
-ghost use Rattle.eeprom.specs.StoreOf.{starts_with_magic, store_of, fresh_slots};
+ghost use Rattle.eeprom.specs.StoreOf.{starts_with_magic, store_of, fresh_slots, image_size};
 ghost use Rattle.record_store.specs.Appends.{Appends, end_of};
+ghost use Rattle.record_store.specs.Faults.{is_format_fault};
 ghost use Rattle.record_store.specs.FreshImage.{LeavesFormatted, LeavesCleared, fresh_image, fresh_body, fresh_header, fresh_directories, fresh_cell};
 
 use crate::layout::{FORMAT, MAGIC, image_size};
@@ -31,11 +33,9 @@ impl Store {
         ensures formatted { OnOk result (IfSome (B.chip bench.new).image (λ image. store_of image ≡ Some (fresh_slots cells first.now second.now))) }
         ensures still { (B.chip bench.new).still ≡ (B.chip bench.old).still }
         ensures moments { LeavesFormatted cells first.now second.now (B.chip bench.old) (B.chip bench.new) }
-        ensures too_small { IsErrOf result FormatRefusal.TooSmall ↔ ((B.chip bench.old).still.size < 70 * cells + 34) }
+        ensures too_small { IsErrOf result FormatRefusal.TooSmall ↔ ((B.chip bench.old).still.size < image_size cells) }
         ensures unchanged { IsErrOf result FormatRefusal.TooSmall → bench.new ≡ bench.old }
-        ensures fault { IsErrOf result FormatRefusal.Fault → Rose (B.faults bench.old) (B.faults bench.new) }
-        ensures quiet { OnOk result (B.faults bench.new ≡ B.faults bench.old) }
-        ensures never_falls { B.faults bench.old ≤ B.faults bench.new }
+        ensures cause { CountsFaults is_format_fault (B.faults bench.old) (B.faults bench.new) result }
     {
         if bench.size() < image_size(cells) {
             return Err(FormatRefusal::TooSmall);
@@ -75,7 +75,7 @@ fn write_body<B: Eeprom>(
     requires many { cells ≤ 2048 }
     requires first { length first.now ≤ 28 }
     requires second { length second.now ≤ 28 }
-    requires room { 70 * cells + 34 ≤ (B.chip bench.old).still.size }
+    requires room { HasRoom cells (B.chip bench.old) }
     ensures image { OnOk result
         ((B.chip bench.new).image ≡ option_map (λ image. overwrite image 4 (fresh_body cells first.now second.now)) (B.chip bench.old).image) }
     ensures front { Keeps (take 4) (B.chip bench.old) (B.chip bench.new) }

@@ -1,10 +1,11 @@
 // What an image says of its store: its header, and the directory that is selected.
 ghost use Rattle.std.specs.Prelude.{◌≡◌, ◌+◌, ◌*◌, ◌%◌, ◌<◌, None, length, is_some, slice_index, IfSome, IfOk, OnOk, IsErrOf};
 ghost use Rattle.eeprom.specs.Chip.{Becomes, RisesBy};
+ghost use Rattle.eeprom.specs.Frame.{Reads};
 ghost use Rattle.eeprom.specs.StoreOf.{store_of, number_at, numbers_at};
 ghost use Rattle.cell_store.specs.Reading.{ReadsAtMost};
 ghost use Rattle.record_store.specs.Header.{begins_store, IsHeader, IsHeaderOf};
-ghost use Rattle.record_store.specs.CountsFaults.{CountsFaults};
+ghost use Rattle.record_store.specs.Faults.{is_open_fault};
 
 use crate::OpenRefusal;
 use crate::layout::{FORMAT, LARGEST_DIRECTORY, directory_place, image_size};
@@ -31,8 +32,7 @@ pub fn read_header<B: Eeprom>(bench: &mut B) -> Result<Header, OpenRefusal>
     ensures octets_read { OnOk result (Becomes (RisesBy 9) (B.octets_read bench.old) (B.octets_read bench.new)) }
     ensures most_read { Becomes (ReadsAtMost 9) (B.octets_read bench.old) (B.octets_read bench.new) }
     ensures no_memory_taken { ¬ (IsErrOf result OpenRefusal.NoMemory) }
-    ensures same { B.chip bench.new ≡ B.chip bench.old }
-    ensures cause { CountsFaults (B.faults bench.old) (B.faults bench.new) result }
+    ensures frame { Reads is_open_fault B.chip B.faults bench.old bench.new result }
 {
     let size = bench.size();
     if size < FRONT {
@@ -75,8 +75,7 @@ pub fn read_directory<B: Eeprom>(
     ensures a_card { ¬ (IsErrOf result OpenRefusal.NotACard) }
     ensures octets_read { OnOk result (Becomes (RisesBy (2 * header.cells)) (B.octets_read bench.old) (B.octets_read bench.new)) }
     ensures most_read { Becomes (ReadsAtMost (2 * header.cells)) (B.octets_read bench.old) (B.octets_read bench.new) }
-    ensures same { B.chip bench.new ≡ B.chip bench.old }
-    ensures cause { CountsFaults (B.faults bench.old) (B.faults bench.new) result }
+    ensures frame { Reads is_open_fault B.chip B.faults bench.old bench.new result }
 {
     let mut octets = [0; LARGEST_DIRECTORY];
     let directory = &mut octets[..2 * header.cells as usize];

@@ -1,5 +1,6 @@
 // Where an image of format 1 has its parts. Places and lengths are in octets.
 ghost use Rattle.std.specs.Prelude.{◌≡◌, ◌+◌, ◌*◌};
+ghost use Rattle.eeprom.specs.StoreOf as image;
 
 /// What each image with a store begins with.
 pub const MAGIC: [u8; 4] = *b"SCQL";
@@ -15,7 +16,7 @@ pub const LARGEST_DIRECTORY: usize = 4096;
 
 /// How many octets an image of so many cells has at least.
 pub fn image_size(cells: u16) -> usize
-    ensures { result ≡ 70 * cells + 34 }
+    ensures { result ≡ image.image_size cells }
 {
     70 * cells as usize + 34
 }

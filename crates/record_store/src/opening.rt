@@ -2,13 +2,14 @@
 // record or none, and no cell is in two chains.
 ghost use Rattle.std.specs.Prelude.{◌≡◌, ◌≢◌, ◌+◌, ◌*◌, ◌≤◌, ◌<◌, ◌++◌, [], ◌∷◌, None, length, option_map, IfSome, IfOk, IsErrOf, OnOk};
 ghost use Rattle.eeprom.specs.Chip.{Becomes, RisesBy};
-ghost use Rattle.eeprom.specs.StoreOf.{store_of, cells_of};
+ghost use Rattle.eeprom.specs.Frame.{HasRoom, Reads};
+ghost use Rattle.eeprom.specs.StoreOf.{store_of, cells_of, cell_size, longest_chain};
 ghost use Rattle.cell_store.specs.Reading.{ReadsAtMost, ReadsCells};
 ghost use Rattle.cell_store.specs.Claims.{HasNoRecord};
 ghost use Rattle.cell_store.specs.Cells.{StandsFor};
-ghost use Rattle.cell_store.specs.CountsFaults.{CountsClaimFaults};
-ghost use Rattle.record_store.specs.Opening.{StandsSoFar, TakesSlot, front_octets, slots_so_far, slot_with};
-ghost use Rattle.record_store.specs.CountsFaults.{CountsFaults};
+ghost use Rattle.cell_store.specs.Faults.{is_claim_fault};
+ghost use Rattle.record_store.specs.Opening.{IsOverSoFar, TakesSlot, front_octets, slots_so_far, slot_with};
+ghost use Rattle.record_store.specs.Faults.{is_open_fault};
 
 use crate::OpenRefusal;
 use crate::header::{read_directory, read_header};
@@ -45,13 +46,11 @@ impl Opening {
     pub fn new<B: Eeprom>(alloc: Global, bench: &mut B) -> Result<Opening, OpenRefusal>
         ensures begins { IfOk result (λ opening. opening.claimed ≡ 0) }
         ensures weight { IfOk result (λ opening. opening.weight ≡ 0) }
-        ensures stands { IfOk result (λ opening. IfSome (B.chip bench.old).image (StandsSoFar opening)) }
-        ensures room { IfOk result (λ opening. 70 * opening.cells + 34 ≤ (B.chip bench.old).still.size) }
+        ensures over { IfOk result (λ opening. IsOverSoFar opening (B.chip bench.old)) }
         ensures octets_read { IfOk result (λ opening. Becomes (RisesBy (front_octets opening.cells)) (B.octets_read bench.old) (B.octets_read bench.new)) }
         ensures most_read { Becomes (ReadsAtMost (front_octets 2048)) (B.octets_read bench.old) (B.octets_read bench.new) }
         ensures not_a_card { IsErrOf result OpenRefusal.NotACard → IfSome (B.chip bench.old).image (λ image. store_of image ≡ None) }
-        ensures same { B.chip bench.new ≡ B.chip bench.old }
-        ensures cause { CountsFaults (B.faults bench.old) (B.faults bench.new) result }
+        ensures frame { Reads is_open_fault B.chip B.faults bench.old bench.new result }
     {
         let header = read_header(bench)?;
         let committed = read_directory(alloc, bench, header)?;
@@ -91,21 +90,19 @@ impl Opening {
         out: &mut RecordOctets,
     ) -> Result<Opening, OpenRefusal>
         requires left { self.claimed < self.cells }
-        requires room { 70 * self.cells + 34 ≤ (B.chip bench.old).still.size }
-        requires stands { IfSome (B.chip bench.old).image (StandsSoFar self) }
+        requires over { IsOverSoFar self (B.chip bench.old) }
         ensures slots { IfOk result (λ next. IfSome (B.chip bench.old).image (λ image.
             slots_so_far next image ≡ option_map (λ slots. slots ++ slot_with out.new.items ∷ []) (slots_so_far self image))) }
-        ensures stands { IfOk result (λ next. IfSome (B.chip bench.old).image (StandsSoFar next)) }
+        ensures over { IfOk result (λ next. IsOverSoFar next (B.chip bench.old)) }
         ensures claimed { IfOk result (λ next. next.claimed ≡ self.claimed + 1) }
         ensures weight { IfOk result (λ next. next.weight ≡ self.weight + cells_of (slot_with out.new.items)) }
         ensures few { IfOk result (λ next. next.weight ≤ next.cells) }
         ensures cells { IfOk result (λ next. next.cells ≡ self.cells) }
         ensures octets_read { OnOk result (Becomes (ReadsCells (cells_of (slot_with out.new.items))) (B.octets_read bench.old) (B.octets_read bench.new)) }
-        ensures most_read { Becomes (ReadsAtMost (32 * 18)) (B.octets_read bench.old) (B.octets_read bench.new) }
+        ensures most_read { Becomes (ReadsAtMost (cell_size * longest_chain)) (B.octets_read bench.old) (B.octets_read bench.new) }
         ensures no_memory_taken { ¬ (IsErrOf result OpenRefusal.NoMemory) }
         ensures not_a_card { IsErrOf result OpenRefusal.NotACard → IfSome (B.chip bench.old).image (λ image. store_of image ≡ None) }
-        ensures same { B.chip bench.new ≡ B.chip bench.old }
-        ensures cause { CountsFaults (B.faults bench.old) (B.faults bench.new) result }
+        ensures frame { Reads is_open_fault B.chip B.faults bench.old bench.new result }
     {
         let Opening {
             mut chains,
@@ -139,15 +136,14 @@ fn claim_slot<B: Eeprom>(
     first: u16,
     out: &mut RecordOctets,
 ) -> Result<u16, ClaimRefusal>
-    requires room { 70 * chains.old.cells + 34 ≤ (B.chip bench.old).still.size }
+    requires room { HasRoom chains.old.cells (B.chip bench.old) }
     ensures takes { IfOk result (λ count. TakesSlot (B.chip bench.old).image chains.old chains.new first out.new.items count) }
     ensures stands { OnOk result (IfSome (B.chip bench.old).image (λ image. StandsFor chains.old image → StandsFor chains.new image)) }
     ensures count { IfOk result (λ count. count ≡ cells_of (slot_with out.new.items)) }
     ensures octets_read { IfOk result (λ count. Becomes (ReadsCells count) (B.octets_read bench.old) (B.octets_read bench.new)) }
-    ensures most_read { Becomes (ReadsAtMost (32 * 18)) (B.octets_read bench.old) (B.octets_read bench.new) }
+    ensures most_read { Becomes (ReadsAtMost (cell_size * longest_chain)) (B.octets_read bench.old) (B.octets_read bench.new) }
     ensures bad_chain { IsErrOf result ClaimRefusal.BadChain → (first ≢ 65535) × IfSome (B.chip bench.old).image (HasNoRecord chains.old first) }
-    ensures same { B.chip bench.new ≡ B.chip bench.old }
-    ensures cause { CountsClaimFaults (B.faults bench.old) (B.faults bench.new) result }
+    ensures frame { Reads is_claim_fault B.chip B.faults bench.old bench.new result }
 {
     if first == NO_CELL {
         out.clear();

@@ -1,5 +1,6 @@
 // Slots by the first cells of their chains: an empty one, the cells of all chains, and chains that others replace.
 ghost use Rattle.std.specs.Prelude.{◌≡◌, ◌≢◌, ◌+◌, ◌*◌, ◌≤◌, ◌<◌, ℕ, List, true, false, length, get_or, slice_index, Some, IfSome, IfNone, All, sum_by};
+ghost use Rattle.eeprom.specs.StoreOf.{longest_chain};
 ghost use Rattle.cell_store.specs.Marks.{StaysMarked, is_marked};
 ghost use Rattle.cell_store.specs.Chains.{steps, is_among};
 ghost use Rattle.record_store.specs.Slots.{steps_without, AreUsedChains, AreReplaced};
@@ -9,8 +10,8 @@ use cell_store::{CellStore, NO_CELL};
 /// How many cells the chains have that begin at these cells.
 pub fn length_of_chains(cells: &CellStore, firsts: &[u16]) -> u16
     requires few { length firsts.now ≤ 2048 }
-    ensures sum { result ≡ sum_by (steps cells.now.links 18) firsts.now }
-    ensures most { result ≤ 18 * length firsts.now }
+    ensures sum { result ≡ sum_by (steps cells.now.links longest_chain) firsts.now }
+    ensures most { result ≤ longest_chain * length firsts.now }
 {
     let mut total = 0;
     for first in firsts {
@@ -24,7 +25,7 @@ pub fn length_without(cells: &CellStore, firsts: &[u16], slot: u16) -> u16
     requires few { length firsts.now ≤ 2048 }
     requires slot { slot < length firsts.now }
     ensures sum { result ≡ steps_without cells.now.links firsts.now slot }
-    ensures most { result ≤ 18 * length firsts.now }
+    ensures most { result ≤ longest_chain * length firsts.now }
 {
     let slot = slot as usize;
     length_of_chains(cells, &firsts[..slot]) + length_of_chains(cells, &firsts[slot + 1..])

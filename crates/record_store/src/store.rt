@@ -1,12 +1,13 @@
 // A store of records, of which a directory in memory knows where each begins.
 ghost use Rattle.std.specs.Prelude.{◌≡◌, ◌+◌, ◌*◌, ◌≤◌, ◌<◌, ℕ, List, Some, None, false, IsTrue, IsSome, if◌then◌else◌, length, slice_index, is_some, IfSome, IfOk, IsErrOf, OnOk, OnErr};
 ghost use Rattle.eeprom.specs.Chip.{Becomes, RisesBy, Keeps};
-ghost use Rattle.eeprom.specs.Fault.{Counts};
-ghost use Rattle.eeprom.specs.StoreOf.{Slots, store_of};
+ghost use Rattle.eeprom.specs.Fault.{Counts, CountsFaults, each_error};
+ghost use Rattle.eeprom.specs.Frame.{Reads};
+ghost use Rattle.eeprom.specs.StoreOf.{Slots, store_of, cell_size, longest_record};
 ghost use Rattle.eeprom.specs.StoreOf as image;
-ghost use Rattle.record_store.specs.Held.{firsts, contents, record_at, StandsFor};
+ghost use Rattle.record_store.specs.Held.{firsts, contents, record_at, StandsFor, IsOver};
 ghost use Rattle.record_store.specs.Opening.{StandsSoFar, ReadsStore, most_octets, slots_so_far};
-ghost use Rattle.record_store.specs.CountsFaults.{CountsFaults, CountsPutFaults};
+ghost use Rattle.record_store.specs.Faults.{is_open_fault, is_put_fault};
 ghost use Rattle.eeprom.specs.StoreOf.{weight_of};
 ghost use Rattle.record_store.specs.Put.{IsPut, IsFull, IsWithin, emptied};
 ghost use Rattle.cell_store.specs.Marks.{StaysMarked};
@@ -70,16 +71,14 @@ impl Store {
     /// have.
     pub fn open<B: Eeprom>(alloc: Global, bench: &mut B) -> Result<Store, OpenRefusal>
         ensures stored { OnOk result (IfSome (B.chip bench.old).image (λ image. IsSome (store_of image))) }
-        ensures stands { IfOk result (λ store. IfSome (B.chip bench.old).image (StandsFor store)) }
+        ensures over { IfOk result (λ store. IsOver store (B.chip bench.old)) }
         ensures opened { IfOk result (λ store. IfSome (B.chip bench.old).image (λ image. store_of image ≡ contents store Committed image)) }
         ensures idle { IfOk result (λ store. store.begun ≡ false) }
-        ensures room { IfOk result (λ store. 70 * store.cells + 34 ≤ (B.chip bench.old).still.size) }
         ensures octets_read { IfOk result (λ store. IfSome (B.chip bench.old).image (λ image. (slots : Slots) → store_of image ≡ Some slots
             → Becomes (ReadsStore store.cells slots) (B.octets_read bench.old) (B.octets_read bench.new))) }
         ensures most_read { Becomes (ReadsAtMost most_octets) (B.octets_read bench.old) (B.octets_read bench.new) }
         ensures not_a_card { IsErrOf result OpenRefusal.NotACard → IfSome (B.chip bench.old).image (λ image. store_of image ≡ None) }
-        ensures same { B.chip bench.new ≡ B.chip bench.old }
-        ensures cause { CountsFaults (B.faults bench.old) (B.faults bench.new) result }
+        ensures frame { Reads is_open_fault B.chip B.faults bench.old bench.new result }
     {
         let mut opening = Opening::new(alloc, bench)?;
         let mut octets = RecordOctets::new();
@@ -121,15 +120,13 @@ impl Store {
         slot: u16,
         out: &mut RecordOctets,
     ) -> Result<bool, EepromFault>
-        requires stands { IfSome (B.chip bench.old).image (StandsFor self.now) }
-        requires room { 70 * self.now.cells + 34 ≤ (B.chip bench.old).still.size }
+        requires over { IsOver self.now (B.chip bench.old) }
         requires slot { slot < self.now.cells }
         ensures found { IfOk result (λ found. IfSome (B.chip bench.old).image
             (λ image. record_at self.now side slot image ≡ (if found then Some out.new.items else None))) }
         ensures octets_read { IfOk result (λ found. IfSome (B.chip bench.old).image
             (λ _. Becomes (ReadsRecord (if found then Some out.new.items else None)) (B.octets_read bench.old) (B.octets_read bench.new))) }
-        ensures same { B.chip bench.new ≡ B.chip bench.old }
-        ensures cause { Counts (B.faults bench.old) (B.faults bench.new) result }
+        ensures frame { Reads each_error B.chip B.faults bench.old bench.new result }
     {
         let first = self.first_cell(side, slot);
         if first == NO_CELL {
@@ -163,9 +160,8 @@ impl Store {
         requires begun { IsTrue self.old.begun }
         requires slot { IfSome slot (λ slot. slot < self.old.cells) }
         requires some { 1 ≤ length octets.now }
-        requires most { length octets.now ≤ 512 }
-        requires room { 70 * self.old.cells + 34 ≤ (B.chip bench.old).still.size }
-        requires stands { IfSome (B.chip bench.old).image (StandsFor self.old) }
+        requires most { length octets.now ≤ longest_record }
+        requires over { IsOver self.old (B.chip bench.old) }
         ensures named { IfOk result (λ found. IfSome slot (λ slot. found ≡ slot)) }
         ensures empty { IfOk result (λ found. slot ≡ None → IfSome (B.chip bench.old).image (λ image. record_at self.old Working found image ≡ None)) }
         ensures there { IfOk result (λ found. found < self.old.cells) }
@@ -176,9 +172,9 @@ impl Store {
         ensures told { OnOk result (is_some (B.chip bench.new).image ≡ is_some (B.chip bench.old).image) }
         ensures begun { OnOk result (self.new.begun ≡ self.old.begun) }
         ensures cells { OnOk result (self.new.cells ≡ self.old.cells) }
-        ensures octets_written { OnOk result (Becomes (RisesBy (32 * image.cells_for (length octets.now))) (B.chip bench.old).written (B.chip bench.new).written) }
+        ensures octets_written { OnOk result (Becomes (RisesBy (cell_size * image.cells_for (length octets.now))) (B.chip bench.old).written (B.chip bench.new).written) }
         ensures moments { Keeps store_of (B.chip bench.old) (B.chip bench.new) }
-        ensures cause { CountsPutFaults (B.faults bench.old) (B.faults bench.new) result }
+        ensures cause { CountsFaults is_put_fault (B.faults bench.old) (B.faults bench.new) result }
     {
         let Some(slot) = named_or_empty(slot, self.working.as_slice()) else {
             return Err(StoreRefusal::Full);
@@ -217,8 +213,7 @@ impl Store {
     /// After a fault the store in memory is unchanged, and the image has its committed or its working records.
     pub fn commit<B: Eeprom>(&mut self, bench: &mut B) -> Result<(), EepromFault>
         requires begun { IsTrue self.old.begun }
-        requires room { 70 * self.old.cells + 34 ≤ (B.chip bench.old).still.size }
-        requires stands { IfSome (B.chip bench.old).image (StandsFor self.old) }
+        requires over { IsOver self.old (B.chip bench.old) }
         ensures ended { OnOk result (self.new.begun ≡ false) }
         ensures cells { OnOk result (self.new.cells ≡ self.old.cells) }
         ensures told { OnOk result (is_some (B.chip bench.new).image ≡ is_some (B.chip bench.old).image) }

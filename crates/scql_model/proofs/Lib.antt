@@ -9,7 +9,6 @@ pub mod ChangedObjects
 pub mod ChangedRows
 pub mod ChangedUsers
 pub mod ChangingSessions
-pub mod ChannelsApart
 pub mod ChosenRows
 pub mod ContentsRise
 pub mod CounterSlot

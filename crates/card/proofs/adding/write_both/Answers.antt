@@ -15,7 +15,7 @@ use Rattle.card.proofs.adding.write_both.Goals as goal
 never_full : (g : _) (c : After-put-2 g) (P : Slots → Type 0) → IfSome (g.B.Eeprom.chip c.put.new.bench).image (IsFull c.put.new.self (Some c.args.slot) c.args.changed.now) → IfCommitted c.args.store.now (g.B.Eeprom.chip c.args.bench.now).image P
 never_full g c P full =
     second_has_room c.args.store.now c.put.new.self c.args.added.now c.args.slot c.in_ok-put.field-0 c.args.changed.now (g.B.Eeprom.chip c.args.bench.now).image (g.B.Eeprom.chip c.put.new.bench).image P
-    c.requires.may_add.stands c.requires.may_add.inside c.in_ok-put.ensures.cells c.in_ok-put.ensures.told (c.in_ok-put.ensures.empty refl) c.in_ok-put.ensures.within c.requires.starts c.in_ok-put.ensures.put c.requires.may_add.as_long full
+    c.requires.may_add.over.stands c.requires.may_add.inside c.in_ok-put.ensures.cells c.in_ok-put.ensures.told (c.in_ok-put.ensures.empty refl) c.in_ok-put.ensures.within c.requires.starts c.in_ok-put.ensures.put c.requires.may_add.as_long full
 
 pub returns-in_err-put-2-clause-adds : goal.returns-in_err-put-2-clause-adds
 returns-in_err-put-2-clause-adds g c = record {

@@ -15,7 +15,7 @@ loop-slot-init g c = record {
   same = refl;
   faults = refl;
   bound = c.cells-slot-end.ensures.number;
-  count = length-committed_slots c.args.store.now (g.B.Eeprom.chip c.args.bench.now).image c.requires.stands;
+  count = length-committed_slots c.args.store.now (g.B.Eeprom.chip c.args.bench.now).image c.requires.over.stands;
   left = all_left (λ (n : ℕ). true) (in_slot records.counter_in) (committed_slots c.args.store.now (g.B.Eeprom.chip c.args.bench.now).image);
 }
 
@@ -25,8 +25,8 @@ loop-slot-preserved g c =
     let within : c.loop-slot.slot < c.args.store.now.cells = omega (arith, c.loop-slot.invariant.bound, c.loop-slot-test.true) in
     let here = rw c.loop-slot.invariant.same at c.in_ok-counter.ensures.counter in
     record {
-      same = c.in_ok-counter.ensures.same ∙ c.loop-slot.invariant.same;
-      faults = c.in_ok-counter.ensures.cause.1 ∙ c.loop-slot.invariant.faults;
+      same = c.in_ok-counter.ensures.frame.same ∙ c.loop-slot.invariant.same;
+      faults = c.in_ok-counter.ensures.frame.counts.1 ∙ c.loop-slot.invariant.faults;
       bound = c.loop-slot.invariant.bound;
       count = c.loop-slot.invariant.count;
       left = passed_here (λ (n : ℕ). true) (in_slot records.counter_in) slots c.args.store.now.cells c.loop-slot.slot (option_map next_of c.in_ok-counter.field-0)

@@ -21,7 +21,7 @@ use Rattle.card.proofs.creating.prepare_user.Goals as goal
 pub returns-in_default-2-clause-prepares : goal.returns-in_default-2-clause-prepares
 returns-in_default-2-clause-prepares g c = λ slots db told holds valid asked.
     absurd (counter-slots slots db holds (if_some-at (λ (slots : Slots). None ≡ find (λ (n : ℕ). true) (filter_map (in_slot counter_in) slots)) (committed_slots c.args.store.now (g.B.Eeprom.chip c.args.bench.now).image) slots told
-    (rw (c.in_default-2.is, c.in_ok-is_taken.ensures.same) at c.in_ok-found.ensures.none)))
+    (rw (c.in_default-2.is, c.in_ok-is_taken.ensures.frame.same) at c.in_ok-found.ensures.none)))
 
 -- the counter that was found among the committed slots of a database has its next stamp
 next-found : (g : _) (c : In-Some-2 g) (slots : Slots) (db : Database) → committed_slots c.args.store.now (g.B.Eeprom.chip c.args.bench.now).image ≡ Some slots → Holds slots db
@@ -29,8 +29,8 @@ next-found : (g : _) (c : In-Some-2 g) (slots : Slots) (db : Database) → commi
 next-found g c slots db told holds =
     let image = (g.B.Eeprom.chip c.args.bench.now).image in
     let counts = if_some-at (λ (slots : Slots). Some c.in-Some-2.found.counter.next ≡ in_slot counter_in (slice_index_or slots c.in-Some-2.found.slot None)) (committed_slots c.args.store.now image) slots told
-    (rw (c.in-Some-2.is, c.in_ok-is_taken.ensures.same) at c.in_ok-found.ensures.counter) in
-    let size = if_some-at (λ (slots : Slots). length slots ≡ c.args.store.now.cells) (committed_slots c.args.store.now image) slots told (length-committed_slots c.args.store.now image c.requires.stands) in
+    (rw (c.in-Some-2.is, c.in_ok-is_taken.ensures.frame.same) at c.in_ok-found.ensures.counter) in
+    let size = if_some-at (λ (slots : Slots). length slots ≡ c.args.store.now.cells) (committed_slots c.args.store.now image) slots told (length-committed_slots c.args.store.now image c.requires.over.stands) in
     let there : c.in-Some-2.found.slot < c.args.store.now.cells = rw c.in-Some-2.is at c.in_ok-found.ensures.there in
     (counts, counter-in_slot slots db c.in-Some-2.found.slot c.in-Some-2.found.counter.next holds (subst (λ (n : ℕ). c.in-Some-2.found.slot < n) (sym size) there) (sym counts))
 

@@ -17,7 +17,7 @@ loop-slot-init g c = record {
   same = refl;
   faults = refl;
   bound = c.cells-slot-end.ensures.number;
-  count = length-committed_slots c.args.store.now (g.B.Eeprom.chip c.args.bench.now).image c.requires.stands;
+  count = length-committed_slots c.args.store.now (g.B.Eeprom.chip c.args.bench.now).image c.requires.over.stands;
   left = all_left (is_wanted c.args.wanted) (in_slot records.user_in) (committed_slots c.args.store.now (g.B.Eeprom.chip c.args.bench.now).image);
 }
 
@@ -40,8 +40,8 @@ loop-slot-preserved g c =
       | in_default w ↦ rw w.in_default.is tt
     ] in
     record {
-      same = c.in_ok-user.ensures.same ∙ c.loop-slot.invariant.same;
-      faults = c.in_ok-user.ensures.cause.1 ∙ c.loop-slot.invariant.faults;
+      same = c.in_ok-user.ensures.frame.same ∙ c.loop-slot.invariant.same;
+      faults = c.in_ok-user.ensures.frame.counts.1 ∙ c.loop-slot.invariant.faults;
       bound = c.loop-slot.invariant.bound;
       count = c.loop-slot.invariant.count;
       left = passed_here (is_wanted c.args.wanted) (in_slot records.user_in) slots c.args.store.now.cells c.loop-slot.slot c.in_ok-user.field-0

@@ -1,4 +1,4 @@
-use Rattle.std.proofs.Common.{◌≡◌, ◌⊎◌, ◌+◌, ◌-◌, ◌*◌, ◌≤◌, ◌<◌, length}
+use Rattle.std.proofs.Common.{◌≡◌, ◌⊎◌, ◌-◌, ◌*◌, ◌≤◌, ◌<◌, length}
 use Rattle.std.specs.Prelude.{is_some}
 use Rattle.eeprom.specs.Chip.{Becomes, RisesBy}
 use Rattle.cell_store.specs.Marks.{StaysMarked, unmarked}

@@ -13,7 +13,7 @@ begins (Some image) new front same is read = rw same (sym read ∙ is)
 
 moments : (g : _) (c : After-write g) → LeavesCleared (g.B.Eeprom.chip c.args.bench.now) (g.B.Eeprom.chip c.write.new.self)
 moments g c =
-    let same = c.in_ok-read.ensures.same in
+    let same = c.in_ok-read.ensures.frame.same in
     let front : c.read.new.into ≡ magic = (bytes_eq-Decides c.read.new.into magic).0 (sym c.if-eq.ensures) in
     subst (λ (chip : Chip). LeavesCleared chip (g.B.Eeprom.chip c.write.new.self)) same
     (clear_moments _ (g.B.Eeprom.chip c.read.new.self) (g.B.Eeprom.chip c.write.new.self) refl

@@ -21,8 +21,7 @@ add_and_change-added-requires-clause-may_add g c =
     let user : c.deref.result.now ≡ user_record.spell c.args.addition.now.user = c.deref.ensures.0 ∙ c.encode_user.ensures in
     let store = ap (λ (kept : Kept). kept.store) c.self.view_is in
     record {
-      room = search rules;
-      stands = search rules;
+      over = search rules;
       inside = search rules;
       added_size = search rules;
       changed_size = search rules;

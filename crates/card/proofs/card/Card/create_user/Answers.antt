@@ -23,7 +23,7 @@ returns-in_err-actor-clause-performs g c = λ m at.
 pub returns-in_err-word-clause-performs : goal.returns-in_err-word-clause-performs
 returns-in_err-word-clause-performs g c = λ m at.
     Performs-unwritten c.args.self.now c.args.self.now (g.B.Eeprom.chip c.args.bench.now) (g.B.Eeprom.chip c.prepare_user.new.bench) m _ c.from_residual-in_err-word.result c.requires.ready at
-    (c.in_err-word.ensures.same ∙ c.in_ok-actor.ensures.same) (search rules)
+    (c.in_err-word.ensures.frame.same ∙ c.in_ok-actor.ensures.same) (search rules)
 
 -- what was prepared is so for the machine's database
 prepared : (g : _) (c : After-prepare_user g) (m : Machine) (at : IsAt c.args.self.now (g.B.Eeprom.chip c.args.bench.now) m)
@@ -41,7 +41,7 @@ returns-in-Refused-clause-performs g c = λ m at.
     let refused : created m.committed c.in_ok-actor.actor c.args.name.now c.args.profile c.args.secret.now ≡ Err c.in-Refused.word
     = rw (c.in_ok-word.was, c.in-Refused.is) at (prepared g (goal.at.returns-in-Refused-clause-performs g c).After-prepare_user m at) in
     Performs-refused c.args.self.now old (g.B.Eeprom.chip c.prepare_user.new.bench) m c.in-Refused.word (changed m c.args.channel (CreateUser c.args.name.now c.args.profile c.args.secret.now)) c.requires.ready at
-    (c.in_ok-word.ensures.same ∙ c.in_ok-actor.ensures.same)
+    (c.in_ok-word.ensures.frame.same ∙ c.in_ok-actor.ensures.same)
     (changed-creates c.args.self.now old m c.args.channel c.in_ok-actor.actor c.args.name.now c.args.profile c.args.secret.now at c.requires.idle (c.in_ok-actor.ensures.actor m at) ∙ ap (committed_at_once m) refused)
 
 pub returns-in-Ready-clause-performs : goal.returns-in-Ready-clause-performs
@@ -49,7 +49,7 @@ returns-in-Ready-clause-performs g c = λ m at.
     let old = g.B.Eeprom.chip c.args.bench.now in
     let ready : IsAddition m.committed c.in_ok-actor.actor c.args.name.now c.args.profile c.args.secret.now at.slots c.in-Ready.addition
     = rw (c.in_ok-word.was, c.in-Ready.is) at (prepared g (goal.at.returns-in-Ready-clause-performs g c).After-prepare_user m at) in
-    let stays = c.in_ok-word.ensures.same ∙ c.in_ok-actor.ensures.same in
+    let stays = c.in_ok-word.ensures.frame.same ∙ c.in_ok-actor.ensures.same in
     subst (λ (chip : Chip). Performs m (answered m (changed m c.args.channel (CreateUser c.args.name.now c.args.profile c.args.secret.now))) c.add_user.result c.add_user.new.self chip (g.B.Eeprom.chip c.add_user.new.bench)) stays
     (subst (λ (o : Result Answer StatusWord). Performs m (answered m o) c.add_user.result c.add_user.new.self (g.B.Eeprom.chip c.prepare_user.new.bench) (g.B.Eeprom.chip c.add_user.new.bench))
     (sym (changed-creates c.args.self.now old m c.args.channel c.in_ok-actor.actor c.args.name.now c.args.profile c.args.secret.now at c.requires.idle (c.in_ok-actor.ensures.actor m at)))

@@ -11,17 +11,17 @@ use Rattle.card.proofs.card.Card.open.Goals as goal
 pub returns-clause-starts : goal.returns-clause-starts
 returns-clause-starts g c =
     starts_at c.in_ok-store.field-0.store (sessions_of c.first_sessions.result) (g.B.Eeprom.chip c.open_records.new.bench) (g.B.Eeprom.chip c.args.bench.now).image c.first_sessions.ensures
-    (ap (λ (chip : Chip). chip.image) (sym c.in_ok-store.ensures.same)) c.in_ok-store.ensures.stored
+    (ap (λ (chip : Chip). chip.image) (sym c.in_ok-store.ensures.frame.same)) c.in_ok-store.ensures.stored
 
 pub returns-clause-opens : goal.returns-clause-opens
 returns-clause-opens g c =
     let opened = c.in_ok-store.field-0 in
     opens_told opened.store (g.B.Eeprom.chip c.args.bench.now).image opened.records.next (users_of opened.records.users) c.in_ok-are_valid.field-0 (subst IsSound c.store.view_is c.store.invariant)
-    c.in_ok-store.ensures.stands c.in_ok-store.ensures.stored c.in_ok-store.ensures.gathers c.in_ok-are_valid.ensures.valid c.if-not-branch.false
+    c.in_ok-store.ensures.over.stands c.in_ok-store.ensures.stored c.in_ok-store.ensures.gathers c.in_ok-are_valid.ensures.valid c.if-not-branch.false
 
 pub returns-clause-octets_read : goal.returns-clause-octets_read
 returns-clause-octets_read g c =
-    read_told c.in_ok-store.field-0.store (g.B.Eeprom.chip c.args.bench.now).image (g.B.Eeprom.octets_read c.args.bench.now) (g.B.Eeprom.octets_read c.open_records.new.bench) c.in_ok-store.ensures.stands c.in_ok-store.ensures.stored
+    read_told c.in_ok-store.field-0.store (g.B.Eeprom.chip c.args.bench.now).image (g.B.Eeprom.octets_read c.args.bench.now) (g.B.Eeprom.octets_read c.open_records.new.bench) c.in_ok-store.ensures.over.stands c.in_ok-store.ensures.stored
     c.in_ok-store.ensures.octets_read
 
 pub returns-then-not-branch-clause-not_a_card : goal.returns-then-not-branch-clause-not_a_card

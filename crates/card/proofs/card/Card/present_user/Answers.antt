@@ -13,13 +13,13 @@ pub returns-in_default-clause-step : goal.returns-in_default-clause-step
 returns-in_default-clause-step g c =
     let user : bytes_eq c.args.name.now public_name ≡ false = rw c.octets.ensures.octets at (sym c.eq.ensures ∙ c.if-eq.false) in
     unknown_answers c.args.self.now c.self.inside.store (g.B.Eeprom.chip c.args.bench.now) (g.B.Eeprom.chip c.find_user.new.bench) c.args.channel c.args.name.now
-    (ap (λ (kept : Kept). kept.store) c.self.view_is) c.in_ok-user.ensures.same user (rw c.in_default.is at c.in_ok-user.ensures.user)
+    (ap (λ (kept : Kept). kept.store) c.self.view_is) c.in_ok-user.ensures.frame.same user (rw c.in_default.is at c.in_ok-user.ensures.user)
 
 pub returns-clause-step : goal.returns-clause-step
 returns-clause-step g c =
     let user : bytes_eq c.args.name.now public_name ≡ false = rw c.octets.ensures.octets at (sym c.eq.ensures ∙ c.if-eq.false) in
     user_answers c.args.self.now c.set_user-2.new.self c.self.inside.store (g.B.Eeprom.chip c.args.bench.now) (g.B.Eeprom.chip c.find_user.new.bench) c.args.channel c.args.name.now c.in-Some.user
-    (ap (λ (kept : Kept). kept.store) c.self.view_is) c.in_ok-user.ensures.same user (rw c.in-Some.is at c.in_ok-user.ensures.user)
+    (ap (λ (kept : Kept). kept.store) c.self.view_is) c.in_ok-user.ensures.frame.same user (rw c.in-Some.is at c.in_ok-user.ensures.user)
     (cc)
 
 pub returns-then-eq-clause-step : goal.returns-then-eq-clause-step

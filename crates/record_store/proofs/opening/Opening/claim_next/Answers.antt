@@ -1,5 +1,5 @@
 -- The slot that is claimed is the next one, and what holds of the slots before it holds with it.
-use Rattle.std.proofs.Common.{◌≡◌, ◌<◌, ℕ, List, get_or, IfSome, refl, sym, ◌∙◌, rules, arith, subst}
+use Rattle.std.proofs.Common.{◌≡◌, ◌<◌, ℕ, List, get_or, IfSome, refl, sym, ap, ◌∙◌, rules, arith, subst}
 use Rattle.std.specs.Prelude.{option_map, ◌++◌, [], ◌∷◌}
 use Rattle.cell_store.specs.Cells.{Cells}
 use Rattle.cell_store.proofs.Freeing.{link-read}
@@ -16,7 +16,7 @@ left : (g : _) (c : After-claim_slot g) → (mine g c).claimed < (mine g c).cell
 left g c = subst (λ (held : HeldSoFar). held.claimed < held.cells) (sym c.self.view_is) c.requires.left
 
 stands : (g : _) (c : After-claim_slot g) → IfSome (g.B.Eeprom.chip c.args.bench.now).image (StandsSoFar (mine g c))
-stands g c = subst (λ (held : HeldSoFar). IfSome (g.B.Eeprom.chip c.args.bench.now).image (StandsSoFar held)) (sym c.self.view_is) c.requires.stands
+stands g c = subst (λ (held : HeldSoFar). IfSome (g.B.Eeprom.chip c.args.bench.now).image (StandsSoFar held)) (sym c.self.view_is) c.requires.over.stands
 
 first : (g : _) (c : After-claim_slot g) → c.index.result.now ≡ get_or (mine g c).firsts (mine g c).claimed 0
 first g c = link-read c.self.inside.committed.items c.self.inside.committed.items c.self.inside.claimed c.index.result.now refl (omega (arith, left g c, c.self.invariant.1.count)) c.index.ensures
@@ -54,9 +54,13 @@ returns-clause-slots g c =
     (slots-next (mine g at) c.claim_slot.new.chains c.in_ok-count.count octets image c.self.invariant.1 (left g at) takes
     (omega (arith, c.if-weight-cells.false, c.cells.ensures.number, takes.chain.cells)) (stands g at))
 
-pub returns-clause-stands : goal.returns-clause-stands
-returns-clause-stands g c =
-    let at = (goal.at.returns-clause-stands g c).After-claim_slot in
+pub returns-clause-over : goal.returns-clause-over
+returns-clause-over g c =
+    let at = (goal.at.returns-clause-over g c).After-claim_slot in
     let takes = takes-first g at c.claim_slot.new.chains c.claim_slot.new.out.items c.in_ok-count.count c.in_ok-count.ensures.takes in
-    stands-next (mine g at) c.claim_slot.new.chains c.in_ok-count.count c.claim_slot.new.out.items (g.B.Eeprom.chip c.args.bench.now).image c.self.invariant.1 (left g at) takes
-    c.in_ok-count.ensures.stands (omega (arith, c.if-weight-cells.false, c.cells.ensures.number, takes.chain.cells)) (stands g at)
+    let cells : (mine g at).cells ≡ c.args.self.cells = ap (λ (held : HeldSoFar). held.cells) c.self.view_is in
+    record {
+      room = omega (arith, takes.chain.cells, cells, c.requires.over.room);
+      stands = stands-next (mine g at) c.claim_slot.new.chains c.in_ok-count.count c.claim_slot.new.out.items (g.B.Eeprom.chip c.args.bench.now).image c.self.invariant.1 (left g at) takes
+          c.in_ok-count.ensures.stands (omega (arith, c.if-weight-cells.false, c.cells.ensures.number, takes.chain.cells)) (stands g at);
+    }

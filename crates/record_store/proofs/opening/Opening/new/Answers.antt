@@ -14,7 +14,9 @@ invariant_of-result g c =
       sound-begun header.cells header.selector c.in_ok-committed.committed.items c.in_ok-chains.chains c.in_ok-chains.ensures range.few range.many range.selector c.in_ok-committed.ensures.count,
     )
 
-pub returns-clause-stands : goal.returns-clause-stands
-returns-clause-stands g c =
-    stands-begun c.in_ok-header.header c.in_ok-committed.committed.items c.in_ok-chains.chains (g.B.Eeprom.chip c.args.bench.now).image c.in_ok-chains.ensures c.in_ok-header.ensures.header
-    (rw c.in_ok-header.ensures.same at c.in_ok-committed.ensures.directory)
+pub returns-clause-over : goal.returns-clause-over
+returns-clause-over g c = record {
+  room = rw c.in_ok-chains.ensures c.in_ok-header.ensures.range.room;
+  stands = stands-begun c.in_ok-header.header c.in_ok-committed.committed.items c.in_ok-chains.chains (g.B.Eeprom.chip c.args.bench.now).image c.in_ok-chains.ensures c.in_ok-header.ensures.header
+      (rw c.in_ok-header.ensures.frame.same at c.in_ok-committed.ensures.directory);
+}

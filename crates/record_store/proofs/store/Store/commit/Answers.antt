@@ -15,12 +15,12 @@ ready g c =
 pub returns-in_err-write-clause-moments : goal.returns-in_err-write-clause-moments
 returns-in_err-write-clause-moments g c =
     commits-first c.args.self.now c.directory_place-place.result c.as_slice-octets.result.now _ (g.B.Eeprom.chip c.args.bench.now) (g.B.Eeprom.chip c.write.new.self) (ready g (goal.at.returns-in_err-write-clause-moments g c).After-write)
-    (g.met.B.Eeprom.clocked c.args.bench.now) c.requires.stands c.write.ensures.writes
+    (g.met.B.Eeprom.clocked c.args.bench.now) c.requires.over.stands c.write.ensures.writes
 
 moments : (g : _) (c : After-write-2 g) → Commits c.args.self.now (g.B.Eeprom.chip c.args.bench.now) (g.B.Eeprom.chip c.write-2.new.self)
 moments g c =
     commits-second c.args.self.now c.directory_place-place.result c.as_slice-octets.result.now _ (g.B.Eeprom.chip c.args.bench.now) (g.B.Eeprom.chip c.write.new.self) (g.B.Eeprom.chip c.write-2.new.self)
-    (ready g (goal.at.After-write-2 g c).After-write) c.requires.begun (g.met.B.Eeprom.clocked c.args.bench.now) (g.met.B.Eeprom.clocked c.write.new.self) c.requires.stands c.write.ensures.writes c.in_ok-write.ensures.written
+    (ready g (goal.at.After-write-2 g c).After-write) c.requires.begun (g.met.B.Eeprom.clocked c.args.bench.now) (g.met.B.Eeprom.clocked c.write.new.self) c.requires.over.stands c.write.ensures.writes c.in_ok-write.ensures.written
     c.write-2.ensures.writes
 
 pub returns-in_err-write-2-clause-moments : goal.returns-in_err-write-2-clause-moments
@@ -40,7 +40,7 @@ returns-clause-done g c =
     commit-done c.args.self.now _ c.free_replaced.new.cells.used c.directory_place-place.result c.as_slice-octets.result.now _ (g.B.Eeprom.chip c.args.bench.now).image (g.B.Eeprom.chip c.write.new.self).image (g.B.Eeprom.chip c.write-2.new.self).image
     (ready g (goal.at.returns-clause-done g c).After-write) c.requires.begun (subst (λ (used : List Bool). StaysMarked c.free_replaced.new.cells.used used) used c.free_replaced.ensures.fewer)
     (commit-view c.args.self.now c.free_replaced.new.cells _ _ _ cells links (ap (λ (held : Held). 1 - held.selector) c.self.view_is) (c.copy_from_slice.ensures.items ∙ (c.as_slice-4.ensures.value ∙ working)) working)
-    c.requires.stands c.in_ok-write.ensures.written c.in_ok-write-2.ensures.written
+    c.requires.over.stands c.in_ok-write.ensures.written c.in_ok-write-2.ensures.written
 
 pub returns-clause-moments : goal.returns-clause-moments
 returns-clause-moments g c = moments g (goal.at.returns-clause-moments g c).After-write-2

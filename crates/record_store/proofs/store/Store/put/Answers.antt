@@ -36,7 +36,7 @@ pub returns-in_default-clause-full : goal.returns-in_default-clause-full
 returns-in_default-clause-full g c = λ _.
     let here = (goal.at.returns-in_default-clause-full g c).After-as_slice in
     let none = c.in_default.ensures.none in
-    rw (none.0) (full-none c.args.self.now (g.B.Eeprom.chip c.args.bench.now).image c.args.octets.now (sound g here) c.requires.begun c.requires.stands c.requires.some (rw (working g here) at none.1))
+    rw (none.0) (full-none c.args.self.now (g.B.Eeprom.chip c.args.bench.now).image c.args.octets.now (sound g here) c.requires.begun c.requires.over.stands c.requires.some (rw (working g here) at none.1))
 
 pub returns-then-weight-cells_for-clause-full : goal.returns-then-weight-cells_for-clause-full
 returns-then-weight-cells_for-clause-full g c = λ _.
@@ -45,8 +45,8 @@ returns-then-weight-cells_for-clause-full g c = λ _.
     let image = (g.B.Eeprom.chip c.args.bench.now).image in
     let sound = sound g at.After-as_slice in
     let inside = inside g at.In-Some in
-    full-found c.args.self.now c.args.slot c.in-Some.slot image c.args.octets.now sound c.requires.begun c.requires.stands inside c.in-Some.ensures.named (empty g at.In-Some)
-    (put-over c.args.self.now c.in-Some.slot c.length_without-weight.result c.args.octets.now image sound c.requires.begun c.requires.stands inside (weight g at.After-length_without-weight)
+    full-found c.args.self.now c.args.slot c.in-Some.slot image c.args.octets.now sound c.requires.begun c.requires.over.stands inside c.in-Some.ensures.named (empty g at.In-Some)
+    (put-over c.args.self.now c.in-Some.slot c.length_without-weight.result c.args.octets.now image sound c.requires.begun c.requires.over.stands inside (weight g at.After-length_without-weight)
     (omega (arith, c.if-weight-cells_for.true, c.cells.ensures.number, cells, c.cells_for.ensures)))
 
 -- the store once the slot was emptied
@@ -87,13 +87,13 @@ pub returns-in-Ok-clause-put : goal.returns-in-Ok-clause-put
 returns-in-Ok-clause-put g c =
     let at = (goal.at.returns-in-Ok-clause-put g c).After-write_chain in
     filled-becomes c.args.self.now (mid g at) c.empty.new.self.used c.in-Some.slot c.length_without-weight.result (cells_for (length c.args.octets.now)) c.in-Ok.first c.write_chain.new.self c.args.octets.now
-    (g.B.Eeprom.chip c.args.bench.now).image (g.B.Eeprom.chip c.write_chain.new.bench).image (emptied g at) c.requires.stands c.in-Ok.ensures.takes c.in-Ok.ensures.written
+    (g.B.Eeprom.chip c.args.bench.now).image (g.B.Eeprom.chip c.write_chain.new.bench).image (emptied g at) c.requires.over.stands c.in-Ok.ensures.takes c.in-Ok.ensures.written
 
 -- at each moment, also where the write failed
 moments : (g : _) (c : After-write_chain g) → Keeps store_of (g.B.Eeprom.chip c.args.bench.now) (g.B.Eeprom.chip c.write_chain.new.bench)
 moments g c =
     filled-keeps c.args.self.now (mid g c) c.empty.new.self.used c.self-2.inside.chains.used c.in-Some.slot c.length_without-weight.result (cells_for (length c.args.octets.now)) c.self-2.inside.chains.cells
-    (g.B.Eeprom.chip c.args.bench.now) (g.B.Eeprom.chip c.write_chain.new.bench) (emptied g c) c.requires.stands refl refl c.write_chain.ensures.moments
+    (g.B.Eeprom.chip c.args.bench.now) (g.B.Eeprom.chip c.write_chain.new.bench) (emptied g c) c.requires.over.stands refl refl c.write_chain.ensures.moments
 
 pub returns-in-Ok-clause-moments : goal.returns-in-Ok-clause-moments
 returns-in-Ok-clause-moments g c = moments g (goal.at.returns-in-Ok-clause-moments g c).After-write_chain
@@ -104,11 +104,11 @@ returns-in-Err-Fault-clause-moments g c = moments g (goal.at.returns-in-Err-Faul
 pub returns-in-Ok-clause-empty : goal.returns-in-Ok-clause-empty
 returns-in-Ok-clause-empty g c = λ none.
     let at = goal.at.returns-in-Ok-clause-empty g c in
-    empty-record c.args.self.now c.in-Some.slot (g.B.Eeprom.chip c.args.bench.now).image (sound g at.After-as_slice) c.requires.begun c.requires.stands (inside g at.In-Some) (empty g at.In-Some none)
+    empty-record c.args.self.now c.in-Some.slot (g.B.Eeprom.chip c.args.bench.now).image (sound g at.After-as_slice) c.requires.begun c.requires.over.stands (inside g at.In-Some) (empty g at.In-Some none)
 
 pub returns-in-Ok-clause-within : goal.returns-in-Ok-clause-within
 returns-in-Ok-clause-within g c =
     let at = goal.at.returns-in-Ok-clause-within g c in
     let cells : c.self.inside.chains.cells ≡ c.args.self.now.cells = ap (λ (held : Held). held.cells) c.self.view_is in
-    put-within c.args.self.now c.in-Some.slot c.length_without-weight.result c.args.octets.now (g.B.Eeprom.chip c.args.bench.now).image (sound g at.After-as_slice) c.requires.begun c.requires.stands (inside g at.In-Some)
+    put-within c.args.self.now c.in-Some.slot c.length_without-weight.result c.args.octets.now (g.B.Eeprom.chip c.args.bench.now).image (sound g at.After-as_slice) c.requires.begun c.requires.over.stands (inside g at.In-Some)
     (weight g at.After-length_without-weight) (omega (arith, c.if-weight-cells_for.false, c.cells.ensures.number, cells, c.cells_for.ensures))
