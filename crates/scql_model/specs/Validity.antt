@@ -1,9 +1,11 @@
 -- What is left to ask of a counter and of users, where each is within its limits and the users are in rising order of stamps.
-use Rattle.std.specs.Prelude.{ℕ, ◌==◌, nat_le, nat_lt, not, ◌&&◌, Bool, false, List, [], ◌∷◌, length, map, filter}
+use Rattle.std.specs.Prelude.{ℕ, ◌==◌, nat_le, not, ◌&&◌, Bool, false, List, [], ◌∷◌, length, map, filter}
 use Rattle.std.specs.List.{list_all}
 use Rattle.std.specs.Str.{bytes_eq}
 use Rattle.scql_base.specs.declared.records.User.{User}
-use Rattle.scql_model.specs.Database.{Database, owner_name, public_name, is_db_o, has_maker, has_all_tries, are_different}
+use Rattle.scql_model.specs.Stored.{is_given_out}
+use Rattle.scql_model.specs.Rules.{owner_name, public_name, is_db_o, has_maker, has_all_tries, are_different}
+use Rattle.scql_model.specs.Database.{Database, stored_user}
 
 -- a database that has no other records than these users
 abbrev pub of_users : ℕ → ℕ → List User → Database
@@ -23,7 +25,7 @@ is_owner_alone (u ∷ v ∷ users) = false
 -- its stamp was given out, its name isn't PUBLIC, its owner may own it, and without a secret it has all tries
 abbrev pub is_valid_user : ℕ → List User → User → Bool
 is_valid_user next users u =
-    (nat_le 1 u.stamp && nat_lt u.stamp next) && not (bytes_eq public_name u.name) && has_maker users u && has_all_tries u
+    is_given_out next (stored_user u) && not (bytes_eq public_name u.name) && has_maker users u && has_all_tries u
 
 -- OWNER is the one user of profile 01, each user is valid, and their names are different
 abbrev pub are_valid_users : ℕ → List User → Bool
