@@ -21,6 +21,7 @@ pub mod ReadingIsShown
 pub mod RecordLaws
 pub mod Refusing
 pub mod Room
+pub mod SeenThrough
 pub mod SpellingLengths
 pub mod Spellings
 pub mod Validity

@@ -17,6 +17,7 @@ pub mod ReadingLaws
 pub mod ReadingOn
 pub mod Reads
 pub mod Records
+pub mod Resolving
 pub mod Rights
 pub mod Shown
 pub mod Step

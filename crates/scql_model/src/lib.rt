@@ -6,5 +6,5 @@ mod laws;
 pub use laws::{
     contents_are_those_of_the_kind, depth_is_one_more_than_the_base_has,
     equal_shown_gives_equal_replies, objects_are_shown_by_their_names,
-    reading_is_of_its_own_channel, reading_is_of_what_is_shown,
+    reading_is_of_its_own_channel, reading_is_of_what_is_shown, views_are_seen_through,
 };
