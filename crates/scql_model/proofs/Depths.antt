@@ -16,7 +16,7 @@ use Rattle.scql_model.specs.Dictionaries.{rows_told}
 use Rattle.scql_model.specs.Contents.{Contents, of_table, narrowed, rows_in, contents_in, contents_below, contents_of}
 
 -- a value behind a function is that of a value
-some-map : {X Y : Type 0} (f : X → Y) (o : Option X) (y : Y) → option_map f o ≡ Some y → (x : X) × (o ≡ Some x) × (f x ≡ y)
+pub some-map : {X Y : Type 0} (f : X → Y) (o : Option X) (y : Y) → option_map f o ≡ Some y → (x : X) × (o ≡ Some x) × (f x ≡ y)
 some-map f None y is = absurd (none-some y is)
 some-map f (Some x) y is = (x, refl, same_Some (f x) y is)
 

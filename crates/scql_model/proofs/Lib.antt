@@ -38,6 +38,7 @@ pub mod Refusing
 pub mod Removing
 pub mod RightEdits
 pub mod Room
+pub mod SeenThrough
 pub mod SpellingLengths
 pub mod Spellings
 pub mod Stored

@@ -30,6 +30,7 @@ use Rattle.scql_model.specs.Moves.{move_of}
 use Rattle.scql_model.specs.Shown.{ShownTable, ShownObject, ShownPlace, not_open, hidden, on, at_end, ShownCursor, shown}
 use Rattle.scql_model.specs.Reads.{read_move}
 use Rattle.scql_model.specs.ReadingLaws.{replies_to, reading_after, read_replies}
+use Rattle.scql_model.specs.Resolving.{resolved_of}
 
 abbrev Row : Type 0
 Row = List (List ℕ)
@@ -337,3 +338,9 @@ pending_kept : map part (replies_to long_card the_owner no_reading (declare_t �
     ≡ (0, 0x9000) ∷ (0, 0x9000) ∷ (256, 0x6100) ∷ (0, 0x6C00) ∷ (1, 0x6100) ∷ (0, 0x6282) ∷ (0, 0x6985) ∷ []
 unfolding move_of holds appears contents_of
 pending_kept = refl
+
+-- a view over a view, resolved: the table's columns A and B, of which A is shown, and the conditions of both views
+second_resolved : resolved_of views.objects 6
+    ≡ Some (record { table = 2; all = codes "A" ∷ codes "B" ∷ []; columns = codes "A" ∷ []; filters = (condition (codes "A") Greater (codes "1") ∷ []) ∷ (condition (codes "B") Equal (codes "x") ∷ []) ∷ [] })
+unfolding resolved_of
+second_resolved = refl

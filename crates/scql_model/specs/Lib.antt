@@ -24,6 +24,7 @@ pub mod ReadingLaws
 pub mod Reads
 pub mod Records
 pub mod Refusals
+pub mod Resolving
 pub mod Rights
 pub mod Rules
 pub mod Sessions

@@ -1,6 +1,7 @@
 // Laws over the definitions. Each is the contract of a function that does nothing.
-ghost use Rattle.std.specs.Prelude.{◌≡◌, ◌+◌, ◌<◌, ◌≤◌, ◌==◌, IsSome, List, None, Some, filter, find, length, map, option_map, ℕ};
+ghost use Rattle.std.specs.Prelude.{◌≡◌, ◌+◌, ◌<◌, ◌≤◌, ◌==◌, IsSome, IsTrue, List, None, Some, filter, find, length, map, option_map, ℕ};
 ghost use Rattle.std.specs.Cmp.Lexicographic.{slice_cmp};
+ghost use Rattle.std.specs.List.{list_all};
 ghost use Rattle.std.specs.List.Sorted.{IsSortedByKey};
 ghost use Rattle.std.specs.Ordering.{nat_cmp};
 ghost use Rattle.scql_base.specs.declared.condition.Condition.{Condition};
@@ -24,6 +25,7 @@ ghost use Rattle.scql_model.specs.Objects.{deepest, depth_of, dictionary_columns
 ghost use Rattle.scql_model.specs.ReadingCommands.{ReadingCommand, reading_command};
 ghost use Rattle.scql_model.specs.ReadingLaws.{IsReadable, reading_after, replies_to};
 ghost use Rattle.scql_model.specs.Reads.{is_called, read_next, read_reply};
+ghost use Rattle.scql_model.specs.Resolving.{IsSeenThrough, Resolved, names_its_base, resolved_of};
 ghost use Rattle.scql_model.specs.Rights.{seen_named};
 ghost use Rattle.scql_model.specs.Shown.{ShownObject, object_shown, shown, shown_on};
 ghost use Rattle.scql_model.specs.Step.{step_by, stepped};
@@ -56,6 +58,16 @@ pub fn depth_is_one_more_than_the_base_has()
     ensures dictionary { (objects : List Object) (o : Object) (subject : Subject)
         → object_stamped objects o.stamp ≡ Some o → o.kind ≡ Dictionary subject → depth_of objects o.stamp ≡ None }
     ensures most { (objects : List Object) (stamp depth : ℕ) → depth_of objects stamp ≡ Some depth → depth ≤ deepest }
+{}
+
+/// A table or a view is seen through to the table under it: whatever columns and conditions are asked of it, its rows are those
+/// of the table that meet them and the conditions of each view between, cut once. It has as many filters as its depth is.
+pub fn views_are_seen_through()
+    ensures rows { (db : Database) (stamp : ℕ) (r : Resolved)
+        → IsTrue (list_all (names_its_base db.objects) db.objects) → resolved_of db.objects stamp ≡ Some r
+        → IsSeenThrough db (contents_of db stamp) r }
+    ensures filters { (objects : List Object) (stamp : ℕ)
+        → option_map (λ (r : Resolved). length r.filters) (resolved_of objects stamp) ≡ depth_of objects stamp }
 {}
 
 /// The objects that are shown stand in the order of their names, and by each name the object is shown that is seen by it.
