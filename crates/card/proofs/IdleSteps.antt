@@ -27,7 +27,8 @@ use Rattle.scql_model.specs.Form.{Form, refused, refused_on, part_on, a_command,
 use Rattle.scql_model.specs.Edits.{Edit}
 use Rattle.scql_model.specs.Changing.{edits_of, with_edits, change_of}
 use Rattle.scql_model.specs.Creating.{created}
-use Rattle.scql_model.specs.Step.{Answer, said, answered, done_with, changed_to, changed, session_named, user_presented, carried_out, stepped, step_by, step}
+use Rattle.scql_model.specs.Commands.{said}
+use Rattle.scql_model.specs.Step.{Answer, answered, done_with, changed_to, changed, session_named, user_presented, carried_out, stepped, step_by, step}
 use Rattle.scql_model.proofs.ChangingSessions.{idle-at, changing_session-idle}
 use Rattle.scql_model.proofs.ChangeLaws.{change_of-CreateUser}
 use Rattle.scql_model.proofs.FormedCommands.{kind-form_of, no_part-form_of, sound-built_operations}

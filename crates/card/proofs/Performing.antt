@@ -28,7 +28,8 @@ use Rattle.scql_model.specs.Opens.{OpensToOneOf}
 use Rattle.scql_model.specs.Creating.{IsAsked, IsActorOf, created, new_user, with_user}
 use Rattle.scql_model.specs.Operations.{built_operations}
 use Rattle.scql_model.specs.Form.{form_of, as_command, no_chain}
-use Rattle.scql_model.specs.Step.{Answer, said, answered}
+use Rattle.scql_model.specs.Commands.{said}
+use Rattle.scql_model.specs.Step.{Answer, answered}
 use Rattle.scql_model.specs.WellFormed.{HasForm}
 use Rattle.scql_model.proofs.Acting.{IsActorOf-actor}
 use Rattle.scql_model.proofs.Naming.{user_stamped-slots}

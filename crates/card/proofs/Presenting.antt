@@ -16,7 +16,8 @@ use Rattle.scql_model.specs.Machine.{Machine, Session, session_for}
 use Rattle.scql_base.specs.declared.cursor.Presented.{Presented}
 use Rattle.scql_model.specs.Sessions as sessions
 use Rattle.scql_model.specs.Sessions.{presented}
-use Rattle.scql_model.specs.Step.{Answer, said, answered, done_with, user_presented}
+use Rattle.scql_model.specs.Commands.{said}
+use Rattle.scql_model.specs.Step.{Answer, answered, done_with, user_presented}
 use Rattle.scql_model.proofs.ChangingSessions.{changing_session-set}
 use Rattle.scql_model.proofs.Naming.{user_named-slots}
 use Rattle.card.specs.Card.{Kept, IsAt, committed_slots}

@@ -10,7 +10,8 @@ use Rattle.record_store.specs.declared.refusal.StoreRefusal.TheVariants.{Full, F
 use Rattle.scql_base.specs.Words.{done, no_space}
 use Rattle.scql_model.specs.Commands as model
 use Rattle.scql_model.specs.Machine.{Machine, session_for}
-use Rattle.scql_model.specs.Step.{Answer, said}
+use Rattle.scql_model.specs.Commands.{said}
+use Rattle.scql_model.specs.Step.{Answer}
 use Rattle.card.specs.Card.{Kept, IsAt}
 use Rattle.scql_base.specs.declared.cursor.Presented.{Presented}
 use Rattle.card.specs.declared.reply.Reply.{Reply}

@@ -6,6 +6,7 @@ ghost use Rattle.eeprom.specs.StoreOf.{image_size};
 ghost use Rattle.cell_store.specs.Reading.{ReadsAtMost};
 ghost use Rattle.record_store.specs.Held.{StandsFor};
 ghost use Rattle.record_store.specs.Opening.{most_octets};
+ghost use Rattle.scql_model.specs.Commands as model;
 ghost use Rattle.scql_model.specs.Machine as machine;
 ghost use Rattle.scql_model.specs.Step as stepping;
 ghost use Rattle.scql_model.specs.Opens.{Opens};
@@ -236,7 +237,7 @@ impl Card {
         requires ready { IsReady self.old (B.chip bench.old) }
         requires channel { channel < 4 }
         ensures step { (m : machine.Machine) → IsAt self.old (B.chip bench.old) m
-            → IfOk result (λ word. Answers (stepping.answered m (stepping.user_presented m channel name.now)) (stepping.said word) self.new (B.chip bench.new)) }
+            → IfOk result (λ word. Answers (stepping.answered m (stepping.user_presented m channel name.now)) (model.said word) self.new (B.chip bench.new)) }
         ensures ready { OnOk result (IsReady self.new (B.chip bench.new)) }
         ensures cause { Counts (B.faults bench.old) (B.faults bench.new) result }
         ensures same { B.chip bench.new ≡ B.chip bench.old }

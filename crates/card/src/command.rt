@@ -38,9 +38,9 @@ pub(crate) struct Line {
     pub is_built: bool,
 }
 
-macro_rules! line {
-    (built $($cells:tt)*) => { line!(true, $($cells)*) };
-    (planned $($cells:tt)*) => { line!(false, $($cells)*) };
+macro_rules! operation {
+    (built $($cells:tt)*) => { operation!(true, $($cells)*) };
+    (planned $($cells:tt)*) => { operation!(false, $($cells)*) };
     ($is_built:literal, $ins:literal $p1:literal $p2:literal $kind:ident $({ number: $number:literal })?, $takes:ident) => {
         Line {
             ins: $ins,
@@ -55,37 +55,37 @@ macro_rules! line {
 
 // All operations. The number of a channel to open or to close is P2.
 static OPERATIONS: [Line; 31] = [
-    line!(planned 0x10 0x00 0x80 CreateTable, DataField),
-    line!(planned 0x10 0x00 0x81 CreateView, DataField),
-    line!(planned 0x10 0x00 0x82 CreateDictionary, DataField),
-    line!(planned 0x10 0x00 0x83 DropTable, DataField),
-    line!(planned 0x10 0x00 0x84 DropView, DataField),
-    line!(planned 0x10 0x00 0x85 Grant, DataField),
-    line!(planned 0x10 0x00 0x86 Revoke, DataField),
-    line!(planned 0x10 0x00 0x87 DeclareCursor, DataField),
-    line!(planned 0x10 0x00 0x88 OpenCursor, Nothing),
-    line!(planned 0x10 0x00 0x89 Next, Nothing),
-    line!(planned 0x10 0x00 0x8A Fetch, LeAlone),
-    line!(planned 0x10 0x00 0x8B FetchNext, LeAlone),
-    line!(planned 0x10 0x00 0x8C Insert, DataField),
-    line!(planned 0x10 0x00 0x8D Update, DataField),
-    line!(planned 0x10 0x00 0x8E Delete, Nothing),
-    line!(planned 0x12 0x00 0x80 Begin, Nothing),
-    line!(planned 0x12 0x00 0x81 Commit, Nothing),
-    line!(planned 0x12 0x00 0x82 Rollback, Nothing),
-    line!(built 0x14 0x00 0x80 PresentUser, DataField),
-    line!(built 0x14 0x00 0x81 CreateUser, DataField),
-    line!(planned 0x14 0x00 0x82 DeleteUser, DataField),
-    line!(planned 0x20 0x00 0x00 Verify, DataField),
-    line!(planned 0x70 0x00 0x00 OpenChannel { number: 0 }, LeAlone),
-    line!(planned 0x70 0x00 0x01 OpenChannel { number: 1 }, Nothing),
-    line!(planned 0x70 0x00 0x02 OpenChannel { number: 2 }, Nothing),
-    line!(planned 0x70 0x00 0x03 OpenChannel { number: 3 }, Nothing),
-    line!(planned 0x70 0x80 0x00 CloseChannel { number: 0 }, Nothing),
-    line!(planned 0x70 0x80 0x01 CloseChannel { number: 1 }, Nothing),
-    line!(planned 0x70 0x80 0x02 CloseChannel { number: 2 }, Nothing),
-    line!(planned 0x70 0x80 0x03 CloseChannel { number: 3 }, Nothing),
-    line!(planned 0xC0 0x00 0x00 GetResponse, LeAlone),
+    operation!(planned 0x10 0x00 0x80 CreateTable, DataField),
+    operation!(planned 0x10 0x00 0x81 CreateView, DataField),
+    operation!(planned 0x10 0x00 0x82 CreateDictionary, DataField),
+    operation!(planned 0x10 0x00 0x83 DropTable, DataField),
+    operation!(planned 0x10 0x00 0x84 DropView, DataField),
+    operation!(planned 0x10 0x00 0x85 Grant, DataField),
+    operation!(planned 0x10 0x00 0x86 Revoke, DataField),
+    operation!(planned 0x10 0x00 0x87 DeclareCursor, DataField),
+    operation!(planned 0x10 0x00 0x88 OpenCursor, Nothing),
+    operation!(planned 0x10 0x00 0x89 Next, Nothing),
+    operation!(planned 0x10 0x00 0x8A Fetch, LeAlone),
+    operation!(planned 0x10 0x00 0x8B FetchNext, LeAlone),
+    operation!(planned 0x10 0x00 0x8C Insert, DataField),
+    operation!(planned 0x10 0x00 0x8D Update, DataField),
+    operation!(planned 0x10 0x00 0x8E Delete, Nothing),
+    operation!(planned 0x12 0x00 0x80 Begin, Nothing),
+    operation!(planned 0x12 0x00 0x81 Commit, Nothing),
+    operation!(planned 0x12 0x00 0x82 Rollback, Nothing),
+    operation!(built 0x14 0x00 0x80 PresentUser, DataField),
+    operation!(built 0x14 0x00 0x81 CreateUser, DataField),
+    operation!(planned 0x14 0x00 0x82 DeleteUser, DataField),
+    operation!(planned 0x20 0x00 0x00 Verify, DataField),
+    operation!(planned 0x70 0x00 0x00 OpenChannel { number: 0 }, LeAlone),
+    operation!(planned 0x70 0x00 0x01 OpenChannel { number: 1 }, Nothing),
+    operation!(planned 0x70 0x00 0x02 OpenChannel { number: 2 }, Nothing),
+    operation!(planned 0x70 0x00 0x03 OpenChannel { number: 3 }, Nothing),
+    operation!(planned 0x70 0x80 0x00 CloseChannel { number: 0 }, Nothing),
+    operation!(planned 0x70 0x80 0x01 CloseChannel { number: 1 }, Nothing),
+    operation!(planned 0x70 0x80 0x02 CloseChannel { number: 2 }, Nothing),
+    operation!(planned 0x70 0x80 0x03 CloseChannel { number: 3 }, Nothing),
+    operation!(planned 0xC0 0x00 0x00 GetResponse, LeAlone),
 ];
 
 // The table, line beside line.

@@ -27,7 +27,7 @@ use Rattle.scql_model.specs.Refusals.{◌>>=◌, or_refused, provided}
 use Rattle.scql_model.specs.Form.{class_of, is_chained, is_open, channel_of, Tail, le_of, data_of, tail_of, is_taken, is_case_3, data_in, channel_asked, line_on, taken_in, parts_of, Form, refused, refused_on, part_on, a_command, as_command, formed_on, formed, part_in, command_in, form_of}
 use Rattle.scql_model.proofs.FieldLaws.{AreOctets}
 
-both : (a b : Bool) → a && b ≡ true → (a ≡ true) × (b ≡ true)
+pub both : (a b : Bool) → a && b ≡ true → (a ≡ true) × (b ≡ true)
 both true b is = (refl, is)
 both false b is = absurd (false≢true is)
 
@@ -247,22 +247,22 @@ found-passes p q (y ∷ ys) x all is = go (p y) refl is (found-passes p q ys x (
     go true passes is later = subst (λ y. (p y ≡ true) × (q y ≡ true)) (same_Some y x is) (passes, (both (q y) (list_all q ys) all).0)
     go false passes is later = later is
 
-refused-not : {A P : Type 0} (word : StatusWord) (y : A) → Err word ≡ Ok y → P
+pub refused-not : {A P : Type 0} (word : StatusWord) (y : A) → Err word ≡ Ok y → P
 refused-not word y is = absurd (none-some y (ap result_ok is))
 
 same_Ok : {A : Type 0} (x y : A) → (let o : Result A StatusWord = Ok x in o) ≡ Ok y → x ≡ y
 same_Ok x y is = same_Some x y (ap result_ok is)
 
 -- a value came of what went before
-bound : {A B P : Type 0} (r : Result A StatusWord) (f : A → Result B StatusWord) (y : B) → r >>= f ≡ Ok y → ((x : A) → r ≡ Ok x → f x ≡ Ok y → P) → P
+pub bound : {A B P : Type 0} (r : Result A StatusWord) (f : A → Result B StatusWord) (y : B) → r >>= f ≡ Ok y → ((x : A) → r ≡ Ok x → f x ≡ Ok y → P) → P
 bound (Err word) f y is then' = refused-not word y is
 bound (Ok x) f y is then' = then' x refl is
 
-not_refused : {A : Type 0} (o : Option A) (word : StatusWord) (x : A) → or_refused o word ≡ Ok x → o ≡ Some x
+pub not_refused : {A : Type 0} (o : Option A) (word : StatusWord) (x : A) → or_refused o word ≡ Ok x → o ≡ Some x
 not_refused None word x is = refused-not word x is
 not_refused (Some y) word x is = ap result_ok is
 
-not_unless : (test : Bool) (word : StatusWord) (x : Unit {0}) → provided test word ≡ Ok x → test ≡ true
+pub not_unless : (test : Bool) (word : StatusWord) (x : Unit {0}) → provided test word ≡ Ok x → test ≡ true
 not_unless true word x is = refl
 not_unless false word x is = refused-not word x is
 
@@ -273,15 +273,21 @@ channel-read cla channels channel is = go (is_open (slice_get channels (cla % 4)
     go true is = let same : cla % 4 ≡ channel = cc in omega (arith, same)
     go false is = refused-not channel_not_supported channel is
 
--- a command was read on a channel
-on_channel : {P : Type 0} (r : Result ℕ StatusWord) (f : ℕ → Result Form StatusWord) (c : Command) → formed r f ≡ a_command c
-    → ((channel : ℕ) → r ≡ Ok channel → f channel ≡ Ok (a_command c) → P) → P
-on_channel (Err word) f c is then' = absurd cc
-on_channel {P} (Ok channel) f c is then' = go (f channel) refl is
+-- a part or a command was read on a channel
+abbrev pub is_read : Form → Bool
+is_read (refused word) = false
+is_read (refused_on channel word) = false
+is_read (part_on channel asked part) = true
+is_read (a_command c) = true
+
+pub on_channel : {P : Type 0} (r : Result ℕ StatusWord) (f : ℕ → Result Form StatusWord) (form : Form) → is_read form ≡ true → formed r f ≡ form
+    → ((channel : ℕ) → r ≡ Ok channel → f channel ≡ Ok form → P) → P
+on_channel (Err word) f form read is then' = absurd (false≢true (ap is_read is ∙ read))
+on_channel {P} (Ok channel) f form read is then' = go (f channel) refl is
   where
-    go : (form : Result Form StatusWord) → f channel ≡ form → formed_on channel form ≡ a_command c → P
-    go (Err word) same is = absurd cc
-    go (Ok form) same is = then' channel refl (same ∙ ap Ok is)
+    go : (result : Result Form StatusWord) → f channel ≡ result → formed_on channel result ≡ form → P
+    go (Err word) same is = absurd (false≢true (ap is_read is ∙ read))
+    go (Ok form') same is = then' channel refl (same ∙ ap Ok is)
 
 no_part : {P : Type 0} (channel : ℕ) (asked : OperationKind) (parts : List (List ℕ)) (tail : Tail) (c : Command) → part_in channel asked parts tail ≡ Ok (a_command c) → P
 no_part channel asked parts tail c is =
@@ -333,7 +339,7 @@ IsWellFormed-form_of table (cla ∷ []) channels chain limit c sound are least i
 IsWellFormed-form_of table (cla ∷ ins ∷ []) channels chain limit c sound are least is = absurd cc
 IsWellFormed-form_of table (cla ∷ ins ∷ p1 ∷ []) channels chain limit c sound are least is = absurd cc
 IsWellFormed-form_of table (cla ∷ ins ∷ p1 ∷ p2 ∷ after) channels chain limit c sound are least is =
-    on_channel (channel_asked table cla ins channels) _ c is (λ channel at is.
+    on_channel (channel_asked table cla ins channels) _ (a_command c) refl is (λ channel at is.
     bound (class_of cla) _ channel at (λ _ _ at.
     bound (provided (has_instruction table ins) instruction_not_supported) _ channel at (λ _ _ at.
     bound (line_on table channel ins p1 p2) _ (a_command c) is (λ line on_line is.
@@ -397,7 +403,7 @@ kind-form_of q table (cla ∷ []) channels chain limit c all sound least is = ab
 kind-form_of q table (cla ∷ ins ∷ []) channels chain limit c all sound least is = absurd cc
 kind-form_of q table (cla ∷ ins ∷ p1 ∷ []) channels chain limit c all sound least is = absurd cc
 kind-form_of q table (cla ∷ ins ∷ p1 ∷ p2 ∷ after) channels chain limit c all sound least is =
-    on_channel (channel_asked table cla ins channels) _ c is (λ channel at is.
+    on_channel (channel_asked table cla ins channels) _ (a_command c) refl is (λ channel at is.
     bound (line_on table channel ins p1 p2) _ (a_command c) is (λ line on_line is.
     bound (taken_in line.takes (is_chained cla) after) _ (a_command c) is (λ tail on_tail is.
     let sound_line = line-passes is_sound table channel ins p1 p2 line sound on_line in

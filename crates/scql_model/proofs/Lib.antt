@@ -21,6 +21,7 @@ pub mod FewerObjects
 pub mod FewerUsers
 pub mod FieldLaws
 pub mod FormedCommands
+pub mod FormedParts
 pub mod FoundAgain
 pub mod FreshCard
 pub mod Hearing

@@ -14,7 +14,8 @@ use Rattle.scql_model.specs.Refusals.{◌>>=◌, or_refused, provided}
 use Rattle.scql_model.specs.Rights.{select_privilege, holds, seen_named, seen_stamped}
 use Rattle.scql_model.specs.Objects.{StampedRow}
 use Rattle.scql_model.specs.Contents.{Contents, narrowed, contents_of}
-use Rattle.scql_model.specs.ReadingCommands.{ReadingCommand, declare, open_cursor, next, fetch, fetch_next, get_response, Move, word_alone, or_stays, cut, fitting, wanted_of, named_among, row_octets}
+use Rattle.scql_model.specs.Commands.{said}
+use Rattle.scql_model.specs.ReadingCommands.{ReadingCommand, declare, open_cursor, next, fetch, fetch_next, get_response, Move, or_stays, cut, fitting, wanted_of, named_among, row_octets}
 
 -- the contents of an object, where the actor may select from it
 abbrev pub selected : Database → Actor → Object → Result Contents StatusWord
@@ -61,7 +62,7 @@ row_at stamp rows = find (λ (r : StampedRow). r.stamp == stamp) rows
 
 -- the cursor stands at a place, and nothing is pending
 abbrev pub moved_to : Place → Cursor → StatusWord → Move Reading
-moved_to place c word = record { reply = word_alone word; after = record { cursor = Some (record c { place = place }); pending = [] } }
+moved_to place c word = record { reply = said word; after = record { cursor = Some (record c { place = place }); pending = [] } }
 
 -- the cursor stands at a place, and octets are given as far as Le allows; the rest is pending
 abbrev pub giving : Place → Cursor → ℕ → List ℕ → Move Reading

@@ -8,7 +8,7 @@ use Rattle.scql_base.specs.declared.operation.Operation.TheVariants.{DeclareCurs
 use Rattle.scql_base.specs.Strings.{spelled}
 use Rattle.scql_base.specs.Words.{done, not_found, more_left, wrong_le}
 use Rattle.scql_model.specs.Refusals.{provided}
-use Rattle.scql_model.specs.Commands.{Reply}
+use Rattle.scql_model.specs.Commands.{Reply, said}
 use Rattle.scql_model.specs.Database.{are_among}
 use Rattle.scql_model.specs.Matching.{Columns, Values}
 
@@ -36,14 +36,10 @@ pub record Move (S : Type 0) : Type 0 where
   pub reply : Reply
   pub after : S
 
--- an answer without data
-abbrev pub word_alone : StatusWord → Reply
-word_alone word = record { body = []; word = word }
-
 -- a refusal leaves all as it was
 abbrev pub or_stays : {S : Type 0} → S → Result (Move S) StatusWord → Move S
 or_stays before (Ok move) = move
-or_stays before (Err word) = record { reply = word_alone word; after = before }
+or_stays before (Err word) = record { reply = said word; after = before }
 
 -- an answer as far as Le allows, and what is left of it
 pub record Cut : Type 0 where

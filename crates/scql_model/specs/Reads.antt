@@ -4,11 +4,11 @@ use Rattle.std.specs.List.{find}
 use Rattle.std.specs.Str.{bytes_eq}
 use Rattle.scql_base.specs.declared.words.StatusWord.{StatusWord}
 use Rattle.scql_base.specs.Words.{done, security_not_satisfied, conditions_not_satisfied, not_found, end_reached, record_not_found}
-use Rattle.scql_model.specs.Commands.{Reply}
+use Rattle.scql_model.specs.Commands.{Reply, said}
 use Rattle.scql_model.specs.Refusals.{◌>>=◌, or_refused, provided}
 use Rattle.scql_model.specs.Matching.{Values, matches}
 use Rattle.scql_model.specs.Contents.{cut_to}
-use Rattle.scql_model.specs.ReadingCommands.{ReadingCommand, declare, open_cursor, next, fetch, fetch_next, get_response, Move, word_alone, or_stays, cut, fitting, wanted_of, named_among, row_octets}
+use Rattle.scql_model.specs.ReadingCommands.{ReadingCommand, declare, open_cursor, next, fetch, fetch_next, get_response, Move, or_stays, cut, fitting, wanted_of, named_among, row_octets}
 use Rattle.scql_model.specs.Shown.{ShownTable, ShownObject, ShownPlace, not_open, hidden, on, at_end, ShownCursor, Shown}
 
 -- the shown object of a name, and what it shows where it isn't closed
@@ -79,7 +79,7 @@ row_on before there test rows = if there then if_passes test (slice_get rows bef
 
 -- the cursor stands at a place, and nothing is pending
 abbrev pub stands_at : ShownPlace → Shown → ShownCursor → StatusWord → Move Shown
-stands_at place s c word = record { reply = word_alone word; after = record s { cursor = Some (record c { place = place; pending = Some [] }) } }
+stands_at place s c word = record { reply = said word; after = record s { cursor = Some (record c { place = place; pending = Some [] }) } }
 
 -- the cursor stands at a place, and octets are given as far as Le allows; the rest is pending
 abbrev pub gives_at : ShownPlace → Shown → ShownCursor → ℕ → List ℕ → Move Shown

@@ -8,7 +8,7 @@ use Rattle.scql_base.specs.declared.operation.Operation.{Operation}
 use Rattle.scql_base.specs.declared.operation.Operation.TheVariants.{DeleteUser, Begin, Commit, Rollback, PresentUser, Verify, OpenChannel, CloseChannel}
 use Rattle.scql_base.specs.declared.records.User.{User}
 use Rattle.scql_base.specs.Words.{done, channel_not_supported, authentication_blocked, conditions_not_satisfied, function_not_supported, not_found, tries_left}
-use Rattle.scql_model.specs.Commands.{Reply}
+use Rattle.scql_model.specs.Commands.{Reply, said}
 use Rattle.scql_model.specs.Refusals.{◌>>=◌, or_refused, provided}
 use Rattle.scql_model.specs.Database.{Database, public_name, user_named, user_stamped}
 use Rattle.scql_model.specs.Machine.{Machine, Session, Transaction, new_session, session_for, open_channels, base, actor}
@@ -25,10 +25,6 @@ pub record Answer : Type 0 where
   pub reply : Reply
   pub machine : Machine
   pub commits : List Database
-
--- an answer without data
-abbrev pub said : StatusWord → Reply
-said word = record { body = []; word = word }
 
 -- a refusal leaves all as it was
 abbrev pub answered : Machine → Result Answer StatusWord → Answer
