@@ -42,8 +42,8 @@ abbrev pub reply_of : Reply → model.Reply
 reply_of reply = record { body = reply.body.items; word = reply.word }
 
 -- a new session of a channel, for this user
-abbrev pub with_user : Kept → ℕ → Option Presented → Kept
-with_user card channel user =
+abbrev pub with_session_for : Kept → ℕ → Option Presented → Kept
+with_session_for card channel user =
     record card { sessions = slice_set card.sessions channel (Some (session_for user)) }
 
 -- what comes of a change that is committed at once, where nothing is pending on the channel

@@ -5,11 +5,11 @@ use Rattle.scql_base.specs.declared.cursor.Presented.{Presented}
 use Rattle.card.specs.declared.session.Session.{Session}
 
 -- no cursor and no chain is built yet
-abbrev pub session_of : Session → machine.Session
-session_of s = machine.session_for s.user
+abbrev pub session_seen : Session → machine.Session
+session_seen s = machine.session_for s.user
 
 abbrev pub sessions_of : List (Option Session) → List (Option machine.Session)
-sessions_of sessions = map (option_map session_of) sessions
+sessions_of sessions = map (option_map session_seen) sessions
 
 -- the stamp of a session's user, where there is one that is proved
 abbrev pub proved_stamp : Presented → Option ℕ

@@ -14,7 +14,7 @@ ghost use Rattle.scql_base.specs.Words.{done, memory_failure};
 ghost use Rattle.scql_model.specs.Database.{Database, fresh};
 ghost use Rattle.eeprom.specs.Image.{overwrite};
 ghost use Rattle.card.specs.Card.{Kept, IsReady, IsAt, committed_slots, fresh_card};
-ghost use Rattle.card.specs.Answering.{Answers, IsDoneOrStays, LeavesOneOf, Performs, answer_to, committed_at_once, reply_of, with_user};
+ghost use Rattle.card.specs.Answering.{Answers, IsDoneOrStays, LeavesOneOf, Performs, answer_to, committed_at_once, reply_of, with_session_for};
 ghost use Rattle.card.specs.Commands.{is_built};
 ghost use Rattle.card.specs.Creating.{IsAddition, IsCounter};
 ghost use Rattle.card.specs.Making.{LeavesMade};
@@ -350,7 +350,7 @@ impl Card {
     // A new session of a channel, for this user.
     fn set_user(&mut self, channel: u8, user: Option<Presented>)
         requires channel { channel < 4 }
-        ensures { self.new ≡ with_user self.old channel user }
+        ensures { self.new ≡ with_session_for self.old channel user }
     {
         self.sessions[channel as usize] = Some(Session { user });
     }

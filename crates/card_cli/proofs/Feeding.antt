@@ -2,10 +2,10 @@
 use Rattle.std.proofs.Common.{◌≡◌, ◌≢◌, ℕ, false, List, [], ◌∷◌, ◌++◌, Option, Some, refl, sym, ap, subst, ◌∙◌, append-nil, append_assoc}
 use Rattle.std.proofs.lemmas.Bool.{ne_eqb}
 use Rattle.scql_model.specs.Machine.{Machine}
-use Rattle.scql_model.specs.Lines.{is_line_feed, reading_text, reading_step}
+use Rattle.scql_model.specs.Lines.{is_line_feed, content_text, content_step}
 use Rattle.card.specs.Card.{IsReady, IsAt}
 use Rattle.card.proofs.Leaving.{Opens-at}
-use Rattle.card_cli.specs.Line.{longer_by, line_reading, is_empty_line}
+use Rattle.card_cli.specs.Line.{longer_by, line_content, is_empty_line}
 use Rattle.card_cli.specs.Running.{Running, after, text_of, end_text, after_end}
 use Rattle.card_cli.specs.RunState.{Prints, RunState, IsRunning, Feeds}
 use Rattle.card_cli.specs.Moments.{IsAnswered, IfGiven}
@@ -52,25 +52,25 @@ Feeds-then xs ys a b c p q = λ r running.
 
 -- a line feed ends the line that has begun, which is answered
 pub Feeds-line_feed : (octet : ℕ) (old new : RunState) → octet ≡ 10
-    → ((m : Machine) → IsAt old.card old.chip m → IsAt new.card new.chip (reading_step m (line_reading old.line)))
-    → ((m : Machine) → IsAt old.card old.chip m → Prints (reading_text m (line_reading old.line)) old.chip.still.given new.chip.still.given)
-    → ((m : Machine) → IsAt old.card old.chip m → IfGiven new.chip (IsAnswered m (line_reading old.line) old.chip new.chip))
+    → ((m : Machine) → IsAt old.card old.chip m → IsAt new.card new.chip (content_step m (line_content old.line)))
+    → ((m : Machine) → IsAt old.card old.chip m → Prints (content_text m (line_content old.line)) old.chip.still.given new.chip.still.given)
+    → ((m : Machine) → IsAt old.card old.chip m → IfGiven new.chip (IsAnswered m (line_content old.line) old.chip new.chip))
     → new.line ≡ Some [] → Feeds (octet ∷ []) old new
 Feeds-line_feed octet old new is at text answered empty = subst (λ (o : ℕ). Feeds (o ∷ []) old new) (sym is) (λ r running.
     record {
       running = record {
-        at = subst (λ (l : Option (List ℕ)). IsAt new.card new.chip (reading_step r.machine (line_reading l))) running.line (at r.machine running.at);
+        at = subst (λ (l : Option (List ℕ)). IsAt new.card new.chip (content_step r.machine (line_content l))) running.line (at r.machine running.at);
         line = empty;
       };
-      text = subst (λ (t : List ℕ). Prints t old.chip.still.given new.chip.still.given) (sym (append-nil (reading_text r.machine (line_reading r.begun))))
-          (subst (λ (l : Option (List ℕ)). Prints (reading_text r.machine (line_reading l)) old.chip.still.given new.chip.still.given) running.line (text r.machine running.at));
+      text = subst (λ (t : List ℕ). Prints t old.chip.still.given new.chip.still.given) (sym (append-nil (content_text r.machine (line_content r.begun))))
+          (subst (λ (l : Option (List ℕ)). Prints (content_text r.machine (line_content l)) old.chip.still.given new.chip.still.given) running.line (text r.machine running.at));
       passes = λ told. Passes-line_feed r old.chip new.chip
-          (subst (λ (l : Option (List ℕ)). IsAnswered r.machine (line_reading l) old.chip new.chip) running.line (answered r.machine running.at told));
+          (subst (λ (l : Option (List ℕ)). IsAnswered r.machine (line_content l) old.chip new.chip) running.line (answered r.machine running.at told));
     })
 
 -- at the end of the input the line that has begun is a line, where it has an octet
-pub end_text-begun : (r : Running) (line : Option (List ℕ)) → line ≡ r.begun → is_empty_line line ≡ false → end_text r ≡ reading_text r.machine (line_reading line)
+pub end_text-begun : (r : Running) (line : Option (List ℕ)) → line ≡ r.begun → is_empty_line line ≡ false → end_text r ≡ content_text r.machine (line_content line)
 end_text-begun r line is some = rw (sym is, some) refl
 
-pub after_end-begun : (r : Running) (line : Option (List ℕ)) → line ≡ r.begun → is_empty_line line ≡ false → (after_end r).machine ≡ reading_step r.machine (line_reading line)
+pub after_end-begun : (r : Running) (line : Option (List ℕ)) → line ≡ r.begun → is_empty_line line ≡ false → (after_end r).machine ≡ content_step r.machine (line_content line)
 after_end-begun r line is some = rw (sym is, some) refl

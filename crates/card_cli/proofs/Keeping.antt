@@ -2,17 +2,17 @@
 use Rattle.std.proofs.Common.{◌≡◌, inl, inr, ℕ, suc, ◌+◌, ◌-◌, ◌≤◌, Bool, true, false, List, [], ◌∷◌, ◌++◌, length, refl, sym, ap, subst, ◌∙◌, arith, append_assoc, append-nil, length-append}
 use Rattle.eeprom.specs.Chip.{Chip, Throughout}
 use Rattle.scql_model.specs.Machine.{Machine}
-use Rattle.scql_model.specs.Lines.{Reading, lines, reading_of, line_text, line_step, run_text, machine_after}
+use Rattle.scql_model.specs.Lines.{LineContent, lines, content_of, line_text, line_step, run_text, machine_after}
 use Rattle.scql_model.specs.Opens.{Opens}
 use Rattle.scql_model.specs.Heard.{IsKept}
 use Rattle.scql_model.proofs.Hearing.{kept-idle, kept-failing, kept-answered, kept-after, kept-same}
-use Rattle.card_cli.specs.Line.{line_reading, is_empty_line}
+use Rattle.card_cli.specs.Line.{line_content, is_empty_line}
 use Rattle.card_cli.specs.Running.{Running, from_machine, after, text_of}
 use Rattle.card_cli.specs.Moments.{IsInLine, IsInAnswered, IsInStopped, IsWhile, IsUntil, IsAtEnd, Passes}
 use Rattle.card_cli.specs.declared.stop.Stop.{Stop}
 use Rattle.card_cli.specs.declared.stop.Stop.TheVariants.{Eeprom, Outlet, Both}
 use Rattle.card_cli.specs.Keeping.{AreKept, AreAllKept, carried_out}
-use Rattle.card_cli.proofs.Streaming.{open_end, line_reading-begun_line, text_of-lines, after-lines, lines-open, lines-line_feed, lines-prefix}
+use Rattle.card_cli.proofs.Streaming.{open_end, line_content-begun_line, text_of-lines, after-lines, lines-open, lines-line_feed, lines-prefix}
 use Rattle.card_cli.proofs.Moving.{throughout-both}
 use Rattle.eeprom.proofs.Moments.{throughout-weaker}
 
@@ -21,18 +21,18 @@ abbrev KeptFrom : Machine → List (List ℕ) → ℕ → ℕ → ℕ → List �
 KeptFrom m lines clean mark g left = (out : ℕ) × (g ≡ mark + out) × IsKept m lines clean out left
 
 -- What holds of the run behind octets holds of the machine after their whole lines, and of what stands behind these.
-on_lines : (m : Machine) (octets : List ℕ) (P : Machine → Reading → ℕ → Type 0)
-    → P (after (from_machine m) octets).machine (line_reading (after (from_machine m) octets).begun) (length (text_of (from_machine m) octets))
-    → P (machine_after m (lines octets false)) (reading_of (open_end octets)) (length (run_text m (lines octets false)))
+on_lines : (m : Machine) (octets : List ℕ) (P : Machine → LineContent → ℕ → Type 0)
+    → P (after (from_machine m) octets).machine (line_content (after (from_machine m) octets).begun) (length (text_of (from_machine m) octets))
+    → P (machine_after m (lines octets false)) (content_of (open_end octets)) (length (run_text m (lines octets false)))
 on_lines m octets P holds =
     let size : ℕ = length (run_text m (lines octets false)) in
-    subst (λ (reading : Reading). P (machine_after m (lines octets false)) reading size) (line_reading-begun_line (open_end octets))
-    (subst (λ (r : Running). P r.machine (line_reading r.begun) size) (after-lines m octets)
-    (subst (λ (text : List ℕ). P (after (from_machine m) octets).machine (line_reading (after (from_machine m) octets).begun) (length text)) (text_of-lines m octets) holds))
+    subst (λ (reading : LineContent). P (machine_after m (lines octets false)) reading size) (line_content-begun_line (open_end octets))
+    (subst (λ (r : Running). P r.machine (line_content r.begun) size) (after-lines m octets)
+    (subst (λ (text : List ℕ). P (after (from_machine m) octets).machine (line_content (after (from_machine m) octets).begun) (length text)) (text_of-lines m octets) holds))
 
 -- In a line that is answered, behind others.
 kept-in_answered : (m : Machine) (before : List (List ℕ)) (line : List ℕ) (rest : List (List ℕ)) (count mark g : ℕ) (left : List ℕ)
-    → IsInAnswered (machine_after m before) (reading_of line) (mark + length (run_text m before)) g left → KeptFrom m (before ++ line ∷ rest) (length before + suc count) mark g left
+    → IsInAnswered (machine_after m before) (content_of line) (mark + length (run_text m before)) g left → KeptFrom m (before ++ line ∷ rest) (length before + suc count) mark g left
 unfolding line_text line_step
 kept-in_answered m before line rest count mark g left answered =
     let from : ℕ = mark + length (run_text m before) in
@@ -46,7 +46,7 @@ kept-in_answered m before line rest count mark g left answered =
 
 -- in a line in which a device fails
 kept-in_line : (m : Machine) (before : List (List ℕ)) (line : List ℕ) (rest : List (List ℕ)) (mark g : ℕ) (left : List ℕ)
-    → IsInLine (machine_after m before) (reading_of line) (mark + length (run_text m before)) g left → KeptFrom m (before ++ line ∷ rest) (length before) mark g left
+    → IsInLine (machine_after m before) (content_of line) (mark + length (run_text m before)) g left → KeptFrom m (before ++ line ∷ rest) (length before) mark g left
 kept-in_line m before line rest mark g left failing =
     let from : ℕ = mark + length (run_text m before) in
     let later : from ≤ g = failing.later in
@@ -85,7 +85,7 @@ kept-while whole m taken behind clean mark g left enough (inr answering) =
     let inside : lines taken false ≡ before ++ line ∷ lines answering.rest false = ap (λ (x : List ℕ). lines x false) answering.split ∙ lines-line_feed answering.taken answering.rest false in
     let few : length before + 1 ≤ clean = omega (arith, enough, ap length inside, length-append before (line ∷ lines answering.rest false)) in
     let here = kept-in_answered m before line rest (clean - (length before + 1)) mark g left
-    (on_lines m answering.taken (λ (m : Machine) (reading : Reading) (size : ℕ). IsInAnswered m reading (mark + size) g left) answering.answered) in (
+    (on_lines m answering.taken (λ (m : Machine) (reading : LineContent) (size : ℕ). IsInAnswered m reading (mark + size) g left) answering.answered) in (
       here.0,
       here.1,
       subst (λ (all : List (List ℕ)). IsKept m all clean here.0 left) (sym all)
@@ -102,7 +102,7 @@ kept-taken m taken old new moments =
 
 -- in a line in which a device fails, which is clean where the outlet alone does
 kept-in_stopped : (stop : Stop) (m : Machine) (before : List (List ℕ)) (line : List ℕ) (rest : List (List ℕ)) (mark g : ℕ) (left : List ℕ)
-    → IsInStopped stop (machine_after m before) (reading_of line) (mark + length (run_text m before)) g left → KeptFrom m (before ++ line ∷ rest) (carried_out stop before) mark g left
+    → IsInStopped stop (machine_after m before) (content_of line) (mark + length (run_text m before)) g left → KeptFrom m (before ++ line ∷ rest) (carried_out stop before) mark g left
 kept-in_stopped Outlet m before line rest mark g left stopped = kept-in_answered m before line rest 0 mark g left stopped
 kept-in_stopped Eeprom m before line rest mark g left stopped = kept-in_line m before line rest mark g left stopped
 kept-in_stopped Both m before line rest mark g left stopped = kept-in_line m before line rest mark g left stopped
@@ -124,7 +124,7 @@ kept-until stop m input taken behind rest old now split cut moments =
           (kept-while true m taken behind count old.still.mark g left (carried_out-most stop (lines taken false)) before)
       | inr line ↦ subst (λ (all : List (List ℕ)). KeptFrom m all count old.still.mark g left) (sym cut)
           (kept-in_stopped stop m (lines taken false) (open_end taken) rest old.still.mark g left
-          (on_lines m taken (λ (m : Machine) (reading : Reading) (size : ℕ). IsInStopped stop m reading (old.still.mark + size) g left) line))
+          (on_lines m taken (λ (m : Machine) (reading : LineContent) (size : ℕ). IsInStopped stop m reading (old.still.mark + size) g left) line))
     ])
 
 -- at the end of the input
@@ -141,7 +141,7 @@ kept-at_end m input mark g left (inr last) =
     let line : List ℕ = open_end input in
     let cut : lines input true ≡ before ++ line ∷ [] = lines-open input (subst (λ (r : Running). is_empty_line r.begun ≡ false) (after-lines m input) last.0) in
     let here = kept-in_answered m before line [] 0 mark g left
-    (on_lines m input (λ (m : Machine) (reading : Reading) (size : ℕ). IsInAnswered m reading (mark + size) g left) last.1) in
+    (on_lines m input (λ (m : Machine) (reading : LineContent) (size : ℕ). IsInAnswered m reading (mark + size) g left) last.1) in
     subst (λ (all : List (List ℕ)). KeptFrom m all (length all) mark g left) (sym cut) (
       here.0,
       here.1,
@@ -163,8 +163,8 @@ kept-ended m input old mid new passes last =
 
 -- of calls that take all of the input, and fail in the last line
 pub until-last : (stop : Stop) (input : List ℕ) (r : Running) (old mid now : Chip) → Passes input r old mid
-    → Throughout mid now (IsInStopped stop (after r input).machine (line_reading (after r input).begun) mid.still.mark) → Throughout old now (IsUntil stop input r old.still.mark)
+    → Throughout mid now (IsInStopped stop (after r input).machine (line_content (after r input).begun) mid.still.mark) → Throughout old now (IsUntil stop input r old.still.mark)
 until-last stop input r old mid now passes last =
-    throughout-both old mid now (IsWhile input r old.still.mark) (IsInStopped stop (after r input).machine (line_reading (after r input).begun) mid.still.mark) (IsUntil stop input r old.still.mark)
+    throughout-both old mid now (IsWhile input r old.still.mark) (IsInStopped stop (after r input).machine (line_content (after r input).begun) mid.still.mark) (IsUntil stop input r old.still.mark)
     passes.moments last (λ g left during. inl during)
-    (λ g left during. inr (subst (λ (mark : ℕ). IsInStopped stop (after r input).machine (line_reading (after r input).begun) mark g left) passes.mark during))
+    (λ g left during. inr (subst (λ (mark : ℕ). IsInStopped stop (after r input).machine (line_content (after r input).begun) mark g left) passes.mark during))

@@ -4,14 +4,14 @@ use Rattle.std.specs.Prelude.{IsSome, is_some, OnOk}
 use Rattle.eeprom.specs.Chip.{Chip, Still, giving, LeftIn, Gives, Throughout}
 use Rattle.eeprom.proofs.Moments.{left-in-more, drop-more, left-told, left-cases, throughout-weaker}
 use Rattle.scql_model.specs.Machine.{Machine}
-use Rattle.scql_model.specs.Lines.{Reading, is_line_feed, reading_text, reading_step, reading_commits}
+use Rattle.scql_model.specs.Lines.{LineContent, is_line_feed, content_text, content_step, content_commits}
 use Rattle.scql_model.specs.Opens.{Opens, OpensToOneOf}
 use Rattle.card.specs.Answering.{LeavesOneOf}
 use Rattle.card.specs.Card.{Kept, IsReady, IsAt}
 use Rattle.card.proofs.Leaving.{Opens-at, unwritten_leaves}
 use Rattle.card_cli.specs.declared.stop.Stop.{Stop}
 use Rattle.card_cli.specs.RunState.{Prints}
-use Rattle.card_cli.specs.Line.{line_reading, is_empty_line}
+use Rattle.card_cli.specs.Line.{line_content, is_empty_line}
 use Rattle.card_cli.specs.Running.{Running, after, text_of}
 use Rattle.card_cli.specs.Moments.{IsInLine, IsInAnswered, IsInStopped, IsAnswered, IsWhile, IsUntil, IsAtEnd, Passes, IfGiven}
 use Rattle.card_cli.proofs.Streaming.{after-append, text_of-append}
@@ -68,10 +68,10 @@ told-before text before None prints told = absurd cc
 told-before text before (Some all) prints told = let was = prints all refl in ap is_some was.1
 
 -- A line was carried out, and then a piece of its answer went out.
-pub line-moments : (m : Machine) (reading : Reading) (old mid new : Chip) → LeavesOneOf (m.committed ∷ reading_commits m reading) old mid → mid.still ≡ old.still
+pub line-moments : (m : Machine) (reading : LineContent) (old mid new : Chip) → LeavesOneOf (m.committed ∷ content_commits m reading) old mid → mid.still ≡ old.still
     → Throughout mid new (IsInPiece mid new.still.mark) → Throughout old new (IsInLine m reading old.still.mark)
 line-moments m reading old mid new leaves still gives =
-    throughout-both old mid new (λ g left. (g ≡ old.still.mark) × OpensToOneOf (m.committed ∷ reading_commits m reading) left) (IsInPiece mid new.still.mark) (IsInLine m reading old.still.mark) leaves gives
+    throughout-both old mid new (λ g left. (g ≡ old.still.mark) × OpensToOneOf (m.committed ∷ content_commits m reading) left) (IsInPiece mid new.still.mark) (IsInLine m reading old.still.mark) leaves gives
     (λ g left during. record { later = omega (arith, during.0); opens = during.1 })
     (λ g left during. record {
       later = subst (λ (s : Still). s.mark ≤ g) still during.0;
@@ -79,12 +79,12 @@ line-moments m reading old mid new leaves still gives =
     })
 
 -- at most the whole text goes out, once all of the line's commits were done
-pub answered-moments : (m : Machine) (reading : Reading) (old mid new : Chip) → LeavesOneOf (m.committed ∷ reading_commits m reading) old mid → mid.still ≡ old.still
-    → Throughout mid new (IsInPiece mid new.still.mark) → ((image : List ℕ) → mid.image ≡ Some image → Opens image (reading_step m reading).committed)
-    → new.still.mark ≤ mid.still.mark + length (reading_text m reading) → Throughout old new (IsInAnswered m reading old.still.mark)
+pub answered-moments : (m : Machine) (reading : LineContent) (old mid new : Chip) → LeavesOneOf (m.committed ∷ content_commits m reading) old mid → mid.still ≡ old.still
+    → Throughout mid new (IsInPiece mid new.still.mark) → ((image : List ℕ) → mid.image ≡ Some image → Opens image (content_step m reading).committed)
+    → new.still.mark ≤ mid.still.mark + length (content_text m reading) → Throughout old new (IsInAnswered m reading old.still.mark)
 answered-moments m reading old mid new leaves still gives opens within =
     let same : mid.still.mark ≡ old.still.mark = ap (λ (s : Still). s.mark) still in
-    throughout-both old mid new (λ g left. (g ≡ old.still.mark) × OpensToOneOf (m.committed ∷ reading_commits m reading) left) (IsInPiece mid new.still.mark) (IsInAnswered m reading old.still.mark) leaves gives
+    throughout-both old mid new (λ g left. (g ≡ old.still.mark) × OpensToOneOf (m.committed ∷ content_commits m reading) left) (IsInPiece mid new.still.mark) (IsInAnswered m reading old.still.mark) leaves gives
     (λ g left during. record {
       line = record { later = omega (arith, during.0); opens = during.1 };
       within = omega (arith, during.0);
@@ -97,7 +97,7 @@ answered-moments m reading old mid new leaves still gives opens within =
     })
 
 -- nothing is printed, and nothing happens
-pub line-silent : (m : Machine) (reading : Reading) (chip : Chip) → length (reading_text m reading) ≡ 0
+pub line-silent : (m : Machine) (reading : LineContent) (chip : Chip) → length (content_text m reading) ≡ 0
     → ((image : List ℕ) → chip.image ≡ Some image → Opens image m.committed) → IsAnswered m reading chip chip
 line-silent m reading chip none opens = record {
   mark = omega (arith, none);
@@ -114,20 +114,20 @@ on_given (Ok x) now holds then = λ told. then (holds told)
 on_given (Err stop) now holds then = tt
 
 -- A line that reads as a note leaves the EEPROM, and of the note's text some went out,
-pub note-moments : (m : Machine) (note reading : Reading) (text : List ℕ) (card : Kept) (old now : Chip) → IsReady card old → IsAt card old m
-    → note ≡ reading → text ≡ reading_text m note → m.committed ≡ (reading_step m note).committed → IfSome old.past (λ past. length past ≡ old.clock) → Gives old now
+pub note-moments : (m : Machine) (note reading : LineContent) (text : List ℕ) (card : Kept) (old now : Chip) → IsReady card old → IsAt card old m
+    → note ≡ reading → text ≡ content_text m note → m.committed ≡ (content_step m note).committed → IfSome old.past (λ past. length past ≡ old.clock) → Gives old now
     → now.still.mark ≤ old.still.mark + length text → Throughout old now (IsInAnswered m reading old.still.mark)
 note-moments m note reading text card old now ready at is text_is stays clocked gives within =
-    subst (λ (r : Reading). Throughout old now (IsInAnswered m r old.still.mark)) is
-    (answered-moments m note old old now (unwritten_leaves card old old m (reading_commits m note) ready at refl) refl (gives-throughout old now clocked gives)
+    subst (λ (r : LineContent). Throughout old now (IsInAnswered m r old.still.mark)) is
+    (answered-moments m note old old now (unwritten_leaves card old old m (content_commits m note) ready at refl) refl (gives-throughout old now clocked gives)
     (λ image there. subst (Opens image) stays (Opens-at card old m ready at image there)) (omega (arith, within, ap length text_is)))
 
 -- or all of it
-pub note-answered : (m : Machine) (note reading : Reading) (text : List ℕ) (card : Kept) (old now : Chip) → IsReady card old → IsAt card old m
-    → note ≡ reading → text ≡ reading_text m note → m.committed ≡ (reading_step m note).committed → IfSome old.past (λ past. length past ≡ old.clock) → Gives old now
+pub note-answered : (m : Machine) (note reading : LineContent) (text : List ℕ) (card : Kept) (old now : Chip) → IsReady card old → IsAt card old m
+    → note ≡ reading → text ≡ content_text m note → m.committed ≡ (content_step m note).committed → IfSome old.past (λ past. length past ≡ old.clock) → Gives old now
     → now.still.mark ≡ old.still.mark + length text → IsAnswered m reading old now
 note-answered m note reading text card old now ready at is text_is stays clocked gives mark = record {
-  mark = mark ∙ ap (λ (t : List ℕ). old.still.mark + length t) (text_is ∙ ap (reading_text m) is);
+  mark = mark ∙ ap (λ (t : List ℕ). old.still.mark + length t) (text_is ∙ ap (content_text m) is);
   moments = note-moments m note reading text card old now ready at is text_is stays clocked gives (omega (arith, mark));
 }
 
@@ -164,16 +164,16 @@ while-behind xs ys r mark g left (inr answering) = inr (record {
   taken = xs ++ answering.taken;
   rest = answering.rest;
   split = ap (λ (y : List ℕ). xs ++ y) answering.split ∙ sym (append_assoc xs answering.taken (10 ∷ answering.rest));
-  answered = subst (λ (mark : ℕ). IsInAnswered (after r (xs ++ answering.taken)).machine (line_reading (after r (xs ++ answering.taken)).begun) mark g left) (mark-append xs answering.taken r mark)
-      (subst (λ (s : Running). IsInAnswered s.machine (line_reading s.begun) (mark + length (text_of r xs) + length (text_of (after r xs) answering.taken)) g left) (sym (after-append xs answering.taken r)) answering.answered);
+  answered = subst (λ (mark : ℕ). IsInAnswered (after r (xs ++ answering.taken)).machine (line_content (after r (xs ++ answering.taken)).begun) mark g left) (mark-append xs answering.taken r mark)
+      (subst (λ (s : Running). IsInAnswered s.machine (line_content s.begun) (mark + length (text_of r xs) + length (text_of (after r xs) answering.taken)) g left) (sym (after-append xs answering.taken r)) answering.answered);
 })
 
 -- So it is where a device fails behind the later octets.
 until-behind : (stop : Stop) (xs ys : List ℕ) (r : Running) (mark g : ℕ) (left : List ℕ) → IsUntil stop ys (after r xs) (mark + length (text_of r xs)) g left → IsUntil stop (xs ++ ys) r mark g left
 until-behind stop xs ys r mark g left (inl during) = inl (while-behind xs ys r mark g left during)
 until-behind stop xs ys r mark g left (inr line) =
-    inr (subst (λ (mark : ℕ). IsInStopped stop (after r (xs ++ ys)).machine (line_reading (after r (xs ++ ys)).begun) mark g left) (mark-append xs ys r mark)
-    (subst (λ (s : Running). IsInStopped stop s.machine (line_reading s.begun) (mark + length (text_of r xs) + length (text_of (after r xs) ys)) g left) (sym (after-append xs ys r)) line))
+    inr (subst (λ (mark : ℕ). IsInStopped stop (after r (xs ++ ys)).machine (line_content (after r (xs ++ ys)).begun) mark g left) (mark-append xs ys r mark)
+    (subst (λ (s : Running). IsInStopped stop s.machine (line_content s.begun) (mark + length (text_of r xs) + length (text_of (after r xs) ys)) g left) (sym (after-append xs ys r)) line))
 
 pub Passes-nothing : (r : Running) (chip : Chip) → ((image : List ℕ) → chip.image ≡ Some image → Opens image r.machine.committed) → Passes [] r chip chip
 Passes-nothing r chip opens = record {
@@ -206,32 +206,32 @@ until-then stop xs ys r a b now first second =
     (λ g left during. until-behind stop xs ys r a.still.mark g left (subst (λ (mark : ℕ). IsUntil stop ys (after r xs) mark g left) first.mark during))
 
 -- a line feed ends the line that has begun, which is answered
-pub Passes-line_feed : (r : Running) (old new : Chip) → IsAnswered r.machine (line_reading r.begun) old new → Passes (10 ∷ []) r old new
+pub Passes-line_feed : (r : Running) (old new : Chip) → IsAnswered r.machine (line_content r.begun) old new → Passes (10 ∷ []) r old new
 Passes-line_feed r old new answered =
-    let text : List ℕ = reading_text r.machine (line_reading r.begun) in
+    let text : List ℕ = content_text r.machine (line_content r.begun) in
     record {
       mark = omega (arith, answered.mark, ap length (append-nil text));
-      moments = throughout-weaker old new (IsInAnswered r.machine (line_reading r.begun) old.still.mark) (IsWhile (10 ∷ []) r old.still.mark) answered.moments
+      moments = throughout-weaker old new (IsInAnswered r.machine (line_content r.begun) old.still.mark) (IsWhile (10 ∷ []) r old.still.mark) answered.moments
           (λ g left during. inr (record {
             taken = [];
             rest = [];
             split = refl;
-            answered = subst (λ (mark : ℕ). IsInAnswered r.machine (line_reading r.begun) mark g left) (omega arith) during;
+            answered = subst (λ (mark : ℕ). IsInAnswered r.machine (line_content r.begun) mark g left) (omega arith) during;
           }));
     }
 
 -- or a device fails in it
-pub until-line_feed : (stop : Stop) (r : Running) (old now : Chip) → Throughout old now (IsInStopped stop r.machine (line_reading r.begun) old.still.mark) → Throughout old now (IsUntil stop [] r old.still.mark)
+pub until-line_feed : (stop : Stop) (r : Running) (old now : Chip) → Throughout old now (IsInStopped stop r.machine (line_content r.begun) old.still.mark) → Throughout old now (IsUntil stop [] r old.still.mark)
 until-line_feed stop r old now moments =
-    throughout-weaker old now (IsInStopped stop r.machine (line_reading r.begun) old.still.mark) (IsUntil stop [] r old.still.mark) moments
-    (λ g left during. inr (subst (λ (mark : ℕ). IsInStopped stop r.machine (line_reading r.begun) mark g left) (omega arith) during))
+    throughout-weaker old now (IsInStopped stop r.machine (line_content r.begun) old.still.mark) (IsUntil stop [] r old.still.mark) moments
+    (λ g left during. inr (subst (λ (mark : ℕ). IsInStopped stop r.machine (line_content r.begun) mark g left) (omega arith) during))
 
 -- The last line is answered.
-pub at_end-answered : (r : Running) (line : Option (List ℕ)) (old new : Chip) → line ≡ r.begun → is_empty_line line ≡ false → IsAnswered r.machine (line_reading line) old new
+pub at_end-answered : (r : Running) (line : Option (List ℕ)) (old new : Chip) → line ≡ r.begun → is_empty_line line ≡ false → IsAnswered r.machine (line_content line) old new
     → Throughout old new (IsAtEnd r old.still.mark)
 at_end-answered r line old new is some answered =
-    throughout-weaker old new (IsInAnswered r.machine (line_reading line) old.still.mark) (IsAtEnd r old.still.mark) answered.moments
+    throughout-weaker old new (IsInAnswered r.machine (line_content line) old.still.mark) (IsAtEnd r old.still.mark) answered.moments
     (λ g left during. inr (
       subst (λ (l : Option (List ℕ)). is_empty_line l ≡ false) is some,
-      subst (λ (l : Option (List ℕ)). IsInAnswered r.machine (line_reading l) old.still.mark g left) is during,
+      subst (λ (l : Option (List ℕ)). IsInAnswered r.machine (line_content l) old.still.mark g left) is during,
     ))

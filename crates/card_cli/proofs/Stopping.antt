@@ -7,13 +7,13 @@ use Rattle.eeprom.specs.Output.{Follows}
 use Rattle.scql_base.specs.declared.words.StatusWord.{StatusWord}
 use Rattle.scql_base.specs.Words.{memory_failure}
 use Rattle.scql_model.specs.Machine.{Machine}
-use Rattle.scql_model.specs.Lines.{Reading, lines, reading_of, reading_text, reading_step, reply_octets, run_text, machine_after, reading_commits}
+use Rattle.scql_model.specs.Lines.{LineContent, lines, content_of, content_text, content_step, reply_octets, run_text, machine_after, content_commits}
 use Rattle.scql_model.specs.Opens.{Opens, OpensToOneOf}
 use Rattle.card.specs.Card.{Kept, IsReady, IsAt}
 use Rattle.card.proofs.Leaving.{Opens-at}
 use Rattle.card_cli.specs.declared.stop.Stop.{Stop}
 use Rattle.card_cli.specs.declared.stop.Stop.TheVariants.{Eeprom, Outlet, Both}
-use Rattle.card_cli.specs.Line.{line_reading, is_empty_line}
+use Rattle.card_cli.specs.Line.{line_content, is_empty_line}
 use Rattle.card_cli.specs.Running.{Running, from_machine, after, text_of}
 use Rattle.card_cli.specs.RunState.{Prints, RunState, IsRunning, Feeds}
 use Rattle.card_cli.specs.CutOff.{FailsIn, StopsIn, IsCutShort, mute_text}
@@ -21,7 +21,7 @@ use Rattle.card_cli.specs.Moments.{IsInStopped, IfGiven}
 use Rattle.card_cli.proofs.Moving.{until-line_feed, until-then, told-before}
 use Rattle.card_cli.specs.Halting.{FailsAt, HaltsAt, Halts}
 use Rattle.card_cli.proofs.Feeding.{Prints-then}
-use Rattle.card_cli.proofs.Streaming.{open_end, line_reading-begun_line, text_of-lines, after-lines, after-append, text_of-append, lines-open, lines-line_feed}
+use Rattle.card_cli.proofs.Streaming.{open_end, line_content-begun_line, text_of-lines, after-lines, after-append, text_of-append, lines-open, lines-line_feed}
 
 -- where an outlet failed, the first octets that it gave of a text are a start of it
 pub cut_short : {E : Type 0} (result : Result (Unit {0}) E) (text : List ℕ) (before now : Option (List ℕ))
@@ -35,9 +35,9 @@ at_outlet P (Ok x) is holds = tt
 at_outlet P (Err stop) is holds = subst P (sym is) holds
 
 -- an answer was to be given, and the outlet failed
-pub fails_giving : (m : Machine) (reading : Reading) (text : List ℕ) (before : Option (List ℕ)) (mid now : Chip)
-    → text ≡ reading_text m reading → IsCutShort text before now.still.given
-    → now.image ≡ mid.image → ((image : List ℕ) → mid.image ≡ Some image → Opens image (reading_step m reading).committed)
+pub fails_giving : (m : Machine) (reading : LineContent) (text : List ℕ) (before : Option (List ℕ)) (mid now : Chip)
+    → text ≡ content_text m reading → IsCutShort text before now.still.given
+    → now.image ≡ mid.image → ((image : List ℕ) → mid.image ≡ Some image → Opens image (content_step m reading).committed)
     → FailsIn Outlet [] m reading before now
 fails_giving m reading text before mid now is cut same opens = record {
   said = cut.said;
@@ -47,11 +47,11 @@ fails_giving m reading text before mid now is cut same opens = record {
 }
 
 -- what a line may leave of the EEPROM
-abbrev pub OpensWithin : Machine → Reading → Chip → Type 0
-OpensWithin m reading chip = (image : List ℕ) → chip.image ≡ Some image → OpensToOneOf (m.committed ∷ reading_commits m reading) image
+abbrev pub OpensWithin : Machine → LineContent → Chip → Type 0
+OpensWithin m reading chip = (image : List ℕ) → chip.image ≡ Some image → OpensToOneOf (m.committed ∷ content_commits m reading) image
 
 -- the card went mute, and said so
-pub fails_mute : (m : Machine) (reading : Reading) (text : List ℕ) (before : Option (List ℕ)) (mid now : Chip)
+pub fails_mute : (m : Machine) (reading : LineContent) (text : List ℕ) (before : Option (List ℕ)) (mid now : Chip)
     → text ≡ mute_text → Prints text before now.still.given → now.image ≡ mid.image → OpensWithin m reading mid → FailsIn Eeprom [] m reading before now
 fails_mute m reading text before mid now is given same opens = record {
   said = text;
@@ -61,7 +61,7 @@ fails_mute m reading text before mid now is given same opens = record {
 }
 
 -- or the outlet failed as it did
-pub fails_both : (m : Machine) (reading : Reading) (text : List ℕ) (before : Option (List ℕ)) (mid now : Chip)
+pub fails_both : (m : Machine) (reading : LineContent) (text : List ℕ) (before : Option (List ℕ)) (mid now : Chip)
     → text ≡ mute_text → IsCutShort text before now.still.given → now.image ≡ mid.image → OpensWithin m reading mid → FailsIn Both [] m reading before now
 fails_both m reading text before mid now is cut same opens = record {
   said = cut.said;
@@ -71,11 +71,11 @@ fails_both m reading text before mid now is cut same opens = record {
 }
 
 -- a line that reads as a note leaves the EEPROM
-pub fails_note : (m : Machine) (note reading : Reading) (text : List ℕ) (card : Kept) (old now : Chip) → IsReady card old → IsAt card old m
-    → note ≡ reading → text ≡ reading_text m note → m.committed ≡ (reading_step m note).committed
+pub fails_note : (m : Machine) (note reading : LineContent) (text : List ℕ) (card : Kept) (old now : Chip) → IsReady card old → IsAt card old m
+    → note ≡ reading → text ≡ content_text m note → m.committed ≡ (content_step m note).committed
     → IsCutShort text old.still.given now.still.given → now.image ≡ old.image → FailsIn Outlet [] m reading old.still.given now
 fails_note m note reading text card old now ready at is text_is stays cut same =
-    subst (λ (r : Reading). FailsIn Outlet [] m r old.still.given now) is
+    subst (λ (r : LineContent). FailsIn Outlet [] m r old.still.given now) is
     (fails_giving m note text old.still.given old now text_is cut same (λ image told. subst (Opens image) stays (Opens-at card old m ready at image told)))
 
 -- what a card says that goes mute
@@ -84,7 +84,7 @@ unfolding encode_with
 mute_text-reply body word empty is = rw (empty, is) refl
 
 -- behind what was printed before
-pub FailsIn-after : (stop : Stop) (first text : List ℕ) (m : Machine) (reading : Reading) (a b : Option (List ℕ)) (now : Chip)
+pub FailsIn-after : (stop : Stop) (first text : List ℕ) (m : Machine) (reading : LineContent) (a b : Option (List ℕ)) (now : Chip)
     → Prints first a b → FailsIn stop text m reading b now → FailsIn stop (first ++ text) m reading a now
 FailsIn-after stop first text m reading a b now printed fails = record {
   said = fails.said;
@@ -96,24 +96,24 @@ FailsIn-after stop first text m reading a b now printed fails = record {
 -- a device fails at a line feed
 pub Halts-line_feed : (stop : Stop) (octet : ℕ) (old : RunState) (now : Chip) → octet ≡ 10
     → ((r : Running) → IsRunning old r → FailsAt stop [] r old.chip.still.given now)
-    → ((m : Machine) → IsAt old.card old.chip m → IfGiven now (Throughout old.chip now (IsInStopped stop m (line_reading old.line) old.chip.still.mark))) → Halts stop (octet ∷ []) old now
+    → ((m : Machine) → IsAt old.card old.chip m → IfGiven now (Throughout old.chip now (IsInStopped stop m (line_content old.line) old.chip.still.mark))) → Halts stop (octet ∷ []) old now
 Halts-line_feed stop octet old now is fails moments = λ r running. record {
   taken = [];
   rest = [];
   split = ap (λ (o : ℕ). o ∷ []) is;
   fails = fails r running;
   moments = λ told. until-line_feed stop r old.chip now
-      (subst (λ (l : Option (List ℕ)). Throughout old.chip now (IsInStopped stop r.machine (line_reading l) old.chip.still.mark)) running.line (moments r.machine running.at told));
+      (subst (λ (l : Option (List ℕ)). Throughout old.chip now (IsInStopped stop r.machine (line_content l) old.chip.still.mark)) running.line (moments r.machine running.at told));
 }
 
 -- the line that fails is the one that has begun
-pub FailsAt-begun : (stop : Stop) (old : RunState) (now : Chip) (r : Running) → old.line ≡ r.begun → FailsIn stop [] r.machine (line_reading old.line) old.chip.still.given now
+pub FailsAt-begun : (stop : Stop) (old : RunState) (now : Chip) (r : Running) → old.line ≡ r.begun → FailsIn stop [] r.machine (line_content old.line) old.chip.still.given now
     → FailsAt stop [] r old.chip.still.given now
-FailsAt-begun stop old now r line fails = subst (λ (l : Option (List ℕ)). FailsIn stop [] r.machine (line_reading l) old.chip.still.given now) line fails
+FailsAt-begun stop old now r line fails = subst (λ (l : Option (List ℕ)). FailsIn stop [] r.machine (line_content l) old.chip.still.given now) line fails
 
 -- so does one in the last line, which has an octet
 pub fails_last : (result : Result (Unit {0}) Stop) (old : RunState) (now : Chip) (r : Running) → old.line ≡ r.begun → is_empty_line old.line ≡ false
-    → IfErr result (λ (stop : Stop). FailsIn stop [] r.machine (line_reading old.line) old.chip.still.given now)
+    → IfErr result (λ (stop : Stop). FailsIn stop [] r.machine (line_content old.line) old.chip.still.given now)
     → IfErr result (λ (stop : Stop). (is_empty_line r.begun ≡ false) × FailsAt stop [] r old.chip.still.given now)
 fails_last (Ok x) old now r line some fails = tt
 fails_last (Err stop) old now r line some fails = (subst (λ (l : Option (List ℕ)). is_empty_line l ≡ false) line some, FailsAt-begun stop old now r line fails)
@@ -124,7 +124,7 @@ Halts-within stop xs ys zs a b now feeds halts = λ r running.
     let first = feeds r running in
     let then = halts (after r xs) first.running in
     let fails : FailsAt stop (text_of r xs ++ text_of (after r xs) then.taken) (after (after r xs) then.taken) a.chip.still.given now =
-    FailsIn-after stop (text_of r xs) (text_of (after r xs) then.taken) (after (after r xs) then.taken).machine (line_reading (after (after r xs) then.taken).begun) a.chip.still.given b.chip.still.given now first.text then.fails in
+    FailsIn-after stop (text_of r xs) (text_of (after r xs) then.taken) (after (after r xs) then.taken).machine (line_content (after (after r xs) then.taken).begun) a.chip.still.given b.chip.still.given now first.text then.fails in
     record {
       taken = xs ++ then.taken;
       rest = then.rest ++ zs;
@@ -137,11 +137,11 @@ Halts-within stop xs ys zs a b now feeds halts = λ r running.
 
 -- octet by octet the whole lines were answered
 pub FailsIn-lines : (stop : Stop) (m : Machine) (taken : List ℕ) (before : Option (List ℕ)) (now : Chip) → FailsAt stop (text_of (from_machine m) taken) (after (from_machine m) taken) before now
-    → FailsIn stop (run_text m (lines taken false)) (machine_after m (lines taken false)) (reading_of (open_end taken)) before now
+    → FailsIn stop (run_text m (lines taken false)) (machine_after m (lines taken false)) (content_of (open_end taken)) before now
 FailsIn-lines stop m taken before now fails =
     let text : List ℕ = run_text m (lines taken false) in
     let machine : Machine = machine_after m (lines taken false) in
-    subst (λ (reading : Reading). FailsIn stop text machine reading before now) (line_reading-begun_line (open_end taken))
+    subst (λ (reading : LineContent). FailsIn stop text machine reading before now) (line_content-begun_line (open_end taken))
     (subst (λ (r : Running). FailsAt stop text r before now) (after-lines m taken)
     (subst (λ (t : List ℕ). FailsAt stop t (after (from_machine m) taken) before now) (text_of-lines m taken) fails))
 
@@ -163,7 +163,7 @@ StopsIn-last stop m input old mid now running feeds ends =
     let follows = feeds (from_machine m) running in
     let last = ends r follows.running in
     let fails : FailsAt stop (text ++ []) r old.chip.still.given now =
-    FailsIn-after stop text [] r.machine (line_reading r.begun) old.chip.still.given mid.chip.still.given now follows.text last.1 in
+    FailsIn-after stop text [] r.machine (line_content r.begun) old.chip.still.given mid.chip.still.given now follows.text last.1 in
     record {
       answered = lines input false;
       line = open_end input;

@@ -5,8 +5,8 @@ use Rattle.std.proofs.lemmas.Bool.{cases_Bool}
 use Rattle.std.proofs.lemmas.List.Splits.{slice_split-cons_yes, slice_split-cons_no}
 use Rattle.std.specs.List.{slice_split, onto_first}
 use Rattle.scql_model.specs.Machine.{Machine}
-use Rattle.scql_model.specs.Lines.{is_line_feed, lines, without_open_end, reading_of, reading_text, reading_step, line_text, line_step, run_text, machine_after}
-use Rattle.card_cli.specs.Line.{longer_by, is_empty_line, line_reading}
+use Rattle.scql_model.specs.Lines.{is_line_feed, lines, without_open_end, content_of, content_text, content_step, line_text, line_step, run_text, machine_after}
+use Rattle.card_cli.specs.Line.{longer_by, is_empty_line, line_content}
 use Rattle.card_cli.specs.Running.{Running, from_machine, begun_text, after_begun, octet_text, after_octet, text_of, after, end_text, after_end}
 
 -- the octets of a line that has begun so, or none where it is too long
@@ -18,8 +18,8 @@ longer_by-begun_line line octet =
     let longer : length (line ++ octet ∷ []) ≡ length line + 1 = length-append line (octet ∷ []) in
     grind (arith, nat_tests)
 
-pub line_reading-begun_line : (line : List ℕ) → line_reading (begun_line line) ≡ reading_of line
-line_reading-begun_line line = elim (cases_Bool (ltb 1000 (length line))) [ inl t ↦ rw t | inr e ↦ rw e ]
+pub line_content-begun_line : (line : List ℕ) → line_content (begun_line line) ≡ content_of line
+line_content-begun_line line = elim (cases_Bool (ltb 1000 (length line))) [ inl t ↦ rw t | inr e ↦ rw e ]
 
 -- a line that has begun and has no octet is empty
 is_empty_line-begun_line : (line : List ℕ) → is_empty_line (begun_line line) ≡ eqb (length line) 0
@@ -57,11 +57,11 @@ with_front-onto_first line octet (piece ∷ pieces) = ap (λ (x : List ℕ). x �
 
 begun_text-begun : (m : Machine) (line : List ℕ) → begun_text (begun m line) ≡ line_text m line
 unfolding line_text
-begun_text-begun m line = ap (reading_text m) (line_reading-begun_line line)
+begun_text-begun m line = ap (content_text m) (line_content-begun_line line)
 
 after_begun-begun : (m : Machine) (line : List ℕ) → after_begun (begun m line) ≡ begun (line_step m line) []
 unfolding line_step
-after_begun-begun m line = ap (λ r. begun (reading_step m r) []) (line_reading-begun_line line)
+after_begun-begun m line = ap (λ r. begun (content_step m r) []) (line_content-begun_line line)
 
 -- octets of pieces print the text of all but the last, which has begun afterwards
 record Streams (octets : List ℕ) (r : Running) (m : Machine) (pieces : List (List ℕ)) : Type 0 where

@@ -18,7 +18,7 @@ use Rattle.card_cli.specs.StatusNumber.{status_of}
 use Rattle.card_cli.specs.Running.{Running, from_machine, after, text_of, end_text, after_end}
 use Rattle.card_cli.specs.RunState.{Prints, RunState, IsRunning, Feeds, Faults, Causes}
 use Rattle.card_cli.specs.Ends.{EndsAs, longest_input}
-use Rattle.card_cli.specs.Line.{line_reading, is_empty_line}
+use Rattle.card_cli.specs.Line.{line_content, is_empty_line}
 use Rattle.card_cli.specs.Moments.{IsInStopped, IsAtEnd, IfGiven}
 use Rattle.card_cli.specs.Keeping.{AreKept, AreAllKept, KeepsTo, carried_out}
 use Rattle.card_cli.proofs.Keeping.{kept-taken, kept-until, kept-ended, until-last}
@@ -234,7 +234,7 @@ Ends-halted stop from to counts room count k piece old mid now start before take
 pub Ends-last : (stop : Stop) (from to : ℕ) → CountsAt stop from to → (room : ℕ) (piece : List ℕ) (old mid : RunState) (now : Chip) (start before taken : Option (List ℕ)) (m : Machine)
     → IsRunning old (from_machine m) → Becomes (HasTaken room old mid) start before → Takes 0 piece before taken
     → ((r : Running) → IsRunning mid r → (is_empty_line r.begun ≡ false) × FailsAt stop [] r mid.chip.still.given now)
-    → ((r : Running) → IsRunning mid r → IfGiven now (Throughout mid.chip now (IsInStopped stop r.machine (line_reading r.begun) mid.chip.still.mark)))
+    → ((r : Running) → IsRunning mid r → IfGiven now (Throughout mid.chip now (IsInStopped stop r.machine (line_content r.begun) mid.chip.still.mark)))
     → Becomes (Ends (status_of stop) from to m old.chip now) start taken
 Ends-last stop from to counts room piece old mid now start before taken m running so_far takes ends last = λ left told.
     let found = taken_all room piece old mid start before taken so_far takes left told in

@@ -3,7 +3,7 @@ use Rattle.std.specs.Prelude.{◌≡◌, ◌⊎◌, ℕ, List, ◌∷◌, ◌++�
 use Rattle.eeprom.specs.Chip.{Chip}
 use Rattle.eeprom.specs.Fault.{Rose}
 use Rattle.scql_model.specs.Machine.{Machine}
-use Rattle.scql_model.specs.Lines.{Reading, reading_of, reading_text, reading_step, reading_commits, run_text, machine_after}
+use Rattle.scql_model.specs.Lines.{LineContent, content_of, content_text, content_step, content_commits, run_text, machine_after}
 use Rattle.scql_model.specs.Opens.{Opens, OpensToOneOf}
 use Rattle.card_cli.specs.declared.stop.Stop.{Stop}
 use Rattle.card_cli.specs.declared.stop.Stop.TheVariants.{Eeprom, Outlet, Both}
@@ -29,14 +29,14 @@ Says Outlet text said = IsStartOf said text
 Says Both text said = IsStartOf said mute_text
 
 -- To what the image opens after a line in which a device failed: to the database after the line where the outlet alone did, and else to the one before it or to one that it commits.
-abbrev pub OpensBehind : Stop → Machine → Reading → List ℕ → Type 0
-OpensBehind Outlet m reading image = Opens image (reading_step m reading).committed
-OpensBehind stop m reading image = OpensToOneOf (m.committed ∷ reading_commits m reading) image
+abbrev pub OpensBehind : Stop → Machine → LineContent → List ℕ → Type 0
+OpensBehind Outlet m reading image = Opens image (content_step m reading).committed
+OpensBehind stop m reading image = OpensToOneOf (m.committed ∷ content_commits m reading) image
 
 -- A device failed in a line that reads so. What was said of it follows this text of the lines before.
-pub record FailsIn (stop : Stop) (text : List ℕ) (m : Machine) (reading : Reading) (before : Option (List ℕ)) (now : Chip) : Type 0 where
+pub record FailsIn (stop : Stop) (text : List ℕ) (m : Machine) (reading : LineContent) (before : Option (List ℕ)) (now : Chip) : Type 0 where
   pub said : List ℕ
-  pub says : Says stop (reading_text m reading) said
+  pub says : Says stop (content_text m reading) said
   pub given : Prints (text ++ said) before now.still.given
   pub image : (image : List ℕ) → now.image ≡ Some image → OpensBehind stop m reading image
 
@@ -46,7 +46,7 @@ pub record StopsIn (stop : Stop) (m : Machine) (lines : List (List ℕ)) (before
   pub line : List ℕ
   pub rest : List (List ℕ)
   pub split : lines ≡ answered ++ line ∷ rest
-  pub fails : FailsIn stop (run_text m answered) (machine_after m answered) (reading_of line) before now
+  pub fails : FailsIn stop (run_text m answered) (machine_after m answered) (content_of line) before now
 
 -- The outlet failed while the EEPROM's count of faults went from one number to another: alone, where that count stayed, or behind the EEPROM, where it rose. This is so of that stop.
 abbrev pub OutletFails : ℕ → ℕ → (Stop → Type 0) → Type 0

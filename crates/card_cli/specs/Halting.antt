@@ -2,7 +2,7 @@
 use Rattle.std.specs.Prelude.{◌≡◌, ℕ, List, ◌∷◌, ◌++◌, Option}
 use Rattle.eeprom.specs.Chip.{Chip, Throughout}
 use Rattle.card_cli.specs.declared.stop.Stop.{Stop}
-use Rattle.card_cli.specs.Line.{line_reading}
+use Rattle.card_cli.specs.Line.{line_content}
 use Rattle.card_cli.specs.Running.{Running, after, text_of}
 use Rattle.card_cli.specs.RunState.{RunState, IsRunning}
 use Rattle.card_cli.specs.CutOff.{FailsIn}
@@ -10,7 +10,7 @@ use Rattle.card_cli.specs.Moments.{IsUntil, IfGiven}
 
 -- a device fails in the line that has begun
 abbrev pub FailsAt : Stop → List ℕ → Running → Option (List ℕ) → Chip → Type 0
-FailsAt stop text r before now = FailsIn stop text r.machine (line_reading r.begun) before now
+FailsAt stop text r before now = FailsIn stop text r.machine (line_content r.begun) before now
 
 -- A device fails at a line feed among the octets.
 pub record HaltsAt (stop : Stop) (octets : List ℕ) (r : Running) (old now : Chip) : Type 0 where

@@ -3,8 +3,8 @@ use Rattle.std.specs.Prelude.{ℕ, ◌==◌, nat_lt, Bool, false, List, [], ◌�
 use Rattle.scql_model.specs.Lines as model
 use Rattle.card_cli.specs.declared.line.Line.{Line}
 use Rattle.card_cli.specs.declared.line.Line.TheVariants.{Octets, TooLong}
-use Rattle.card_cli.specs.declared.line.Reading.{Reading}
-use Rattle.card_cli.specs.declared.line.Reading.TheVariants.{TooLong as ReadTooLong, Nothing, Reset, NotHexadecimal, Command}
+use Rattle.card_cli.specs.declared.line.LineContent.{LineContent}
+use Rattle.card_cli.specs.declared.line.LineContent.TheVariants.{TooLong as ReadTooLong, Nothing, Reset, NotHexadecimal, Command}
 
 -- its octets, or none where it is too long
 abbrev pub line_octets : Line → Option (List ℕ)
@@ -22,11 +22,11 @@ is_empty_line None = false
 is_empty_line (Some line) = length line == 0
 
 -- what a line is, told by its octets
-abbrev pub line_reading : Option (List ℕ) → model.Reading
-line_reading None = model.too_long
-line_reading (Some line) = model.reading_without_blanks (model.without_blanks line)
+abbrev pub line_content : Option (List ℕ) → model.LineContent
+line_content None = model.too_long
+line_content (Some line) = model.content_without_blanks (model.without_blanks line)
 
-abbrev pub reading_view : Reading → model.Reading
+abbrev pub reading_view : LineContent → model.LineContent
 reading_view ReadTooLong = model.too_long
 reading_view Nothing = model.nothing
 reading_view Reset = model.resets

@@ -1,8 +1,8 @@
 -- A run, octet by octet: what is printed, and what has come in between two octets.
 use Rattle.std.specs.Prelude.{ℕ, List, [], ◌∷◌, ◌++◌, Option, Some, if◌then◌else◌}
 use Rattle.scql_model.specs.Machine.{Machine}
-use Rattle.scql_model.specs.Lines.{is_line_feed, reading_text, reading_step}
-use Rattle.card_cli.specs.Line.{longer_by, is_empty_line, line_reading}
+use Rattle.scql_model.specs.Lines.{is_line_feed, content_text, content_step}
+use Rattle.card_cli.specs.Line.{longer_by, is_empty_line, line_content}
 
 -- the machine, and the line that has begun, or none where it is too long
 pub record Running : Type 0 where
@@ -15,10 +15,10 @@ from_machine m = record { machine = m; begun = Some [] }
 
 -- the text of the line that has begun, as a whole line, and the run after it
 abbrev pub begun_text : Running → List ℕ
-begun_text r = reading_text r.machine (line_reading r.begun)
+begun_text r = content_text r.machine (line_content r.begun)
 
 abbrev pub after_begun : Running → Running
-after_begun r = from_machine (reading_step r.machine (line_reading r.begun))
+after_begun r = from_machine (content_step r.machine (line_content r.begun))
 
 -- one octet more
 abbrev pub octet_text : Running → ℕ → List ℕ

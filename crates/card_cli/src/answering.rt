@@ -6,7 +6,7 @@ ghost use Rattle.scql_model.specs.Step.{step};
 ghost use Rattle.scql_model.specs.Lines as model;
 ghost use Rattle.card.specs.Card.{IsReady, IsAt};
 ghost use Rattle.card.specs.Answering.{reply_of};
-ghost use Rattle.card_cli.specs.Line.{line_octets, line_reading};
+ghost use Rattle.card_cli.specs.Line.{line_octets, line_content};
 ghost use Rattle.card_cli.specs.RunState.{Prints, Feeds, Faults, Causes};
 ghost use Rattle.card_cli.specs.CutOff.{FailsIn, IsCutShort};
 ghost use Rattle.card_cli.specs.Halting.{Halts};
@@ -14,7 +14,7 @@ ghost use Rattle.card_cli.specs.Moments.{IsInStopped, IsAnswered, IfGiven};
 ghost use Rattle.eeprom.specs.Chip.{Gives, Throughout};
 ghost use Rattle.eeprom.specs.Fault.{Counts};
 
-use crate::line::{Line, Reading};
+use crate::line::{Line, LineContent};
 use crate::stop::Stop;
 use arrayvec::ArrayVec;
 use card::{Card, Outcome, Reply};
@@ -74,29 +74,29 @@ fn take_octet<B: Bench>(
 pub(crate) fn answer_line<B: Bench>(card: &mut Card, bench: &mut B, line: &Line) -> Result<(), Stop>
     requires ready { IsReady card.old (B.chip bench.old) }
     ensures at { (m : Machine) → IsAt card.old (B.chip bench.old) m
-        → OnOk result (IsAt card.new (B.chip bench.new) (model.reading_step m (line_reading (line_octets line.now)))) }
+        → OnOk result (IsAt card.new (B.chip bench.new) (model.content_step m (line_content (line_octets line.now)))) }
     ensures text { (m : Machine) → IsAt card.old (B.chip bench.old) m
-        → OnOk result (Prints (model.reading_text m (line_reading (line_octets line.now))) (B.chip bench.old).still.given (B.chip bench.new).still.given) }
+        → OnOk result (Prints (model.content_text m (line_content (line_octets line.now))) (B.chip bench.old).still.given (B.chip bench.new).still.given) }
     ensures fails { (m : Machine) → IsAt card.old (B.chip bench.old) m
-        → IfErr result (λ stop. FailsIn stop [] m (line_reading (line_octets line.now)) (B.chip bench.old).still.given (B.chip bench.new)) }
+        → IfErr result (λ stop. FailsIn stop [] m (line_content (line_octets line.now)) (B.chip bench.old).still.given (B.chip bench.new)) }
     // At each moment a power loss leaves what the line commits, all of it once an octet of its text has gone out,
     ensures answered { (m : Machine) → IsAt card.old (B.chip bench.old) m
-        → OnOk result (IfGiven (B.chip bench.new) (IsAnswered m (line_reading (line_octets line.now)) (B.chip bench.old) (B.chip bench.new))) }
+        → OnOk result (IfGiven (B.chip bench.new) (IsAnswered m (line_content (line_octets line.now)) (B.chip bench.old) (B.chip bench.new))) }
     // also where the outlet alone fails; where the EEPROM does it leaves the database before the line or one that it commits.
     ensures moments { (m : Machine) → IsAt card.old (B.chip bench.old) m
-        → IfErr result (λ stop. IfGiven (B.chip bench.new) (Throughout (B.chip bench.old) (B.chip bench.new) (IsInStopped stop m (line_reading (line_octets line.now)) (B.chip bench.old).still.mark))) }
+        → IfErr result (λ stop. IfGiven (B.chip bench.new) (Throughout (B.chip bench.old) (B.chip bench.new) (IsInStopped stop m (line_content (line_octets line.now)) (B.chip bench.old).still.mark))) }
     ensures ready { OnOk result (IsReady card.new (B.chip bench.new)) }
     ensures causes { Causes (record { eeprom = B.faults bench.old; outlet = B.sink_faults bench.old }) (record { eeprom = B.faults bench.new; outlet = B.sink_faults bench.new }) result }
 {
     match line.read() {
-        Reading::Nothing => Ok(()),
-        Reading::TooLong => Ok(give(bench, b"line too long\n")?),
-        Reading::Reset => {
+        LineContent::Nothing => Ok(()),
+        LineContent::TooLong => Ok(give(bench, b"line too long\n")?),
+        LineContent::Reset => {
             card.reset();
             Ok(give(bench, b"reset\n")?)
         }
-        Reading::NotHexadecimal => Ok(give(bench, b"not hexadecimal\n")?),
-        Reading::Command(octets) => answer_command(card, bench, &octets),
+        LineContent::NotHexadecimal => Ok(give(bench, b"not hexadecimal\n")?),
+        LineContent::Command(octets) => answer_command(card, bench, &octets),
     }
 }
 

@@ -3,7 +3,7 @@ ghost use Rattle.std.specs.Prelude.{◌≡◌, ◌<◌, ◌≤◌, [], true, fal
 ghost use Rattle.eeprom.specs.Chip.{Becomes};
 ghost use Rattle.scql_model.specs.Machine.{Machine};
 ghost use Rattle.card.specs.Card.{IsReady, IsAt};
-ghost use Rattle.card_cli.specs.Line.{line_octets, line_reading, is_empty_line};
+ghost use Rattle.card_cli.specs.Line.{line_octets, line_content, is_empty_line};
 ghost use Rattle.card_cli.specs.Running.{Running, end_text, after_end};
 ghost use Rattle.card_cli.specs.RunState.{Prints, IsRunning, Causes};
 ghost use Rattle.eeprom.specs.Chip.{Throughout};
@@ -81,7 +81,7 @@ fn answer_last<B: Bench>(card: &mut Card, bench: &mut B, line: &Line) -> Result<
     ensures answered { (r : Running) → IsRunning (record { card = card.old; line = line_octets line.now; chip = B.chip bench.old }) r
         → OnOk result (IfGiven (B.chip bench.new) (Throughout (B.chip bench.old) (B.chip bench.new) (IsAtEnd r (B.chip bench.old).still.mark))) }
     ensures moments { (r : Running) → IsRunning (record { card = card.old; line = line_octets line.now; chip = B.chip bench.old }) r
-        → IfErr result (λ stop. IfGiven (B.chip bench.new) (Throughout (B.chip bench.old) (B.chip bench.new) (IsInStopped stop r.machine (line_reading r.begun) (B.chip bench.old).still.mark))) }
+        → IfErr result (λ stop. IfGiven (B.chip bench.new) (Throughout (B.chip bench.old) (B.chip bench.new) (IsInStopped stop r.machine (line_content r.begun) (B.chip bench.old).still.mark))) }
     ensures causes { Causes (record { eeprom = B.faults bench.old; outlet = B.sink_faults bench.old }) (record { eeprom = B.faults bench.new; outlet = B.sink_faults bench.new }) result }
 {
     if line.is_empty() {

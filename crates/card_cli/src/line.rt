@@ -3,7 +3,7 @@ ghost use Rattle.std.specs.Prelude.{◌≡◌, ◌≤◌, Some, [], length, opti
 ghost use Rattle.std.specs.Result.{result_ok};
 ghost use Rattle.hex.specs.Hex.{decode_of};
 ghost use Rattle.scql_model.specs.Lines as model;
-ghost use Rattle.card_cli.specs.Line.{line_octets, longer_by, is_empty_line, line_reading, reading_view};
+ghost use Rattle.card_cli.specs.Line.{line_octets, longer_by, is_empty_line, line_content, reading_view};
 
 use arrayvec::ArrayVec;
 
@@ -23,7 +23,7 @@ pub(crate) enum Line {
 
 /// What a whole line is.
 #[derive(Drop)]
-pub(crate) enum Reading {
+pub(crate) enum LineContent {
     TooLong,
     /// Blank, or a note.
     Nothing,
@@ -72,26 +72,26 @@ impl Line {
         }
     }
 
-    pub fn read(&self) -> Reading
-        ensures { reading_view result ≡ line_reading (line_octets self.now) }
+    pub fn read(&self) -> LineContent
+        ensures { reading_view result ≡ line_content (line_octets self.now) }
     {
         match self {
-            Line::TooLong => Reading::TooLong,
+            Line::TooLong => LineContent::TooLong,
             Line::Octets(octets) => read_digits(&without_blanks(octets)),
         }
     }
 }
 
-fn read_digits(line: &[u8]) -> Reading
+fn read_digits(line: &[u8]) -> LineContent
     requires { length line.now ≤ LONGEST }
-    ensures { reading_view result ≡ model.reading_without_blanks line.now }
+    ensures { reading_view result ≡ model.content_without_blanks line.now }
 {
     match line {
-        [] | [b'#', ..] => Reading::Nothing,
-        b"reset" => Reading::Reset,
+        [] | [b'#', ..] => LineContent::Nothing,
+        b"reset" => LineContent::Reset,
         digits => match octets_of(digits) {
-            None => Reading::NotHexadecimal,
-            Some(octets) => Reading::Command(octets),
+            None => LineContent::NotHexadecimal,
+            Some(octets) => LineContent::Command(octets),
         },
     }
 }

@@ -8,7 +8,7 @@ use Rattle.scql_model.specs.Database.{Database}
 use Rattle.scql_model.specs.Machine.{Machine}
 use Rattle.scql_model.specs.Step.{step}
 use Rattle.scql_model.proofs.LastCommits.{last-step}
-use Rattle.scql_model.specs.Lines.{Reading, too_long, nothing, resets, not_hexadecimal, command, reading_of, reading_text, reading_step, reading_commits, reply_octets, line_text, line_step, run_text, machine_after}
+use Rattle.scql_model.specs.Lines.{LineContent, too_long, nothing, resets, not_hexadecimal, command, content_of, content_text, content_step, content_commits, reply_octets, line_text, line_step, run_text, machine_after}
 use Rattle.scql_model.specs.Opens.{Opens, OpensToOneOf}
 use Rattle.scql_model.specs.Heard.{commits_of, commits_to, after_commits, heard, IsKept}
 
@@ -28,7 +28,7 @@ after_commits-behind db (x ∷ xs) ys k =
     ap (after_commits db (x ∷ (xs ++ ys))) next ∙ after_commits-behind x xs ys k
 
 -- so does a line
-pub last-reading : (m : Machine) (reading : Reading) → after_commits m.committed (reading_commits m reading) (length (reading_commits m reading)) ≡ (reading_step m reading).committed
+pub last-reading : (m : Machine) (reading : LineContent) → after_commits m.committed (content_commits m reading) (length (content_commits m reading)) ≡ (content_step m reading).committed
 last-reading m (command octets) = last-step m octets
 last-reading m resets = refl
 last-reading m too_long = refl
@@ -36,23 +36,23 @@ last-reading m nothing = refl
 last-reading m not_hexadecimal = refl
 
 -- a line without a text commits nothing
-silent-reading : (m : Machine) (reading : Reading) → length (reading_text m reading) ≡ 0 → length (reading_commits m reading) ≡ 0
+silent-reading : (m : Machine) (reading : LineContent) → length (content_text m reading) ≡ 0 → length (content_commits m reading) ≡ 0
 silent-reading m (command octets) none =
     let digits : List ℕ = encode_upper (reply_octets (step m octets).reply) in
     absurd (omega (arith, length-append digits (codes "\n"), none))
 silent-reading m reading none = refl
 
-silent-line : (m : Machine) (line : List ℕ) → length (line_text m line) ≡ 0 → length (reading_commits m (reading_of line)) ≡ 0
+silent-line : (m : Machine) (line : List ℕ) → length (line_text m line) ≡ 0 → length (content_commits m (content_of line)) ≡ 0
 unfolding line_text
-silent-line m line none = silent-reading m (reading_of line) none
+silent-line m line none = silent-reading m (content_of line) none
 
-pub last-line : (m : Machine) (line : List ℕ) → after_commits m.committed (reading_commits m (reading_of line)) (length (reading_commits m (reading_of line))) ≡ (line_step m line).committed
+pub last-line : (m : Machine) (line : List ℕ) → after_commits m.committed (content_commits m (content_of line)) (length (content_commits m (content_of line))) ≡ (line_step m line).committed
 unfolding line_step
-last-line m line = last-reading m (reading_of line)
+last-line m line = last-reading m (content_of line)
 
 -- the first line and those behind it
-commits_to-line : (m : Machine) (line : List ℕ) (lines : List (List ℕ)) (i : ℕ) → commits_to m (line ∷ lines) (suc i) ≡ length (reading_commits m (reading_of line)) + commits_to (line_step m line) lines i
-commits_to-line m line lines i = length-append (reading_commits m (reading_of line)) (commits_of (line_step m line) (take i lines))
+commits_to-line : (m : Machine) (line : List ℕ) (lines : List (List ℕ)) (i : ℕ) → commits_to m (line ∷ lines) (suc i) ≡ length (content_commits m (content_of line)) + commits_to (line_step m line) lines i
+commits_to-line m line lines i = length-append (content_commits m (content_of line)) (commits_of (line_step m line) (take i lines))
 
 heard-line : (m : Machine) (line : List ℕ) (lines : List (List ℕ)) (g : ℕ) → heard m (line ∷ lines) (length (line_text m line) + g) ≡ suc (heard (line_step m line) lines g)
 heard-line m line lines g =
@@ -124,26 +124,26 @@ opens-after db (next ∷ commits) left (inr there) =
 
 -- In the first line, which wasn't heard, the image opens to the database before it or to one that it commits.
 kept-unheard : (m : Machine) (line : List ℕ) (lines : List (List ℕ)) (counted g : ℕ) (left : List ℕ) → heard m (take counted (line ∷ lines)) g ≡ 0
-    → OpensToOneOf (m.committed ∷ reading_commits m (reading_of line)) left → IsKept m (line ∷ lines) counted g left
+    → OpensToOneOf (m.committed ∷ content_commits m (content_of line)) left → IsKept m (line ∷ lines) counted g left
 kept-unheard m line lines counted g left unheard opens =
-    let found = opens-after m.committed (reading_commits m (reading_of line)) left opens in
+    let found = opens-after m.committed (content_commits m (content_of line)) left opens in
     record {
       commits = found.0;
       least = rw unheard (omega arith);
       most = rw unheard (omega (arith, found.1, commits_to-line m line lines 0));
-      opens = subst (Opens left) (sym (after_commits-first m.committed (reading_commits m (reading_of line)) (commits_of (line_step m line) lines) found.0 found.1)) found.2;
+      opens = subst (Opens left) (sym (after_commits-first m.committed (content_commits m (content_of line)) (commits_of (line_step m line) lines) found.0 found.1)) found.2;
     }
 
 -- where the line fails, it isn't among those that are heard
 pub kept-failing : (m : Machine) (line : List ℕ) (lines : List (List ℕ)) (g : ℕ) (left : List ℕ)
-    → OpensToOneOf (m.committed ∷ reading_commits m (reading_of line)) left → IsKept m (line ∷ lines) 0 g left
+    → OpensToOneOf (m.committed ∷ content_commits m (content_of line)) left → IsKept m (line ∷ lines) 0 g left
 kept-failing m line lines g left opens = kept-unheard m line lines 0 g left refl opens
 
 -- behind the first line
 pub kept-behind : (m : Machine) (line : List ℕ) (lines : List (List ℕ)) (counted g : ℕ) (left : List ℕ) → IsKept (line_step m line) lines counted g left
     → IsKept m (line ∷ lines) (suc counted) (length (line_text m line) + g) left
 kept-behind m line lines counted g left kept =
-    let own : List Database = reading_commits m (reading_of line) in
+    let own : List Database = content_commits m (content_of line) in
     let others : List Database = commits_of (line_step m line) lines in
     let i : ℕ = heard (line_step m line) (take counted lines) g in
     let one : heard m (line ∷ take counted lines) (length (line_text m line) + g) ≡ suc i = heard-line m line (take counted lines) g in
@@ -161,12 +161,12 @@ kept-behind m line lines counted g left kept =
 
 -- A line that is answered: the image opens to the database before it or to one that it commits, and to the last of these once an octet of its text has gone out.
 pub kept-answered : (m : Machine) (line : List ℕ) (lines : List (List ℕ)) (counted g : ℕ) (left : List ℕ) → g ≤ length (line_text m line)
-    → OpensToOneOf (m.committed ∷ reading_commits m (reading_of line)) left → (suc zero ≤ g → Opens left (line_step m line).committed)
+    → OpensToOneOf (m.committed ∷ content_commits m (content_of line)) left → (suc zero ≤ g → Opens left (line_step m line).committed)
     → IsKept m (line ∷ lines) (suc counted) g left
 kept-answered m line lines counted g left within opens done = elim (leb_tells (length (line_text m line)) g) [
   | inl t ↦
       let whole : length (line_text m line) + 0 ≡ g = omega (arith, t.1, within) in
-      let own : List Database = reading_commits m (reading_of line) in
+      let own : List Database = content_commits m (content_of line) in
       let found = opens-after m.committed own left opens in
       let last : Opens left (line_step m line).committed = elim (leb_tells 1 g) [
         | inl some ↦ done (some.1)

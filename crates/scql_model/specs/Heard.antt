@@ -2,13 +2,13 @@
 use Rattle.std.specs.Prelude.{ℕ, zero, suc, ◌≤◌, ◌+◌, ◌-◌, nat_le, List, [], ◌∷◌, ◌++◌, length, take, if◌then◌else◌}
 use Rattle.scql_model.specs.Database.{Database}
 use Rattle.scql_model.specs.Machine.{Machine}
-use Rattle.scql_model.specs.Lines.{reading_of, reading_commits, line_text, line_step}
+use Rattle.scql_model.specs.Lines.{content_of, content_commits, line_text, line_step}
 use Rattle.scql_model.specs.Opens.{Opens}
 
 -- the databases that lines commit in turn
 abbrev pub commits_of : Machine → List (List ℕ) → List Database
 commits_of m [] = []
-commits_of m (line ∷ lines) = reading_commits m (reading_of line) ++ commits_of (line_step m line) lines
+commits_of m (line ∷ lines) = content_commits m (content_of line) ++ commits_of (line_step m line) lines
 
 -- how many databases the first i lines commit
 abbrev pub commits_to : Machine → List (List ℕ) → ℕ → ℕ

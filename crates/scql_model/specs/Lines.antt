@@ -21,12 +21,12 @@ abbrev pub lines : List ℕ → Bool → List (List ℕ)
 lines octets ended = without_open_end ended (slice_split is_line_feed octets)
 
 -- What a line is: spaces, tabs and carriage returns are taken out first, and then it is nothing, a note, `reset` or hexadecimal digits.
-pub data Reading : Type 0 where
-  too_long : Reading
-  nothing : Reading
-  resets : Reading
-  not_hexadecimal : Reading
-  command : (octets : List ℕ) → Reading
+pub data LineContent : Type 0 where
+  too_long : LineContent
+  nothing : LineContent
+  resets : LineContent
+  not_hexadecimal : LineContent
+  command : (octets : List ℕ) → LineContent
 
 abbrev pub longest_line : ℕ
 longest_line = 1000
@@ -37,48 +37,48 @@ is_blank octet = octet == 0x20 || octet == 0x09 || octet == 0x0D
 abbrev pub without_blanks : List ℕ → List ℕ
 without_blanks line = filter (λ octet. not (is_blank octet)) line
 
-abbrev pub hexadecimal_in : {E : Type 0} → Result (List ℕ) E → Reading
+abbrev pub hexadecimal_in : {E : Type 0} → Result (List ℕ) E → LineContent
 hexadecimal_in (Ok octets) = command octets
 hexadecimal_in (Err e) = not_hexadecimal
 
-abbrev pub reading_without_blanks : List ℕ → Reading
-reading_without_blanks [] = nothing
-reading_without_blanks (first ∷ rest) =
+abbrev pub content_without_blanks : List ℕ → LineContent
+content_without_blanks [] = nothing
+content_without_blanks (first ∷ rest) =
     if first == 0x23 then nothing
     else if bytes_eq (first ∷ rest) (codes "reset") then resets
     else hexadecimal_in (decode_of (first ∷ rest))
 
-abbrev pub reading_of : List ℕ → Reading
-reading_of line = if nat_lt longest_line (length line) then too_long else reading_without_blanks (without_blanks line)
+abbrev pub content_of : List ℕ → LineContent
+content_of line = if nat_lt longest_line (length line) then too_long else content_without_blanks (without_blanks line)
 
 -- The text of a line, with its line feed, and the machine after it.
 abbrev pub reply_octets : Reply → List ℕ
 reply_octets reply = reply.body ++ (reply.word.word / 256) ∷ (reply.word.word % 256) ∷ []
 
-abbrev pub reading_text : Machine → Reading → List ℕ
-reading_text m too_long = codes "line too long\n"
-reading_text m nothing = []
-reading_text m resets = codes "reset\n"
-reading_text m not_hexadecimal = codes "not hexadecimal\n"
-reading_text m (command octets) = encode_upper (reply_octets (step m octets).reply) ++ codes "\n"
+abbrev pub content_text : Machine → LineContent → List ℕ
+content_text m too_long = codes "line too long\n"
+content_text m nothing = []
+content_text m resets = codes "reset\n"
+content_text m not_hexadecimal = codes "not hexadecimal\n"
+content_text m (command octets) = encode_upper (reply_octets (step m octets).reply) ++ codes "\n"
 
-abbrev pub reading_step : Machine → Reading → Machine
-reading_step m (command octets) = (step m octets).machine
-reading_step m resets = reset m
-reading_step m too_long = m
-reading_step m nothing = m
-reading_step m not_hexadecimal = m
+abbrev pub content_step : Machine → LineContent → Machine
+content_step m (command octets) = (step m octets).machine
+content_step m resets = reset m
+content_step m too_long = m
+content_step m nothing = m
+content_step m not_hexadecimal = m
 
 -- the databases that a line commits in turn
-abbrev pub reading_commits : Machine → Reading → List Database
-reading_commits m (command octets) = (step m octets).commits
-reading_commits m reading = []
+abbrev pub content_commits : Machine → LineContent → List Database
+content_commits m (command octets) = (step m octets).commits
+content_commits m reading = []
 
 unfoldable pub line_text : Machine → List ℕ → List ℕ
-line_text m line = reading_text m (reading_of line)
+line_text m line = content_text m (content_of line)
 
 unfoldable pub line_step : Machine → List ℕ → Machine
-line_step m line = reading_step m (reading_of line)
+line_step m line = content_step m (content_of line)
 
 -- The texts of lines, one after the other, and the machine after them.
 abbrev pub texts : Machine → List (List ℕ) → List (List ℕ)

@@ -11,7 +11,7 @@ use Rattle.scql_model.specs.Commands.{Reply}
 use Rattle.scql_model.specs.Step.{step}
 use Rattle.card.proofs.Leaving.{Opens-at}
 use Rattle.card_cli.proofs.Moving.{gives-throughout, line-moments, answered-moments}
-use Rattle.scql_model.specs.Lines.{command, reading_text, reply_octets}
+use Rattle.scql_model.specs.Lines.{command, content_text, reply_octets}
 use Rattle.card_cli.specs.declared.stop.Stop.TheVariants.{Eeprom, Outlet, Both}
 use Rattle.card_cli.specs.CutOff.{FailsIn, mute_text}
 use Rattle.card_cli.proofs.Stopping.{at_outlet, fails_giving, fails_mute, fails_both, mute_text-reply}
@@ -19,7 +19,7 @@ use Rattle.card_cli.proofs.answering.answer_command.Goals.{After-give, After-giv
 use Rattle.card_cli.proofs.answering.answer_command.Goals as goal
 
 -- what a card says that replies, and to what its image opens
-replied_text : (g : _) (c : After-give g) (m : Machine) → IsAt c.args.card.now (g.B.Eeprom.chip c.args.bench.now) m → c.deref.result.now ≡ reading_text m (command c.args.octets.now)
+replied_text : (g : _) (c : After-give g) (m : Machine) → IsAt c.args.card.now (g.B.Eeprom.chip c.args.bench.now) m → c.deref.result.now ≡ content_text m (command c.args.octets.now)
 replied_text g c m at =
     c.deref.ensures.0 ∙ (c.reply_text.ensures ∙ ap (λ (reply : Reply). encode_upper (reply_octets reply) ++ codes "\n") (c.in-Replied.ensures.step m at refl).reply)
 

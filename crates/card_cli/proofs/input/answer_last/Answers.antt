@@ -3,7 +3,7 @@ use Rattle.std.specs.Prelude.{OnOk, IfErr}
 use Rattle.card_cli.specs.declared.stop.Stop.{Stop}
 use Rattle.scql_model.specs.Machine.{Machine}
 use Rattle.card.specs.Card.{IsAt}
-use Rattle.card_cli.specs.Line.{line_octets, line_reading}
+use Rattle.card_cli.specs.Line.{line_octets, line_content}
 use Rattle.eeprom.specs.Chip.{Throughout}
 use Rattle.card.proofs.Leaving.{Opens-at}
 use Rattle.card_cli.specs.Moments.{IsInStopped, IsAtEnd, IfGiven}
@@ -46,4 +46,4 @@ pub returns-clause-moments : goal.returns-clause-moments
 returns-clause-moments g c = λ r running.
     let old = g.B.Eeprom.chip c.args.bench.now in
     let new = g.B.Eeprom.chip c.answer_line.new.bench in
-    subst (λ (l : Option (List ℕ)). IfErr c.answer_line.result (λ (stop : Stop). IfGiven new (Throughout old new (IsInStopped stop r.machine (line_reading l) old.still.mark)))) running.line (c.answer_line.ensures.moments r.machine running.at)
+    subst (λ (l : Option (List ℕ)). IfErr c.answer_line.result (λ (stop : Stop). IfGiven new (Throughout old new (IsInStopped stop r.machine (line_content l) old.still.mark)))) running.line (c.answer_line.ensures.moments r.machine running.at)
