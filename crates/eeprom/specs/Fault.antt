@@ -10,13 +10,14 @@ abbrev pub CountsError : Bool → ℕ → ℕ → Type 0
 CountsError true before after = Rose before after
 CountsError false before after = after ≡ before
 
--- a count never falls; it stays where a call answers Ok, and an error of it is counted where it is a fault
+-- The count over a call never falls: an answer Ok leaves it, and an error is counted where it is a fault.
 abbrev pub CountsFaults : {T E : Type 0} → (E → Bool) → ℕ → ℕ → Result T E → Type 0
 CountsFaults is_fault before after result = (before ≤ after) × MatchResult result (λ _. after ≡ before) (λ error. CountsError (is_fault error) before after)
 
--- a device's own errors are all faults
+-- of a device each error is a fault
 abbrev pub each_error : {E : Type 0} → E → Bool
 each_error error = true
 
+-- the count over a call of a device
 abbrev pub Counts : {T E : Type 0} → ℕ → ℕ → Result T E → Type 0
 Counts before after result = CountsFaults each_error before after result

@@ -103,7 +103,7 @@ abbrev pub starts_with_magic : List ℕ → Bool
 starts_with_magic (a ∷ b ∷ c ∷ d ∷ rest) = (a == 0x53) && (b == 0x43) && (c == 0x51) && (d == 0x4C)
 starts_with_magic image = false
 
--- how many octets an image has at least that has so many cells for its records: the last cell ends there
+-- how many octets an image of so many cells has at least: the last one ends there
 abbrev pub image_size : ℕ → ℕ
 image_size n = 70 * n + 34
 
