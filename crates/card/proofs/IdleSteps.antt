@@ -1,27 +1,21 @@
 -- The step of a machine of a card, whose sessions keep nothing but their users, and which has no transaction.
-use Rattle.std.proofs.Common.{◌≡◌, ◌⊎◌, ℕ, ◌≤◌, Bool, true, false, List, [], ◌∷◌, Option, Some, None, is_some, option_map, Result, Ok, Err, if◌then◌else◌, refl, sym, ap, subst, ◌∙◌, lit≤, inl, inr}
-use Rattle.std.specs.Prelude.{IfOk, IfSome, map, option_and_then, slice_get}
-use Rattle.std.specs.Option.{option_flatten}
-use Rattle.std.specs.Str.{bytes_eq}
+use Rattle.std.proofs.Common.{◌≡◌, ℕ, Bool, true, List, [], ◌∷◌, Option, Some, None, is_some, Result, Ok, Err, refl, sym, ap, subst, ◌∙◌, lit≤, inl, inr}
+use Rattle.std.specs.Prelude.{IfOk, IfSome, map, option_and_then}
 use Rattle.std.proofs.lemmas.Bool.{false≢true}
-use Rattle.std.proofs.lemmas.Option.{none-some}
-use Rattle.std.specs.Result.{result_ok}
 use Rattle.eeprom.specs.Chip.{Chip}
 use Rattle.scql_base.specs.declared.words.StatusWord.{StatusWord}
 use Rattle.scql_base.specs.declared.words.Actor.{Actor}
 use Rattle.scql_base.specs.declared.words.Profile.{Profile}
-use Rattle.scql_base.specs.declared.cursor.Presented.{Presented}
 use Rattle.scql_base.specs.declared.operation.Command.{Command}
 use Rattle.scql_base.specs.declared.operation.Operation.{Operation}
 use Rattle.scql_base.specs.declared.operation.Operation.TheVariants.{PresentUser, CreateUser}
 use Rattle.scql_base.specs.declared.operation.OperationKind.{OperationKind}
-use Rattle.scql_base.specs.Words.{done, conditions_not_satisfied, chaining_not_supported, not_found}
-use Rattle.scql_model.specs.Refusals.{◌>>=◌, or_refused, provided}
-use Rattle.scql_model.specs.Rules.{public_name, user_named}
+use Rattle.scql_base.specs.Words.{done}
+use Rattle.scql_model.specs.Refusals.{◌>>=◌}
 use Rattle.scql_model.specs.Database.{Database}
-use Rattle.scql_model.specs.Machine.{Machine, Session, Chain, Transaction, session_for, session_of, open_channels, base_of, base, actor}
+use Rattle.scql_model.specs.Machine.{Machine, Session, Chain, Transaction, session_of, open_channels, base_of, base, actor}
 use Rattle.scql_model.specs.Sessions.{IsIdle, AreIdle, changing_session, chain_of, without_chain, without_pending, cursor_of}
-use Rattle.scql_model.specs.Transactions.{waits, is_kept_waiting, own_transaction}
+use Rattle.scql_model.specs.Transactions.{own_transaction}
 use Rattle.scql_model.specs.Operations.{built_operations, kind_of}
 use Rattle.scql_model.specs.Form.{Form, refused, refused_on, part_on, a_command, form_of, no_chain, as_command}
 use Rattle.scql_model.specs.Edits.{Edit}

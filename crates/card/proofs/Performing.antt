@@ -1,6 +1,6 @@
 -- What a command does, by the ways in which it ends.
 use Rattle.std.proofs.Common.{◌≡◌, ℕ, ◌+◌, ◌<◌, Bool, true, false, ◌==◌, List, [], ◌∷◌, length, Option, Some, None, is_some, Result, Ok, Err, if◌then◌else◌, refl, sym, ap, subst, ◌∙◌, inl, inr}
-use Rattle.std.specs.Prelude.{IfSome, IfOk, OnOk, IsErrOf, option_and_then, map, slice_get}
+use Rattle.std.specs.Prelude.{IfSome, IfOk, OnOk, IsErrOf, option_and_then, slice_get}
 use Rattle.std.specs.List.{find, filter_map}
 use Rattle.std.specs.Option.{option_map_or, option_flatten}
 use Rattle.std.proofs.lemmas.Bool.{false≢true}
@@ -26,8 +26,6 @@ use Rattle.scql_base.specs.declared.operation.Operation.TheVariants.{CreateUser}
 use Rattle.scql_model.specs.Machine.{Machine, Session, actor, actor_of, base, session_of}
 use Rattle.scql_model.specs.Opens.{OpensToOneOf}
 use Rattle.scql_model.specs.Creating.{IsAsked, IsActorOf, created, new_user, with_user}
-use Rattle.scql_model.specs.Operations.{built_operations}
-use Rattle.scql_model.specs.Form.{form_of, as_command, no_chain}
 use Rattle.scql_model.specs.Commands.{said}
 use Rattle.scql_model.specs.Step.{Answer, answered}
 use Rattle.scql_model.specs.WellFormed.{HasForm}

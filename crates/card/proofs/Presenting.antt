@@ -1,6 +1,6 @@
 -- PRESENT USER, by the outcomes of the search for the user.
-use Rattle.std.proofs.Common.{◌≡◌, ℕ, Bool, true, false, List, [], Option, Some, None, Result, Ok, Err, refl, sym, ap, subst, ◌∙◌}
-use Rattle.std.specs.Prelude.{IfSome, is_some, map, slice_set}
+use Rattle.std.proofs.Common.{◌≡◌, ℕ, true, false, List, [], Option, Some, None, Result, Ok, Err, refl, sym, ap, subst, ◌∙◌}
+use Rattle.std.specs.Prelude.{IfSome, slice_set}
 use Rattle.eeprom.specs.StoreOf.{Slots}
 use Rattle.record_store.specs.Held.{Held}
 use Rattle.std.specs.List.{find, filter_map}
@@ -45,7 +45,7 @@ gives_session : (card : Kept) (chip : Chip) (m : Machine) (channel : ℕ) (user 
     → Answers (answered m outcome) (said done) (with_session card channel (session_for user)) chip
 gives_session card chip m channel user outcome at is =
     let set : sessions.changing_session sessions.without_pending (sessions.with_session m channel (Some (session_for user))) channel ≡ sessions.with_session m channel (Some (session_for user)) =
-        changing_session-set sessions.without_pending m channel (Some (session_for user)) in
+    changing_session-set sessions.without_pending m channel (Some (session_for user)) in
     subst (λ (o : Result Answer StatusWord). Answers (answered m o) (said done) (with_session card channel (session_for user)) chip) (sym is)
     (record { reply = refl; at = subst (IsAt (with_session card channel (session_for user)) chip) (sym set) (moved card chip m channel (session_for user) at) })
 

@@ -1,13 +1,11 @@
 -- The program's table of operations and its sessions, as the model's.
-use Rattle.std.specs.Prelude.{◌≡◌, ℕ, Bool, true, false, List, [], ◌∷◌, Option, None, Result, Ok, Err, option_map, option_and_then, slice_get}
-use Rattle.std.specs.Option.{option_flatten}
+use Rattle.std.specs.Prelude.{ℕ, Bool, true, false, List, [], ◌∷◌, Option, None, Result, Ok, Err, option_map}
 use Rattle.scql_base.specs.declared.words.StatusWord.{StatusWord}
 use Rattle.scql_base.specs.declared.words.Profile.{Profile}
 use Rattle.scql_base.specs.declared.operation.Operation.{Operation}
 use Rattle.scql_model.specs.Parameters.{operation_in, made_profile_of}
 use Rattle.scql_base.specs.declared.operation.OperationKind.{OperationKind}
 use Rattle.scql_base.specs.declared.operation.OperationKind.TheVariants.{PresentUser, CreateUser}
-use Rattle.scql_model.specs.Machine.{Session}
 use Rattle.scql_model.specs.Operations as model
 use Rattle.scql_model.specs.Form as form
 use Rattle.card.specs.declared.command.Takes.{Takes}

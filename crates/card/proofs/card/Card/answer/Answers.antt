@@ -20,6 +20,6 @@ returns-in-Ok-clause-refused g c = λ m at is not_done.
     let performs = c.in-Ok.ensures.performs m at in
     let answers = performs.step in
     elim (c.in-Ok.ensures.done_or_stays m at) [
-      inl is_done ↦ absurd (not_done (ap (λ (sent : Reply). sent.word) answers.reply ∙ is_done))
+      | inl is_done ↦ absurd (not_done (ap (λ (sent : Reply). sent.word) answers.reply ∙ is_done))
       | inr stays ↦ (performs.unwritten stays.1, subst (IsAt c.word_of.new.self (g.B.Eeprom.chip c.word_of.new.bench)) stays.0 answers.at)
     ]

@@ -1,7 +1,6 @@
 -- A command is of PRESENT USER or CREATE USER, which are built.
 use Rattle.std.proofs.Common.{◌≡◌, Result, sym, ap, subst, ◌∙◌}
 use Rattle.scql_base.specs.declared.words.StatusWord.{StatusWord}
-use Rattle.scql_base.specs.declared.operation.Command.{Command}
 use Rattle.scql_base.specs.declared.operation.Operation.{Operation}
 use Rattle.scql_base.specs.declared.operation.Operation.TheVariants.{CreateUser}
 use Rattle.scql_model.specs.Step.{Answer, answered, changed, user_presented, carried_out}
@@ -13,8 +12,8 @@ use Rattle.card.proofs.card.Card.carry_out.Goals as goal
 pub returns-in-PresentUser-clause-performs : goal.returns-in-PresentUser-clause-performs
 returns-in-PresentUser-clause-performs g c = λ m at.
     let presents : carried_out m c.args.command ≡ user_presented m c.args.command.channel c.in-PresentUser.name =
-        ap (λ (operation : Operation). carried_out m (record { channel = c.args.command.channel; operation = operation; le = c.args.command.le })) c.in-PresentUser.is
-        ∙ carried_out-presents m c.args.command.channel c.in-PresentUser.name c.args.command.le at.transaction in
+    ap (λ (operation : Operation). carried_out m (record { channel = c.args.command.channel; operation = operation; le = c.args.command.le })) c.in-PresentUser.is
+    ∙ carried_out-presents m c.args.command.channel c.in-PresentUser.name c.args.command.le at.transaction in
     subst (λ (outcome : Result Answer StatusWord). Performs m (answered m outcome) c.present_user.result c.present_user.new.self (g.B.Eeprom.chip c.args.bench.now) (g.B.Eeprom.chip c.present_user.new.bench)) (sym presents)
     (Performs-unwritten c.args.self.now c.present_user.new.self (g.B.Eeprom.chip c.args.bench.now) (g.B.Eeprom.chip c.present_user.new.bench) m _ c.present_user.result c.requires.ready at c.present_user.ensures.same
     (rw c.in-PresentUser.name-is at (c.present_user.ensures.step m at)))
@@ -22,7 +21,7 @@ returns-in-PresentUser-clause-performs g c = λ m at.
 pub returns-in-CreateUser-clause-performs : goal.returns-in-CreateUser-clause-performs
 returns-in-CreateUser-clause-performs g c = λ m at.
     let creates : carried_out m c.args.command ≡ changed m c.args.command.channel (CreateUser c.in-CreateUser.name c.in-CreateUser.profile c.in-CreateUser.secret) =
-        ap (λ (operation : Operation). carried_out m (record { channel = c.args.command.channel; operation = operation; le = c.args.command.le })) c.in-CreateUser.is
-        ∙ carried_out-creates m c.args.command.channel c.in-CreateUser.name c.in-CreateUser.profile c.in-CreateUser.secret c.args.command.le at.transaction in
+    ap (λ (operation : Operation). carried_out m (record { channel = c.args.command.channel; operation = operation; le = c.args.command.le })) c.in-CreateUser.is
+    ∙ carried_out-creates m c.args.command.channel c.in-CreateUser.name c.in-CreateUser.profile c.in-CreateUser.secret c.args.command.le at.transaction in
     subst (λ (outcome : Result Answer StatusWord). Performs m (answered m outcome) c.create_user.result c.create_user.new.self (g.B.Eeprom.chip c.args.bench.now) (g.B.Eeprom.chip c.create_user.new.bench)) (sym creates)
     (rw (c.in-CreateUser.name-is, c.in-CreateUser.profile-is, c.in-CreateUser.secret-is) at (c.create_user.ensures.performs m at))
