@@ -35,10 +35,10 @@ is_built PresentUser = true
 is_built CreateUser = true
 is_built kind = false
 
--- the operation that a data field asks for, of the kinds that are built, whatever a row's limit
+-- the operation that a data field asks for, of the kinds that are built, without secrets, whatever a row's limit
 abbrev pub built_operation_in : OperationKind → List ℕ → Option Operation
-built_operation_in PresentUser octets = operation_in PresentUser 0 octets
-built_operation_in CreateUser octets = operation_in CreateUser 0 octets
+built_operation_in PresentUser octets = operation_in false PresentUser 0 octets
+built_operation_in CreateUser octets = operation_in false CreateUser 0 octets
 built_operation_in kind octets = None
 
 -- the profile that one octet stands for

@@ -32,7 +32,7 @@ ghost use Rattle.std.specs.Option.{option_flatten};
 use crate::adding::add_and_change;
 use crate::coding::{Counter, encode_user, owner};
 use crate::command::CommandApdu;
-use crate::creating::{Addition, PUBLIC, Prepared, prepare_user};
+use crate::creating::{Addition, Prepared, prepare_user};
 use crate::opening::{Opened, open_records};
 use crate::reply::{Outcome, Reply};
 use crate::session::Session;
@@ -242,7 +242,7 @@ impl Card {
         ensures cause { Counts (B.faults bench.old) (B.faults bench.new) result }
         ensures same { B.chip bench.new ≡ B.chip bench.old }
     {
-        if name.octets() == PUBLIC {
+        if name.octets() == Name::PUBLIC {
             self.set_user(channel, None);
             return Ok(StatusWord::DONE);
         }

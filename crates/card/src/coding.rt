@@ -44,7 +44,7 @@ pub(crate) fn owner() -> User
 {
     User {
         stamp: 1,
-        name: Name::read(b"OWNER").unwrap(),
+        name: Name::read(Name::OWNER).unwrap(),
         profile: Profile::DbO,
         owner: 1,
         secret: Octets::of(b"").unwrap(),

@@ -1,5 +1,5 @@
 // Commands, read from octets (ISO/IEC 7816-4, command APDU).
-ghost use Rattle.std.specs.Prelude.{◌≡◌, ◌≤◌, ◌∷◌, [], ◌==◌, ◌||◌, not, ◌&&◌, true, Some, None, IfOk, IfSome, IfNone, slice_get, option_map, map};
+ghost use Rattle.std.specs.Prelude.{◌≡◌, ◌≤◌, ◌∷◌, [], ◌==◌, ◌||◌, not, ◌&&◌, true, false, Some, None, IfOk, IfSome, IfNone, slice_get, option_map, map};
 ghost use Rattle.std.specs.List.{find, list_any};
 ghost use Rattle.scql_base.specs.Words.{instruction_not_supported, wrong_data};
 ghost use Rattle.scql_model.specs.Form as form;
@@ -310,7 +310,7 @@ fn is_taken(takes: Takes, is_part: bool, tail: &Tail<'_>) -> bool
 // The operation that a data field asks for. No row is read yet, so no limit is asked.
 fn operation_in(kind: OperationKind, octets: &[u8], _limit: u16) -> Result<Operation, StatusWord>
     requires { is_built kind ≡ true }
-    ensures { result ≡ refusals.or_refused (parameters.operation_in kind _limit octets.now) wrong_data }
+    ensures { result ≡ refusals.or_refused (parameters.operation_in false kind _limit octets.now) wrong_data }
 {
     built_operation_in(kind, octets).ok_or(StatusWord::WRONG_DATA)
 }
@@ -338,7 +338,7 @@ fn presented_in(params: Params<'_>) -> Option<Operation>
 }
 
 fn created_in(params: Params<'_>) -> Option<Operation>
-    ensures { result ≡ parameters.create_user_in params.entry }
+    ensures { result ≡ parameters.create_user_in false params.entry }
 {
     let (name, profile, secret) = three_of(params)?;
     let name = Name::read(name)?;
@@ -354,7 +354,7 @@ fn created_in(params: Params<'_>) -> Option<Operation>
 // The strings, where there are three.
 fn three_of(params: Params<'_>) -> Option<(&[u8], &[u8], &[u8])>
     ensures three { IfSome result (λ x. params.entry ≡ x.0.now ∷ x.1.now ∷ x.2.now ∷ []) }
-    ensures others { IfNone result (parameters.create_user_in params.entry ≡ None) }
+    ensures others { IfNone result (parameters.create_user_in false params.entry ≡ None) }
 {
     let (first, rest) = params.split_first()?;
     let (second, rest) = rest.split_first()?;
@@ -378,7 +378,7 @@ fn made_profile_of(string: &[u8]) -> Option<Profile>
 
 // A secret is empty until there are secrets.
 fn new_secret_of(string: &[u8]) -> Option<Octets<8>>
-    ensures { result ≡ parameters.only_where (parameters.is_new_secret string.now) string.now }
+    ensures { result ≡ parameters.only_where (parameters.is_new_secret false string.now) string.now }
 {
     if string.is_empty() {
         Octets::of(string)

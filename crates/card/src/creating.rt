@@ -19,9 +19,6 @@ use eeprom::{Eeprom, EepromFault};
 use record_store::Store;
 use scql_base::{Actor, Name, Octets, Profile, StatusWord, User};
 
-/// The name of everybody.
-pub(crate) const PUBLIC: &[u8] = b"PUBLIC";
-
 /// A user to be added, and the slot of the counter whose stamp it takes.
 #[derive(Drop)]
 pub(crate) struct Addition {
@@ -108,7 +105,7 @@ fn is_taken<B: Eeprom>(store: &Store, bench: &mut B, name: &Name) -> Result<bool
         → IfOk result (λ taken. taken ≡ model.is_taken db name.now) }
     ensures frame { Reads each_error B.chip B.faults bench.old bench.new result }
 {
-    if name.octets() == PUBLIC {
+    if name.octets() == Name::PUBLIC {
         return Ok(true);
     }
     let user = find_user(store, bench, Wanted::Named(name))?;

@@ -7,14 +7,10 @@ ghost use Rattle.scql_model.specs.Records as records;
 ghost use Rattle.scql_model.specs.Validity as validity;
 ghost use Rattle.card.specs.Opening.{AreByStamp, users_of};
 
-use crate::creating::PUBLIC;
 use crate::opening::Records;
-use scql_base::{Profile, User};
+use scql_base::{Name, Profile, User};
 use std::alloc::{AllocError, Global};
 use std::collections::{BTreeMap, BTreeSet};
-
-// The name of the user with whom a card is made.
-const OWNER: &[u8] = b"OWNER";
 
 /// Whether a counter and users are those of a valid database.
 pub(crate) fn are_valid(alloc: Global, records: &Records) -> Result<bool, AllocError>
@@ -57,7 +53,7 @@ fn is_owner(user: &User) -> bool
     ensures { result ≡ validity.is_owner user.now }
 {
     user.stamp == 1
-        && user.name.octets() == OWNER
+        && user.name.octets() == Name::OWNER
         && is_db_o(user)
         && user.owner == 1
         && user.secret.as_slice().is_empty()
@@ -82,7 +78,7 @@ fn is_valid(records: &Records, user: &User) -> bool
 {
     user.stamp >= 1
         && user.stamp < records.next
-        && PUBLIC != user.name.octets()
+        && Name::PUBLIC != user.name.octets()
         && has_maker(&records.users, user)
         && has_all_tries(user)
 }

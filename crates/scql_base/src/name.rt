@@ -24,6 +24,12 @@ impl Model for Name {
 }
 
 impl Name {
+    /// The name of the user with whom a card is made.
+    pub const OWNER: &'static [u8] = b"OWNER";
+
+    /// The name of everybody, which no user has.
+    pub const PUBLIC: &'static [u8] = b"PUBLIC";
+
     /// The name that these octets are.
     pub fn read(octets: &[u8]) -> Option<Name>
         ensures value { result ≡ names.name_of octets.now }

@@ -18,3 +18,13 @@ impl Model for Privileges {
 
     ghost inverse = { λ bits. record { bits = bits } };
 }
+
+impl Privileges {
+    pub const SELECT: u8 = 1;
+
+    pub const INSERT: u8 = 2;
+
+    pub const UPDATE: u8 = 4;
+
+    pub const DELETE: u8 = 8;
+}

@@ -17,11 +17,11 @@ use Rattle.scql_base.specs.declared.operation.Operation.{Operation}
 use Rattle.scql_base.specs.declared.operation.Operation.TheVariants.{CreateTable, CreateView, CreateDictionary, DropTable, DropView, Grant, Revoke, DeclareCursor, OpenCursor, Next, Fetch, FetchNext, Insert, Update, Delete, Begin, Commit, Rollback, PresentUser, CreateUser, DeleteUser, Verify, OpenChannel, CloseChannel, GetResponse}
 use Rattle.scql_base.specs.declared.operation.OperationKind.{OperationKind}
 use Rattle.scql_base.specs.declared.operation.OperationKind.TheVariants as kind
-use Rattle.scql_model.specs.Records.{is_privileges, is_row, subject_of, is_one_to_fifteen}
+use Rattle.scql_model.specs.Records.{is_secret, is_privileges, is_row, subject_of, is_one_to_fifteen}
 use Rattle.scql_model.specs.Machine.{Chain}
-use Rattle.scql_model.specs.Operations.{Takes, nothing, a_data_field, le_alone, Line, operations, built_operations, has_instruction, is_for_channel, line_of, comes_in_parts, kind_of}
+use Rattle.scql_model.specs.Operations.{Takes, nothing, a_data_field, le_alone, Line, operations, built_operations, has_instruction, has_secrets, is_for_channel, line_of, comes_in_parts, kind_of}
 use Rattle.scql_model.specs.Parameters as parameters
-use Rattle.scql_model.specs.Parameters.{only_where, are_columns, are_chosen_columns, are_conditions, are_changes, Choice, conditions_in, choice_in, changes_in, create_table_in, create_view_in, create_dictionary_in, named_in, granted_in, declare_cursor_in, is_row_within, insert_in, update_in, made_profile_of, create_user_in, is_verified_secret, operation_in}
+use Rattle.scql_model.specs.Parameters.{only_where, are_columns, are_chosen_columns, are_conditions, are_changes, Choice, conditions_in, choice_in, changes_in, create_table_in, create_view_in, create_dictionary_in, named_in, granted_in, declare_cursor_in, is_row_within, insert_in, update_in, made_profile_of, is_new_secret, create_user_in, is_verified_secret, operation_in}
 use Rattle.scql_model.specs.WellFormed.{HasForm, wants_le, IsWellFormed}
 use Rattle.scql_model.specs.Refusals.{◌>>=◌, or_refused, provided}
 use Rattle.scql_model.specs.Form.{class_of, is_chained, is_open, channel_of, Tail, le_of, data_of, tail_of, is_taken, is_case_3, data_in, channel_asked, line_on, taken_in, parts_of, Form, refused, refused_on, part_on, a_command, as_command, formed_on, formed, part_in, command_in, form_of}
@@ -138,17 +138,22 @@ no_owner code profile is e = go (code == 0x02) (code == 0x03) (is ∙ ap Some e)
     go false true is = false≢true (ap other (same_Some Dbbu DbO is))
     go false false is = none-some DbO is
 
-read-user : (strings : List (List ℕ)) (o : Operation) → create_user_in strings ≡ Some o → IsRead kind.CreateUser o
-read-user (name ∷ (code ∷ []) ∷ secret ∷ []) o is = found (made_profile_of code) _ o is (λ profile at is.
+-- a new user's secret is one
+secret-new : (secrets : Bool) (secret : List ℕ) → is_new_secret secrets secret ≡ true → is_secret secret ≡ true
+secret-new true secret is = is
+secret-new false secret is = rw is refl
+
+read-user : (secrets : Bool) (strings : List (List ℕ)) (o : Operation) → create_user_in secrets strings ≡ Some o → IsRead kind.CreateUser o
+read-user secrets (name ∷ (code ∷ []) ∷ secret ∷ []) o is = found (made_profile_of code) _ o is (λ profile at is.
     passed _ (CreateUser name profile secret) o is (λ test same.
     let t = both _ _ test in
-    read-is (CreateUser name profile secret) o (t.0, (rw t.1 refl), no_owner code profile at) same))
-read-user [] o is = absurd (none-some o is)
-read-user (name ∷ []) o is = absurd (none-some o is)
-read-user (name ∷ [] ∷ rest) o is = absurd (none-some o is)
-read-user (name ∷ (a ∷ b ∷ rest) ∷ strings) o is = absurd (none-some o is)
-read-user (name ∷ (a ∷ []) ∷ []) o is = absurd (none-some o is)
-read-user (name ∷ (a ∷ []) ∷ secret ∷ string ∷ strings) o is = absurd (none-some o is)
+    read-is (CreateUser name profile secret) o (t.0, secret-new secrets secret t.1, no_owner code profile at) same))
+read-user secrets [] o is = absurd (none-some o is)
+read-user secrets (name ∷ []) o is = absurd (none-some o is)
+read-user secrets (name ∷ [] ∷ rest) o is = absurd (none-some o is)
+read-user secrets (name ∷ (a ∷ b ∷ rest) ∷ strings) o is = absurd (none-some o is)
+read-user secrets (name ∷ (a ∷ []) ∷ []) o is = absurd (none-some o is)
+read-user secrets (name ∷ (a ∷ []) ∷ secret ∷ string ∷ strings) o is = absurd (none-some o is)
 
 read-verify : (octets : List ℕ) (o : Operation) → only_where (is_verified_secret octets) (Verify octets) ≡ Some o → IsRead kind.Verify o
 read-verify octets o is = passed (is_verified_secret octets) (Verify octets) o is (λ test same. read-is (Verify octets) o test same)
@@ -168,32 +173,32 @@ has_channel (kind.OpenChannel number) = nat_le number 3
 has_channel (kind.CloseChannel number) = nat_le number 3
 has_channel asked = true
 
-read-operation : (asked : OperationKind) (limit : ℕ) → limit ≤ 1020 → has_channel asked ≡ true → (octets : List ℕ) (o : Operation) → operation_in asked limit octets ≡ Some o → IsRead asked o
-read-operation kind.CreateTable limit least number octets o is = listed octets create_table_in kind.CreateTable read-table o is
-read-operation kind.CreateView limit least number octets o is = listed octets create_view_in kind.CreateView read-view o is
-read-operation kind.CreateDictionary limit least number octets o is = listed octets create_dictionary_in kind.CreateDictionary read-dictionary o is
-read-operation kind.DropTable limit least number octets o is = listed octets (named_in DropTable) kind.DropTable (read-named DropTable kind.DropTable (λ name test. record { form = test; kind = refl })) o is
-read-operation kind.DropView limit least number octets o is = listed octets (named_in DropView) kind.DropView (read-named DropView kind.DropView (λ name test. record { form = test; kind = refl })) o is
-read-operation kind.Grant limit least number octets o is = listed octets (granted_in Grant) kind.Grant (read-granted Grant kind.Grant (λ privileges object grantee form. record { form = form; kind = refl })) o is
-read-operation kind.Revoke limit least number octets o is = listed octets (granted_in Revoke) kind.Revoke (read-granted Revoke kind.Revoke (λ privileges object grantee form. record { form = form; kind = refl })) o is
-read-operation kind.DeclareCursor limit least number octets o is = listed octets declare_cursor_in kind.DeclareCursor read-cursor o is
-read-operation kind.OpenCursor limit least number octets o is = read-alone OpenCursor o tt is
-read-operation kind.Next limit least number octets o is = read-alone Next o tt is
-read-operation kind.Fetch limit least number octets o is = read-alone Fetch o tt is
-read-operation kind.FetchNext limit least number octets o is = read-alone FetchNext o tt is
-read-operation kind.Insert limit least number octets o is = listed octets (insert_in limit) kind.Insert (read-insert limit least) o is
-read-operation kind.Update limit least number octets o is = listed octets update_in kind.Update read-update o is
-read-operation kind.Delete limit least number octets o is = read-alone Delete o tt is
-read-operation kind.Begin limit least number octets o is = read-alone Begin o tt is
-read-operation kind.Commit limit least number octets o is = read-alone Commit o tt is
-read-operation kind.Rollback limit least number octets o is = read-alone Rollback o tt is
-read-operation kind.PresentUser limit least number octets o is = listed octets (named_in PresentUser) kind.PresentUser (read-named PresentUser kind.PresentUser (λ name test. record { form = test; kind = refl })) o is
-read-operation kind.CreateUser limit least number octets o is = listed octets create_user_in kind.CreateUser read-user o is
-read-operation kind.DeleteUser limit least number octets o is = listed octets (named_in DeleteUser) kind.DeleteUser (read-named DeleteUser kind.DeleteUser (λ name test. record { form = test; kind = refl })) o is
-read-operation kind.Verify limit least number octets o is = read-verify octets o is
-read-operation (kind.OpenChannel channel) limit least number octets o is = read-alone (OpenChannel channel) o (leb-true channel 3 number) is
-read-operation (kind.CloseChannel channel) limit least number octets o is = read-alone (CloseChannel channel) o (leb-true channel 3 number) is
-read-operation kind.GetResponse limit least number octets o is = read-alone GetResponse o tt is
+read-operation : (secrets : Bool) (asked : OperationKind) (limit : ℕ) → limit ≤ 1020 → has_channel asked ≡ true → (octets : List ℕ) (o : Operation) → operation_in secrets asked limit octets ≡ Some o → IsRead asked o
+read-operation secrets kind.CreateTable limit least number octets o is = listed octets create_table_in kind.CreateTable read-table o is
+read-operation secrets kind.CreateView limit least number octets o is = listed octets create_view_in kind.CreateView read-view o is
+read-operation secrets kind.CreateDictionary limit least number octets o is = listed octets create_dictionary_in kind.CreateDictionary read-dictionary o is
+read-operation secrets kind.DropTable limit least number octets o is = listed octets (named_in DropTable) kind.DropTable (read-named DropTable kind.DropTable (λ name test. record { form = test; kind = refl })) o is
+read-operation secrets kind.DropView limit least number octets o is = listed octets (named_in DropView) kind.DropView (read-named DropView kind.DropView (λ name test. record { form = test; kind = refl })) o is
+read-operation secrets kind.Grant limit least number octets o is = listed octets (granted_in Grant) kind.Grant (read-granted Grant kind.Grant (λ privileges object grantee form. record { form = form; kind = refl })) o is
+read-operation secrets kind.Revoke limit least number octets o is = listed octets (granted_in Revoke) kind.Revoke (read-granted Revoke kind.Revoke (λ privileges object grantee form. record { form = form; kind = refl })) o is
+read-operation secrets kind.DeclareCursor limit least number octets o is = listed octets declare_cursor_in kind.DeclareCursor read-cursor o is
+read-operation secrets kind.OpenCursor limit least number octets o is = read-alone OpenCursor o tt is
+read-operation secrets kind.Next limit least number octets o is = read-alone Next o tt is
+read-operation secrets kind.Fetch limit least number octets o is = read-alone Fetch o tt is
+read-operation secrets kind.FetchNext limit least number octets o is = read-alone FetchNext o tt is
+read-operation secrets kind.Insert limit least number octets o is = listed octets (insert_in limit) kind.Insert (read-insert limit least) o is
+read-operation secrets kind.Update limit least number octets o is = listed octets update_in kind.Update read-update o is
+read-operation secrets kind.Delete limit least number octets o is = read-alone Delete o tt is
+read-operation secrets kind.Begin limit least number octets o is = read-alone Begin o tt is
+read-operation secrets kind.Commit limit least number octets o is = read-alone Commit o tt is
+read-operation secrets kind.Rollback limit least number octets o is = read-alone Rollback o tt is
+read-operation secrets kind.PresentUser limit least number octets o is = listed octets (named_in PresentUser) kind.PresentUser (read-named PresentUser kind.PresentUser (λ name test. record { form = test; kind = refl })) o is
+read-operation secrets kind.CreateUser limit least number octets o is = listed octets (create_user_in secrets) kind.CreateUser (read-user secrets) o is
+read-operation secrets kind.DeleteUser limit least number octets o is = listed octets (named_in DeleteUser) kind.DeleteUser (read-named DeleteUser kind.DeleteUser (λ name test. record { form = test; kind = refl })) o is
+read-operation secrets kind.Verify limit least number octets o is = read-verify octets o is
+read-operation secrets (kind.OpenChannel channel) limit least number octets o is = read-alone (OpenChannel channel) o (leb-true channel 3 number) is
+read-operation secrets (kind.CloseChannel channel) limit least number octets o is = read-alone (CloseChannel channel) o (leb-true channel 3 number) is
+read-operation secrets kind.GetResponse limit least number octets o is = read-alone GetResponse o tt is
 
 -- Le is 1 to 256 where it is read of an octet
 abbrev IsLe : Option ℕ → Type 0
@@ -294,13 +299,13 @@ no_part channel asked parts tail c is =
     bound (provided (comes_in_parts asked) chaining_not_supported) _ (a_command c) is (λ _ _ is.
     bound (provided (not (length parts == 4)) wrong_length) _ (a_command c) is (λ _ _ is. absurd cc))
 
-command-read : (channel : ℕ) (asked : OperationKind) (limit : ℕ) (parts : List (List ℕ)) (tail : Tail) (c : Command)
+command-read : (secrets : Bool) (channel : ℕ) (asked : OperationKind) (limit : ℕ) (parts : List (List ℕ)) (tail : Tail) (c : Command)
     → channel ≤ 3 → is_for_channel channel asked ≡ true → IsLe tail.le → (wants_le asked ≡ true → is_some tail.le ≡ true) → limit ≤ 1020 → has_channel asked ≡ true
-    → command_in channel asked limit parts tail ≡ Ok (a_command c) → IsWellFormed c
-command-read channel asked limit parts tail c near closed le_fits wanted least number is =
+    → command_in secrets channel asked limit parts tail ≡ Ok (a_command c) → IsWellFormed c
+command-read secrets channel asked limit parts tail c near closed le_fits wanted least number is =
     let octets : List ℕ = concat parts ++ data_in tail in
-    bound (or_refused (operation_in asked limit octets) wrong_data) _ (a_command c) is (λ operation at same.
-    let read = read-operation asked limit least number octets operation (not_refused (operation_in asked limit octets) wrong_data operation at) in
+    bound (or_refused (operation_in secrets asked limit octets) wrong_data) _ (a_command c) is (λ operation at same.
+    let read = read-operation secrets asked limit least number octets operation (not_refused (operation_in secrets asked limit octets) wrong_data operation at) in
     let whole : Command = record { channel = channel; operation = operation; le = tail.le } in
     let is_whole : whole ≡ c = cc in
     subst IsWellFormed is_whole (record {
@@ -351,11 +356,11 @@ IsWellFormed-form_of table (cla ∷ ins ∷ p1 ∷ p2 ∷ after) channels chain 
   where
     go : (more : Bool) (channel : ℕ) (line : Line) (tail : Tail) → channel ≤ 3 → is_for_channel channel line.kind ≡ true → IsLe tail.le
         → (wants_le line.kind ≡ true → is_some tail.le ≡ true) → has_channel line.kind ≡ true
-        → (if more then part_in channel line.kind (parts_of line.kind (chain channel)) tail else command_in channel line.kind limit (parts_of line.kind (chain channel)) tail) ≡ Ok (a_command c)
+        → (if more then part_in channel line.kind (parts_of line.kind (chain channel)) tail else command_in (has_secrets table) channel line.kind limit (parts_of line.kind (chain channel)) tail) ≡ Ok (a_command c)
         → IsWellFormed c
     go true channel line tail near closed le_fits wanted number is = no_part channel line.kind (parts_of line.kind (chain channel)) tail c is
     go false channel line tail near closed le_fits wanted number is =
-        command-read channel line.kind limit (parts_of line.kind (chain channel)) tail c near closed le_fits wanted least number is
+        command-read (has_secrets table) channel line.kind limit (parts_of line.kind (chain channel)) tail c near closed le_fits wanted least number is
 
 -- so is what is read as one command
 pub IsWellFormed-as_command : (table : List Line) (octets : List ℕ) (channels : List Bool) (chain : ℕ → Option Chain) (limit : ℕ) (result : Result Command StatusWord)
@@ -385,11 +390,11 @@ line-passes q table channel ins p1 p2 line all is =
     subst (λ (l : Line). q l ≡ true) (same_Ok found_line line same)
     (found-passes (λ (l : Line). l.ins == ins && l.p1 == p1 && l.p2 == p2) q table found_line all (not_refused (line_of table ins p1 p2) wrong_parameters found_line at)).1))
 
-command-kind : (channel : ℕ) (asked : OperationKind) (limit : ℕ) (parts : List (List ℕ)) (tail : Tail) (c : Command) → limit ≤ 1020 → has_channel asked ≡ true
-    → command_in channel asked limit parts tail ≡ Ok (a_command c) → kind_of c.operation ≡ asked
-command-kind channel asked limit parts tail c least number is =
-    bound (or_refused (operation_in asked limit (concat parts ++ data_in tail)) wrong_data) _ (a_command c) is (λ operation at same.
-    let read = read-operation asked limit least number (concat parts ++ data_in tail) operation (not_refused (operation_in asked limit (concat parts ++ data_in tail)) wrong_data operation at) in
+command-kind : (secrets : Bool) (channel : ℕ) (asked : OperationKind) (limit : ℕ) (parts : List (List ℕ)) (tail : Tail) (c : Command) → limit ≤ 1020 → has_channel asked ≡ true
+    → command_in secrets channel asked limit parts tail ≡ Ok (a_command c) → kind_of c.operation ≡ asked
+command-kind secrets channel asked limit parts tail c least number is =
+    bound (or_refused (operation_in secrets asked limit (concat parts ++ data_in tail)) wrong_data) _ (a_command c) is (λ operation at same.
+    let read = read-operation secrets asked limit least number (concat parts ++ data_in tail) operation (not_refused (operation_in secrets asked limit (concat parts ++ data_in tail)) wrong_data operation at) in
     let whole : Command = record { channel = channel; operation = operation; le = tail.le } in
     let is_whole : whole ≡ c = cc in
     subst (λ (c : Command). kind_of c.operation ≡ asked) is_whole read.kind)
@@ -411,11 +416,11 @@ kind-form_of q table (cla ∷ ins ∷ p1 ∷ p2 ∷ after) channels chain limit 
     (both (has_channel line.kind) (not (wants_le line.kind) || is_le_alone line.takes) sound_line).0 is)))
   where
     go : (more : Bool) (channel : ℕ) (line : Line) (tail : Tail) → q line.kind ≡ true → has_channel line.kind ≡ true
-        → (if more then part_in channel line.kind (parts_of line.kind (chain channel)) tail else command_in channel line.kind limit (parts_of line.kind (chain channel)) tail) ≡ Ok (a_command c)
+        → (if more then part_in channel line.kind (parts_of line.kind (chain channel)) tail else command_in (has_secrets table) channel line.kind limit (parts_of line.kind (chain channel)) tail) ≡ Ok (a_command c)
         → q (kind_of c.operation) ≡ true
     go true channel line tail passes number is = no_part channel line.kind (parts_of line.kind (chain channel)) tail c is
     go false channel line tail passes number is =
-        subst (λ (k : OperationKind). q k ≡ true) (sym (command-kind channel line.kind limit (parts_of line.kind (chain channel)) tail c least number is)) passes
+        subst (λ (k : OperationKind). q k ≡ true) (sym (command-kind (has_secrets table) channel line.kind limit (parts_of line.kind (chain channel)) tail c least number is)) passes
 
 -- Where no operation of a table comes in parts, nothing is read as a part.
 pub no_part-form_of : (table : List Line) (octets : List ℕ) (channels : List Bool) (chain : ℕ → Option Chain) (limit channel : ℕ) (asked : OperationKind) (octets' : List ℕ)
@@ -429,15 +434,15 @@ no_part-form_of table (cla ∷ ins ∷ p1 ∷ p2 ∷ after) channels chain limit
     go (channel_asked table cla ins channels) is
   where
     last : (more : Bool) (channel : ℕ) (line : Line) (tail : Tail) → not (comes_in_parts line.kind) ≡ true
-        → (if more then part_in channel line.kind (parts_of line.kind (chain channel)) tail else command_in channel line.kind limit (parts_of line.kind (chain channel)) tail) ≡ Ok (part_on on_it asked part) → ⊥
+        → (if more then part_in channel line.kind (parts_of line.kind (chain channel)) tail else command_in (has_secrets table) channel line.kind limit (parts_of line.kind (chain channel)) tail) ≡ Ok (part_on on_it asked part) → ⊥
     last true channel line tail none is =
         bound (provided (comes_in_parts line.kind) chaining_not_supported) _ (part_on on_it asked part) is (λ x at _.
         false≢true (sym (ap not (not_unless (comes_in_parts line.kind) chaining_not_supported x at)) ∙ none))
     last false channel line tail none is =
-        bound (or_refused (operation_in line.kind limit (concat (parts_of line.kind (chain channel)) ++ data_in tail)) wrong_data) _ (part_on on_it asked part) is (λ _ _ is. absurd cc)
+        bound (or_refused (operation_in (has_secrets table) line.kind limit (concat (parts_of line.kind (chain channel)) ++ data_in tail)) wrong_data) _ (part_on on_it asked part) is (λ _ _ is. absurd cc)
 
     on_it' : (channel : ℕ) → (line_on table channel ins p1 p2 >>= λ line. taken_in line.takes (is_chained cla) after >>= λ tail.
-        if is_chained cla then part_in channel line.kind (parts_of line.kind (chain channel)) tail else command_in channel line.kind limit (parts_of line.kind (chain channel)) tail) ≡ Ok (part_on on_it asked part) → ⊥
+        if is_chained cla then part_in channel line.kind (parts_of line.kind (chain channel)) tail else command_in (has_secrets table) channel line.kind limit (parts_of line.kind (chain channel)) tail) ≡ Ok (part_on on_it asked part) → ⊥
     on_it' channel is =
         bound (line_on table channel ins p1 p2) _ (part_on on_it asked part) is (λ line on_line is.
         bound (taken_in line.takes (is_chained cla) after) _ (part_on on_it asked part) is (λ tail on_tail is.
@@ -449,6 +454,6 @@ no_part-form_of table (cla ∷ ins ∷ p1 ∷ p2 ∷ after) channels chain limit
 
     go : (r : Result ℕ StatusWord)
         → formed r (λ channel. line_on table channel ins p1 p2 >>= λ line. taken_in line.takes (is_chained cla) after >>= λ tail.
-        if is_chained cla then part_in channel line.kind (parts_of line.kind (chain channel)) tail else command_in channel line.kind limit (parts_of line.kind (chain channel)) tail) ≡ part_on on_it asked part → ⊥
+        if is_chained cla then part_in channel line.kind (parts_of line.kind (chain channel)) tail else command_in (has_secrets table) channel line.kind limit (parts_of line.kind (chain channel)) tail) ≡ part_on on_it asked part → ⊥
     go (Err word) is = absurd cc
     go (Ok channel) is = on_it' channel (known channel _ is)

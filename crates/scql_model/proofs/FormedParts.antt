@@ -9,7 +9,7 @@ use Rattle.scql_base.specs.Words.{wrong_data, wrong_length, channel_not_supporte
 use Rattle.scql_base.specs.declared.operation.Command.{Command}
 use Rattle.scql_base.specs.declared.operation.OperationKind.{OperationKind}
 use Rattle.scql_model.specs.Machine.{Chain}
-use Rattle.scql_model.specs.Operations.{Takes, Line, has_instruction, comes_in_parts}
+use Rattle.scql_model.specs.Operations.{Takes, Line, has_instruction, has_secrets, comes_in_parts}
 use Rattle.scql_model.specs.Parameters.{operation_in}
 use Rattle.scql_model.specs.Refusals.{or_refused, provided}
 use Rattle.scql_model.specs.Form.{class_of, is_chained, is_open, channel_of, Tail, le_of, data_of, tail_of, is_taken, is_case_3, data_in, channel_asked, line_on, taken_in, parts_of, Form, refused, refused_on, part_on, a_command, formed_on, formed, part_in, command_in, form_of}
@@ -77,7 +77,7 @@ IsPart-form_of table (cla ∷ ins ∷ p1 ∷ p2 ∷ after) channels chain limit 
     go (is_chained cla) asked line tail taken.0 taken.1 is)))
   where
     go : (more : Bool) (asked : ℕ) (line : Line) (tail : Tail) → not more || is_case_3 tail ≡ true → (is_some tail.body ≡ true → (1 ≤ length (data_in tail)) × (length (data_in tail) ≤ 255))
-        → (if more then part_in asked line.kind (parts_of line.kind (chain asked)) tail else command_in asked line.kind limit (parts_of line.kind (chain asked)) tail) ≡ Ok (part_on channel kind part)
+        → (if more then part_in asked line.kind (parts_of line.kind (chain asked)) tail else command_in (has_secrets table) asked line.kind limit (parts_of line.kind (chain asked)) tail) ≡ Ok (part_on channel kind part)
         → IsPart kind part (parts_of kind (chain channel))
     go true asked line tail case_3 sizes is =
         bound (provided (comes_in_parts line.kind) chaining_not_supported) _ (part_on channel kind part) is (λ comes at_comes is.
@@ -91,7 +91,7 @@ IsPart-form_of table (cla ∷ ins ∷ p1 ∷ p2 ∷ after) channels chain limit 
         (subst (λ (p : List ℕ). IsPart line.kind p (parts_of line.kind (chain asked))) same_part
         (record { comes = not_unless _ chaining_not_supported comes at_comes; some = size.0; most = size.1; room = not_unless _ wrong_length room at_room })))))
     go false asked line tail case_3 sizes is =
-        bound (or_refused (operation_in line.kind limit _) wrong_data) _ (part_on channel kind part) is (λ operation at is. absurd cc)
+        bound (or_refused (operation_in (has_secrets table) line.kind limit _) wrong_data) _ (part_on channel kind part) is (λ operation at is. absurd cc)
 
 -- the channel on which something was read or refused
 abbrev pub read_on : Form → Option ℕ
@@ -123,14 +123,14 @@ on_open (Ok channel) f P holds there = go (f channel) refl
     go (Err word) at = holds channel refl
     go (Ok form) at = subst (λ (o : Option ℕ). IfSome o P) (sym (there channel form at)) (holds channel refl)
 
-on_its_channel : (more : Bool) (channel limit : ℕ) (kind : OperationKind) (parts : List (List ℕ)) (tail : Tail) (form : Form)
-    → (if more then part_in channel kind parts tail else command_in channel kind limit parts tail) ≡ Ok form → read_on form ≡ Some channel
-on_its_channel true channel limit kind parts tail form is =
+on_its_channel : (secrets more : Bool) (channel limit : ℕ) (kind : OperationKind) (parts : List (List ℕ)) (tail : Tail) (form : Form)
+    → (if more then part_in channel kind parts tail else command_in secrets channel kind limit parts tail) ≡ Ok form → read_on form ≡ Some channel
+on_its_channel secrets true channel limit kind parts tail form is =
     bound (provided (comes_in_parts kind) chaining_not_supported) _ form is (λ _ _ is.
     bound (provided (not (length parts == 4)) wrong_length) _ form is (λ _ _ is.
     let same : part_on channel kind (data_in tail) ≡ form = cc in ap read_on (sym same)))
-on_its_channel false channel limit kind parts tail form is =
-    bound (or_refused (operation_in kind limit _) wrong_data) _ form is (λ operation _ is.
+on_its_channel secrets false channel limit kind parts tail form is =
+    bound (or_refused (operation_in secrets kind limit _) wrong_data) _ form is (λ operation _ is.
     let read : Command = record { channel = channel; operation = operation; le = tail.le } in
     let same : a_command read ≡ form = cc in ap read_on (sym same))
 
@@ -147,4 +147,4 @@ IfSome-read_on table (cla ∷ ins ∷ p1 ∷ p2 ∷ after) channels chain limit 
     (λ channel form is.
     bound (line_on table channel ins p1 p2) _ form is (λ line _ is.
     bound (taken_in line.takes (is_chained cla) after) _ form is (λ tail _ is.
-    on_its_channel (is_chained cla) channel limit line.kind (parts_of line.kind (chain channel)) tail form is)))
+    on_its_channel (has_secrets table) (is_chained cla) channel limit line.kind (parts_of line.kind (chain channel)) tail form is)))

@@ -1,10 +1,8 @@
 -- Worked lines over the whole machine, with all operations: the definitions compute each answer.
-use Rattle.std.proofs.Common.{◌≡◌, ℕ, ◌*◌, List, [], ◌∷◌, ◌++◌, take, drop, replicate, None, Result, Ok, Err, refl}
+use Rattle.std.proofs.Common.{◌≡◌, ℕ, ◌*◌, List, [], ◌∷◌, ◌++◌, take, drop, replicate, Result, Ok, Err, refl}
 use Rattle.std.specs.Prelude.{codes}
 use Rattle.hex.specs.Hex.{decode_of, encode_upper}
 use Rattle.hex.proofs.OnLiterals.{hex_on_literals}
-use Rattle.scql_base.specs.declared.words.Profile.TheVariants.{Dbbu}
-use Rattle.scql_base.specs.declared.operation.Operation.TheVariants.{CreateUser}
 use Rattle.scql_base.specs.Strings.{params_of, pieces_of}
 use Rattle.scql_model.specs.Commands.{Reply}
 use Rattle.scql_model.specs.Rights.{holds, appears}
@@ -20,7 +18,7 @@ use Rattle.scql_model.specs.Database.{fresh}
 use Rattle.scql_model.specs.Machine.{Machine, start}
 use Rattle.scql_model.specs.Operations.{operations}
 use Rattle.scql_model.specs.Form.{form_of}
-use Rattle.scql_model.specs.Step.{answered, carried_out, step_by}
+use Rattle.scql_model.specs.Step.{step_by}
 use Rattle.scql_model.specs.Lines.{reply_octets}
 
 -- octets from hexadecimal digits
@@ -181,7 +179,11 @@ grants = refl
 
 -- and with user BOB, whose secret is 1234
 abbrev with_bob : Machine
-with_bob = (answered owner_card (carried_out owner_card (record { channel = 0; operation = CreateUser (codes "BOB") Dbbu (codes "1234"); le = None }))).machine
+with_bob = after owner_card (hexadecimal (codes "001400810B03424F4201030431323334") ∷ [])
+
+user_with_a_secret : answers owner_card (hexadecimal (codes "001400810B03424F4201030431323334") ∷ []) ≡ codes "9000\n"
+unfolding step_by form_of params_of pieces_of edits_of move_of holds appears contents_of depth_of object_created view_created table_dropped view_dropped privileges_granted privileges_revoked row_inserted row_updated row_deleted user_added user_deleted hex_on_literals
+user_with_a_secret = refl
 
 -- three wrong secrets block the user
 secret_blocked : answers with_bob (hexadecimal (codes "001400800403424F42") ∷ hexadecimal (codes "002000000430303030") ∷ hexadecimal (codes "002000000430303030") ∷ hexadecimal (codes "002000000430303030") ∷ hexadecimal (codes "002000000431323334") ∷ [])

@@ -8,7 +8,7 @@ use Rattle.scql_base.specs.declared.operation.OperationKind.{OperationKind}
 use Rattle.scql_base.specs.Words.{wrong_length, class_not_supported, secure_messaging_not_supported, chaining_not_supported, instruction_not_supported, channel_not_supported, wrong_parameters, wrong_data}
 use Rattle.scql_model.specs.Refusals.{◌>>=◌, or_refused, provided}
 use Rattle.scql_model.specs.Machine.{Chain}
-use Rattle.scql_model.specs.Operations.{Takes, nothing, a_data_field, le_alone, Line, has_instruction, line_of, is_for_channel, goes_on, comes_in_parts}
+use Rattle.scql_model.specs.Operations.{Takes, nothing, a_data_field, le_alone, Line, has_instruction, has_secrets, line_of, is_for_channel, goes_on, comes_in_parts}
 use Rattle.scql_model.specs.Parameters.{operation_in}
 
 -- The first interindustry class, without secure messaging: bits b8 b7 b6, then b4 b3 of CLA are 0.
@@ -100,9 +100,9 @@ part_in channel kind parts tail = do
   Ok (part_on channel kind (data_in tail))
 
 -- A command: its data field is that of the parts so far and its own, joined.
-abbrev pub command_in : ℕ → OperationKind → ℕ → List (List ℕ) → Tail → Result Form StatusWord
-command_in channel kind limit parts tail = do
-  operation ← or_refused (operation_in kind limit (concat parts ++ data_in tail)) wrong_data
+abbrev pub command_in : Bool → ℕ → OperationKind → ℕ → List (List ℕ) → Tail → Result Form StatusWord
+command_in secrets channel kind limit parts tail = do
+  operation ← or_refused (operation_in secrets kind limit (concat parts ++ data_in tail)) wrong_data
   Ok (a_command (record { channel = channel; operation = operation; le = tail.le }))
 
 -- the open channel that a known instruction of the class is for
@@ -134,7 +134,7 @@ form_of table (cla ∷ ins ∷ p1 ∷ p2 ∷ after) channels chain limit =
       tail ← taken_in line.takes (is_chained cla) after
       if is_chained cla
           then part_in channel line.kind (parts_of line.kind (chain channel)) tail
-          else command_in channel line.kind limit (parts_of line.kind (chain channel)) tail
+          else command_in (has_secrets table) channel line.kind limit (parts_of line.kind (chain channel)) tail
 form_of table octets channels chain limit = refused wrong_length
 
 -- no channel has a part of a command

@@ -79,6 +79,10 @@ built_operations = built_lines operations
 abbrev pub has_instruction : List Line → ℕ → Bool
 has_instruction table ins = list_any (λ (l : Line). l.ins == ins) table
 
+-- secrets can be shown where VERIFY is among the operations
+abbrev pub has_secrets : List Line → Bool
+has_secrets table = has_instruction table 0x20
+
 -- the line of a table for INS, P1 and P2
 abbrev pub line_of : List Line → ℕ → ℕ → ℕ → Option Line
 line_of table ins p1 p2 = find (λ (l : Line). l.ins == ins && l.p1 == p1 && l.p2 == p2) table

@@ -1,5 +1,5 @@
 -- The data fields of commands: which operation the parameters of each ask for (ISO/IEC 7816-7).
-use Rattle.std.specs.Prelude.{ℕ, ◌==◌, nat_le, ◌&&◌, Bool, List, [], ◌∷◌, length, map, take, drop, Option, Some, None, option_map, option_and_then, if◌then◌else◌}
+use Rattle.std.specs.Prelude.{ℕ, ◌==◌, nat_le, ◌&&◌, Bool, true, false, List, [], ◌∷◌, length, map, take, drop, Option, Some, None, option_map, option_and_then, if◌then◌else◌}
 use Rattle.std.specs.List.{list_all}
 use Rattle.scql_base.specs.declared.words.Profile.{Profile}
 use Rattle.scql_base.specs.declared.words.Profile.TheVariants.{Dboo, Dbbu}
@@ -11,7 +11,7 @@ use Rattle.scql_base.specs.declared.operation.Operation.{Operation}
 use Rattle.scql_base.specs.declared.operation.Operation.TheVariants.{CreateTable, CreateView, CreateDictionary, DropTable, DropView, Grant, Revoke, DeclareCursor, OpenCursor, Next, Fetch, FetchNext, Insert, Update, Delete, Begin, Commit, Rollback, PresentUser, CreateUser, DeleteUser, Verify, OpenChannel, CloseChannel, GetResponse}
 use Rattle.scql_base.specs.declared.operation.OperationKind.{OperationKind}
 use Rattle.scql_base.specs.declared.operation.OperationKind.TheVariants as kind
-use Rattle.scql_model.specs.Records.{subject_of, comparison_of, is_privileges, is_one_to_fifteen, is_at_most_eight}
+use Rattle.scql_model.specs.Records.{subject_of, comparison_of, is_secret, is_privileges, is_one_to_fifteen, is_at_most_eight}
 use Rattle.scql_model.specs.Database.{are_different}
 
 -- one value and then the next; where there is none there is none
@@ -133,45 +133,46 @@ update_in strings = do
 abbrev pub made_profile_of : ℕ → Option Profile
 made_profile_of code = if code == 0x02 then Some Dboo else if code == 0x03 then Some Dbbu else None
 
--- Until secrets are built a new user's secret is empty; then this will be `is_secret`.
-abbrev pub is_new_secret : List ℕ → Bool
-is_new_secret secret = length secret == 0
+-- a new user's secret is any secret where secrets can be shown, and else is empty
+abbrev pub is_new_secret : Bool → List ℕ → Bool
+is_new_secret true secret = is_secret secret
+is_new_secret false secret = length secret == 0
 
 -- CREATE USER: a name, one octet for the profile, and a secret
-abbrev pub create_user_in : List (List ℕ) → Option Operation
-create_user_in (name ∷ (code ∷ []) ∷ secret ∷ []) = do
+abbrev pub create_user_in : Bool → List (List ℕ) → Option Operation
+create_user_in secrets (name ∷ (code ∷ []) ∷ secret ∷ []) = do
   profile ← made_profile_of code
-  only_where (is_name name && is_new_secret secret) (CreateUser name profile secret)
-create_user_in strings = None
+  only_where (is_name name && is_new_secret secrets secret) (CreateUser name profile secret)
+create_user_in secrets strings = None
 
 -- VERIFY: the bare secret, 1 to 255 octets
 abbrev pub is_verified_secret : List ℕ → Bool
 is_verified_secret octets = nat_le 1 (length octets) && nat_le (length octets) 255
 
--- The operation of a kind that a data field asks for, where a row has at most so many octets. The field of VERIFY is the bare secret; each other one is a list of parameters.
-abbrev pub operation_in : OperationKind → ℕ → List ℕ → Option Operation
-operation_in kind.CreateTable limit octets = params_of octets >>= create_table_in
-operation_in kind.CreateView limit octets = params_of octets >>= create_view_in
-operation_in kind.CreateDictionary limit octets = params_of octets >>= create_dictionary_in
-operation_in kind.DropTable limit octets = params_of octets >>= named_in DropTable
-operation_in kind.DropView limit octets = params_of octets >>= named_in DropView
-operation_in kind.Grant limit octets = params_of octets >>= granted_in Grant
-operation_in kind.Revoke limit octets = params_of octets >>= granted_in Revoke
-operation_in kind.DeclareCursor limit octets = params_of octets >>= declare_cursor_in
-operation_in kind.OpenCursor limit octets = Some OpenCursor
-operation_in kind.Next limit octets = Some Next
-operation_in kind.Fetch limit octets = Some Fetch
-operation_in kind.FetchNext limit octets = Some FetchNext
-operation_in kind.Insert limit octets = params_of octets >>= insert_in limit
-operation_in kind.Update limit octets = params_of octets >>= update_in
-operation_in kind.Delete limit octets = Some Delete
-operation_in kind.Begin limit octets = Some Begin
-operation_in kind.Commit limit octets = Some Commit
-operation_in kind.Rollback limit octets = Some Rollback
-operation_in kind.PresentUser limit octets = params_of octets >>= named_in PresentUser
-operation_in kind.CreateUser limit octets = params_of octets >>= create_user_in
-operation_in kind.DeleteUser limit octets = params_of octets >>= named_in DeleteUser
-operation_in kind.Verify limit octets = only_where (is_verified_secret octets) (Verify octets)
-operation_in (kind.OpenChannel number) limit octets = Some (OpenChannel number)
-operation_in (kind.CloseChannel number) limit octets = Some (CloseChannel number)
-operation_in kind.GetResponse limit octets = Some GetResponse
+-- The operation of a kind that a data field asks for, where secrets can be shown or not, and where a row has at most so many octets. The field of VERIFY is the bare secret; each other one is a list of parameters.
+abbrev pub operation_in : Bool → OperationKind → ℕ → List ℕ → Option Operation
+operation_in secrets kind.CreateTable limit octets = params_of octets >>= create_table_in
+operation_in secrets kind.CreateView limit octets = params_of octets >>= create_view_in
+operation_in secrets kind.CreateDictionary limit octets = params_of octets >>= create_dictionary_in
+operation_in secrets kind.DropTable limit octets = params_of octets >>= named_in DropTable
+operation_in secrets kind.DropView limit octets = params_of octets >>= named_in DropView
+operation_in secrets kind.Grant limit octets = params_of octets >>= granted_in Grant
+operation_in secrets kind.Revoke limit octets = params_of octets >>= granted_in Revoke
+operation_in secrets kind.DeclareCursor limit octets = params_of octets >>= declare_cursor_in
+operation_in secrets kind.OpenCursor limit octets = Some OpenCursor
+operation_in secrets kind.Next limit octets = Some Next
+operation_in secrets kind.Fetch limit octets = Some Fetch
+operation_in secrets kind.FetchNext limit octets = Some FetchNext
+operation_in secrets kind.Insert limit octets = params_of octets >>= insert_in limit
+operation_in secrets kind.Update limit octets = params_of octets >>= update_in
+operation_in secrets kind.Delete limit octets = Some Delete
+operation_in secrets kind.Begin limit octets = Some Begin
+operation_in secrets kind.Commit limit octets = Some Commit
+operation_in secrets kind.Rollback limit octets = Some Rollback
+operation_in secrets kind.PresentUser limit octets = params_of octets >>= named_in PresentUser
+operation_in secrets kind.CreateUser limit octets = params_of octets >>= create_user_in secrets
+operation_in secrets kind.DeleteUser limit octets = params_of octets >>= named_in DeleteUser
+operation_in secrets kind.Verify limit octets = only_where (is_verified_secret octets) (Verify octets)
+operation_in secrets (kind.OpenChannel number) limit octets = Some (OpenChannel number)
+operation_in secrets (kind.CloseChannel number) limit octets = Some (CloseChannel number)
+operation_in secrets kind.GetResponse limit octets = Some GetResponse

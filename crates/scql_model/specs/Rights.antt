@@ -4,6 +4,7 @@ use Rattle.std.specs.List.{find, list_any}
 use Rattle.std.specs.Str.{bytes_eq}
 use Rattle.scql_base.specs.declared.words.Actor.{Actor}
 use Rattle.scql_base.specs.declared.words.Actor.TheVariants.{Public, User as a_user}
+use Rattle.scql_base.specs.declared.privileges.TheConstants.Privileges.{SELECT, INSERT, UPDATE, DELETE}
 use Rattle.scql_base.specs.declared.records.Object.{Object}
 use Rattle.scql_base.specs.declared.records.Grant.{Grant}
 use Rattle.scql_model.specs.Database.{Database}
@@ -11,16 +12,16 @@ use Rattle.scql_model.specs.Creating.{actor_stamp}
 
 -- the bits of the four privileges
 abbrev pub select_privilege : ℕ
-select_privilege = 1
+select_privilege = SELECT
 
 abbrev pub insert_privilege : ℕ
-insert_privilege = 2
+insert_privilege = INSERT
 
 abbrev pub update_privilege : ℕ
-update_privilege = 4
+update_privilege = UPDATE
 
 abbrev pub delete_privilege : ℕ
-delete_privilege = 8
+delete_privilege = DELETE
 
 abbrev pub all_privileges : List ℕ
 all_privileges = select_privilege ∷ insert_privilege ∷ update_privilege ∷ delete_privilege ∷ []

@@ -4,6 +4,7 @@ use Rattle.std.specs.List.{list_all, list_any, find}
 use Rattle.std.specs.Option.{option_map_or}
 use Rattle.std.specs.Str.{bytes_eq}
 use Rattle.eeprom.specs.Slots.{Rises}
+use Rattle.scql_base.specs.declared.name.TheConstants.Name.{OWNER, PUBLIC}
 use Rattle.scql_base.specs.Row.{row_size}
 use Rattle.scql_base.specs.declared.words.Profile.{Profile}
 use Rattle.scql_base.specs.declared.words.Profile.TheVariants.{DbO, Dboo, Dbbu}
@@ -34,14 +35,14 @@ are_among names columns = list_all (λ name. list_any (bytes_eq name) columns) n
 
 -- the user with whom a card is made, `OWNER`
 abbrev pub owner_name : List ℕ
-owner_name = 0x4F ∷ 0x57 ∷ 0x4E ∷ 0x45 ∷ 0x52 ∷ []
+owner_name = OWNER.now
 
 abbrev pub owner : User
 owner = record { stamp = 1; name = owner_name; profile = DbO; owner = 1; secret = []; tries = 3 }
 
 -- `PUBLIC`, which is everybody and no user
 abbrev pub public_name : List ℕ
-public_name = 0x50 ∷ 0x55 ∷ 0x42 ∷ 0x4C ∷ 0x49 ∷ 0x43 ∷ []
+public_name = PUBLIC.now
 
 -- the user of a stamp, and that of a name
 abbrev pub user_stamped : List User → ℕ → Option User
