@@ -14,7 +14,7 @@ use Rattle.scql_base.specs.Words.{done}
 use Rattle.scql_model.specs.Refusals.{◌>>=◌}
 use Rattle.scql_model.specs.Database.{Database}
 use Rattle.scql_model.specs.Machine.{Machine, Session, Chain, Transaction, session_of, open_channels, base_of, base, actor}
-use Rattle.scql_model.specs.Sessions.{IsIdle, AreIdle, changing_session, chain_of, without_chain, without_pending, cursor_of}
+use Rattle.scql_model.specs.Sessions.{IsIdle, AreIdle, changing_session, command_chain, without_chain, without_pending, cursor_of}
 use Rattle.scql_model.specs.Transactions.{own_transaction}
 use Rattle.scql_model.specs.Operations.{built_operations, kind_of}
 use Rattle.scql_model.specs.Form.{Form, refused, refused_on, part_on, a_command, form_of, no_chain, as_command}
@@ -32,22 +32,22 @@ use Rattle.card.specs.Commands.{is_built}
 use Rattle.card.specs.Answering.{committed_at_once, IsDoneOrStays}
 
 -- no channel has a part of a command
-idle-chain : (m : Machine) (channel : ℕ) → AreIdle m.sessions → chain_of m channel ≡ None
+idle-chain : (m : Machine) (channel : ℕ) → AreIdle m.sessions → command_chain m channel ≡ None
 idle-chain m channel are = of_session (session_of m channel) (idle-at m.sessions channel are)
   where
     of_session : (s : Option Session) → IfSome s IsIdle → option_and_then (λ (s : Session). s.chain) s ≡ None
     of_session None is = refl
     of_session (Some s) is = ap (λ (s : Session). s.chain) is
 
-idle-chains : (m : Machine) → AreIdle m.sessions → chain_of m ≡ no_chain
+idle-chains : (m : Machine) → AreIdle m.sessions → command_chain m ≡ no_chain
 idle-chains m are = λ i channel. idle-chain m channel are i
 
 -- What the machine reads is what is read with the card's open channels, and no part of a command.
 form-card : (card : Kept) (chip : Chip) (m : Machine) (octets : List ℕ) (channels : List Bool) → IsAt card chip m
     → channels ≡ map (λ (s : Option Session). is_some s) card.sessions → AreIdle m.sessions
-    → form_of built_operations octets (open_channels m) (chain_of m) m.committed.limit ≡ form_of built_operations octets channels no_chain 240
+    → form_of built_operations octets (open_channels m) (command_chain m) m.committed.limit ≡ form_of built_operations octets channels no_chain 240
 form-card card chip m octets channels at are_open are =
-    ap (form_of built_operations octets (open_channels m) (chain_of m)) at.holds.limit
+    ap (form_of built_operations octets (open_channels m) (command_chain m)) at.holds.limit
     ∙ (ap (λ (chain : ℕ → Option Chain). form_of built_operations octets (open_channels m) chain 240) (idle-chains m are)
     ∙ ap (λ (channels : List Bool). form_of built_operations octets channels no_chain 240) (ap (map (λ (s : Option Session). is_some s)) at.sessions ∙ sym are_open))
 

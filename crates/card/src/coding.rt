@@ -144,7 +144,7 @@ fn profile_code(profile: Profile) -> u8
 }
 
 fn number_at(octets: &[u8]) -> Option<(u32, &[u8])>
-    ensures { option_map (λ x. (x.0, x.1.now)) result ≡ fields.number_at octets.now }
+    ensures { option_map (λ x. (x.0, x.1.now)) result ≡ fields.number_from octets.now }
 {
     let [a, b, c, d, rest @ ..] = octets else {
         return None;

@@ -295,7 +295,7 @@ fn taken_in(takes: Takes, is_part: bool, after: &[u8]) -> Result<Tail<'_>, Statu
 }
 
 fn is_taken(takes: Takes, is_part: bool, tail: &Tail<'_>) -> bool
-    ensures { result ≡ (form.is_taken (takes_view takes) (tail_view tail.now) && (not is_part || form.is_case_3 (tail_view tail.now))) }
+    ensures { result ≡ (form.takes_case (takes_view takes) (tail_view tail.now) && (not is_part || form.is_case_3 (tail_view tail.now))) }
 {
     let has_body = tail.body.is_some();
     let has_le = tail.le.is_some();

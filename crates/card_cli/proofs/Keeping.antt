@@ -11,7 +11,7 @@ use Rattle.card_cli.specs.Running.{Running, from_machine, after, text_of}
 use Rattle.card_cli.specs.Moments.{IsInLine, IsInAnswered, IsInStopped, IsWhile, IsUntil, IsAtEnd, Passes}
 use Rattle.card_cli.specs.declared.stop.Stop.{Stop}
 use Rattle.card_cli.specs.declared.stop.Stop.TheVariants.{Eeprom, Outlet, Both}
-use Rattle.card_cli.specs.Keeping.{AreKept, AreAllKept, carried_out}
+use Rattle.card_cli.specs.Keeping.{AreKept, AreAllKept, lines_carried_out}
 use Rattle.card_cli.proofs.Streaming.{open_end, line_content-begun_line, text_of-lines, after-lines, lines-open, lines-line_feed, lines-prefix}
 use Rattle.card_cli.proofs.Moving.{throughout-both}
 use Rattle.eeprom.proofs.Moments.{throughout-weaker}
@@ -102,12 +102,12 @@ kept-taken m taken old new moments =
 
 -- in a line in which a device fails, which is clean where the outlet alone does
 kept-in_stopped : (stop : Stop) (m : Machine) (before : List (List ℕ)) (line : List ℕ) (rest : List (List ℕ)) (mark g : ℕ) (left : List ℕ)
-    → IsInStopped stop (machine_after m before) (content_of line) (mark + length (run_text m before)) g left → KeptFrom m (before ++ line ∷ rest) (carried_out stop before) mark g left
+    → IsInStopped stop (machine_after m before) (content_of line) (mark + length (run_text m before)) g left → KeptFrom m (before ++ line ∷ rest) (lines_carried_out stop before) mark g left
 kept-in_stopped Outlet m before line rest mark g left stopped = kept-in_answered m before line rest 0 mark g left stopped
 kept-in_stopped Eeprom m before line rest mark g left stopped = kept-in_line m before line rest mark g left stopped
 kept-in_stopped Both m before line rest mark g left stopped = kept-in_line m before line rest mark g left stopped
 
-carried_out-most : (stop : Stop) (before : List (List ℕ)) → length before ≤ carried_out stop before
+carried_out-most : (stop : Stop) (before : List (List ℕ)) → length before ≤ lines_carried_out stop before
 carried_out-most Outlet before = omega arith
 carried_out-most Eeprom before = omega arith
 carried_out-most Both before = omega arith
@@ -115,9 +115,9 @@ carried_out-most Both before = omega arith
 -- of calls that take octets of the input and fail in the line behind them
 pub kept-until : (stop : Stop) (m : Machine) (input taken behind : List ℕ) (rest : List (List ℕ)) (old now : Chip) → input ≡ taken ++ behind
     → lines input true ≡ lines taken false ++ open_end taken ∷ rest
-    → Throughout old now (IsUntil stop taken (from_machine m) old.still.mark) → AreKept m (lines input true) (carried_out stop (lines taken false)) old now
+    → Throughout old now (IsUntil stop taken (from_machine m) old.still.mark) → AreKept m (lines input true) (lines_carried_out stop (lines taken false)) old now
 kept-until stop m input taken behind rest old now split cut moments =
-    let count : ℕ = carried_out stop (lines taken false) in
+    let count : ℕ = lines_carried_out stop (lines taken false) in
     throughout-weaker old now (IsUntil stop taken (from_machine m) old.still.mark) (KeptFrom m (lines input true) count old.still.mark) moments
     (λ g left during. elim during [
       | inl before ↦ subst (λ (input : List ℕ). KeptFrom m (lines input true) count old.still.mark g left) (sym split)

@@ -20,7 +20,7 @@ use Rattle.card_cli.specs.RunState.{Prints, RunState, IsRunning, Feeds, Faults, 
 use Rattle.card_cli.specs.Ends.{EndsAs, longest_input}
 use Rattle.card_cli.specs.Line.{line_content, is_empty_line}
 use Rattle.card_cli.specs.Moments.{IsInStopped, IsAtEnd, IfGiven}
-use Rattle.card_cli.specs.Keeping.{AreKept, AreAllKept, KeepsTo, carried_out}
+use Rattle.card_cli.specs.Keeping.{AreKept, AreAllKept, KeepsTo, lines_carried_out}
 use Rattle.card_cli.proofs.Keeping.{kept-taken, kept-until, kept-ended, until-last}
 use Rattle.card_cli.proofs.Moving.{told-before}
 use Rattle.card_cli.specs.CutOff.{HasAnswered, StopsIn}
@@ -209,7 +209,7 @@ counts-at Outlet start old new same causes = causes.eeprom_stays refl ∙ same
 counts-at Both start old new same causes = subst (λ (n : ℕ). Rose n new.eeprom) same (causes.both refl).0
 
 Ends-stopped : (stop : Stop) (from to : ℕ) (m : Machine) (input left : List ℕ) (old now : Chip) → CountsAt stop from to → (stops : StopsIn stop m (lines input true) old.still.given now)
-    → IfGiven now (AreKept m (lines input true) (carried_out stop stops.answered) old now) → Ends (status_of stop) from to m old now input left
+    → IfGiven now (AreKept m (lines input true) (lines_carried_out stop stops.answered) old now) → Ends (status_of stop) from to m old now input left
 Ends-stopped Eeprom from to m input left old now counts stops kept = record { ended = stops; keeps = λ given. (stops, kept given) }
 Ends-stopped Outlet from to m input left old now counts stops kept = record { ended = inl (counts, stops); keeps = λ given. inl (counts, (stops, kept given)) }
 Ends-stopped Both from to m input left old now counts stops kept = record { ended = inr (counts, stops); keeps = λ given. inr (counts, (stops, kept given)) }

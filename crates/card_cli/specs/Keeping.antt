@@ -25,14 +25,14 @@ abbrev pub AreAllKept : Machine → List (List ℕ) → Chip → Chip → Type 0
 AreAllKept m lines old new = AreKept m lines (length lines) old new
 
 -- how many lines were carried out: those before the line in which a device failed, and that line too where the outlet alone did
-abbrev pub carried_out : Stop → List (List ℕ) → ℕ
-carried_out Outlet answered = length answered + 1
-carried_out stop answered = length answered
+abbrev pub lines_carried_out : Stop → List (List ℕ) → ℕ
+lines_carried_out Outlet answered = length answered + 1
+lines_carried_out stop answered = length answered
 
 -- of a run that a device stops
 abbrev pub AreKeptUntil : Stop → Machine → List ℕ → Chip → Chip → Type 0
 AreKeptUntil stop m input old new =
-    (stops : StopsIn stop m (lines input true) old.still.given new) × AreKept m (lines input true) (carried_out stop stops.answered) old new
+    (stops : StopsIn stop m (lines input true) old.still.given new) × AreKept m (lines input true) (lines_carried_out stop stops.answered) old new
 
 -- What is kept where a run ends so, of whose input this is left: of all lines, or of those that were taken whole, or up to the line in which a device failed. The EEPROM's count of faults goes from one number to another.
 abbrev pub KeepsTo : Status → ℕ → ℕ → Machine → List ℕ → List ℕ → Chip → Chip → Type 0

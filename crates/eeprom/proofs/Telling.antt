@@ -5,7 +5,7 @@ use Rattle.std.proofs.lemmas.Grind.{common_steps}
 use Rattle.std.specs.declared.alloc.AllocError.{AllocError}
 use Rattle.eeprom.specs.Chip.{Becomes, RisesBy, Writes}
 use Rattle.eeprom.specs.Output.{Follows}
-use Rattle.eeprom.specs.Told.{Told, WritesDown, counted, chip_from}
+use Rattle.eeprom.specs.Told.{Told, WritesDown, told_count, chip_from}
 
 same_some : {A : Type 0} (x y : A) → Some x ≡ Some y → x ≡ y
 same_some x y e = cc
@@ -14,11 +14,11 @@ same_some x y e = cc
 pub becomes_told : {A B : Type 0} (step : A → B → Type 0) (before : A) (after : B) → step before after → Becomes step (Some before) (Some after)
 becomes_told step before after s = λ now e. (before, refl, subst (step before) (same_some after now e) s)
 
-counted-below : (count : ℕ) → count < 340282366920938463463374607431768211455 → counted count ≡ Some count
+counted-below : (count : ℕ) → count < 340282366920938463463374607431768211455 → told_count count ≡ Some count
 counted-below count h = rw (lt-ltb count 340282366920938463463374607431768211455 h) refl
 
 -- so many more, as far as it is kept
-pub counted-more : (before more after : ℕ) → after ≡ min (before + more) 340282366920938463463374607431768211455 → Becomes (RisesBy more) (counted before) (counted after)
+pub counted-more : (before more after : ℕ) → after ≡ min (before + more) 340282366920938463463374607431768211455 → Becomes (RisesBy more) (told_count before) (told_count after)
 counted-more before more after e now told =
     elim (cases_Bool (ltb after 340282366920938463463374607431768211455)) [
       | inl t ↦ (let below : after < 340282366920938463463374607431768211455 = ltb-true _ _ t in

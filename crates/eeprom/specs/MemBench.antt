@@ -2,7 +2,7 @@
 use Rattle.std.specs.Prelude.{◌≡◌, ℕ, ◌<◌, ◌≤◌, ◌^◌, Option, IfSome, length}
 use Rattle.std.proofs.Common.{arith}
 use Rattle.eeprom.specs.Chip.{Chip, Gives}
-use Rattle.eeprom.specs.Told.{chip_from, counted}
+use Rattle.eeprom.specs.Told.{chip_from, told_count}
 use Rattle.eeprom.specs.Recorded.{length-past_of}
 use Rattle.eeprom.specs.Recording.{told}
 use Rattle.eeprom.specs.declared.mem_bench.MemBench.{MemBench}
@@ -11,7 +11,7 @@ abbrev pub chip_of : MemBench → Chip
 chip_of b = chip_from (told b.recording) b.octets_written b.sink_faults
 
 abbrev pub octets_read_of : MemBench → Option ℕ
-octets_read_of b = counted b.octets_read
+octets_read_of b = told_count b.octets_read
 
 -- what giving leaves of the EEPROM
 abbrev pub Leaves : MemBench → MemBench → Type 0

@@ -2,7 +2,7 @@
 use Rattle.std.specs.Prelude.{◌≡◌, ◌↔◌, IsSome, ℕ, ◌<◌, ◌≤◌, ◌^◌, Bool, true, false, List, [], ◌∷◌, ◌++◌, Option, Some, None, IfSome, length, if◌then◌else◌, refl}
 use Rattle.eeprom.specs.Chip.{Chip, Stretch, Becomes, Gives}
 use Rattle.eeprom.specs.MemBench.{small_length}
-use Rattle.eeprom.specs.Told.{counted}
+use Rattle.eeprom.specs.Told.{told_count}
 use Rattle.eeprom.specs.Steps.{told_past, length-stretches_of}
 use Rattle.eeprom.specs.declared.steady_bench.SteadyBench.{SteadyBench}
 use Rattle.eeprom.specs.declared.steady_bench.Step.{Step}
@@ -31,13 +31,13 @@ abbrev pub chip_of : SteadyBench → Chip
 chip_of b = record {
   still = record { size = length b.image.items; mark = length b.output.octets.items; given = given_of b; sink_faults = 0 };
   image = Some b.image.items;
-  written = counted b.octets_written;
+  written = told_count b.octets_written;
   clock = length b.steps.items;
   past = past_of b;
 }
 
 abbrev pub octets_read_of : SteadyBench → Option ℕ
-octets_read_of b = counted b.octets_read
+octets_read_of b = told_count b.octets_read
 
 -- time goes on by one stretch of the image as it is, where told
 abbrev pub TellsStretch : (List ℕ → Stretch) → Chip → Chip → Type 0

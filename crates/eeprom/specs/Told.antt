@@ -11,8 +11,8 @@ pub record Told : Type 0 where
   pub clock : ℕ
 
 -- nothing was written or given
-abbrev pub fresh : List ℕ → Told
-fresh image = record { image = image; output = []; past = []; clock = 0 }
+abbrev pub untouched : List ℕ → Told
+untouched image = record { image = image; output = []; past = []; clock = 0 }
 
 -- one write more; or nothing was written
 pub record WritesDown (at count : ℕ) (old new : Told) : Type 0 where
@@ -31,15 +31,15 @@ pub record GivesDown (old new : Told) : Type 0 where
   pub past : (new.past ≡ old.past ++ giving old.image (length old.output) (length new.output) ∷ []) ⊎ (new.past ≡ old.past)
 
 -- a count as far as it is kept, below the last value of a u128
-abbrev pub counted : ℕ → Option ℕ
-counted count = if nat_lt count 340282366920938463463374607431768211455 then Some count else None
+abbrev pub told_count : ℕ → Option ℕ
+told_count count = if nat_lt count 340282366920938463463374607431768211455 then Some count else None
 
 -- the EEPROM of a device that tells this, after so many octets written and so many faults of its outlet
 abbrev pub chip_from : Told → ℕ → ℕ → Chip
 chip_from told written sink_faults = record {
   still = record { size = length told.image; mark = length told.output; given = Some told.output; sink_faults = sink_faults };
   image = Some told.image;
-  written = counted written;
+  written = told_count written;
   clock = told.clock;
   past = Some told.past;
 }

@@ -21,11 +21,11 @@ pub struct MemBench {
 
 impl MemBench {
     ghost use Rattle.std.specs.Prelude.{◌≡◌, ◌-◌, ◌^◌, min, length, slice_get, option_map, Some, IfSome, IfOk};
-    ghost use Rattle.eeprom.specs.Told.{fresh, chip_from, writes_of, filled};
+    ghost use Rattle.eeprom.specs.Told.{untouched, chip_from, writes_of, filled};
     ghost use Rattle.eeprom.specs.MemBench.{chip_of};
 
     pub fn new(alloc: Global, image: Vec<u8>, plan: FaultPlan) -> Result<MemBench, AllocError>
-        ensures chip { IfOk result (λ bench. chip_of bench ≡ chip_from (fresh image.items) 0 0) }
+        ensures chip { IfOk result (λ bench. chip_of bench ≡ chip_from (untouched image.items) 0 0) }
         ensures read { IfOk result (λ bench. ⟦<MemBench as Eeprom>⟧.octets_read bench ≡ Some 0) }
         ensures faults { IfOk result (λ bench. ⟦<MemBench as Eeprom>⟧.faults bench ≡ 0) }
     {

@@ -34,10 +34,10 @@ impl Recording {
     ghost use Rattle.std.specs.Prelude.{◌≡◌, ◌+◌, ◌≤◌, ◌++◌, [], length, replicate, slice_get, option_map, IfOk, OnOk, OnErr};
     ghost use Rattle.eeprom.specs.Image.{overwrite};
     ghost use Rattle.eeprom.specs.Recording.{told};
-    ghost use Rattle.eeprom.specs.Told.{fresh, WritesDown, GivesDown, writes_of, filled};
+    ghost use Rattle.eeprom.specs.Told.{untouched, WritesDown, GivesDown, writes_of, filled};
 
     pub fn new(alloc: Global, image: Vec<u8>) -> Result<Recording, AllocError>
-        ensures { IfOk result (λ recording. told recording ≡ fresh image.items) }
+        ensures { IfOk result (λ recording. told recording ≡ untouched image.items) }
     {
         Ok(Recording {
             first: Vec::from_slice(alloc, &image)?,

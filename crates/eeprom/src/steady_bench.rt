@@ -38,7 +38,7 @@ pub struct SteadyBench {
 
 impl SteadyBench {
     ghost use Rattle.std.specs.Prelude.{◌≡◌, ◌+◌, ◌-◌, ◌<◌, ◌≤◌, ◌++◌, ◌∷◌, [], length, slice_range, true, nat_le, if◌then◌else◌, Some, IfSome, IfOk};
-    ghost use Rattle.eeprom.specs.Told.{fresh, chip_from};
+    ghost use Rattle.eeprom.specs.Told.{untouched, chip_from};
     ghost use Rattle.eeprom.specs.declared.steady_bench.Step.TheVariants.{Write};
     ghost use Rattle.eeprom.specs.SteadyBench.{chip_of, room_for_writes, room_for_output};
 
@@ -49,7 +49,7 @@ impl SteadyBench {
         writes: usize,
         output: usize,
     ) -> Result<SteadyBench, AllocError>
-        ensures chip { IfOk result (λ bench. chip_of bench ≡ chip_from (fresh image.items) 0 0) }
+        ensures chip { IfOk result (λ bench. chip_of bench ≡ chip_from (untouched image.items) 0 0) }
         ensures read { IfOk result (λ bench. ⟦<SteadyBench as Eeprom>⟧.octets_read bench ≡ Some 0) }
         ensures faults { IfOk result (λ bench. (⟦<SteadyBench as Eeprom>⟧.faults bench ≡ 0) × (⟦<SteadyBench as Outlet>⟧.sink_faults bench ≡ 0)) }
         ensures room { IfOk result (λ bench. (room_for_writes bench ≡ writes) × (room_for_output bench ≡ output)) }

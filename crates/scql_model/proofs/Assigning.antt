@@ -7,7 +7,7 @@ use Rattle.std.proofs.lemmas.Bool.{cases_Bool, false≢true}
 use Rattle.std.proofs.lemmas.Slice.Eq.{bytes_eq-Decides}
 use Rattle.scql_model.specs.Matching.{Columns, Values, value_of}
 use Rattle.scql_model.specs.Rights.{all_privileges, has_bit}
-use Rattle.scql_model.specs.Granting.{left_of}
+use Rattle.scql_model.specs.Granting.{privileges_left}
 use Rattle.scql_model.specs.Writing.{Assignment, assigned, all_assigned}
 
 pub length-all_assigned : (assignments : List Assignment) (columns : Columns) (values : Values) → length (all_assigned assignments columns values) ≡ length values
@@ -40,5 +40,5 @@ alike a b = if a then b else not b
 more_bits : for_all (λ held more bit. alike (has_bit bit (bit_or held more)) (has_bit bit held || has_bit bit more)) ≡ true
 more_bits = refl
 
-fewer_bits : for_all (λ held taken bit. alike (has_bit bit (left_of held taken)) (has_bit bit held && not (has_bit bit taken))) ≡ true
+fewer_bits : for_all (λ held taken bit. alike (has_bit bit (privileges_left held taken)) (has_bit bit held && not (has_bit bit taken))) ≡ true
 fewer_bits = refl

@@ -9,7 +9,7 @@ use Rattle.std.proofs.lemmas.List.{append_assoc, length-take-le, take-append-dro
 use Rattle.std.proofs.lemmas.Nat.{be_bytes_4, from_be_bytes-to_be_bytes_4}
 use Rattle.std.proofs.lemmas.Option.{none-some, same_Some, option_and_then_some}
 use Rattle.std.proofs.Math.Seq.{take-append_seam, drop-append_seam}
-use Rattle.scql_model.specs.Fields.{Field, number, octet, letter, text, ◌then◌, counted, as_record, marked, whole, with_rest, with_front, many_at}
+use Rattle.scql_model.specs.Fields.{Field, number, octet, letter, text, ◌then◌, counted_list, as_record, with_mark, whole, with_rest, with_front, many_at}
 use Rattle.scql_model.specs.Records.{values_to_the_end, no_rest, is_row}
 use Rattle.scql_base.specs.Strings.{spelled, params_of}
 use Rattle.scql_base.proofs.Splitting.{AreParams-from_params_of, params_of-again}
@@ -248,25 +248,25 @@ again-many f again (x ∷ xs) rest fits =
 
 -- An octet that counts, and then that many of a field.
 counted_took : {A : Type 0} (test : ℕ → Bool) (f : Field A) (count : ℕ) (octets : List ℕ) (xs : List A) (rest : List ℕ) → test count ≡ true → TookMany f count octets xs rest
-    → Took (counted test f) (count ∷ octets) xs rest
+    → Took (counted_list test f) (count ∷ octets) xs rest
 counted_took test f count octets xs rest passes took = record {
   spelling = ap (λ (n : ℕ). n ∷ octets) (sym took.many) ∙ ap (λ (back : List ℕ). length xs ∷ back) took.spelling;
   fits = and_from (test (length xs)) (list_all f.fits xs) (ap test took.many ∙ passes) took.fits;
   behind = took.behind;
 }
 
-takes-counted : {A : Type 0} (test : ℕ → Bool) (f : Field A) → Takes f → Takes (counted test f)
+takes-counted : {A : Type 0} (test : ℕ → Bool) (f : Field A) → Takes f → Takes (counted_list test f)
 takes-counted test f takes [] x rest are is = absurd (none-some (x, rest) is)
 takes-counted test f takes (count ∷ octets) x rest are is =
     let passes = chosen_some (test count) (many_at f.read count octets) (x, rest) is in
     counted_took test f count octets x rest passes.0 (takes-many f takes count octets (x, rest) (AreOctets-behind count octets are) passes.1)
 
-again-counted : {A : Type 0} (test : ℕ → Bool) (f : Field A) → Again f → Again (counted test f)
+again-counted : {A : Type 0} (test : ℕ → Bool) (f : Field A) → Again f → Again (counted_list test f)
 again-counted test f again xs rest fits =
     let parts = and_parts (test (length xs)) (list_all f.fits xs) fits in
     cond-true (test (length xs)) (many_at f.read (length xs) (flat_map f.spell xs ++ rest)) None parts.0 ∙ again-many f again xs rest parts.1
 
-pub IsField-counted : {A : Type 0} (test : ℕ → Bool) (f : Field A) → IsField f → IsField (counted test f)
+pub IsField-counted : {A : Type 0} (test : ℕ → Bool) (f : Field A) → IsField f → IsField (counted_list test f)
 IsField-counted test f is = record { takes = takes-counted test f is.takes; again = again-counted test f is.again }
 
 -- A record of the parts that a field spells: what is made of a record's parts is the record, and what is of it its parts.
@@ -305,7 +305,7 @@ IsLastField-as_record {A} {B} to from f parts restored is = record {
 }
 
 -- A first octet that tells the kind.
-takes-marked : {A : Type 0} (mark : ℕ) (f : Field A) → Takes f → Takes (marked mark f)
+takes-marked : {A : Type 0} (mark : ℕ) (f : Field A) → Takes f → Takes (with_mark mark f)
 takes-marked mark f takes [] x rest are is = absurd (none-some (x, rest) is)
 takes-marked mark f takes (first ∷ octets) x rest are is =
     let kind = chosen_some (first == mark) (f.read octets) (x, rest) is in
@@ -319,13 +319,13 @@ takes-marked mark f takes (first ∷ octets) x rest are is =
 marked_again : {A : Type 0} (mark : ℕ) (o : Option A) → (if mark == mark then o else None) ≡ o
 marked_again mark o = cond-true (mark == mark) o None (eq-eqb mark mark refl)
 
-pub IsField-marked : {A : Type 0} (mark : ℕ) (f : Field A) → IsField f → IsField (marked mark f)
+pub IsField-marked : {A : Type 0} (mark : ℕ) (f : Field A) → IsField f → IsField (with_mark mark f)
 IsField-marked {A} mark f is = record {
   takes = takes-marked mark f is.takes;
   again = λ (x : A) rest fits. marked_again mark (f.read (f.spell x ++ rest)) ∙ is.again x rest fits;
 }
 
-pub IsLastField-marked : {A : Type 0} (mark : ℕ) (f : Field A) → IsLastField f → IsLastField (marked mark f)
+pub IsLastField-marked : {A : Type 0} (mark : ℕ) (f : Field A) → IsLastField f → IsLastField (with_mark mark f)
 IsLastField-marked {A} mark f is = record {
   takes = takes-marked mark f is.takes;
   again = λ (x : A) fits. marked_again mark (f.read (f.spell x)) ∙ is.again x fits;

@@ -24,7 +24,7 @@ use Rattle.scql_model.specs.Parameters as parameters
 use Rattle.scql_model.specs.Parameters.{only_where, are_columns, are_chosen_columns, are_conditions, are_changes, Choice, conditions_in, choice_in, changes_in, create_table_in, create_view_in, create_dictionary_in, named_in, granted_in, declare_cursor_in, is_row_within, insert_in, update_in, made_profile_of, is_new_secret, create_user_in, is_verified_secret, operation_in}
 use Rattle.scql_model.specs.WellFormed.{HasForm, wants_le, IsWellFormed}
 use Rattle.scql_model.specs.Refusals.{◌>>=◌, or_refused, provided}
-use Rattle.scql_model.specs.Form.{class_of, is_chained, is_open, channel_of, Tail, le_of, data_of, tail_of, is_taken, is_case_3, data_in, channel_asked, line_on, taken_in, parts_of, Form, refused, refused_on, part_on, a_command, as_command, formed_on, formed, part_in, command_in, form_of}
+use Rattle.scql_model.specs.Form.{class_of, is_chained, is_open, channel_of, Tail, le_of, data_of, tail_of, takes_case, is_case_3, data_in, channel_asked, line_on, taken_in, parts_of, Form, refused, refused_on, part_on, a_command, as_command, formed_on, formed, part_in, command_in, form_of}
 use Rattle.scql_model.proofs.FieldLaws.{AreOctets}
 
 pub both : (a b : Bool) → a && b ≡ true → (a ≡ true) × (b ≡ true)
@@ -237,7 +237,7 @@ is_le_alone le_alone = true
 abbrev pub is_sound : Line → Bool
 is_sound l = has_channel l.kind && (not (wants_le l.kind) || is_le_alone l.takes)
 
-le-wanted : (wants : Bool) (takes : Takes) (tail : Tail) → not wants || is_le_alone takes ≡ true → is_taken takes tail ≡ true → wants ≡ true → is_some tail.le ≡ true
+le-wanted : (wants : Bool) (takes : Takes) (tail : Tail) → not wants || is_le_alone takes ≡ true → takes_case takes tail ≡ true → wants ≡ true → is_some tail.le ≡ true
 le-wanted false takes tail sound taken is = absurd (false≢true is)
 le-wanted true nothing tail sound taken is = absurd (false≢true sound)
 le-wanted true a_data_field tail sound taken is = absurd (false≢true sound)
@@ -326,13 +326,13 @@ line-read table channel ins p1 p2 line sound is =
       (found-passes (λ (l : Line). l.ins == ins && l.p1 == p1 && l.p2 == p2) is_sound table found_line sound (not_refused (line_of table ins p1 p2) wrong_parameters found_line at)).1,
     )))
 
-tail-taken : (takes : Takes) (is_part : Bool) (after : List ℕ) (tail : Tail) → AreOctets after → taken_in takes is_part after ≡ Ok tail → IsLe tail.le × (is_taken takes tail ≡ true)
+tail-taken : (takes : Takes) (is_part : Bool) (after : List ℕ) (tail : Tail) → AreOctets after → taken_in takes is_part after ≡ Ok tail → IsLe tail.le × (takes_case takes tail ≡ true)
 tail-taken takes is_part after tail octets is =
     bound (or_refused (tail_of after) wrong_length) _ tail is (λ read at is.
-    bound (provided (is_taken takes read && (not is_part || is_case_3 read)) wrong_length) _ tail is (λ taken at_taken same.
-    subst (λ (t : Tail). IsLe t.le × (is_taken takes t ≡ true)) (same_Ok read tail same) (
+    bound (provided (takes_case takes read && (not is_part || is_case_3 read)) wrong_length) _ tail is (λ taken at_taken same.
+    subst (λ (t : Tail). IsLe t.le × (takes_case takes t ≡ true)) (same_Ok read tail same) (
       tail-read after read octets (not_refused (tail_of after) wrong_length read at),
-      (both (is_taken takes read) (not is_part || is_case_3 read) (not_unless _ wrong_length taken at_taken)).0,
+      (both (takes_case takes read) (not is_part || is_case_3 read) (not_unless _ wrong_length taken at_taken)).0,
     )))
 
 -- What is read as a command is well-formed, by a table whose lines are those of operations, and under a limit that a card may have.

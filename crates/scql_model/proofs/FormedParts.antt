@@ -12,7 +12,7 @@ use Rattle.scql_model.specs.Machine.{Chain}
 use Rattle.scql_model.specs.Operations.{Takes, Line, has_instruction, has_secrets, comes_in_parts}
 use Rattle.scql_model.specs.Parameters.{operation_in}
 use Rattle.scql_model.specs.Refusals.{or_refused, provided}
-use Rattle.scql_model.specs.Form.{class_of, is_chained, is_open, channel_of, Tail, le_of, data_of, tail_of, is_taken, is_case_3, data_in, channel_asked, line_on, taken_in, parts_of, Form, refused, refused_on, part_on, a_command, formed_on, formed, part_in, command_in, form_of}
+use Rattle.scql_model.specs.Form.{class_of, is_chained, is_open, channel_of, Tail, le_of, data_of, tail_of, takes_case, is_case_3, data_in, channel_asked, line_on, taken_in, parts_of, Form, refused, refused_on, part_on, a_command, formed_on, formed, part_in, command_in, form_of}
 use Rattle.scql_model.proofs.FieldLaws.{AreOctets}
 use Rattle.scql_model.proofs.FormedCommands.{both, refused-not, bound, not_refused, not_unless, on_channel}
 
@@ -55,9 +55,9 @@ part-taken : (takes : Takes) (is_part : Bool) (after : List ℕ) (tail : Tail) �
     → (not is_part || is_case_3 tail ≡ true) × (is_some tail.body ≡ true → (1 ≤ length (data_in tail)) × (length (data_in tail) ≤ 255))
 part-taken takes is_part after tail octets is =
     bound (or_refused (tail_of after) wrong_length) _ tail is (λ read at is.
-    bound (provided (is_taken takes read && (not is_part || is_case_3 read)) wrong_length) _ tail is (λ taken at_taken same.
+    bound (provided (takes_case takes read && (not is_part || is_case_3 read)) wrong_length) _ tail is (λ taken at_taken same.
     subst (λ (t : Tail). (not is_part || is_case_3 t ≡ true) × (is_some t.body ≡ true → (1 ≤ length (data_in t)) × (length (data_in t) ≤ 255))) (let is_same : read ≡ tail = cc in is_same) (
-      (both (is_taken takes read) (not is_part || is_case_3 read) (not_unless _ wrong_length taken at_taken)).1,
+      (both (takes_case takes read) (not is_part || is_case_3 read) (not_unless _ wrong_length taken at_taken)).1,
       field-length after read octets (not_refused (tail_of after) wrong_length read at),
     )))
 

@@ -12,7 +12,7 @@ use Rattle.scql_base.specs.Words.{authentication_blocked, channel_not_supported,
 use Rattle.scql_model.specs.Refusals.{◌>>=◌, or_refused, provided}
 use Rattle.scql_model.specs.Database.{Database, user_named, user_stamped}
 use Rattle.scql_model.specs.Machine.{Machine, Transaction, open_channels, base, actor}
-use Rattle.scql_model.specs.Sessions.{changing_session, chain_of, cursor_of, without_chain, user_of, is_open, least_closed}
+use Rattle.scql_model.specs.Sessions.{changing_session, command_chain, cursor_of, without_chain, user_of, is_channel_open, least_closed}
 use Rattle.scql_model.specs.Transactions.{own_transaction, waits, is_kept_waiting}
 use Rattle.scql_model.specs.Operations.{Line, kind_of, built_operations}
 use Rattle.scql_model.specs.Form.{Form, refused, refused_on, part_on, a_command, form_of}
@@ -20,7 +20,7 @@ use Rattle.scql_model.specs.ReadingCommands.{ReadingCommand, reading_command}
 use Rattle.scql_model.specs.Edits.{Edit}
 use Rattle.scql_model.specs.Changing.{edits_of, with_edits}
 use Rattle.scql_model.specs.Heard.{after_commits}
-use Rattle.scql_model.specs.Step.{Answer, answered, has_read, changed_to, changed, user_deleted, session_named, secret_right, secret_wrong, compared, verified, channel_opened, channel_closed, operated, carried_out, stepped, step_by, step}
+use Rattle.scql_model.specs.Step.{Answer, answered, reading_done, changed_to, changed, user_and_sessions_deleted, session_named, secret_right, secret_wrong, compared, verified, channel_opened, channel_closed, operated, carried_out, stepped, step_by, step}
 
 abbrev pub IsLast : Database → Answer → Type 0
 IsLast db answer = after_commits db answer.commits (length answer.commits) ≡ answer.machine.committed
@@ -45,7 +45,7 @@ of_answer : (db : Database) (r : Result Answer StatusWord) (f : Answer → Resul
 of_answer db (Ok answer) f last each = each answer last
 of_answer db (Err word) f last each = tt
 
-last-deleted : (m : Machine) (channel : ℕ) (name : List ℕ) → IfOk (user_deleted m channel name) (IsLast m.committed)
+last-deleted : (m : Machine) (channel : ℕ) (name : List ℕ) → IfOk (user_and_sessions_deleted m channel name) (IsLast m.committed)
 last-deleted m channel name =
     of_answer m.committed (changed m channel (DeleteUser name)) _ (last-changed m channel (DeleteUser name)) (λ answer last.
     of_outcome (IsLast m.committed) (or_refused (user_named (base m channel).users name) not_found) _ (λ u. last))
@@ -66,11 +66,11 @@ last-verified m channel secret =
 
 last-opened : (m : Machine) (channel number : ℕ) → IfOk (channel_opened m channel number) (IsLast m.committed)
 last-opened m channel zero = of_outcome (IsLast m.committed) (or_refused (least_closed m) function_not_supported) _ (λ number. refl)
-last-opened m channel (suc n) = of_outcome (IsLast m.committed) (provided (not (is_open m (suc n))) conditions_not_satisfied) _ (λ _. refl)
+last-opened m channel (suc n) = of_outcome (IsLast m.committed) (provided (not (is_channel_open m (suc n))) conditions_not_satisfied) _ (λ _. refl)
 
 last-closed : (m : Machine) (channel number : ℕ) → IfOk (channel_closed m channel number) (IsLast m.committed)
 last-closed m channel number =
-    of_outcome (IsLast m.committed) (provided (is_open m number) channel_not_supported) _ (λ _.
+    of_outcome (IsLast m.committed) (provided (is_channel_open m number) channel_not_supported) _ (λ _.
     of_outcome (IsLast m.committed) (provided (not (is_some (own_transaction m.transaction number))) conditions_not_satisfied) _ (λ _. refl))
 
 last-operated : (m : Machine) (channel : ℕ) (operation : Operation) → IfOk (operated m channel operation) (IsLast m.committed)
@@ -89,7 +89,7 @@ last-carried_out m c =
     of_outcome (IsLast m.committed) (provided (not (is_kept_waiting (waits (kind_of c.operation)) m.transaction c.channel)) conditions_not_satisfied) _
     (λ _. either (reading_command c.operation c.le))
   where
-    either : (command : Option ReadingCommand) → IfOk (option_map_or (λ command. Ok (has_read m c.channel command)) command (operated m c.channel c.operation)) (IsLast m.committed)
+    either : (command : Option ReadingCommand) → IfOk (option_map_or (λ command. Ok (reading_done m c.channel command)) command (operated m c.channel c.operation)) (IsLast m.committed)
     either None = last-operated m c.channel c.operation
     either (Some command) = refl
 
@@ -107,7 +107,7 @@ last-stepped m (a_command c) =
 
 pub last-step_by : (table : List Line) (m : Machine) (octets : List ℕ) → IsLast m.committed (step_by table m octets)
 unfolding step_by
-last-step_by table m octets = last-stepped m (form_of table octets (open_channels m) (chain_of m) m.committed.limit)
+last-step_by table m octets = last-stepped m (form_of table octets (open_channels m) (command_chain m) m.committed.limit)
 
 pub last-step : (m : Machine) (octets : List ℕ) → after_commits m.committed (step m octets).commits (length (step m octets).commits) ≡ (step m octets).machine.committed
 unfolding step

@@ -18,7 +18,7 @@ use Rattle.scql_model.specs.Moves.{move_of}
 use Rattle.scql_model.specs.Shown.{Shown, shown, shown_on}
 use Rattle.scql_model.specs.Reads.{read_reply, read_next}
 use Rattle.scql_model.specs.ReadingLaws.{IsReadable}
-use Rattle.scql_model.specs.Step.{Answer, answered, has_read, carried_out, stepped}
+use Rattle.scql_model.specs.Step.{Answer, answered, reading_done, carried_out, stepped}
 use Rattle.scql_model.specs.Form.{a_command}
 use Rattle.scql_model.proofs.ReadingIsShown.{reply-move_of, shown-move_of}
 
@@ -94,12 +94,12 @@ shown_on-reading m channel s reading is =
 
 -- Reading.
 has_read-reply : (m : Machine) (channel : ℕ) (command : ReadingCommand) → IsReadable (base m channel)
-    → (has_read m channel command).reply ≡ read_reply (shown_on m channel) command
+    → (reading_done m channel command).reply ≡ read_reply (shown_on m channel) command
 unfolding shown_on
 has_read-reply m channel command readable = reply-move_of (base m channel) (actor m channel) (reading_of m channel) command readable
 
 has_read-shown : (m : Machine) (channel : ℕ) (s : Session) (command : ReadingCommand) → session_of m channel ≡ Some s → IsReadable (base m channel)
-    → shown_on (has_read m channel command).machine channel ≡ read_next (shown_on m channel) command
+    → shown_on (reading_done m channel command).machine channel ≡ read_next (shown_on m channel) command
 unfolding shown_on
 has_read-shown m channel s command is readable =
     shown_on-reading m channel s (move_of (base m channel) (actor m channel) (reading_of m channel) command).after is
@@ -118,11 +118,11 @@ never_waits GetResponse le command (Some t) channel is = refl
 never_waits operation le command (Some t) channel is = absurd (none-some command is)
 
 carried_out-reading : (m : Machine) (c : Command) (command : ReadingCommand) → reading_command c.operation c.le ≡ Some command
-    → carried_out m c ≡ Ok (has_read m c.channel command)
+    → carried_out m c ≡ Ok (reading_done m c.channel command)
 carried_out-reading m c command is = rw (never_waits c.operation c.le command m.transaction c.channel is, is) refl
 
 stepped-reading : (m : Machine) (c : Command) (command : ReadingCommand) → reading_command c.operation c.le ≡ Some command
-    → stepped m (a_command c) ≡ has_read (ended m c.channel) c.channel command
+    → stepped m (a_command c) ≡ reading_done (ended m c.channel) c.channel command
 stepped-reading m c command is = ap (answered (ended m c.channel)) (carried_out-reading (ended m c.channel) c command is)
 
 -- The step of a reading command on an open channel.

@@ -36,10 +36,10 @@ short-table o columns is fits =
     let named = and_parts (nat_lt o.stamp (2 ^ 32)) (nat_lt o.owner (2 ^ 32) && (is_name o.name && (is_one_to_fifteen (length columns) && list_all is_name columns))) limits in
     let name = and_parts (nat_lt o.owner (2 ^ 32)) (is_name o.name && (is_one_to_fifteen (length columns) && list_all is_name columns)) named.1 in
     let shown = and_parts (is_name o.name) (is_one_to_fifteen (length columns) && list_all is_name columns) name.1 in
-    let counted = and_parts (is_one_to_fifteen (length columns)) (list_all is_name columns) shown.1 in
-    let few = leb-true (length columns) 15 (and_parts (nat_le 1 (length columns)) (nat_le (length columns) 15) counted.0).1 in
+    let counted_list = and_parts (is_one_to_fifteen (length columns)) (list_all is_name columns) shown.1 in
+    let few = leb-true (length columns) 15 (and_parts (nat_le 1 (length columns)) (nat_le (length columns) 15) counted_list.0).1 in
     let a = name-size o.name shown.0 in
-    let b = names-size columns counted.1 in
+    let b = names-size columns counted_list.1 in
     let c = length-append o.name (length columns ∷ flat_map spelled columns) in
     rw is (le-leb _ 512 (omega arith))
 

@@ -17,7 +17,7 @@ use Rattle.scql_model.specs.Refusals.{◌>>=◌, or_refused, provided}
 use Rattle.scql_model.specs.Database.{Database}
 use Rattle.scql_model.specs.Rules.{user_named, user_stamped}
 use Rattle.scql_model.specs.Machine.{Machine, Session, Reading, Transaction, open_channels, base, actor, session_of, no_reading}
-use Rattle.scql_model.specs.Sessions.{changing_session, chain_of, cursor_of, reading_of, reading_so, without_chain, user_of, is_open, least_closed, without_user}
+use Rattle.scql_model.specs.Sessions.{changing_session, command_chain, cursor_of, reading_of, reading_so, without_chain, user_of, is_channel_open, least_closed, without_user}
 use Rattle.scql_model.specs.Transactions.{own_transaction, waits, is_kept_waiting}
 use Rattle.scql_model.specs.Operations.{Line, kind_of}
 use Rattle.scql_model.specs.Form.{Form, refused, refused_on, part_on, a_command, form_of}
@@ -28,7 +28,7 @@ use Rattle.scql_model.specs.Rights.{seen_named}
 use Rattle.scql_model.specs.Edits.{Edit}
 use Rattle.scql_model.specs.Changing.{edits_of, with_edits}
 use Rattle.scql_model.specs.Accepting.{Accepts, is_done, at_its_end, has_more, costs_a_try, AcceptsOrLeaves}
-use Rattle.scql_model.specs.Step.{Answer, answered, has_read, changed_to, changed, user_deleted, session_named, secret_right, secret_wrong, verified, channel_opened, channel_closed, operated, carried_out, stepped, step_by}
+use Rattle.scql_model.specs.Step.{Answer, answered, reading_done, changed_to, changed, user_and_sessions_deleted, session_named, secret_right, secret_wrong, verified, channel_opened, channel_closed, operated, carried_out, stepped, step_by}
 use Rattle.scql_model.proofs.ChangingSessions.{changing_session-same}
 use Rattle.scql_model.proofs.LastCommits.{of_outcome}
 
@@ -89,7 +89,7 @@ same_reading : (session : Option Session) → option_map (reading_so (option_map
 same_reading None = refl
 same_reading (Some s) = refl
 
-stays-has_read : (m : Machine) (channel : ℕ) (command : ReadingCommand) → AcceptsOrStays m (has_read m channel command)
+stays-has_read : (m : Machine) (channel : ℕ) (command : ReadingCommand) → AcceptsOrStays m (reading_done m channel command)
 unfolding move_of
 stays-has_read m channel command = go (moved (base m channel) (actor m channel) (reading_of m channel) command) (moves-moved (base m channel) (actor m channel) (reading_of m channel) command)
   where
@@ -115,7 +115,7 @@ accepted-changed m channel operation =
     of_outcome Accepted (edits_of (base m channel) (actor m channel) (cursor_of m channel) operation) _ (λ edits.
     of_outcome Accepted (with_edits (base m channel) edits) _ (λ db. accepted-changed_to m channel edits db (own_transaction m.transaction channel)))
 
-accepted-deleted : (m : Machine) (channel : ℕ) (name : List ℕ) → IfOk (user_deleted m channel name) Accepted
+accepted-deleted : (m : Machine) (channel : ℕ) (name : List ℕ) → IfOk (user_and_sessions_deleted m channel name) Accepted
 accepted-deleted m channel name = go (changed m channel (DeleteUser name)) (accepted-changed m channel (DeleteUser name))
   where
     go : (r : Result Answer StatusWord) → IfOk r Accepted
@@ -137,11 +137,11 @@ accepted-verified m channel secret =
 
 accepted-opened : (m : Machine) (channel number : ℕ) → IfOk (channel_opened m channel number) Accepted
 accepted-opened m channel zero = of_outcome Accepted (or_refused (least_closed m) function_not_supported) _ (λ number. is_done)
-accepted-opened m channel (suc n) = of_outcome Accepted (provided (not (is_open m (suc n))) conditions_not_satisfied) _ (λ _. is_done)
+accepted-opened m channel (suc n) = of_outcome Accepted (provided (not (is_channel_open m (suc n))) conditions_not_satisfied) _ (λ _. is_done)
 
 accepted-closed : (m : Machine) (channel number : ℕ) → IfOk (channel_closed m channel number) Accepted
 accepted-closed m channel number =
-    of_outcome Accepted (provided (is_open m number) channel_not_supported) _ (λ _.
+    of_outcome Accepted (provided (is_channel_open m number) channel_not_supported) _ (λ _.
     of_outcome Accepted (provided (not (is_some (own_transaction m.transaction number))) conditions_not_satisfied) _ (λ _. is_done))
 
 accepted-operated : (m : Machine) (channel : ℕ) (operation : Operation) → IfOk (operated m channel operation) Accepted
@@ -169,7 +169,7 @@ stays-carried_out m c =
     of_outcome (AcceptsOrStays m) (provided (not (is_kept_waiting (waits (kind_of c.operation)) m.transaction c.channel)) conditions_not_satisfied) _
     (λ _. either (reading_command c.operation c.le))
   where
-    either : (command : Option ReadingCommand) → IfOk (option_map_or (λ command. Ok (has_read m c.channel command)) command (operated m c.channel c.operation)) (AcceptsOrStays m)
+    either : (command : Option ReadingCommand) → IfOk (option_map_or (λ command. Ok (reading_done m c.channel command)) command (operated m c.channel c.operation)) (AcceptsOrStays m)
     either None = or_stays-accepted m (operated m c.channel c.operation) (accepted-operated m c.channel c.operation)
     either (Some command) = stays-has_read m c.channel command
 
@@ -188,4 +188,4 @@ leaves-stepped m (a_command c) =
 
 pub step-accepts_or_leaves : (table : List Line) (m : Machine) (octets : List ℕ) → AcceptsOrLeaves m (step_by table m octets)
 unfolding step_by
-step-accepts_or_leaves table m octets = leaves-stepped m (form_of table octets (open_channels m) (chain_of m) m.committed.limit)
+step-accepts_or_leaves table m octets = leaves-stepped m (form_of table octets (open_channels m) (command_chain m) m.committed.limit)

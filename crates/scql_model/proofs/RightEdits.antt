@@ -29,8 +29,8 @@ use Rattle.scql_model.specs.Objects.{StampedRow, columns_of}
 use Rattle.scql_model.specs.Contents.{contents_of}
 use Rattle.scql_model.specs.Rights.{owns, seen_named, update_privilege, delete_privilege}
 use Rattle.scql_model.specs.Defining.{of_kind, owned_by, named_anew, has_view, removing_object, removing_rows, object_created, view_created, table_dropped, view_dropped}
-use Rattle.scql_model.specs.Granting.{grantee_named, grant_to, more_granted, left_of, less_granted, privileges_granted, privileges_revoked}
-use Rattle.scql_model.specs.Writing.{Assignment, row_inserted, written_through, row_at_place, record_at, row_after, row_updated, row_deleted}
+use Rattle.scql_model.specs.Granting.{grantee_named, grant_to, more_granted, privileges_left, less_granted, privileges_granted, privileges_revoked}
+use Rattle.scql_model.specs.Writing.{Assignment, row_inserted, written_through, row_at_place, record_at_cursor, row_after, row_updated, row_deleted}
 use Rattle.scql_model.specs.Users.{owns_user, is_needed, removing_user, user_added, user_deleted}
 use Rattle.scql_model.specs.Changing.{edits_of, is_counter, takes_stamp}
 use Rattle.scql_model.specs.Edits.{AnyRecord, of_counter, of_user, of_object, of_grant, of_row, record_stamp, Action, to_add, to_change, to_remove, Edit, making, changing, removing, has_record, edited, applied}
@@ -211,10 +211,10 @@ revoked-right db actor privileges name grantee_name =
     done-gives (AreRight db) (less_granted g privileges) (less g (granted-there db o grantee g (not_refused _ not_found g is)))
   where
     less : (g : Grant) → has_record db g.stamp ≡ true → AreRight db (less_granted g privileges)
-    less g there = elim (cases_Bool (left_of g.privileges privileges == 0)) [ inl t ↦ rw (t, there) refl | inr f ↦ rw (f, there) refl ]
+    less g there = elim (cases_Bool (privileges_left g.privileges privileges == 0)) [ inl t ↦ rw (t, there) refl | inr f ↦ rw (f, there) refl ]
 
 -- the record of the cursor's row is there
-record_at-there : (db : Database) (cursor : Cursor) (r : RowRecord) → record_at db cursor ≡ Some r → has_record db r.stamp ≡ true
+record_at-there : (db : Database) (cursor : Cursor) (r : RowRecord) → record_at_cursor db cursor ≡ Some r → has_record db r.stamp ≡ true
 record_at-there db cursor r found = go (row_at_place (contents_of db cursor.object) cursor cursor.place) found
   where
     go : (o : Option StampedRow) → option_and_then (λ (s : StampedRow). find (λ (t : RowRecord). t.stamp == s.stamp) db.rows) o ≡ Some r → has_record db r.stamp ≡ true
@@ -227,7 +227,7 @@ updated-right db actor cursor assignments =
     bound-gives (AreRight db) (opened cursor) _ λ c _.
     bound-gives (AreRight db) (written_through db actor update_privilege c) _ λ o _.
     bound-gives (AreRight db) (provided (are_among (map (λ (a : Assignment). a.0) assignments) (columns_of o.kind)) not_found) _ λ _ _.
-    bound-gives (AreRight db) (or_refused (record_at db c) record_not_found) _ λ r is.
+    bound-gives (AreRight db) (or_refused (record_at_cursor db c) record_not_found) _ λ r is.
     bound-gives (AreRight db) (provided (nat_le (row_size (row_after db assignments r).row) db.limit) wrong_data) _ λ _ _.
     done-gives (AreRight db) (changing (of_row (row_after db assignments r)) ∷ []) (rw (record_at-there db c r (not_refused _ record_not_found r is)) refl)
 
@@ -236,7 +236,7 @@ unfolding row_deleted
 deleted-right db actor cursor =
     bound-gives (AreRight db) (opened cursor) _ λ c _.
     bound-gives (AreRight db) (written_through db actor delete_privilege c) _ λ _ _.
-    bound-gives (AreRight db) (or_refused (record_at db c) record_not_found) _ λ r is.
+    bound-gives (AreRight db) (or_refused (record_at_cursor db c) record_not_found) _ λ r is.
     done-gives (AreRight db) (removing (of_row r) ∷ []) (rw (record_at-there db c r (not_refused _ record_not_found r is)) refl)
 
 user_deleted-right : (db : Database) (actor : Actor) (name : List ℕ) → Gives (AreRight db) (user_deleted db actor name)

@@ -4,7 +4,7 @@ use Rattle.std.proofs.lemmas.Bool.{eqb-true}
 use Rattle.std.proofs.lemmas.List.{length-append, take-append-drop}
 use Rattle.std.proofs.lemmas.Option.{none-some, same_Some, option_and_then_some}
 use Rattle.scql_base.specs.Name.{is_name}
-use Rattle.scql_model.specs.Fields.{Field, number, octet, letter, text, ◌then◌, as_record, marked, whole, with_rest}
+use Rattle.scql_model.specs.Fields.{Field, number, octet, letter, text, ◌then◌, as_record, with_mark, whole, with_rest}
 use Rattle.scql_base.specs.declared.records.User.{User}
 use Rattle.scql_model.specs.Records.{profile_code, profile_of, is_secret, is_tries, to_user, from_user, counter_record, user_record, counter_in, user_in}
 use Rattle.scql_model.proofs.FieldLaws.{mapped_some, chosen_some, not_chosen_some}
@@ -68,7 +68,7 @@ measured-as_record {A} {B} to from f back measured = record {
       omega (arith, whole, behind, value));
 }
 
-all-marked : {A : Type 0} (mark : ℕ) (f : Field A) → IsMeasured f → (octets : List ℕ) (x : A) (rest : List ℕ) → (marked mark f).read octets ≡ Some (x, rest) → length octets ≡ length ((marked mark f).spell x) + length rest
+all-marked : {A : Type 0} (mark : ℕ) (f : Field A) → IsMeasured f → (octets : List ℕ) (x : A) (rest : List ℕ) → (with_mark mark f).read octets ≡ Some (x, rest) → length octets ≡ length ((with_mark mark f).spell x) + length rest
 all-marked mark f measured [] x rest is = absurd (none-some (x, rest) is)
 all-marked mark f measured (first ∷ octets) x rest is =
     let whole = measured.all octets x rest (chosen_some (first == mark) (f.read octets) (x, rest) is).1 in omega (arith, whole)
@@ -85,7 +85,7 @@ measured-letter code value = record { all = all-letter code value }
 measured-text : (test : List ℕ → Bool) → IsMeasured (text test)
 measured-text test = record { all = all-text test }
 
-measured-marked : {A : Type 0} (mark : ℕ) (f : Field A) → IsMeasured f → IsMeasured (marked mark f)
+measured-marked : {A : Type 0} (mark : ℕ) (f : Field A) → IsMeasured f → IsMeasured (with_mark mark f)
 measured-marked mark f measured = record { all = all-marked mark f measured }
 
 measured-whole : {A : Type 0} (f : Field A) → IsMeasured f → (octets : List ℕ) (x : A) → whole f.read octets ≡ Some x → length octets ≡ length (f.spell x)

@@ -10,12 +10,12 @@ pub record Field (A : Type 0) : Type 0 where
   pub read : List ℕ → Option (A × List ℕ)
 
 -- a number in four octets, the highest first
-abbrev pub number_at : List ℕ → Option (ℕ × List ℕ)
-number_at (a ∷ b ∷ c ∷ d ∷ rest) = Some (from_be_bytes w32 (a ∷ b ∷ c ∷ d ∷ []), rest)
-number_at octets = None
+abbrev pub number_from : List ℕ → Option (ℕ × List ℕ)
+number_from (a ∷ b ∷ c ∷ d ∷ rest) = Some (from_be_bytes w32 (a ∷ b ∷ c ∷ d ∷ []), rest)
+number_from octets = None
 
 abbrev pub number : Field ℕ
-number = record { spell = λ n. to_be_bytes w32 n; fits = λ n. nat_lt n (2 ^ 32); read = number_at }
+number = record { spell = λ n. to_be_bytes w32 n; fits = λ n. nat_lt n (2 ^ 32); read = number_from }
 
 -- one octet that passes a test
 abbrev pub octet_at : (ℕ → Bool) → List ℕ → Option (ℕ × List ℕ)
@@ -74,8 +74,8 @@ abbrev pub counted_at : {A : Type 0} → (ℕ → Bool) → (List ℕ → Option
 counted_at test f [] = None
 counted_at test f (count ∷ octets) = if test count then many_at f count octets else None
 
-abbrev pub counted : {A : Type 0} → (ℕ → Bool) → Field A → Field (List A)
-counted {A} test f = record {
+abbrev pub counted_list : {A : Type 0} → (ℕ → Bool) → Field A → Field (List A)
+counted_list {A} test f = record {
   spell = λ (xs : List A). length xs ∷ flat_map f.spell xs;
   fits = λ (xs : List A). test (length xs) && list_all f.fits xs;
   read = counted_at test f.read;
@@ -97,8 +97,8 @@ abbrev pub marked_at : {A : Type 0} → ℕ → (List ℕ → Option (A × List 
 marked_at mark f [] = None
 marked_at mark f (octet ∷ octets) = if octet == mark then f octets else None
 
-abbrev pub marked : {A : Type 0} → ℕ → Field A → Field A
-marked {A} mark f = record { spell = λ (x : A). mark ∷ f.spell x; fits = f.fits; read = marked_at mark f.read }
+abbrev pub with_mark : {A : Type 0} → ℕ → Field A → Field A
+with_mark {A} mark f = record { spell = λ (x : A). mark ∷ f.spell x; fits = f.fits; read = marked_at mark f.read }
 
 -- what a reader gives of octets of which nothing is left over
 abbrev pub whole : {A : Type 0} → (List ℕ → Option (A × List ℕ)) → List ℕ → Option A

@@ -54,10 +54,10 @@ tail_of (le ∷ []) = Some (record { body = None; le = Some (le_of le) })
 tail_of (lc ∷ x ∷ rest) = if lc == 0 then None else data_of lc (x ∷ rest)
 
 -- the cases that an operation takes
-abbrev pub is_taken : Takes → Tail → Bool
-is_taken nothing tail = is_none tail.body
-is_taken a_data_field tail = is_some tail.body
-is_taken le_alone tail = is_none tail.body && is_some tail.le
+abbrev pub takes_case : Takes → Tail → Bool
+takes_case nothing tail = is_none tail.body
+takes_case a_data_field tail = is_some tail.body
+takes_case le_alone tail = is_none tail.body && is_some tail.le
 
 -- case 3: data without Le
 abbrev pub is_case_3 : Tail → Bool
@@ -123,7 +123,7 @@ line_on table channel ins p1 p2 = do
 abbrev pub taken_in : Takes → Bool → List ℕ → Result Tail StatusWord
 taken_in takes is_part after = do
   tail ← or_refused (tail_of after) wrong_length
-  _ ← provided (is_taken takes tail && (not is_part || is_case_3 tail)) wrong_length
+  _ ← provided (takes_case takes tail && (not is_part || is_case_3 tail)) wrong_length
   Ok tail
 
 -- What octets are, by a table of operations, where these channels are open, with the chain of each channel, and where a row has at most so many octets.

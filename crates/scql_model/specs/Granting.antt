@@ -39,13 +39,13 @@ privileges_granted db actor privileges name grantee_name = do
   Ok (more_granted db o grantee privileges (grant_to db o grantee))
 
 -- the privileges that are left of a grant; without any the grant goes
-abbrev pub left_of : ℕ → ℕ → ℕ
-left_of held taken = held - bit_and held taken
+abbrev pub privileges_left : ℕ → ℕ → ℕ
+privileges_left held taken = held - bit_and held taken
 
 abbrev pub less_granted : Grant → ℕ → List Edit
 less_granted g privileges =
-    if left_of g.privileges privileges == 0 then removing (of_grant g) ∷ []
-    else changing (of_grant (record g { privileges = left_of g.privileges privileges })) ∷ []
+    if privileges_left g.privileges privileges == 0 then removing (of_grant g) ∷ []
+    else changing (of_grant (record g { privileges = privileges_left g.privileges privileges })) ∷ []
 
 -- REVOKE
 unfoldable pub privileges_revoked : Database → Actor → ℕ → List ℕ → List ℕ → Result (List Edit) StatusWord

@@ -17,7 +17,7 @@ use Rattle.scql_base.specs.declared.records.RowRecord.{RowRecord}
 use Rattle.scql_base.specs.Name.{is_name}
 use Rattle.scql_base.specs.Row.{is_narrow, row_size}
 use Rattle.scql_base.specs.Strings.{spelled, params_of}
-use Rattle.scql_model.specs.Fields.{Field, ◌then◌, number, octet, letter, text, counted, as_record, marked, whole}
+use Rattle.scql_model.specs.Fields.{Field, ◌then◌, number, octet, letter, text, counted_list, as_record, with_mark, whole}
 
 -- Codes.
 abbrev pub profile_code : Profile → ℕ
@@ -75,7 +75,7 @@ is_row values = is_one_to_fifteen (length values) && list_all is_narrow values &
 
 -- The spellings. Columns and values are texts; a row's values go to the end.
 abbrev pub columns : Field (List (List ℕ))
-columns = counted is_one_to_fifteen (text is_name)
+columns = counted_list is_one_to_fifteen (text is_name)
 
 abbrev pub to_condition : List ℕ × (Comparison × List ℕ) → Condition
 to_condition x = record { column = x.0; comparison = x.1.0; value = x.1.1 }
@@ -85,7 +85,7 @@ from_condition c = (c.column, (c.comparison, c.value))
 
 abbrev pub conditions : Field (List Condition)
 conditions =
-    counted is_at_most_eight (as_record to_condition from_condition (text is_name then letter comparison_code comparison_of then text is_narrow))
+    counted_list is_at_most_eight (as_record to_condition from_condition (text is_name then letter comparison_code comparison_of then text is_narrow))
 
 abbrev pub no_rest : List (List ℕ) → Option (List (List ℕ) × List ℕ)
 no_rest values = if is_row values then Some (values, []) else None
@@ -99,7 +99,7 @@ values_to_the_end = record {
 
 -- counter: the next stamp
 abbrev pub counter_record : Field ℕ
-counter_record = marked 0x00 number
+counter_record = with_mark 0x00 number
 
 -- user: stamp, owner, profile, tries, name, secret
 abbrev pub to_user : ℕ × (ℕ × (Profile × (ℕ × (List ℕ × List ℕ)))) → User
@@ -110,19 +110,19 @@ from_user u = (u.stamp, (u.owner, (u.profile, (u.tries, (u.name, u.secret)))))
 
 abbrev pub user_record : Field User
 user_record =
-    marked 0x01 (as_record to_user from_user (number then number then letter profile_code profile_of then octet is_tries then text is_name then text is_secret))
+    with_mark 0x01 (as_record to_user from_user (number then number then letter profile_code profile_of then octet is_tries then text is_name then text is_secret))
 
 -- table: stamp, owner, name, columns
 abbrev pub table_record : Field (ℕ × (ℕ × (List ℕ × List (List ℕ))))
-table_record = marked 0x02 (number then number then text is_name then columns)
+table_record = with_mark 0x02 (number then number then text is_name then columns)
 
 -- view: stamp, owner, base, name, columns, conditions
 abbrev pub view_record : Field (ℕ × (ℕ × (ℕ × (List ℕ × (List (List ℕ) × List Condition)))))
-view_record = marked 0x03 (number then number then number then text is_name then columns then conditions)
+view_record = with_mark 0x03 (number then number then number then text is_name then columns then conditions)
 
 -- dictionary: stamp, owner, name, letter
 abbrev pub dictionary_record : Field (ℕ × (ℕ × (List ℕ × Subject)))
-dictionary_record = marked 0x04 (number then number then text is_name then letter subject_code subject_of)
+dictionary_record = with_mark 0x04 (number then number then text is_name then letter subject_code subject_of)
 
 -- grant: stamp, object, grantee, privileges
 abbrev pub to_grant : ℕ × (ℕ × (ℕ × ℕ)) → Grant
@@ -132,7 +132,7 @@ abbrev pub from_grant : Grant → ℕ × (ℕ × (ℕ × ℕ))
 from_grant g = (g.stamp, (g.object, (g.grantee, g.privileges)))
 
 abbrev pub grant_record : Field Grant
-grant_record = marked 0x05 (as_record to_grant from_grant (number then number then number then octet is_privileges))
+grant_record = with_mark 0x05 (as_record to_grant from_grant (number then number then number then octet is_privileges))
 
 -- row: stamp, table, values
 abbrev pub to_row : ℕ × (ℕ × List (List ℕ)) → RowRecord
@@ -142,7 +142,7 @@ abbrev pub from_row : RowRecord → ℕ × (ℕ × List (List ℕ))
 from_row r = (r.stamp, (r.table, r.row))
 
 abbrev pub row_record : Field RowRecord
-row_record = marked 0x06 (as_record to_row from_row (number then number then values_to_the_end))
+row_record = with_mark 0x06 (as_record to_row from_row (number then number then values_to_the_end))
 
 abbrev pub object_spelling : Object → List ℕ
 object_spelling o = kind_spelling o o.kind

@@ -18,8 +18,8 @@ abbrev pub changing_session : (Session → Session) → Machine → ℕ → Mach
 changing_session change m channel = with_session m channel (option_map change (session_of m channel))
 
 -- The parts of a command that a channel has so far.
-abbrev pub chain_of : Machine → ℕ → Option Chain
-chain_of m channel = option_and_then (λ (s : Session). s.chain) (session_of m channel)
+abbrev pub command_chain : Machine → ℕ → Option Chain
+command_chain m channel = option_and_then (λ (s : Session). s.chain) (session_of m channel)
 
 abbrev pub without_chain : Session → Session
 without_chain s = record s { chain = None }
@@ -69,11 +69,11 @@ abbrev pub without_user : Machine → ℕ → Machine
 without_user m stamp = record m { sessions = map (option_map (left_by stamp)) m.sessions }
 
 -- Which channels are open.
-abbrev pub is_open : Machine → ℕ → Bool
-is_open m channel = is_some (session_of m channel)
+abbrev pub is_channel_open : Machine → ℕ → Bool
+is_channel_open m channel = is_some (session_of m channel)
 
 abbrev pub least_closed : Machine → Option ℕ
-least_closed m = find (λ channel. not (is_open m channel)) (1 ∷ 2 ∷ 3 ∷ [])
+least_closed m = find (λ channel. not (is_channel_open m channel)) (1 ∷ 2 ∷ 3 ∷ [])
 
 -- a session that keeps nothing but its user
 abbrev pub IsIdle : Session → Type 0

@@ -12,7 +12,7 @@ use Rattle.scql_model.specs.Commands.{Reply, said}
 use Rattle.scql_model.specs.Refusals.{◌>>=◌, or_refused, provided}
 use Rattle.scql_model.specs.Database.{Database, public_name, user_named, user_stamped}
 use Rattle.scql_model.specs.Machine.{Machine, Session, Transaction, new_session, session_for, open_channels, base, actor}
-use Rattle.scql_model.specs.Sessions.{with_session, changing_session, chain_of, without_chain, with_part, reading_of, cursor_of, reading_so, without_pending, without_cursor, user_of, presented, proving, without_user, is_open, least_closed}
+use Rattle.scql_model.specs.Sessions.{with_session, changing_session, command_chain, without_chain, with_part, reading_of, cursor_of, reading_so, without_pending, without_cursor, user_of, presented, proving, without_user, is_channel_open, least_closed}
 use Rattle.scql_model.specs.Transactions.{own_transaction, waits, is_kept_waiting}
 use Rattle.scql_model.specs.Operations.{Line, built_operations, kind_of}
 use Rattle.scql_model.specs.Form.{Form, refused, refused_on, part_on, a_command, form_of}
@@ -36,8 +36,8 @@ abbrev pub done_with : Machine → ℕ → List Database → Answer
 done_with m channel commits = record { reply = said done; machine = changing_session without_pending m channel; commits = commits }
 
 -- A reading command moves over what its channel reads, for whom it acts.
-abbrev pub has_read : Machine → ℕ → ReadingCommand → Answer
-has_read m channel command =
+abbrev pub reading_done : Machine → ℕ → ReadingCommand → Answer
+reading_done m channel command =
     let move = move_of (base m channel) (actor m channel) (reading_of m channel) command in
     record { reply = move.reply; machine = changing_session (reading_so move.after) m channel; commits = [] }
 
@@ -54,27 +54,27 @@ changed m channel operation = do
   Ok (changed_to m channel edits db (own_transaction m.transaction channel))
 
 -- DELETE USER: besides, each session that presented the user has neither user nor cursor any more
-abbrev pub user_deleted : Machine → ℕ → List ℕ → Result Answer StatusWord
-user_deleted m channel name = do
+abbrev pub user_and_sessions_deleted : Machine → ℕ → List ℕ → Result Answer StatusWord
+user_and_sessions_deleted m channel name = do
   answer ← changed m channel (DeleteUser name)
   u ← or_refused (user_named (base m channel).users name) not_found
   Ok (record answer { machine = without_user answer.machine u.stamp })
 
 -- BEGIN: the working database begins as the committed one
-abbrev pub begun : Machine → ℕ → Result Answer StatusWord
-begun m channel = do
+abbrev pub transaction_begun : Machine → ℕ → Result Answer StatusWord
+transaction_begun m channel = do
   _ ← provided (not (is_some m.transaction)) conditions_not_satisfied
   Ok (done_with (record m { transaction = Some (record { channel = channel; working = m.committed; touched = [] }) }) channel [])
 
 -- COMMIT: the working database is committed
-abbrev pub committed : Machine → ℕ → Result Answer StatusWord
-committed m channel = do
+abbrev pub transaction_committed : Machine → ℕ → Result Answer StatusWord
+transaction_committed m channel = do
   t ← or_refused (own_transaction m.transaction channel) conditions_not_satisfied
   Ok (done_with (record m { committed = t.working; transaction = None }) channel (t.working ∷ []))
 
 -- ROLLBACK: the working database is dropped, and so is the channel's cursor
-abbrev pub rolled_back : Machine → ℕ → Result Answer StatusWord
-rolled_back m channel = do
+abbrev pub transaction_rolled_back : Machine → ℕ → Result Answer StatusWord
+transaction_rolled_back m channel = do
   _ ← or_refused (own_transaction m.transaction channel) conditions_not_satisfied
   Ok (done_with (changing_session without_cursor (record m { transaction = None }) channel) channel [])
 
@@ -123,23 +123,23 @@ channel_opened m channel zero = do
   number ← or_refused (least_closed m) function_not_supported
   Ok (record (done_with (with_session m number (Some new_session)) channel []) { reply = record { body = number ∷ []; word = done } })
 channel_opened m channel (suc n) = do
-  _ ← provided (not (is_open m (suc n))) conditions_not_satisfied
+  _ ← provided (not (is_channel_open m (suc n))) conditions_not_satisfied
   Ok (done_with (with_session m (suc n) (Some new_session)) channel [])
 
 -- a channel is closed, unless it has the open transaction
 abbrev pub channel_closed : Machine → ℕ → ℕ → Result Answer StatusWord
 channel_closed m channel number = do
-  _ ← provided (is_open m number) channel_not_supported
+  _ ← provided (is_channel_open m number) channel_not_supported
   _ ← provided (not (is_some (own_transaction m.transaction number))) conditions_not_satisfied
   Ok (done_with (with_session m number None) channel [])
 
 -- what an operation does that doesn't read
 abbrev pub operated : Machine → ℕ → Operation → Result Answer StatusWord
-operated m channel Begin = begun m channel
-operated m channel Commit = committed m channel
-operated m channel Rollback = rolled_back m channel
+operated m channel Begin = transaction_begun m channel
+operated m channel Commit = transaction_committed m channel
+operated m channel Rollback = transaction_rolled_back m channel
 operated m channel (PresentUser name) = user_presented m channel name
-operated m channel (DeleteUser name) = user_deleted m channel name
+operated m channel (DeleteUser name) = user_and_sessions_deleted m channel name
 operated m channel (Verify secret) = verified m channel secret
 operated m channel (OpenChannel number) = channel_opened m channel number
 operated m channel (CloseChannel number) = channel_closed m channel (if number == 0 then channel else number)
@@ -149,7 +149,7 @@ operated m channel operation = changed m channel operation
 abbrev pub carried_out : Machine → Command → Result Answer StatusWord
 carried_out m c = do
   _ ← provided (not (is_kept_waiting (waits (kind_of c.operation)) m.transaction c.channel)) conditions_not_satisfied
-  option_map_or (λ command. Ok (has_read m c.channel command)) (reading_command c.operation c.le) (operated m c.channel c.operation)
+  option_map_or (λ command. Ok (reading_done m c.channel command)) (reading_command c.operation c.le) (operated m c.channel c.operation)
 
 -- Every command but a part leaves its channel without a chain, and so does each refusal that comes after the channel is known.
 abbrev pub stepped : Machine → Form → Answer
@@ -162,7 +162,7 @@ stepped m (a_command c) =
 
 -- the step to octets, by a table of operations
 unfoldable pub step_by : List Line → Machine → List ℕ → Answer
-step_by table m octets = stepped m (form_of table octets (open_channels m) (chain_of m) m.committed.limit)
+step_by table m octets = stepped m (form_of table octets (open_channels m) (command_chain m) m.committed.limit)
 
 -- the step of today's card
 unfoldable pub step : Machine → List ℕ → Answer

@@ -44,8 +44,8 @@ row_at_place contents cursor (At stamp) = row_at stamp (chosen contents cursor)
 row_at_place contents cursor place = None
 
 -- the record of that row, which is a row of a table
-abbrev pub record_at : Database → Cursor → Option RowRecord
-record_at db cursor =
+abbrev pub record_at_cursor : Database → Cursor → Option RowRecord
+record_at_cursor db cursor =
     option_and_then (λ (r : StampedRow). find (λ (s : RowRecord). s.stamp == r.stamp) db.rows) (row_at_place (contents_of db cursor.object) cursor cursor.place)
 
 -- the columns of the table of a row
@@ -74,7 +74,7 @@ row_updated db actor cursor assignments = do
   cursor ← opened cursor
   o ← written_through db actor update_privilege cursor
   _ ← provided (are_among (map (λ (a : Assignment). a.0) assignments) (columns_of o.kind)) not_found
-  r ← or_refused (record_at db cursor) record_not_found
+  r ← or_refused (record_at_cursor db cursor) record_not_found
   _ ← provided (nat_le (row_size (row_after db assignments r).row) db.limit) wrong_data
   Ok (changing (of_row (row_after db assignments r)) ∷ [])
 
@@ -83,5 +83,5 @@ unfoldable pub row_deleted : Database → Actor → Option Cursor → Result (Li
 row_deleted db actor cursor = do
   cursor ← opened cursor
   _ ← written_through db actor delete_privilege cursor
-  r ← or_refused (record_at db cursor) record_not_found
+  r ← or_refused (record_at_cursor db cursor) record_not_found
   Ok (removing (of_row r) ∷ [])
