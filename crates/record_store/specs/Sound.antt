@@ -5,7 +5,7 @@ use Rattle.eeprom.specs.StoreOf.{is_distinct, longest_chain}
 use Rattle.cell_store.specs.Cells.{Cells, IsInRange, link_in}
 use Rattle.cell_store.specs.Chains.{AreLinked, is_among}
 use Rattle.cell_store.specs.Marks.{is_marked}
-use Rattle.record_store.specs.Held.{Held, cells_of_store, firsts}
+use Rattle.record_store.specs.Held.{Held, firsts}
 use Rattle.record_store.specs.declared.side.Side.TheVariants.{Working}
 
 -- the chains along the links that begin at these cells, each of at most as many cells as a record has
@@ -33,16 +33,16 @@ AreBeside committed working chains cells = (slot : ℕ) → (slice_index working
 pub record KeepsSides (held : Held) : Type 0 where
   pub committed : List (List ℕ)
   pub working : List (List ℕ)
-  pub committed_has : HasChains held.cells held.links held.committed committed
-  pub working_has : HasChains held.cells held.links (firsts held Working) working
+  pub committed_has : HasChains held.chains.cells held.chains.links held.committed committed
+  pub working_has : HasChains held.chains.cells held.chains.links (firsts held Working) working
   pub beside : AreBeside held.committed (firsts held Working) working (cells_in committed)
-  pub used : (cell : ℕ) → is_marked held.used cell ≡ (is_among cell (cells_in committed) || is_among cell (cells_in working))
+  pub used : (cell : ℕ) → is_marked held.chains.used cell ≡ (is_among cell (cells_in committed) || is_among cell (cells_in working))
 
 pub record IsSound (held : Held) : Type 0 where
-  pub range : IsInRange (cells_of_store held)
+  pub range : IsInRange held.chains
   pub selector : held.selector < 2
-  pub committed_count : length held.committed ≡ held.cells
-  pub working_count : length held.working ≡ held.cells
+  pub committed_count : length held.committed ≡ held.chains.cells
+  pub working_count : length held.working ≡ held.chains.cells
   pub sides : KeepsSides held
 
 -- the slots that begin at these cells have chains, whose cells are used, and no others
