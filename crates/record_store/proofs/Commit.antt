@@ -196,7 +196,7 @@ committed-image held used was octets fewer range stands begun size is =
           selector = rw octet parity;
           selected = selects;
         };
-        links = λ cell is. stands.links cell (fewer cell is) ∙ sym (links-beside now was n cell beside.cells);
+        links = record { each = λ cell is. stands.links.each cell (fewer cell is) ∙ sym (links-beside now was n cell beside.cells) };
         committed = rw slots there;
         working = rw slots there;
       };

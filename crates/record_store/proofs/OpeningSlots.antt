@@ -7,18 +7,18 @@ use Rattle.std.proofs.lemmas.List.Folds.{list_all-append}
 use Rattle.std.proofs.lemmas.Option.{same_Some}
 use Rattle.eeprom.specs.Chip.{Chip, Becomes, RisesBy}
 use Rattle.eeprom.specs.StoreOf.{Slots, numbers_at, chain_of, chains_of, is_record, slot_of, slots_at, store_of, directory, are_apart, cells_for, cells_of, weight_of}
-use Rattle.cell_store.specs.Cells.{Cells, StandsFor, all_free}
+use Rattle.cell_store.specs.Cells.{Cells, AreLinkedIn, all_free}
 use Rattle.cell_store.specs.Chains.{AreFree, IsRecordChain, is_among}
 use Rattle.cell_store.specs.Claims.{TakesChain, HasRecord, HasNoRecord}
 use Rattle.cell_store.proofs.Chains.{chain-empty, chains-push, chains-take}
 use Rattle.cell_store.proofs.Placements.{nowhere}
 use Rattle.record_store.specs.Header.{IsHeaderOf}
 use Rattle.record_store.specs.declared.header.Header.{Header}
-use Rattle.record_store.specs.Held.{Held, IsOver, contents, StandsFor as HeldStandsFor}
+use Rattle.record_store.specs.Held.{Held, IsOver, contents, StandsFor}
 use Rattle.record_store.specs.Opening.{HeldSoFar, IsOverSoFar, StandsSoFar, IsSoundSoFar, TakesSlot, IsSlot, ReadsStore, front_octets, slots_so_far, slot_with}
 use Rattle.record_store.specs.Sound.{Claimed, IsSound, cells_in}
 use Rattle.record_store.specs.declared.side.Side.TheVariants.{Committed}
-use Rattle.record_store.proofs.ClaimedSlots.{all_free-range, claimed-start, stands-start, Claims, cells-more, claims-so_far, claims-record, claims-refused, claims-over, claimed-more, distinct-more, marked-claimed, takes-range}
+use Rattle.record_store.proofs.ClaimedSlots.{all_free-range, claimed-start, linked-start, Claims, cells-more, claims-so_far, claims-record, claims-refused, claims-over, claimed-more, distinct-more, marked-claimed, takes-range}
 use Rattle.record_store.proofs.Weights.{store-begins, slots-chains, some-slots, header-room, cells-chains, chains-told}
 
 -- so many octets were read until then
@@ -64,7 +64,7 @@ stands-begun header firsts store (Some image) is begins selected =
     let none : nat_le 0 header.cells ≡ true = grind (arith, nat_tests) in
     subst (λ (store : Cells). StandsSoFar (held_of store header.selector firsts 0 0) image) (sym is) (record {
       begins = record { front = begins.front; header = begins.fields; cells = begins.cells; selector = begins.selector; selected = rw (begins.selector) (sym selected) };
-      links = (stands-start header.cells image).links;
+      links = linked-start header.cells image;
       claimed = rw none refl;
     })
 
@@ -115,7 +115,7 @@ slots-next held new count octets (Some image) sound left takes fits stands =
     next-slots held new count octets image slots.0 sound left takes fits stands slots.1 ∙ ap (λ (slots : Option Slots). option_map (λ slots. slots ++ slot_with octets ∷ []) slots) (sym slots.1)
 
 pub stands-next : (held : HeldSoFar) (new : Cells) (count : ℕ) (octets : List ℕ) (image : Option (List ℕ)) → IsSoundSoFar held → held.claimed < held.chains.cells → TakesSlot image held.chains new (get_or held.firsts held.claimed 0) octets count
-    → IfSome image (λ image. StandsFor held.chains image → StandsFor new image) → held.weight + count ≤ held.chains.cells → IfSome image (StandsSoFar held) → IfSome image (StandsSoFar (with_slot held new count))
+    → IfSome image (λ image. AreLinkedIn held.chains image → AreLinkedIn new image) → held.weight + count ≤ held.chains.cells → IfSome image (StandsSoFar held) → IfSome image (StandsSoFar (with_slot held new count))
 stands-next held new count octets None sound left takes links fits stands = tt
 stands-next held new count octets (Some image) sound left takes links fits stands =
     let slots = some-slots (slots_so_far held image) stands.claimed in
@@ -127,7 +127,7 @@ stands-next held new count octets (Some image) sound left takes links fits stand
         selector = stands.begins.selector;
         selected = ap (directory image) takes.chain.cells ∙ stands.begins.selected;
       };
-      links = (links (record { links = stands.links })).links;
+      links = links stands.links;
       claimed = rw (next-slots held new count octets image slots.0 sound left takes fits stands slots.1) refl;
     }
 
@@ -236,11 +236,11 @@ result-count (Ok count) octets is some = is ∙ cells-with octets some
 result-count (Err e) octets is some = tt
 
 -- what is said of an opened store, where its image is told
-finished-stands : (held : HeldSoFar) (store : Held) (image : Option (List ℕ)) → ((image : List ℕ) → StandsSoFar held image → HeldStandsFor store image) → IfSome image (StandsSoFar held) → IfSome image (HeldStandsFor store)
+finished-stands : (held : HeldSoFar) (store : Held) (image : Option (List ℕ)) → ((image : List ℕ) → StandsSoFar held image → StandsFor store image) → IfSome image (StandsSoFar held) → IfSome image (StandsFor store)
 finished-stands held store None finished stands = tt
 finished-stands held store (Some image) finished stands = finished image stands
 
-pub finished-over : (held : HeldSoFar) (store : Held) (chip : Chip) → ((image : List ℕ) → StandsSoFar held image → HeldStandsFor store image) → store.chains.cells ≡ held.chains.cells → IsOverSoFar held chip → IsOver store chip
+pub finished-over : (held : HeldSoFar) (store : Held) (chip : Chip) → ((image : List ℕ) → StandsSoFar held image → StandsFor store image) → store.chains.cells ≡ held.chains.cells → IsOverSoFar held chip → IsOver store chip
 finished-over held store chip finished cells over = record { room = rw cells over.room; stands = finished-stands held store chip.image finished over.stands }
 
 pub finished-opened : (held : HeldSoFar) (store : Held) (image : Option (List ℕ)) → ((image : List ℕ) → StandsSoFar held image → store_of image ≡ contents store Committed image) → IfSome image (StandsSoFar held) → IfSome image (λ image. store_of image ≡ contents store Committed image)

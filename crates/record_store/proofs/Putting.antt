@@ -7,7 +7,7 @@ use Rattle.std.proofs.lemmas.Option.{same_Some}
 use Rattle.std.proofs.lemmas.List.Sums.{sum_by-cons, sum_by-set}
 use Rattle.eeprom.specs.Chip.{Chip, Keeps}
 use Rattle.eeprom.specs.StoreOf.{Slots, chain_of, chains_of, cells_for, cells_of, is_record, slot_of, slots_at, are_apart, directory, starts_with_magic, has_header, number_at, store_of}
-use Rattle.cell_store.specs.Cells.{kept, AreLinksOf}
+use Rattle.cell_store.specs.Cells.{kept, AreLinkedIn}
 use Rattle.cell_store.specs.Chains.{is_among, steps}
 use Rattle.cell_store.specs.Claims.{TakesChain}
 use Rattle.cell_store.specs.Marks.{StaysMarked, is_marked, marked, unmarked}
@@ -95,7 +95,7 @@ keeps-store held marks n old new cells used sound stands keeps =
     }
 
 -- one slot has another chain, and the others are as they were
-refilled : (held next : Held) (slot first : ℕ) (chain was now : List ℕ) (slots : Slots) → IsSound held → IsSound next → next.chains.cells ≡ held.chains.cells → firsts next Working ≡ set (firsts held Working) slot first → StandsFor held was → AreLinksOf now next.chains
+refilled : (held next : Held) (slot first : ℕ) (chain was now : List ℕ) (slots : Slots) → IsSound held → IsSound next → next.chains.cells ≡ held.chains.cells → firsts next Working ≡ set (firsts held Working) slot first → StandsFor held was → AreLinkedIn next.chains now
     → Keeping held.chains.used held.chains.cells now was → slot < length (firsts held Working) → chain_of now held.chains.cells (2 * held.chains.cells) first ≡ Some chain → is_record now held.chains.cells chain ≡ true → contents held Working was ≡ Some slots
     → contents next Working now ≡ Some (set slots slot (slot_of now held.chains.cells chain))
 refilled held next slot first chain was now slots sound next_sound same_cells same_firsts stands links keeping inside of is there =
@@ -130,7 +130,7 @@ stands-emptied held slot used image sound next_sound begun inside fewer stands =
     let working_is : firsts held Working ≡ held.working = rw begun refl in
     let next_is : firsts (emptied held slot used) Working ≡ set (firsts held Working) slot 65535 = rw begun refl in
     let within : slot < length (firsts held Working) = rw working_is (omega (arith, inside, sound.working_count)) in
-    let links : AreLinksOf image (record held.chains { used = used }) = λ cell is. stands.links cell (fewer cell is) in
+    let links : AreLinkedIn (record held.chains { used = used }) image = record { each = λ cell is. stands.links.each cell (fewer cell is) } in
     let there : contents (emptied held slot used) Working image ≡ Some (set slots.0 slot None) =
     refilled held (emptied held slot used) slot 65535 [] image image slots.0 sound next_sound refl next_is stands links (Keeping-same held.chains.used n image) within (nowhere image n (2 * n)) refl slots.1 in
     record {
@@ -155,7 +155,7 @@ put-done held slot first count used links octets was now sound next_sound begun 
     let next_is : firsts next Working ≡ set (firsts held Working) slot first = rw begun refl in
     let within : slot < length (firsts held Working) = rw working_is (omega (arith, inside, sound.working_count)) in
     let reads = w.reads takes.chain takes.linked in
-    let linked = (w.stands (record { links = stands.links })).links in
+    let linked = w.links stands.links in
     let there = refilled held next slot first takes.chain was now slots.0 sound next_sound refl next_is stands linked w.keeping within reads.0.of reads.0.is slots.1 in
     let working : contents next Working now ≡ Some (set slots.0 slot (Some octets)) = there ∙ ap (λ (entry : Option (List ℕ)). Some (set slots.0 slot entry)) reads.1 in
     let committed = side-kept held Committed now was sound stands stands.committed w.keeping in

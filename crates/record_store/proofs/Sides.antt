@@ -243,6 +243,10 @@ emptied-used held sound slot used begun inside e cell = same-test (is_marked use
       ]
     ]
 
+-- the chains are the same, whichever cells are used
+with-used : (store : Cells) (used : List Bool) {firsts : List ℕ} {chains : List (List ℕ)} → HasChains store firsts chains → HasChains (record store { used = used }) firsts chains
+with-used store used has = record { are = has.are; distinct = has.distinct; few = has.few }
+
 few-put : (n : ℕ) (chains : List (List ℕ)) (slot : ℕ) → slot < length chains → length (cells_in chains) ≤ n → length (cells_in (set chains slot [])) ≤ n
 few-put n chains slot inside few = omega (arith, length-put chains slot [] inside, few)
 
@@ -255,8 +259,8 @@ sound-emptied held slot used sound begun inside size e = record {
   sides = record {
     committed = k.committed;
     working = set k.working slot [];
-    committed_has = k.committed_has;
-    working_has = subst (λ (firsts : List ℕ). HasChains held.chains.cells held.chains.links firsts (set k.working slot [])) (sym firsts_are) (record {
+    committed_has = with-used held.chains used k.committed_has;
+    working_has = subst (λ (firsts : List ℕ). HasChains (record held.chains { used = used }) firsts (set k.working slot [])) (sym firsts_are) (record {
       are = chains-set held.chains.links held.working k.working slot 65535 [] refl (omega arith) (subst (λ (firsts : List ℕ). AreChains held.chains.links firsts k.working) working_is k.working_has.are);
       distinct = distinct-put k.working slot [] k.working_has.distinct refl (λ cell at other none there. true≢false (sym none));
       few = few-put held.chains.cells k.working slot there k.working_has.few;
@@ -323,7 +327,7 @@ sound-put held slot first count used links sound begun inside empty p fits = rec
       distinct = k.committed_has.distinct;
       few = k.committed_has.few;
     };
-    working_has = subst (λ (firsts : List ℕ). HasChains held.chains.cells links firsts (set k.working slot p.chain)) (sym firsts_are) (record {
+    working_has = subst (λ (firsts : List ℕ). HasChains (record held.chains { used = used; links = links }) firsts (set k.working slot p.chain)) (sym firsts_are) (record {
       are = chains-set links held.working k.working slot first p.chain p.linked (omega (arith, p.count_is, p.short))
           (chains-stay held.chains.used held.chains.links links held.working k.working p.size p.stay (working-marked held k) (subst (λ (firsts : List ℕ). AreChains held.chains.links firsts k.working) working_is k.working_has.are));
       distinct = distinct-put k.working slot p.chain k.working_has.distinct p.free.distinct (λ cell at other here there.
@@ -389,7 +393,7 @@ sound-put held slot first count used links sound begun inside empty p fits = rec
         ])
 
 -- The transaction has ended, and the chains are freed in whose place others are kept.
-used-chains : (held : Held) (cells : List (List ℕ)) (firsts : List ℕ) → HasChains held.chains.cells held.chains.links firsts cells → AllByRecursion (λ cell. is_marked held.chains.used cell ≡ true) (cells_in cells) → AreUsedChains held.chains firsts cells
+used-chains : (held : Held) (cells : List (List ℕ)) (firsts : List ℕ) → HasChains held.chains firsts cells → AllByRecursion (λ cell. is_marked held.chains.used cell ≡ true) (cells_in cells) → AreUsedChains held.chains firsts cells
 used-chains held cells firsts has marked = record { are = has.are; distinct = has.distinct; used = marked }
 
 pub record Frees (held : Held) (replaced kept : List ℕ) (used : List Bool) : Type 0 where
@@ -419,8 +423,8 @@ sound-committed held used sound begun f = record {
   sides = record {
     committed = k.working;
     working = k.working;
-    committed_has = has;
-    working_has = has;
+    committed_has = with-used held.chains used has;
+    working_has = with-used held.chains used has;
     beside = λ slot. inl refl;
     used = λ cell. used_is cell ∙ twice (is_among cell (cells_in k.working));
   };
@@ -432,8 +436,8 @@ sound-committed held used sound begun f = record {
     working_is : firsts held Working ≡ held.working
     working_is = rw begun refl
 
-    has : HasChains held.chains.cells held.chains.links held.working k.working
-    has = subst (λ (firsts : List ℕ). HasChains held.chains.cells held.chains.links firsts k.working) working_is k.working_has
+    has : HasChains held.chains held.working k.working
+    has = subst (λ (firsts : List ℕ). HasChains held.chains firsts k.working) working_is k.working_has
 
     are : AreUsedChains held.chains held.committed k.committed
     are = used-chains held k.committed held.committed k.committed_has (committed-marked held k)
@@ -467,8 +471,8 @@ sound-rolled_back held used sound begun f = record {
   sides = record {
     committed = k.committed;
     working = k.committed;
-    committed_has = k.committed_has;
-    working_has = k.committed_has;
+    committed_has = with-used held.chains used k.committed_has;
+    working_has = with-used held.chains used k.committed_has;
     beside = λ slot. inl refl;
     used = λ cell. used_is cell ∙ twice (is_among cell (cells_in k.committed));
   };
@@ -481,7 +485,7 @@ sound-rolled_back held used sound begun f = record {
     working_is = rw begun refl
 
     are : AreUsedChains held.chains held.working k.working
-    are = used-chains held k.working held.working (subst (λ (firsts : List ℕ). HasChains held.chains.cells held.chains.links firsts k.working) working_is k.working_has) (working-marked held k)
+    are = used-chains held k.working held.working (subst (λ (firsts : List ℕ). HasChains held.chains firsts k.working) working_is k.working_has) (working-marked held k)
 
     used_is : (cell : ℕ) → is_marked used cell ≡ is_among cell (cells_in k.committed)
     used_is cell = same-test (is_marked used cell) (is_among cell (cells_in k.committed))

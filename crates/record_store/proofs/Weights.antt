@@ -5,7 +5,7 @@ use Rattle.std.proofs.lemmas.Bool.{and_parts}
 use Rattle.std.proofs.lemmas.Option.{same_Some, none-some}
 use Rattle.std.proofs.lemmas.List.Sums.{sum_by-cons}
 use Rattle.eeprom.specs.StoreOf.{Slots, store_of, chain_of, chains_of, cell_place, number_at, is_record, slot_of, slots_at, are_apart, has_header, cells_of, weight_of}
-use Rattle.cell_store.specs.Cells.{kept, link_in, AreLinksOf}
+use Rattle.cell_store.specs.Cells.{kept, link_in, AreLinkedIn}
 use Rattle.cell_store.specs.Chains.{AreLinked, link_of, steps}
 use Rattle.cell_store.specs.Marks.{is_marked}
 use Rattle.cell_store.proofs.Chains.{cells-chain, chains-parts}
@@ -82,7 +82,7 @@ walk-without links (first ∷ firsts) (chain ∷ chains) (suc slot) few inside a
     rw next (omega (arith, sum_by-cons (steps links 18) first (take slot firsts), steps-linked links first 18 chain few are.0 are.1, walk-without links firsts chains slot few (omega arith) are.2, length-append chain (cells_in (set chains slot []))))
 
 -- chains in memory are the image's
-pub chains-told : (image : List ℕ) (n : ℕ) (used : List Bool) (links firsts : List ℕ) (chains : List (List ℕ)) → 16 ≤ n → n ≤ 2048 → length links ≡ 2 * n → AreLinksOf image (kept n used links) → AllByRecursion (λ cell. is_marked used cell ≡ true) (cells_in chains) → AreChains links firsts chains
+pub chains-told : (image : List ℕ) (n : ℕ) (used : List Bool) (links firsts : List ℕ) (chains : List (List ℕ)) → 16 ≤ n → n ≤ 2048 → length links ≡ 2 * n → AreLinkedIn (kept n used links) image → AllByRecursion (λ cell. is_marked used cell ≡ true) (cells_in chains) → AreChains links firsts chains
     → chains_of image n firsts ≡ Some chains
 chains-told image n used links [] [] few many size all marked are = refl
 chains-told image n used links [] (chain ∷ chains) few many size all marked are = absurd are
@@ -100,12 +100,12 @@ chains-told image n used links (first ∷ firsts) (chain ∷ chains) few many si
 
     agree : (cells : List ℕ) → AllByRecursion (λ cell. is_marked used cell ≡ true) cells → AllByRecursion (λ cell. number_at image (cell_place n cell) ≡ slice_index links cell) cells
     agree [] marked = tt
-    agree (cell ∷ cells) marked = (sym (all cell marked.0), agree cells marked.1)
+    agree (cell ∷ cells) marked = (sym (all.each cell marked.0), agree cells marked.1)
 
 -- the chains of a side
 pub record SideChains (held : Held) (side : Side) : Type 0 where
   pub chains : List (List ℕ)
-  pub has : HasChains held.chains.cells held.chains.links (firsts held side) chains
+  pub has : HasChains held.chains (firsts held side) chains
   pub marked : AllByRecursion (λ cell. is_marked held.chains.used cell ≡ true) (cells_in chains)
 
 pub side-chains : (held : Held) (side : Side) → IsSound held → SideChains held side
@@ -120,7 +120,7 @@ pub record Told (held : Held) (image : List ℕ) (firsts : List ℕ) (chains : L
   pub is : slots ≡ map (slot_of image held.chains.cells) chains
   pub weight : weight_of slots ≡ length (cells_in chains)
 
-pub told-chains : (held : Held) (image firsts : List ℕ) (chains : List (List ℕ)) (slots : Slots) → IsSound held → StandsFor held image → HasChains held.chains.cells held.chains.links firsts chains → AllByRecursion (λ cell. is_marked held.chains.used cell ≡ true) (cells_in chains)
+pub told-chains : (held : Held) (image firsts : List ℕ) (chains : List (List ℕ)) (slots : Slots) → IsSound held → StandsFor held image → HasChains held.chains firsts chains → AllByRecursion (λ cell. is_marked held.chains.used cell ≡ true) (cells_in chains)
     → slots_at image held.chains.cells firsts ≡ Some slots → Told held image firsts chains slots
 told-chains held image firsts chains slots sound stands has marked there =
     let n = held.chains.cells in

@@ -3,7 +3,7 @@ use Rattle.std.specs.Prelude.{◌≡◌, ℕ, ◌%◌, Bool, true, if◌then◌e
 use Rattle.eeprom.specs.Chip.{Chip}
 use Rattle.eeprom.specs.Frame.{HasRoom}
 use Rattle.eeprom.specs.StoreOf.{Slots, slots_at, starts_with_magic, has_header, number_at, directory}
-use Rattle.cell_store.specs.Cells.{Cells, AreLinksOf}
+use Rattle.cell_store.specs.Cells.{Cells, AreLinkedIn}
 use Rattle.record_store.specs.declared.side.Side.{Side}
 use Rattle.record_store.specs.declared.side.Side.TheVariants.{Committed, Working}
 
@@ -39,7 +39,7 @@ pub record BeginsAs (n selects : ℕ) (first_cells image : List ℕ) : Type 0 wh
 -- the image has the store that is held, and each side has its records
 pub record StandsFor (held : Held) (image : List ℕ) : Type 0 where
   pub begins : BeginsAs held.chains.cells held.selector held.committed image
-  pub links : AreLinksOf image held.chains
+  pub links : AreLinkedIn held.chains image
   pub committed : IsSome (contents held Committed image)
   pub working : IsSome (contents held Working image)
 

@@ -3,7 +3,7 @@ use Rattle.std.specs.Prelude.{◌≡◌, ℕ, ◌+◌, ◌*◌, ◌<◌, ◌≤�
 use Rattle.eeprom.specs.Chip.{Chip, RisesBy}
 use Rattle.eeprom.specs.Frame.{HasRoom}
 use Rattle.eeprom.specs.StoreOf.{Slots, slots_at, chain_of, is_record, slot_of, weight_of, cell_size, longest_chain}
-use Rattle.cell_store.specs.Cells.{Cells, IsInRange, AreLinksOf}
+use Rattle.cell_store.specs.Cells.{Cells, IsInRange, AreLinkedIn}
 use Rattle.cell_store.specs.Claims.{TakesChain}
 use Rattle.record_store.specs.Held.{BeginsAs}
 use Rattle.record_store.specs.Sound.{Claimed, cells_in}
@@ -29,7 +29,7 @@ slots_so_far held image = slots_at image held.chains.cells (take held.claimed he
 -- the image begins as that of a store with these first cells, and the slots that were claimed have their records
 pub record StandsSoFar (held : HeldSoFar) (image : List ℕ) : Type 0 where
   pub begins : BeginsAs held.chains.cells held.selector held.firsts image
-  pub links : AreLinksOf image held.chains
+  pub links : AreLinkedIn held.chains image
   pub claimed : IsSome (slots_so_far held image)
 
 -- the EEPROM has room for the store, and its image, where told, has what was opened so far

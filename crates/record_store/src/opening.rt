@@ -6,7 +6,7 @@ ghost use Rattle.eeprom.specs.Frame.{HasRoom, Reads};
 ghost use Rattle.eeprom.specs.StoreOf.{store_of, cells_of, cell_size, longest_chain};
 ghost use Rattle.cell_store.specs.Reading.{ReadsAtMost, ReadsCells};
 ghost use Rattle.cell_store.specs.Claims.{HasNoRecord};
-ghost use Rattle.cell_store.specs.Cells.{StandsFor};
+ghost use Rattle.cell_store.specs.Cells.{AreLinkedIn};
 ghost use Rattle.cell_store.specs.Faults.{is_claim_fault};
 ghost use Rattle.record_store.specs.Opening.{IsOverSoFar, TakesSlot, front_octets, slots_so_far, slot_with};
 ghost use Rattle.record_store.specs.Faults.{is_open_fault};
@@ -138,7 +138,7 @@ fn claim_slot<B: Eeprom>(
 ) -> Result<u16, ClaimRefusal>
     requires room { HasRoom chains.old.cells (B.chip bench.old) }
     ensures takes { IfOk result (λ count. TakesSlot (B.chip bench.old).image chains.old chains.new first out.new.items count) }
-    ensures stands { OnOk result (IfSome (B.chip bench.old).image (λ image. StandsFor chains.old image → StandsFor chains.new image)) }
+    ensures linked { OnOk result (IfSome (B.chip bench.old).image (λ image. AreLinkedIn chains.old image → AreLinkedIn chains.new image)) }
     ensures count { IfOk result (λ count. count ≡ cells_of (slot_with out.new.items)) }
     ensures octets_read { IfOk result (λ count. Becomes (ReadsCells count) (B.octets_read bench.old) (B.octets_read bench.new)) }
     ensures most_read { Becomes (ReadsAtMost (cell_size * longest_chain)) (B.octets_read bench.old) (B.octets_read bench.new) }

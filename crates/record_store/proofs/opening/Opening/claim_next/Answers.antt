@@ -62,5 +62,5 @@ returns-clause-over g c =
     record {
       room = omega (arith, takes.chain.cells, cells, c.requires.over.room);
       stands = stands-next (mine g at) c.claim_slot.new.chains c.in_ok-count.count c.claim_slot.new.out.items (g.B.Eeprom.chip c.args.bench.now).image c.self.invariant.1 (left g at) takes
-          c.in_ok-count.ensures.stands (omega (arith, c.if-weight-cells.false, c.cells.ensures.number, takes.chain.cells)) (stands g at);
+          c.in_ok-count.ensures.linked (omega (arith, c.if-weight-cells.false, c.cells.ensures.number, takes.chain.cells)) (stands g at);
     }
