@@ -31,7 +31,7 @@ slot-added (octet ∷ octets) empty counters users is none slots g =
 -- before the first slot
 pub gathered-none : (held : HeldSoFar) (image : Option (List ℕ)) (users : List User) → held.claimed ≡ 0 → users ≡ [] → GathersSoFar held image [] users
 gathered-none held None users none empty = tt
-gathered-none held (Some image) users none empty = subst (λ (k : ℕ). IfSome (slots_at image held.cells (take k held.firsts)) (λ slots. Gathers slots [] users)) (sym none) (go (nat_le 0 held.cells))
+gathered-none held (Some image) users none empty = subst (λ (k : ℕ). IfSome (slots_at image held.chains.cells (take k held.firsts)) (λ slots. Gathers slots [] users)) (sym none) (go (nat_le 0 held.chains.cells))
   where
     go : (b : Bool) → IfSome (if b then Some [] else None) (λ slots. Gathers slots [] users)
     go true = subst (λ (users : List User). Gathers [] [] users) (sym empty) gathers-nothing

@@ -37,19 +37,19 @@ holds-gathered slots cells next users counted g = record {
 
 -- slots that pass the test hold a valid database
 opens-gathered : (store : Held) (image : List ℕ) (slots : Slots) (next : ℕ) (users : List User) → IsSound store → StandsFor store image → store_of image ≡ Some slots → contents store Committed image ≡ Some slots
-    → Gathers slots (next ∷ []) users → are_valid_users next users ≡ true → Opens image (of_users store.cells next users)
+    → Gathers slots (next ∷ []) users → are_valid_users next users ≡ true → Opens image (of_users store.chains.cells next users)
 opens-gathered store image slots next users range stands stored told g valid =
-    let counted : length slots ≡ store.cells = rw told at (length-committed store image stands) in
-    let holds = holds-gathered slots store.cells next users counted g in
+    let counted : length slots ≡ store.chains.cells = rw told at (length-committed store image stands) in
+    let holds = holds-gathered slots store.chains.cells next users counted g in
     let cells = steps-firsts store Committed image slots range stands told in
-    let weight = cells-filled slots (of_users store.cells next users) holds in
-    let room : sum_by cells_of slots ≤ store.cells = subst (λ (w : ℕ). w ≤ store.cells) cells.0 cells.1 in
+    let weight = cells-filled slots (of_users store.chains.cells next users) holds in
+    let room : sum_by cells_of slots ≤ store.chains.cells = subst (λ (w : ℕ). w ≤ store.chains.cells) cells.0 cells.1 in
     let counter : counter_record.fits next ≡ true = (and_parts (counter_record.fits next) true g.counter_limits).0 in
     record {
       slots = slots;
       stored = stored;
       holds = holds;
-      valid = IsValid-of_users store.cells next users range.range.few range.range.many (subst (λ (w : ℕ). w ≤ store.cells) weight room) counter g.user_limits
+      valid = IsValid-of_users store.chains.cells next users range.range.few range.range.many (subst (λ (w : ℕ). w ≤ store.chains.cells) weight room) counter g.user_limits
           (subst (Rises stamp_of) g.users (Rises-in_order stamp_of (filter_map (in_slot user_in) slots) g.apart)) valid;
     }
 
@@ -74,7 +74,7 @@ opens_told store (Some image) next users valid range stands stored g tested pass
   where
     go : (o : Option Slots) → contents store Committed image ≡ o → (db : Database) × Opens image db
     go None told = absurd (false≢true (subst IsSome told stands.committed))
-    go (Some slots) told = (of_users store.cells next users, opens-gathered store image slots next users range stands (stored ∙ told) told (g slots (stored ∙ told)) (sym tested ∙ passed))
+    go (Some slots) told = (of_users store.chains.cells next users, opens-gathered store image slots next users range stands (stored ∙ told) told (g slots (stored ∙ told)) (sym tested ∙ passed))
 
 pub refused_told : (image : Option (List ℕ)) → IfSome image (λ image. (slots : Slots) → store_of image ≡ Some slots → HoldNone slots) → IfSome image (λ image. (db : Database) → Opens image db → ⊥)
 refused_told None none = tt
@@ -87,11 +87,11 @@ invalid_told (Some image) next users valid g tested failed = λ db opens. none-g
 
 -- the octets of its records are those of the database
 pub read_told : (store : Held) (image : Option (List ℕ)) (old new : Option ℕ) → IfSome image (StandsFor store) → IfSome image (λ image. store_of image ≡ contents store Committed image)
-    → IfSome image (λ image. (slots : Slots) → store_of image ≡ Some slots → Becomes (ReadsStore store.cells slots) old new) → IfSome image (λ image. (db : Database) → Opens image db → Becomes (ReadsCard db) old new)
+    → IfSome image (λ image. (slots : Slots) → store_of image ≡ Some slots → Becomes (ReadsStore store.chains.cells slots) old new) → IfSome image (λ image. (db : Database) → Opens image db → Becomes (ReadsCard db) old new)
 read_told store None old new stands stored read = tt
 read_told store (Some image) old new stands stored read = λ db opens.
     let told : contents store Committed image ≡ Some opens.slots = sym stored ∙ opens.stored in
-    let counted : length opens.slots ≡ store.cells = rw told at (length-committed store image stands) in
-    let cells : store.cells ≡ db.cells = sym counted ∙ opens.holds.cells in
+    let counted : length opens.slots ≡ store.chains.cells = rw told at (length-committed store image stands) in
+    let cells : store.chains.cells ≡ db.cells = sym counted ∙ opens.holds.cells in
     let weighs : sum_by cells_of opens.slots ≡ weight db = cells-filled opens.slots db opens.holds in
     rw (cells, weighs) at (read opens.slots opens.stored)

@@ -122,7 +122,7 @@ asked-at card chip m channel who name profile secret at is formed = record {
 
 -- The addition of a user to the store of a card.
 module _ (card : Kept) (old : Chip) (m : Machine) (at : IsAt card old m) (ready : IsReady card old) (who : Actor) (name : List ℕ) (profile : Profile) (secret : List ℕ) (addition : Addition)
-    (is : IsAddition m.committed who name profile secret at.slots addition) (there : addition.counter_slot < card.store.cells) where
+    (is : IsAddition m.committed who name profile secret at.slots addition) (there : addition.counter_slot < card.store.chains.cells) where
   abbrev the_user : User
   the_user = new_user m.committed who name profile secret
 
@@ -148,18 +148,18 @@ module _ (card : Kept) (old : Chip) (m : Machine) (at : IsAt card old m) (ready 
       go None none = absurd (none-some at.slots none)
       go (Some was) some = refl
 
-  size_told : (was : List ℕ) → old.image ≡ Some was → length at.slots ≡ card.store.cells
+  size_told : (was : List ℕ) → old.image ≡ Some was → length at.slots ≡ card.store.chains.cells
   size_told was told =
       let stands : StandsFor card.store was = subst (λ (o : Option (List ℕ)). IfSome o (StandsFor card.store)) told ready.over.stands in
-      subst (λ (o : Option Slots). IfSome o (λ slots. length slots ≡ card.store.cells)) (slots_told was told) (length-committed card.store was stands)
+      subst (λ (o : Option Slots). IfSome o (λ slots. length slots ≡ card.store.chains.cells)) (slots_told was told) (length-committed card.store was stands)
 
   -- slots to which both records are added hold the new database
-  is_now : (was : List ℕ) → old.image ≡ Some was → (o : Option Slots) → AddedTo card.store.cells user_octets addition.counter_slot counter_octets (contents card.store Committed was) o
+  is_now : (was : List ℕ) → old.image ≡ Some was → (o : Option Slots) → AddedTo card.store.chains.cells user_octets addition.counter_slot counter_octets (contents card.store Committed was) o
       → (after : Slots) × (o ≡ Some after) × IsNow m.committed who name profile secret after (with_user m.committed the_user)
   is_now was told o added =
       let now = added at.slots (slots_told was told) in
       let size = size_told was told in
-      let cells : card.store.cells ≡ m.committed.cells = sym size ∙ at.holds.cells in
+      let cells : card.store.chains.cells ≡ m.committed.cells = sym size ∙ at.holds.cells in
       let next : addition.user.stamp ≡ m.committed.next = ap (λ (u : User). u.stamp) is.user in
       let there' : addition.counter_slot < length at.slots = subst (λ (n : ℕ). addition.counter_slot < n) (sym size) there in
       let user : user_octets ≡ user_record.spell the_user = ap user_record.spell is.user in
@@ -232,7 +232,7 @@ module _ (card : Kept) (old : Chip) (m : Machine) (at : IsAt card old m) (ready 
       go (Some was) told holds = subst (λ (o : Option Slots). IfSome o P) (slots_told was told) holds
 
   -- there was no room
-  full_now : (store : Held) (new : Chip) → IfCommitted card.store old.image (HasNoRoom card.store.cells user_octets)
+  full_now : (store : Held) (new : Chip) → IfCommitted card.store old.image (HasNoRoom card.store.chains.cells user_octets)
       → IfCommitted card.store old.image (λ slots. (new ≡ old) × ((image : List ℕ) → contents store Committed image ≡ contents card.store Committed image))
       → Performs m (answered m (committed_at_once m outcome)) (Ok no_space) (record card { store = store }) old new
   unfolding committed_slots
@@ -259,17 +259,17 @@ module _ (card : Kept) (old : Chip) (m : Machine) (at : IsAt card old m) (ready 
       go : (image : Option (List ℕ)) → old.image ≡ image → outcome ≡ Err no_space
       go None none = absurd (false≢true (sym (ap (λ (o : Option (List ℕ)). is_some o) none) ∙ is_told))
       go (Some was) told =
-          let cells : card.store.cells ≡ m.committed.cells = sym (size_told was told) ∙ at.holds.cells in
+          let cells : card.store.chains.cells ≡ m.committed.cells = sym (size_told was told) ∙ at.holds.cells in
           let user : user_octets ≡ user_record.spell the_user = ap user_record.spell is.user in
           created-full m.committed who name profile secret at.slots addition is at.holds
-          (subst (λ (octets : List ℕ). HasNoRoom m.committed.cells octets at.slots) user (subst (λ (n : ℕ). HasNoRoom n user_octets at.slots) cells (of_slots (HasNoRoom card.store.cells user_octets) full)))
+          (subst (λ (octets : List ℕ). HasNoRoom m.committed.cells octets at.slots) user (subst (λ (n : ℕ). HasNoRoom n user_octets at.slots) cells (of_slots (HasNoRoom card.store.chains.cells user_octets) full)))
 
 -- What the addition of a user does, by its outcome.
 pub Performs-added : (card : Kept) (store : Held) (old new : Chip) (m : Machine) (at : IsAt card old m) (who : Actor) (name : List ℕ) (profile : Profile) (secret : List ℕ) (addition : Addition) (result : Result (Unit {0}) StoreRefusal)
-    → IsReady card old → IsAddition m.committed who name profile secret at.slots addition → addition.counter_slot < card.store.cells
+    → IsReady card old → IsAddition m.committed who name profile secret at.slots addition → addition.counter_slot < card.store.chains.cells
     → OnOk result (is_some new.image ≡ is_some old.image)
     → OnOk result (Becomes (IsWritten card.store store (user_record.spell addition.user) addition.counter_slot (counter_record.spell (addition.user.stamp + 1))) old.image new.image)
-    → (IsErrOf result Full → IfCommitted card.store old.image (HasNoRoom card.store.cells (user_record.spell addition.user)))
+    → (IsErrOf result Full → IfCommitted card.store old.image (HasNoRoom card.store.chains.cells (user_record.spell addition.user)))
     → (IsErrOf result Full → IfCommitted card.store old.image (λ slots. (new ≡ old) × ((image : List ℕ) → contents store Committed image ≡ contents card.store Committed image)))
     → LeavesAdded card.store (user_record.spell addition.user) addition.counter_slot (counter_record.spell (addition.user.stamp + 1)) old new
     → Performs m (answered m (committed_at_once m (created m.committed who name profile secret))) (answer_to result) (record card { store = store }) old new

@@ -7,12 +7,12 @@ use Rattle.eeprom.proofs.Places.{length-numbers_at}
 use Rattle.record_store.specs.Held.{Held, StandsFor, contents}
 use Rattle.card.specs.Card.{committed_slots}
 
-pub length-committed : (store : Held) (image : List ℕ) → StandsFor store image → IfSome (contents store Committed image) (λ slots. length slots ≡ store.cells)
+pub length-committed : (store : Held) (image : List ℕ) → StandsFor store image → IfSome (contents store Committed image) (λ slots. length slots ≡ store.chains.cells)
 length-committed store image stands =
-    let firsts : length store.committed ≡ store.cells = ap length (sym stands.begins.selected) ∙ length-numbers_at image (32 + 2 * store.cells * (slice_index image 8 % 2)) store.cells in
-    subst (λ (n : ℕ). IfSome (contents store Committed image) (λ slots. length slots ≡ n)) firsts (length-slots_at image store.cells store.committed)
+    let firsts : length store.committed ≡ store.chains.cells = ap length (sym stands.begins.selected) ∙ length-numbers_at image (32 + 2 * store.chains.cells * (slice_index image 8 % 2)) store.chains.cells in
+    subst (λ (n : ℕ). IfSome (contents store Committed image) (λ slots. length slots ≡ n)) firsts (length-slots_at image store.chains.cells store.committed)
 
-pub length-committed_slots : (store : Held) (image : Option (List ℕ)) → IfSome image (StandsFor store) → IfSome (committed_slots store image) (λ slots. length slots ≡ store.cells)
+pub length-committed_slots : (store : Held) (image : Option (List ℕ)) → IfSome image (StandsFor store) → IfSome (committed_slots store image) (λ slots. length slots ≡ store.chains.cells)
 unfolding committed_slots
 length-committed_slots store None stands = tt
 length-committed_slots store (Some image) stands = length-committed store image stands

@@ -48,10 +48,10 @@ added_to cells found slot added changed (Some was) o1 o2 inside empty room first
     )
 
 -- both puts one after the other
-pub both_put : (s0 s1 s2 : Held) (added : List ℕ) (slot found : ℕ) (changed : List ℕ) (i0 i1 i2 : Option (List ℕ)) → found < s0.cells
+pub both_put : (s0 s1 s2 : Held) (added : List ℕ) (slot found : ℕ) (changed : List ℕ) (i0 i1 i2 : Option (List ℕ)) → found < s0.chains.cells
     → IfSome i0 (λ image. record_at s0 Working found image ≡ None) → IfSome i0 (IsWithin s0 found added) → ((image : List ℕ) → contents s0 Working image ≡ contents s0 Committed image)
     → Becomes (IsPut s0 s1 found added) i0 i1 → Becomes (IsPut s1 s2 slot changed) i1 i2
-    → Becomes (λ was now. (contents s2 Committed now ≡ contents s0 Committed was) × AddedTo s0.cells added slot changed (contents s0 Committed was) (contents s2 Working now)) i0 i2
+    → Becomes (λ was now. (contents s2 Committed now ≡ contents s0 Committed was) × AddedTo s0.chains.cells added slot changed (contents s0 Committed was) (contents s2 Working now)) i0 i2
 both_put s0 s1 s2 added slot found changed i0 i1 i2 inside empty within starts first second = λ now told.
     let b = second now told in
     let a = first b.0 b.1 in
@@ -62,15 +62,15 @@ both_put s0 s1 s2 added slot found changed i0 i1 i2 inside empty within starts f
       a.1,
       (
         b.2.committed ∙ a.2.committed,
-        added_to s0.cells found slot added changed (contents s0 Committed a.0) (contents s1 Working b.0) (contents s2 Working now) inside
+        added_to s0.chains.cells found slot added changed (contents s0 Committed a.0) (contents s1 Working b.0) (contents s2 Working now) inside
             (subst (λ (o : Option Slots). option_and_then (λ (slots : Slots). slice_index_or slots found None) o ≡ None) same empty')
-            (subst (λ (o : Option Slots). IfSome o (λ slots. weight_with found added slots ≤ s0.cells)) same within')
+            (subst (λ (o : Option Slots). IfSome o (λ slots. weight_with found added slots ≤ s0.chains.cells)) same within')
             (a.2.working ∙ ap (option_map (λ (slots : Slots). slice_set slots found (Some added))) same) b.2.working,
       ),
     )
 
 -- so the second put is never refused for want of room
-pub second_has_room : (s0 s1 : Held) (added : List ℕ) (slot found : ℕ) (changed : List ℕ) (i0 i1 : Option (List ℕ)) (P : Slots → Type 0) → IfSome i0 (StandsFor s0) → slot < s0.cells → s1.cells ≡ s0.cells
+pub second_has_room : (s0 s1 : Held) (added : List ℕ) (slot found : ℕ) (changed : List ℕ) (i0 i1 : Option (List ℕ)) (P : Slots → Type 0) → IfSome i0 (StandsFor s0) → slot < s0.chains.cells → s1.chains.cells ≡ s0.chains.cells
     → is_some i1 ≡ is_some i0 → IfSome i0 (λ image. record_at s0 Working found image ≡ None) → IfSome i0 (IsWithin s0 found added) → ((image : List ℕ) → contents s0 Working image ≡ contents s0 Committed image)
     → Becomes (IsPut s0 s1 found added) i0 i1 → IfCommitted s0 i0 (IsAsLong slot changed) → IfSome i1 (IsFull s1 (Some slot) changed) → IfCommitted s0 i0 P
 second_has_room s0 s1 added slot found changed None i1 P stands inside cells told empty within starts put as_long full = tt
@@ -81,20 +81,20 @@ second_has_room s0 s1 added slot found changed (Some was) (Some now) P stands in
     go (contents s0 Committed was) refl
     (subst (λ (image : List ℕ). contents s1 Working now ≡ option_map (λ (slots : Slots). slice_set slots found (Some added)) (contents s0 Working image)) (sym same) from.2.working ∙ ap (option_map (λ (slots : Slots). slice_set slots found (Some added))) (starts was))
     (subst (λ (o : Option Slots). option_and_then (λ (slots : Slots). slice_index_or slots found None) o ≡ None) (starts was) empty)
-    (subst (λ (o : Option Slots). IfSome o (λ slots. weight_with found added slots ≤ s0.cells)) (starts was) within) as_long (length-committed s0 was stands)
+    (subst (λ (o : Option Slots). IfSome o (λ slots. weight_with found added slots ≤ s0.chains.cells)) (starts was) within) as_long (length-committed s0 was stands)
   where
     go : (o : Option Slots) → contents s0 Committed was ≡ o → contents s1 Working now ≡ option_map (λ (slots : Slots). slice_set slots found (Some added)) o
-        → option_and_then (λ (slots : Slots). slice_index_or slots found None) o ≡ None → IfSome o (λ slots. weight_with found added slots ≤ s0.cells) → IfSome o (IsAsLong slot changed)
-        → IfSome o (λ slots. length slots ≡ s0.cells) → IfSome o P
+        → option_and_then (λ (slots : Slots). slice_index_or slots found None) o ≡ None → IfSome o (λ slots. weight_with found added slots ≤ s0.chains.cells) → IfSome o (IsAsLong slot changed)
+        → IfSome o (λ slots. length slots ≡ s0.chains.cells) → IfSome o P
     go None is working empty within as_long counted = tt
     go (Some slots) is working empty within as_long counted =
-        let room = has_room s0.cells found slot added changed slots as_long empty (subst (λ (n : ℕ). slot < n) (sym counted) inside) within in
-        let over = subst (λ (o : Option Slots). IfSome o (λ slots. s1.cells < weight_with slot changed slots)) working full in
+        let room = has_room s0.chains.cells found slot added changed slots as_long empty (subst (λ (n : ℕ). slot < n) (sym counted) inside) within in
+        let over = subst (λ (o : Option Slots). IfSome o (λ slots. s1.chains.cells < weight_with slot changed slots)) working full in
         absurd (omega (arith, room, over, cells))
 
 -- What a commit leaves, where the store so far has the committed records of its start, and both records are put.
 pub commit_leaves : (start store : Held) (added : List ℕ) (slot : ℕ) (changed : List ℕ) (old mid new : Chip) → mid.still ≡ old.still
-    → Becomes (λ was now. (contents store Committed now ≡ contents start Committed was) × AddedTo start.cells added slot changed (contents start Committed was) (contents store Working now)) old.image mid.image
+    → Becomes (λ was now. (contents store Committed now ≡ contents start Committed was) × AddedTo start.chains.cells added slot changed (contents start Committed was) (contents store Working now)) old.image mid.image
     → LeavesAdded start added slot changed old mid → Commits store mid new → LeavesAdded start added slot changed old new
 commit_leaves start store added slot changed old mid new still put before commits =
     throughout-then old mid new _ before (record {
@@ -107,7 +107,7 @@ commit_leaves start store added slot changed old mid new still put before commit
     })
   where
     moment : (g : ℕ) (left : List ℕ) → (g ≡ mid.still.mark) × (was : List ℕ) × (mid.image ≡ Some was) × ((store_of left ≡ contents store Committed was) ⊎ (store_of left ≡ contents store Working was))
-        → (g ≡ old.still.mark) × (was : List ℕ) × (old.image ≡ Some was) × ((store_of left ≡ contents start Committed was) ⊎ AddedTo start.cells added slot changed (contents start Committed was) (store_of left))
+        → (g ≡ old.still.mark) × (was : List ℕ) × (old.image ≡ Some was) × ((store_of left ≡ contents start Committed was) ⊎ AddedTo start.chains.cells added slot changed (contents start Committed was) (store_of left))
     moment g left (mark, was, told, either_way) =
         let from = put was told in (
           mark ∙ ap (λ still. still.mark) still,
@@ -115,13 +115,13 @@ commit_leaves start store added slot changed old mid new still put before commit
           from.1,
           elim either_way [
             | inl committed ↦ inl (committed ∙ from.2.0)
-            | inr working ↦ inr (subst (λ (o : Option Slots). AddedTo start.cells added slot changed (contents start Committed from.0) o) (sym working) from.2.1)
+            | inr working ↦ inr (subst (λ (o : Option Slots). AddedTo start.chains.cells added slot changed (contents start Committed from.0) o) (sym working) from.2.1)
           ],
         )
 
 -- what is committed then
 pub both_written : (s0 s2 s3 : Held) (added : List ℕ) (slot : ℕ) (changed : List ℕ) (i0 i2 i3 : Option (List ℕ))
-    → Becomes (λ was now. (contents s2 Committed now ≡ contents s0 Committed was) × AddedTo s0.cells added slot changed (contents s0 Committed was) (contents s2 Working now)) i0 i2
+    → Becomes (λ was now. (contents s2 Committed now ≡ contents s0 Committed was) × AddedTo s0.chains.cells added slot changed (contents s0 Committed was) (contents s2 Working now)) i0 i2
     → Becomes (IsCommitted s2 s3) i2 i3 → Becomes (IsWritten s0 s3 added slot changed) i0 i3
 both_written s0 s2 s3 added slot changed i0 i2 i3 put committed = λ now told.
     let c = committed now told in
@@ -129,5 +129,5 @@ both_written s0 s2 s3 added slot changed i0 i2 i3 put committed = λ now told.
     let stored : contents s3 Committed now ≡ contents s2 Working c.0 = sym (store_of-stands s3 now c.2.stands) ∙ c.2.store in (
       b.0,
       b.1,
-      (c.2.stands, subst (λ (o : Option Slots). AddedTo s0.cells added slot changed (contents s0 Committed b.0) o) (sym stored) b.2.1),
+      (c.2.stands, subst (λ (o : Option Slots). AddedTo s0.chains.cells added slot changed (contents s0 Committed b.0) o) (sym stored) b.2.1),
     )

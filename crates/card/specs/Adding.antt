@@ -24,12 +24,12 @@ AddedTo cells added slot changed old new =
 -- at each moment the store of the image is the committed one, or that with both records, and nothing is given
 abbrev pub LeavesAdded : Held → List ℕ → ℕ → List ℕ → Chip → Chip → Type 0
 LeavesAdded store added slot changed old new =
-    LeavesOf (λ was left. (store_of left ≡ contents store Committed was) ⊎ AddedTo store.cells added slot changed (contents store Committed was) (store_of left)) old new
+    LeavesOf (λ was left. (store_of left ≡ contents store Committed was) ⊎ AddedTo store.chains.cells added slot changed (contents store Committed was) (store_of left)) old new
 
 -- the store stands for the image, which has now both records
 abbrev pub IsWritten : Held → Held → List ℕ → ℕ → List ℕ → List ℕ → List ℕ → Type 0
 IsWritten old new added slot changed was now =
-    StandsFor new now × AddedTo old.cells added slot changed (contents old Committed was) (contents new Committed now)
+    StandsFor new now × AddedTo old.chains.cells added slot changed (contents old Committed was) (contents new Committed now)
 
 -- the record of a slot takes as many cells as the one that takes its place
 abbrev pub IsAsLong : ℕ → List ℕ → Slots → Type 0
@@ -46,7 +46,7 @@ IfCommitted store image P = IfSome image (λ image. IfSome (contents store Commi
 -- Two records may be written: the store is over the EEPROM, and what is changed is as long as what was there.
 pub record MayAdd (store : Held) (chip : Chip) (added : List ℕ) (slot : ℕ) (changed : List ℕ) : Type 0 where
   pub over : IsOver store chip
-  pub inside : slot < store.cells
+  pub inside : slot < store.chains.cells
   pub added_size : (1 ≤ length added) × (length added ≤ longest_record)
   pub changed_size : (1 ≤ length changed) × (length changed ≤ longest_record)
   pub as_long : IfCommitted store chip.image (IsAsLong slot changed)
@@ -55,8 +55,8 @@ pub record MayAdd (store : Held) (chip : Chip) (added : List ℕ) (slot : ℕ) (
 pub record Adds (added : List ℕ) (slot : ℕ) (changed : List ℕ) (result : Result (Unit {0}) StoreRefusal) (old new : Held) (before after : Chip) : Type 0 where
   pub written : OnOk result (Becomes (IsWritten old new added slot changed) before.image after.image)
   pub told : OnOk result (is_some after.image ≡ is_some before.image)
-  pub full : IsErrOf result Full → IfCommitted old before.image (HasNoRoom old.cells added)
+  pub full : IsErrOf result Full → IfCommitted old before.image (HasNoRoom old.chains.cells added)
   pub stands : ¬ IsErrOf result Fault → IfSome after.image (StandsFor new)
-  pub cells : ¬ IsErrOf result Fault → new.cells ≡ old.cells
+  pub cells : ¬ IsErrOf result Fault → new.chains.cells ≡ old.chains.cells
   pub still : after.still ≡ before.still
   pub moments : LeavesAdded old added slot changed before after

@@ -292,7 +292,7 @@ impl Card {
         addition: &Addition,
     ) -> Result<StatusWord, EepromFault>
         requires ready { IsReady self.old (B.chip bench.old) }
-        requires slot { addition.now.counter_slot < self.old.store.cells }
+        requires slot { addition.now.counter_slot < self.old.store.chains.cells }
         requires stamp { addition.now.user.stamp < 4294967295 }
         requires counter { IfSome (committed_slots self.old.store (B.chip bench.old).image) (IsCounter addition.now.counter_slot) }
         ensures performs { (m : machine.Machine) (actor : Actor) (name : List ℕ) (profile : Profile) (secret : List ℕ) → (at : IsAt self.old (B.chip bench.old) m)

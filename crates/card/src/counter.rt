@@ -26,7 +26,7 @@ pub(crate) fn find_counter<B: Eeprom>(
     bench: &mut B,
 ) -> Result<Option<CounterSlot>, EepromFault>
     requires over { IsOver store.now (B.chip bench.old) }
-    ensures there { IfOk result (λ found. IfSome found (λ found. found.slot < store.now.cells)) }
+    ensures there { IfOk result (λ found. IfSome found (λ found. found.slot < store.now.chains.cells)) }
     ensures counter { IfOk result (λ found. IfSome found (λ found. IfSome (committed_slots store.now (B.chip bench.old).image)
         (λ slots. Some (next_of found.counter) ≡ in_slot records.counter_in (slice_index_or slots found.slot None)))) }
     ensures none { IfOk result (λ found. IfNone found (IfSome (committed_slots store.now (B.chip bench.old).image)
@@ -51,7 +51,7 @@ fn counter_at<B: Eeprom>(
     octets: &mut RecordOctets,
 ) -> Result<Option<Counter>, EepromFault>
     requires over { IsOver store.now (B.chip bench.old) }
-    requires slot { slot < store.now.cells }
+    requires slot { slot < store.now.chains.cells }
     ensures counter { IfOk result (λ counter. IfSome (committed_slots store.now (B.chip bench.old).image)
         (λ slots. option_map next_of counter ≡ in_slot records.counter_in (slice_index_or slots slot None))) }
     ensures frame { Reads each_error B.chip B.faults bench.old bench.new result }

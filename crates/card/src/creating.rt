@@ -44,7 +44,7 @@ pub(crate) fn prepare_user<B: Eeprom>(
     requires over { IsOver store.now (B.chip bench.old) }
     ensures prepares { (slots : Slots) (db : Database) → committed_slots store.now (B.chip bench.old).image ≡ Some slots → Holds slots db → IsValid db
         → IsAsked db actor name.now profile secret.now → IfOk result (Prepares db actor name.now profile secret.now slots) }
-    ensures ready { IfOk result (IfReady (λ addition. (addition.counter_slot < store.now.cells) × (addition.user.stamp < 4294967295))) }
+    ensures ready { IfOk result (IfReady (λ addition. (addition.counter_slot < store.now.chains.cells) × (addition.user.stamp < 4294967295))) }
     ensures counter { IfOk result (IfReady (λ addition. IfSome (committed_slots store.now (B.chip bench.old).image) (IsCounter addition.counter_slot))) }
     ensures frame { Reads each_error B.chip B.faults bench.old bench.new result }
 {

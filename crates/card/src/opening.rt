@@ -50,7 +50,7 @@ pub(crate) fn open_records<B: Eeprom>(alloc: Global, bench: &mut B) -> Result<Op
         → Gathers slots (opened.records.next ∷ []) (users_of opened.records.users))) }
     ensures by_stamp { IfOk result (λ opened. AreByStamp opened.records.users.entries) }
     ensures octets_read { IfOk result (λ opened. IfSome (B.chip bench.old).image (λ image. (slots : Slots) → store_of image ≡ Some slots
-        → Becomes (ReadsStore opened.store.cells slots) (B.octets_read bench.old) (B.octets_read bench.new))) }
+        → Becomes (ReadsStore opened.store.chains.cells slots) (B.octets_read bench.old) (B.octets_read bench.new))) }
     ensures most_read { Becomes (ReadsAtMost most_octets) (B.octets_read bench.old) (B.octets_read bench.new) }
     ensures not_a_card { IsErrOf result OpenRefusal.NotACard → IfSome (B.chip bench.old).image (λ image. (slots : Slots) → store_of image ≡ Some slots → HoldNone slots) }
     ensures frame { Reads is_open_fault B.chip B.faults bench.old bench.new result }

@@ -52,7 +52,7 @@ fn user_in<B: Eeprom>(
     octets: &mut RecordOctets,
 ) -> Result<Option<User>, EepromFault>
     requires over { IsOver store.now (B.chip bench.old) }
-    requires slot { slot < store.now.cells }
+    requires slot { slot < store.now.chains.cells }
     ensures user { IfOk result (λ user. IfSome (committed_slots store.now (B.chip bench.old).image)
         (λ slots. user ≡ in_slot records.user_in (slice_index_or slots slot None))) }
     ensures frame { Reads each_error B.chip B.faults bench.old bench.new result }

@@ -6,7 +6,7 @@ use Rattle.std.proofs.lemmas.Bool.Decides.{nat_tests}
 use Rattle.std.proofs.lemmas.List.{length-set, get_or-set_same, get_or-set_other, nil_from_length}
 use Rattle.std.proofs.lemmas.Option.{same_Some, none-some}
 use Rattle.eeprom.specs.StoreOf.{is_distinct, is_record, number_at, cell_place, cells_for, payload_of}
-use Rattle.cell_store.specs.Cells.{Cells, link_in, StandsFor, StayLinked}
+use Rattle.cell_store.specs.Cells.{Cells, link_in, AreLinkedIn, StayLinked}
 use Rattle.cell_store.specs.Chains.{AreLinked, AreFree, link_of, with_marked, is_among, IsRecordChain}
 use Rattle.cell_store.specs.Claiming.{ClaimsCell, IsTakenCell, record_cells}
 use Rattle.cell_store.specs.Claims.{TakesChain, HasRecord, HasNoRecord}
@@ -249,7 +249,7 @@ Claiming-takes start now image first count cell start_size links_size none short
   links_count = links_size ∙ sym start_size;
 }
 
--- what was claimed stands for the image too
+-- what was claimed is linked in the image too
 told-at : (image links : List ℕ) (n : ℕ) (path : List ℕ) (x : ℕ) → is_among x path ≡ true → AllByRecursion (λ x. number_at image (cell_place n x) ≡ slice_index links x) path → slice_index links x ≡ number_at image (cell_place n x)
 told-at image links n [] x is told = absurd (true≢false (sym is))
 told-at image links n (y ∷ path) x is told = elim (or_cases (x == y) (is_among x path) is) [
@@ -257,14 +257,14 @@ told-at image links n (y ∷ path) x is told = elim (or_cases (x == y) (is_among
   | inr later ↦ told-at image links n path x later told.1
 ]
 
-pub Claiming-stands : (start now : Cells) (image : Option (List ℕ)) (first count cell : ℕ) → length start.used ≡ 2 * start.cells → Claiming start now image first count cell → IfSome image (λ image. StandsFor start image → StandsFor now image)
-Claiming-stands start now None first count cell used_size c = tt
-Claiming-stands start now (Some image) first count cell used_size c = λ stands. record {
-  links = λ x is.
+pub Claiming-linked : (start now : Cells) (image : Option (List ℕ)) (first count cell : ℕ) → length start.used ≡ 2 * start.cells → Claiming start now image first count cell → IfSome image (λ image. AreLinkedIn start image → AreLinkedIn now image)
+Claiming-linked start now None first count cell used_size c = tt
+Claiming-linked start now (Some image) first count cell used_size c = λ linked. record {
+  each = λ x is.
       let within = path-inside (link_in now.links) (2 * start.cells) first c.path cell c.is in
       let parts : (is_marked start.used x || is_among x c.path) ≡ true = sym (marked-with (2 * start.cells) start.used c.path x used_size within) ∙ (ap (λ (used : List Bool). is_marked used x) (sym c.used) ∙ is) in
       let there : slice_index now.links x ≡ number_at image (cell_place start.cells x) = elim (or_cases (is_marked start.used x) (is_among x c.path) parts) [
-        | inl before ↦ c.stay x before ∙ stands.links x before
+        | inl before ↦ c.stay x before ∙ linked.each x before
         | inr now_is ↦ told-at image now.links start.cells c.path x now_is c.told
       ] in
       subst (λ (n : ℕ). slice_index now.links x ≡ number_at image (cell_place n x)) (sym c.cells) there;

@@ -72,9 +72,9 @@ written store later links payload octets count first was now range room links_si
     let all : length links ≡ 2 * n = links_size ∙ range.links_count in
     record {
       keeping = p.keeping;
-      stands = λ stands. record {
-        links = λ cell is. elim (mark-cases store.used cell) [
-          | inl before ↦ laid.stay cell before ∙ stands.links cell before ∙ sym (p.keeping.cells cell before).link
+      links = λ were. record {
+        each = λ cell is. elim (mark-cases store.used cell) [
+          | inl before ↦ laid.stay cell before ∙ were.each cell before ∙ sym (p.keeping.cells cell before).link
           | inr fresh ↦ p.new_links cell is fresh
         ];
       };

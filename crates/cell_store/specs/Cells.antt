@@ -1,4 +1,4 @@
--- What a store of cells keeps in memory, and of which images it speaks.
+-- What a store of cells keeps in memory, and which images link its cells so.
 use Rattle.std.specs.Prelude.{◌≡◌, ℕ, ◌*◌, ◌≤◌, Bool, true, false, List, length, replicate, slice_index}
 use Rattle.std.specs.List.{AllByRecursion}
 use Rattle.eeprom.specs.StoreOf.{number_at, cell_place, longest_chain}
@@ -36,13 +36,9 @@ pub record IsUsedChain (store : Cells) (first : ℕ) (chain : List ℕ) : Type 0
   pub used : AllByRecursion (λ cell. is_marked store.used cell ≡ true) chain
   pub short : length chain ≤ longest_chain
 
--- the image links each of these cells as it is linked in memory
-abbrev pub AreLinksOf : List ℕ → ℕ → List Bool → List ℕ → Type 0
-AreLinksOf image n used links = (cell : ℕ) → is_marked used cell ≡ true → slice_index links cell ≡ number_at image (cell_place n cell)
-
--- the used chains of the image are those that are kept in memory
-pub record StandsFor (store : Cells) (image : List ℕ) : Type 0 where
-  pub links : AreLinksOf image store.cells store.used store.links
+-- the image links each used cell as it is linked in memory
+pub record AreLinkedIn (store : Cells) (image : List ℕ) : Type 0 where
+  pub each : (cell : ℕ) → is_marked store.used cell ≡ true → slice_index store.links cell ≡ number_at image (cell_place store.cells cell)
 
 -- cells that were used before are linked as they were
 abbrev pub StayLinked : List Bool → List ℕ → List ℕ → Type 0

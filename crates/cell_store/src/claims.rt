@@ -5,7 +5,7 @@ ghost use Rattle.arrayvec.specs.ArrayVec.{array_vec_len};
 ghost use Rattle.eeprom.specs.Chip.{Becomes};
 ghost use Rattle.eeprom.specs.Frame.{HasRoom, Reads};
 ghost use Rattle.eeprom.specs.StoreOf.{chain_of, number_at, cell_place, payload_of, cell_size, piece_size, longest_chain};
-ghost use Rattle.cell_store.specs.Cells.{kept, StandsFor};
+ghost use Rattle.cell_store.specs.Cells.{kept, AreLinkedIn};
 ghost use Rattle.cell_store.specs.Claims.{TakesChain, HasRecord, HasNoRecord};
 ghost use Rattle.cell_store.specs.Claiming.{ClaimsCell, IsTakenCell, record_cells};
 ghost use Rattle.cell_store.specs.Reading.{Appends, ReadsAtMost, ReadsCells};
@@ -33,7 +33,7 @@ pub fn claim_cells<B: Eeprom>(
     requires used { length used.old ≡ 2 * cells }
     requires links { length links.old ≡ 2 * cells }
     ensures takes { IfOk result (λ count. TakesChain (kept cells used.old links.old) (kept cells used.new links.new) first count) }
-    ensures stands { OnOk result (IfSome (B.chip bench.old).image (λ image. StandsFor (kept cells used.old links.old) image → StandsFor (kept cells used.new links.new) image)) }
+    ensures linked { OnOk result (IfSome (B.chip bench.old).image (λ image. AreLinkedIn (kept cells used.old links.old) image → AreLinkedIn (kept cells used.new links.new) image)) }
     ensures record { OnOk result (IfSome (B.chip bench.old).image (HasRecord (kept cells used.new links.new) first)) }
     ensures payload { OnOk result (IfSome (B.chip bench.old).image (λ image. (chain : List ℕ) → chain_of image cells (2 * cells) first ≡ Some chain
         → length chain ≤ longest_chain → payload.new.items ≡ flat_map (payload_of image cells) chain)) }

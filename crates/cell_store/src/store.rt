@@ -7,7 +7,7 @@ ghost use Rattle.eeprom.specs.StoreOf.{slot_of, cell_size, longest_record, longe
 ghost use Rattle.eeprom.specs.StoreOf as image;
 ghost use Rattle.cell_store.specs.Marks.{StaysMarked, unmarked};
 ghost use Rattle.cell_store.specs.Chains.{IsRecordChain, steps};
-ghost use Rattle.cell_store.specs.Cells.{all_free, freed, StandsFor, IsUsedChain};
+ghost use Rattle.cell_store.specs.Cells.{all_free, freed, AreLinkedIn, IsUsedChain};
 ghost use Rattle.cell_store.specs.Claims.{TakesChain, HasRecord, HasNoRecord};
 ghost use Rattle.cell_store.specs.Writing.{IsWritten, KeepsChains};
 ghost use Rattle.cell_store.specs.Placed.{KeepsMarked};
@@ -73,7 +73,7 @@ impl CellStore {
         requires room { HasRoom self.old.cells (B.chip bench.old) }
         ensures takes { IfOk result (λ count. TakesChain self.old self.new first count) }
         ensures some { IfOk result (λ count. 1 ≤ count) }
-        ensures stands { OnOk result (IfSome (B.chip bench.old).image (λ image. StandsFor self.old image → StandsFor self.new image)) }
+        ensures linked { OnOk result (IfSome (B.chip bench.old).image (λ image. AreLinkedIn self.old image → AreLinkedIn self.new image)) }
         ensures record { OnOk result (IfSome (B.chip bench.old).image (HasRecord self.new first)) }
         ensures octets_read { IfOk result (λ count. Becomes (ReadsCells count) (B.octets_read bench.old) (B.octets_read bench.new)) }
         ensures most_read { Becomes (ReadsAtMost (cell_size * longest_chain)) (B.octets_read bench.old) (B.octets_read bench.new) }
@@ -93,7 +93,7 @@ impl CellStore {
     ) -> Result<u16, ClaimRefusal>
         requires room { HasRoom self.old.cells (B.chip bench.old) }
         ensures takes { IfOk result (λ count. TakesChain self.old self.new first count) }
-        ensures stands { OnOk result (IfSome (B.chip bench.old).image (λ image. StandsFor self.old image → StandsFor self.new image)) }
+        ensures linked { OnOk result (IfSome (B.chip bench.old).image (λ image. AreLinkedIn self.old image → AreLinkedIn self.new image)) }
         ensures record { OnOk result (IfSome (B.chip bench.old).image (HasRecord self.new first)) }
         ensures reads { OnOk result (IfSome (B.chip bench.old).image (λ image. (chain : List ℕ) → IsRecordChain image self.old.cells first chain
             → slot_of image self.old.cells chain ≡ Some out.new.items)) }

@@ -7,7 +7,7 @@ use Rattle.std.proofs.lemmas.Grind.{flat_map-append}
 use Rattle.std.proofs.lemmas.List.{get_or_default, same_lists, drop_more, take_more, length-replicate, take-append-drop}
 use Rattle.std.proofs.lemmas.Option.{same_Some}
 use Rattle.eeprom.specs.StoreOf.{chain_of, chains_of, is_record, slots_at, is_distinct}
-use Rattle.cell_store.specs.Cells.{Cells, IsInRange, all_free, link_in, StandsFor}
+use Rattle.cell_store.specs.Cells.{Cells, IsInRange, all_free, link_in, AreLinkedIn}
 use Rattle.cell_store.specs.Chains.{AreLinked, AreFree, link_of, is_among, with_marked}
 use Rattle.cell_store.specs.Marks.{is_marked}
 use Rattle.cell_store.proofs.Among.{among-append, distinct-join}
@@ -248,9 +248,9 @@ claims-so_far store firsts weight k image range c of records =
     subst (λ (used : List Bool). Claims n firsts used weight (drop k firsts) image) (sym (marks-claimed store (take k firsts) range c.slots))
     (subst (λ (total : ℕ). Claims n firsts (with_marked (replicate (2 * n) false) cells) total (drop k firsts) image) (omega (arith, c.count_is)) all)
 
--- what is claimed stands for the image
-pub stands-start : (n : ℕ) (image : List ℕ) → StandsFor (all_free n) image
-stands-start n image = record { links = λ cell is. absurd (true≢false (sym is ∙ none-marked (2 * n) cell)) }
+-- what is claimed is linked in the image
+pub linked-start : (n : ℕ) (image : List ℕ) → AreLinkedIn (all_free n) image
+linked-start n image = record { each = λ cell is. absurd (true≢false (sym is ∙ none-marked (2 * n) cell)) }
 
 pub all_free-range : (n : ℕ) → 16 ≤ n → n ≤ 2048 → IsInRange (all_free n)
 all_free-range n few many = record { few = few; many = many; used_count = length-replicate (2 * n) false; links_count = length-replicate (2 * n) 65535 }

@@ -52,24 +52,24 @@ slots_stay n firsts left was few beside None of there = absurd (cc)
 slots_stay n firsts left was few beside (Some slots) of there = slots-beside left was n firsts slots few beside.cells of ∙ sym of
 
 -- the store of such an image is that of the directory which it selects
-store_selects : (held : Held) (left was firsts : List ℕ) → IsSound held → StandsFor held was → Beside held.cells left was → directory left held.cells ≡ firsts → IsSome (slots_at was held.cells firsts)
-    → store_of left ≡ slots_at was held.cells firsts
+store_selects : (held : Held) (left was firsts : List ℕ) → IsSound held → StandsFor held was → Beside held.chains.cells left was → directory left held.chains.cells ≡ firsts → IsSome (slots_at was held.chains.cells firsts)
+    → store_of left ≡ slots_at was held.chains.cells firsts
 store_selects held left was firsts range stands beside selects there =
     let magic : starts_with_magic left ≡ true = same-magic left was beside.front ∙ stands.begins.front in
     let header : has_header left ≡ true = same-header left was beside.front ∙ stands.begins.header in
-    let number : number_at left 6 ≡ held.cells = same-cells left was beside.front ∙ stands.begins.cells in
-    rw (magic, header, number, selects) (slots_stay held.cells firsts left was range.range.many beside (slots_at was held.cells firsts) refl there)
+    let number : number_at left 6 ≡ held.chains.cells = same-cells left was beside.front ∙ stands.begins.cells in
+    rw (magic, header, number, selects) (slots_stay held.chains.cells firsts left was range.range.many beside (slots_at was held.chains.cells firsts) refl there)
 
-room-for : (held : Held) (was : List ℕ) → IsSound held → StandsFor held was → (32 + 2 * held.cells * (1 - held.selector)) + 2 * held.cells ≤ length was
-room-for held was range stands = omega (arith, header-room was held.cells stands.begins.header stands.begins.cells, before-cells held.cells held.selector range.selector)
+room-for : (held : Held) (was : List ℕ) → IsSound held → StandsFor held was → (32 + 2 * held.chains.cells * (1 - held.selector)) + 2 * held.chains.cells ≤ length was
+room-for held was range stands = omega (arith, header-room was held.chains.cells stands.begins.header stands.begins.cells, before-cells held.chains.cells held.selector range.selector)
 
 -- the image once the other directory is written
 abbrev with_other : Held → List ℕ → List ℕ → List ℕ
-with_other held was octets = overwrite was (32 + 2 * held.cells * (1 - held.selector)) octets
+with_other held was octets = overwrite was (32 + 2 * held.chains.cells * (1 - held.selector)) octets
 
-beside-directory : (held : Held) (was octets : List ℕ) → IsSound held → StandsFor held was → length octets ≡ 2 * held.cells → Beside held.cells (with_other held was octets) was
+beside-directory : (held : Held) (was octets : List ℕ) → IsSound held → StandsFor held was → length octets ≡ 2 * held.chains.cells → Beside held.chains.cells (with_other held was octets) was
 beside-directory held was octets range stands size =
-    let n = held.cells in
+    let n = held.chains.cells in
     let at : ℕ = 32 + 2 * n * (1 - held.selector) in
     let fits : at + length octets ≤ length was = omega (arith, room-for held was range stands) in
     let before : at + length octets ≤ 34 + 6 * n = omega (arith, before-cells n held.selector range.selector) in
@@ -79,10 +79,10 @@ beside-directory held was octets range stands size =
     }
 
 -- the selected directory is the same, whatever was written into the other
-committed-stays : (held : Held) (was octets : List ℕ) → IsSound held → StandsFor held was → length octets ≡ 2 * held.cells
-    → numbers_at (with_other held was octets) (32 + 2 * held.cells * held.selector) held.cells ≡ held.committed
+committed-stays : (held : Held) (was octets : List ℕ) → IsSound held → StandsFor held was → length octets ≡ 2 * held.chains.cells
+    → numbers_at (with_other held was octets) (32 + 2 * held.chains.cells * held.selector) held.chains.cells ≡ held.committed
 committed-stays held was octets range stands size =
-    let n = held.cells in
+    let n = held.chains.cells in
     let s = held.selector in
     let at : ℕ = 32 + 2 * n * (1 - s) in
     let fits : at + length octets ≤ length was = omega (arith, room-for held was range stands) in
@@ -93,9 +93,9 @@ committed-stays held was octets range stands size =
     ] in
     numbers-agree (overwrite was at octets) was (32 + 2 * n * s) n agree ∙ rw (stands.begins.selector) at stands.begins.selected
 
-torn-directory : (held : Held) (was left : List ℕ) → IsSound held → StandsFor held was → IsTorn was (32 + 2 * held.cells * (1 - held.selector)) (2 * held.cells) left → store_of left ≡ contents held Committed was
+torn-directory : (held : Held) (was left : List ℕ) → IsSound held → StandsFor held was → IsTorn was (32 + 2 * held.chains.cells * (1 - held.selector)) (2 * held.chains.cells) left → store_of left ≡ contents held Committed was
 torn-directory held was left range stands torn =
-    let n = held.cells in
+    let n = held.chains.cells in
     let at : ℕ = 32 + 2 * n * (1 - held.selector) in
     let fits : at ≤ length was = omega (arith, room-for held was range stands) in
     let same : slice_index (overwrite was at torn.octets) 8 ≡ slice_index was 8 = get-before was at torn.octets 8 (omega arith) fits in
@@ -103,12 +103,12 @@ torn-directory held was left range stands torn =
     rw (same, stands.begins.selector) (committed-stays held was torn.octets range stands torn.count_is) in
     rw (torn.is) (store_selects held (overwrite was at torn.octets) was held.committed range stands (beside-directory held was torn.octets range stands torn.count_is) selects stands.committed)
 
-room-for-selector : (held : Held) (was octets : List ℕ) → IsSound held → StandsFor held was → length octets ≡ 2 * held.cells → 9 ≤ length (with_other held was octets)
+room-for-selector : (held : Held) (was octets : List ℕ) → IsSound held → StandsFor held was → length octets ≡ 2 * held.chains.cells → 9 ≤ length (with_other held was octets)
 room-for-selector held was octets range stands size =
-    omega (arith, (beside-directory held was octets range stands size).front.size, header-room was held.cells stands.begins.header stands.begins.cells)
+    omega (arith, (beside-directory held was octets range stands size).front.size, header-room was held.chains.cells stands.begins.header stands.begins.cells)
 
 -- once the other directory is there, an octet of the selector selects one of the two
-beside-selector : (held : Held) (was octets selector : List ℕ) → IsSound held → StandsFor held was → length octets ≡ 2 * held.cells → length selector ≡ 1 → Beside held.cells (overwrite (with_other held was octets) 8 selector) was
+beside-selector : (held : Held) (was octets selector : List ℕ) → IsSound held → StandsFor held was → length octets ≡ 2 * held.chains.cells → length selector ≡ 1 → Beside held.chains.cells (overwrite (with_other held was octets) 8 selector) was
 beside-selector held was octets selector range stands size one =
     let mid : List ℕ = with_other held was octets in
     let first = beside-directory held was octets range stands size in
@@ -118,24 +118,24 @@ beside-selector held was octets selector range stands size one =
         size = length-overwrite mid 8 selector fits ∙ first.front.size;
         front = take-overwrite 8 8 mid selector (omega arith) (omega arith) ∙ first.front.front;
       };
-      cells = drop-overwrite (34 + 6 * held.cells) 8 mid selector (omega arith) fits ∙ first.cells;
+      cells = drop-overwrite (34 + 6 * held.chains.cells) 8 mid selector (omega arith) fits ∙ first.cells;
     }
 
 selector-written : (image selector : List ℕ) → 9 ≤ length image → length selector ≡ 1 → slice_index (overwrite image 8 selector) 8 ≡ slice_index selector 0
 selector-written image selector room one = rw add-zero at (get-inside image 8 selector 0 (omega arith) (omega arith))
 
-selects-one : (held : Held) (was octets selector : List ℕ) (t : ℕ) → IsSound held → StandsFor held was → length octets ≡ 2 * held.cells → length selector ≡ 1 → slice_index selector 0 % 2 ≡ t
-    → directory (overwrite (with_other held was octets) 8 selector) held.cells ≡ numbers_at (with_other held was octets) (32 + 2 * held.cells * t) held.cells
+selects-one : (held : Held) (was octets selector : List ℕ) (t : ℕ) → IsSound held → StandsFor held was → length octets ≡ 2 * held.chains.cells → length selector ≡ 1 → slice_index selector 0 % 2 ≡ t
+    → directory (overwrite (with_other held was octets) 8 selector) held.chains.cells ≡ numbers_at (with_other held was octets) (32 + 2 * held.chains.cells * t) held.chains.cells
 selects-one held was octets selector t range stands size one parity =
     let mid : List ℕ = with_other held was octets in
     let room = room-for-selector held was octets range stands size in
     rw (selector-written mid selector room one, parity)
-    (numbers-agree (overwrite mid 8 selector) mid (32 + 2 * held.cells * t) held.cells (λ k from below. get-behind mid 8 selector k (omega arith) (omega arith)))
+    (numbers-agree (overwrite mid 8 selector) mid (32 + 2 * held.chains.cells * t) held.chains.cells (λ k from below. get-behind mid 8 selector k (omega arith) (omega arith)))
 
-working-there : (held : Held) (was octets : List ℕ) → IsSound held → StandsFor held was → length octets ≡ 2 * held.cells → numbers_at octets 0 held.cells ≡ held.working
-    → numbers_at (with_other held was octets) (32 + 2 * held.cells * (1 - held.selector)) held.cells ≡ held.working
+working-there : (held : Held) (was octets : List ℕ) → IsSound held → StandsFor held was → length octets ≡ 2 * held.chains.cells → numbers_at octets 0 held.chains.cells ≡ held.working
+    → numbers_at (with_other held was octets) (32 + 2 * held.chains.cells * (1 - held.selector)) held.chains.cells ≡ held.working
 working-there held was octets range stands size is =
-    numbers-written was (32 + 2 * held.cells * (1 - held.selector)) octets held.cells (omega (arith, room-for held was range stands)) (omega arith) ∙ is
+    numbers-written was (32 + 2 * held.chains.cells * (1 - held.selector)) octets held.chains.cells (omega (arith, room-for held was range stands)) (omega arith) ∙ is
 
 parity : (x : ℕ) → (x % 2 ≡ 0) ⊎ (x % 2 ≡ 1)
 parity x = elim (x % 2 == 0) as (λ t. (x % 2 == 0) ≡ t → (x % 2 ≡ 0) ⊎ (x % 2 ≡ 1)) [
@@ -159,7 +159,7 @@ other-parity (suc (suc s)) small = absurd (omega arith)
 working-firsts : (held : Held) → held.begun ≡ true → firsts held Working ≡ held.working
 working-firsts held begun = rw begun refl
 
-torn-selector : (held : Held) (was octets left : List ℕ) → IsSound held → StandsFor held was → held.begun ≡ true → length octets ≡ 2 * held.cells → numbers_at octets 0 held.cells ≡ held.working
+torn-selector : (held : Held) (was octets left : List ℕ) → IsSound held → StandsFor held was → held.begun ≡ true → length octets ≡ 2 * held.chains.cells → numbers_at octets 0 held.chains.cells ≡ held.working
     → IsTorn (with_other held was octets) 8 1 left → (store_of left ≡ contents held Committed was) ⊎ (store_of left ≡ contents held Working was)
 torn-selector held was octets left range stands begun size is torn =
     let beside = beside-selector held was octets torn.octets range stands size torn.count_is in
@@ -172,10 +172,10 @@ torn-selector held was octets left range stands begun size is torn =
           (selects-one held was octets torn.octets (1 - held.selector) range stands size torn.count_is other ∙ working-there held was octets range stands size is) (rw working at stands.working)))
     ]
 
-committed-image : (held : Held) (used : List Bool) (was octets : List ℕ) → StaysMarked used held.used → IsSound held → StandsFor held was → held.begun ≡ true → length octets ≡ 2 * held.cells → numbers_at octets 0 held.cells ≡ held.working
+committed-image : (held : Held) (used : List Bool) (was octets : List ℕ) → StaysMarked used held.chains.used → IsSound held → StandsFor held was → held.begun ≡ true → length octets ≡ 2 * held.chains.cells → numbers_at octets 0 held.chains.cells ≡ held.working
     → IsCommitted held (after_commit held used) was (overwrite (with_other held was octets) 8 ((1 - held.selector) ∷ []))
 committed-image held used was octets fewer range stands begun size is =
-    let n = held.cells in
+    let n = held.chains.cells in
     let mid : List ℕ = with_other held was octets in
     let selector : List ℕ = (1 - held.selector) ∷ [] in
     let now : List ℕ = overwrite mid 8 selector in
@@ -196,7 +196,7 @@ committed-image held used was octets fewer range stands begun size is =
           selector = rw octet parity;
           selected = selects;
         };
-        links = λ cell is. stands.links cell (fewer cell is) ∙ sym (links-beside now was n cell beside.cells);
+        links = record { each = λ cell is. stands.links.each cell (fewer cell is) ∙ sym (links-beside now was n cell beside.cells) };
         committed = rw slots there;
         working = rw slots there;
       };
@@ -205,15 +205,15 @@ committed-image held used was octets fewer range stands begun size is =
 -- what a commit writes: these octets at this place, and then this selector
 pub record Ready (held : Held) (at : ℕ) (octets : List ℕ) (other : ℕ) : Type 0 where
   pub range : IsSound held
-  pub place : at ≡ 32 + 2 * held.cells * (1 - held.selector)
-  pub count : length octets ≡ 2 * held.cells
-  pub numbers : numbers_at octets 0 held.cells ≡ held.working
+  pub place : at ≡ 32 + 2 * held.chains.cells * (1 - held.selector)
+  pub count : length octets ≡ 2 * held.chains.cells
+  pub numbers : numbers_at octets 0 held.chains.cells ≡ held.working
   pub selector : other ≡ 1 - held.selector
 
 pub ready-from : (view held : Held) (slice octets : List ℕ) (at selector : ℕ) → view ≡ held → IsSound view → slice ≡ view.working → numbers_at octets 0 (length slice) ≡ slice → length octets ≡ 2 * length slice
-    → at ≡ 32 + 2 * view.cells * (1 - view.selector) → selector ≡ 1 - view.selector → Ready held at octets selector
+    → at ≡ 32 + 2 * view.chains.cells * (1 - view.selector) → selector ≡ 1 - view.selector → Ready held at octets selector
 ready-from view held slice octets at selector same range is numbers count place other =
-    let size : length slice ≡ view.cells = ap (length {A = ℕ}) is ∙ range.working_count in
+    let size : length slice ≡ view.chains.cells = ap (length {A = ℕ}) is ∙ range.working_count in
     subst (λ (held : Held). Ready held at octets selector) same (record {
       range = range;
       place = place;
@@ -250,16 +250,16 @@ commits-second held at octets selector old mid new ready begun clocked clocked' 
           (write-throughout 8 (selector ∷ []) mid new (At held old) clocked' second
           (λ image left told torn.
           let from = map-some (λ image. overwrite image at octets) old.image image (sym written ∙ told) in
-          let during : IsTorn (overwrite from.0 (32 + 2 * held.cells * (1 - held.selector)) octets) 8 1 left =
+          let during : IsTorn (overwrite from.0 (32 + 2 * held.chains.cells * (1 - held.selector)) octets) 8 1 left =
           torn-at image from.0 octets left at _ ready.place from.2 torn in
           (mark, from.0, from.1, torn-selector held from.0 octets left ready.range (rw (from.1) at stands) begun ready.count ready.numbers during)));
     }
 
-pub commit-done : (held new : Held) (used : List Bool) (at : ℕ) (octets : List ℕ) (selector : ℕ) (old mid now : Option (List ℕ)) → Ready held at octets selector → held.begun ≡ true → StaysMarked used held.used → new ≡ after_commit held used → IfSome old (StandsFor held)
+pub commit-done : (held new : Held) (used : List Bool) (at : ℕ) (octets : List ℕ) (selector : ℕ) (old mid now : Option (List ℕ)) → Ready held at octets selector → held.begun ≡ true → StaysMarked used held.chains.used → new ≡ after_commit held used → IfSome old (StandsFor held)
     → mid ≡ option_map (λ image. overwrite image at octets) old → now ≡ option_map (λ image. overwrite image 8 (selector ∷ [])) mid → Becomes (IsCommitted held new) old now
 commit-done held new used at octets selector old mid now ready begun fewer is stands first second = λ after told.
     let between = map-some (λ image. overwrite image 8 (selector ∷ [])) mid after (sym second ∙ told) in
     let from = map-some (λ image. overwrite image at octets) old between.0 (sym first ∙ between.1) in
-    let image_is : after ≡ overwrite (overwrite from.0 (32 + 2 * held.cells * (1 - held.selector)) octets) 8 ((1 - held.selector) ∷ []) =
+    let image_is : after ≡ overwrite (overwrite from.0 (32 + 2 * held.chains.cells * (1 - held.selector)) octets) 8 ((1 - held.selector) ∷ []) =
     written-at after between.0 from.0 octets at _ selector _ ready.place ready.selector between.2 from.2 in
     (from.0, from.1, subst (λ (image : List ℕ). IsCommitted held new from.0 image) (sym image_is) (subst (λ (new : Held). IsCommitted held new from.0 (overwrite (with_other held from.0 octets) 8 ((1 - held.selector) ∷ []))) (sym is) (committed-image held used from.0 octets fewer ready.range (rw (from.1) at stands) begun ready.count ready.numbers)))

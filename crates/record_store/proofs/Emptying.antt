@@ -27,13 +27,13 @@ long-chains links (first ∷ firsts) [] are some = absurd are
 long-chains links (first ∷ firsts) ([] ∷ chains) are some = absurd (some.0 are.0)
 long-chains links (first ∷ firsts) ((cell ∷ chain) ∷ chains) are some = omega (arith, long-chains links firsts chains are.2 some.1, length-append (cell ∷ chain) (cells_in chains))
 
-full-told : (held : Held) (image octets : List ℕ) → IsSound held → held.begun ≡ true → StandsFor held image → 1 ≤ length octets → All (λ first. first ≢ 65535) held.working → (o : Option Slots) → contents held Working image ≡ o → IfSome o (λ slots. held.cells < weight_of slots + cells_for (length octets))
+full-told : (held : Held) (image octets : List ℕ) → IsSound held → held.begun ≡ true → StandsFor held image → 1 ≤ length octets → All (λ first. first ≢ 65535) held.working → (o : Option Slots) → contents held Working image ≡ o → IfSome o (λ slots. held.chains.cells < weight_of slots + cells_for (length octets))
 full-told held image octets sound begun stands some none_empty None there = tt
 full-told held image octets sound begun stands some none_empty (Some slots) there =
     let working_is : firsts held Working ≡ held.working = rw begun refl in
     let s = side-chains held Working sound in
     let told = told-chains held image (firsts held Working) s.chains slots sound stands s.has s.marked there in
-    let long = long-chains held.links held.working s.chains (subst (λ (firsts : List ℕ). AreChains held.links firsts s.chains) working_is s.has.are) (recursion_from_All (λ first. first ≢ 65535) held.working none_empty) in
+    let long = long-chains held.chains.links held.working s.chains (subst (λ (firsts : List ℕ). AreChains held.chains.links firsts s.chains) working_is s.has.are) (recursion_from_All (λ first. first ≢ 65535) held.working none_empty) in
     omega (arith, long, told.weight, sound.working_count)
 
 pub full-none : (held : Held) (image : Option (List ℕ)) (octets : List ℕ) → IsSound held → held.begun ≡ true → IfSome image (StandsFor held) → 1 ≤ length octets → All (λ first. first ≢ 65535) held.working → IfSome image (IsFull held None octets)
@@ -41,24 +41,24 @@ full-none held None octets sound begun stands some none_empty = tt
 full-none held (Some image) octets sound begun stands some none_empty = full-told held image octets sound begun stands some none_empty (contents held Working image) refl
 
 -- an empty slot among those of a side
-pub empty-record : (held : Held) (slot : ℕ) (image : Option (List ℕ)) → IsSound held → held.begun ≡ true → IfSome image (StandsFor held) → slot < held.cells → slice_index held.working slot ≡ 65535 → IfSome image (λ image. record_at held Working slot image ≡ None)
+pub empty-record : (held : Held) (slot : ℕ) (image : Option (List ℕ)) → IsSound held → held.begun ≡ true → IfSome image (StandsFor held) → slot < held.chains.cells → slice_index held.working slot ≡ 65535 → IfSome image (λ image. record_at held Working slot image ≡ None)
 empty-record held slot image sound begun stands inside none =
     let working_is : firsts held Working ≡ held.working = rw begun refl in
     record-nowhere held Working slot 65535 image (sym none ∙ ap (λ (firsts : List ℕ). slice_index firsts slot) (sym working_is)) (omega (arith, inside, count-firsts held sound)) refl stands
 
-over-told : (held : Held) (slot : ℕ) (image octets : List ℕ) → IsSound held → slot < held.cells → StandsFor held image → record_at held Working slot image ≡ None → (o : Option Slots) → contents held Working image ≡ o
-    → IfSome o (λ slots. held.cells < weight_with slot octets slots) → IfSome o (λ slots. held.cells < weight_of slots + cells_for (length octets))
+over-told : (held : Held) (slot : ℕ) (image octets : List ℕ) → IsSound held → slot < held.chains.cells → StandsFor held image → record_at held Working slot image ≡ None → (o : Option Slots) → contents held Working image ≡ o
+    → IfSome o (λ slots. held.chains.cells < weight_with slot octets slots) → IfSome o (λ slots. held.chains.cells < weight_of slots + cells_for (length octets))
 over-told held slot image octets sound inside stands empty None there over = tt
 over-told held slot image octets sound inside stands empty (Some slots) there over =
     let s = side-chains held Working sound in
     let told = told-chains held image (firsts held Working) s.chains slots sound stands s.has s.marked there in
-    let count : length slots ≡ length s.chains = ap (length {A = Option (List ℕ)}) told.is ∙ length-map s.chains (slot_of image held.cells) in
+    let count : length slots ≡ length s.chains = ap (length {A = Option (List ℕ)}) told.is ∙ length-map s.chains (slot_of image held.chains.cells) in
     let here : slice_index_or slots slot None ≡ None = ap (λ (o : Option Slots). option_and_then (λ slots. slice_index_or slots slot None) o) (sym there) ∙ empty in
-    let more = weight-more slots slot octets (omega (arith, inside, count, length-chains held.links (firsts held Working) s.chains s.has.are, count-firsts held sound)) here in
+    let more = weight-more slots slot octets (omega (arith, inside, count, length-chains held.chains.links (firsts held Working) s.chains s.has.are, count-firsts held sound)) here in
     omega (arith, more, over)
 
 -- the store is full with a record in the slot that was found, so it is with one in the slot that is named, or else in one more
-pub full-found : (held : Held) (named : Option ℕ) (slot : ℕ) (image : Option (List ℕ)) (octets : List ℕ) → IsSound held → held.begun ≡ true → IfSome image (StandsFor held) → slot < held.cells → IfSome named (λ other. Some slot ≡ Some other) → (named ≡ None → slice_index held.working slot ≡ 65535)
+pub full-found : (held : Held) (named : Option ℕ) (slot : ℕ) (image : Option (List ℕ)) (octets : List ℕ) → IsSound held → held.begun ≡ true → IfSome image (StandsFor held) → slot < held.chains.cells → IfSome named (λ other. Some slot ≡ Some other) → (named ≡ None → slice_index held.working slot ≡ 65535)
     → IfSome image (IsFull held (Some slot) octets) → IfSome image (IsFull held named octets)
 full-found held (Some other) slot image octets sound begun stands inside is empty over = subst (λ (slot : ℕ). IfSome image (IsFull held (Some slot) octets)) (same_Some _ _ is) over
 full-found held None slot None octets sound begun stands inside is empty over = tt

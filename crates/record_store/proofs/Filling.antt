@@ -10,7 +10,7 @@ use Rattle.cell_store.specs.Marks.{StaysMarked, is_marked, unmarked}
 use Rattle.cell_store.specs.Placed.{KeepsMarked}
 use Rattle.cell_store.specs.Writing.{IsWritten, KeepsChains}
 use Rattle.cell_store.proofs.Marking.{unmarked-with}
-use Rattle.record_store.specs.Held.{Held, cells_of_store, StandsFor, firsts}
+use Rattle.record_store.specs.Held.{Held, StandsFor, firsts}
 use Rattle.record_store.specs.Put.{IsPut, emptied}
 use Rattle.record_store.specs.Slots.{steps_without, AreUsedChains, AreReplaced}
 use Rattle.record_store.specs.Sound.{AreChains, IsSound}
@@ -20,11 +20,11 @@ use Rattle.record_store.proofs.Sides.{after_commit, put_into, Frees, all-among, 
 
 -- the store of cells is another one, and all else is as it was
 abbrev pub with_cells : Held → Cells → Held
-with_cells held new = record { cells = new.cells; used = new.used; links = new.links; selector = held.selector; committed = held.committed; working = held.working; begun = held.begun }
+with_cells held new = record held { chains = new }
 
-same-cells : (P : Held → Type 0) (held : Held) (new : Cells) → new.cells ≡ held.cells → new.links ≡ held.links → P (with_cells held (kept held.cells new.used held.links)) → P (with_cells held new)
+same-cells : (P : Held → Type 0) (held : Held) (new : Cells) → new.cells ≡ held.chains.cells → new.links ≡ held.chains.links → P (with_cells held (kept held.chains.cells new.used held.chains.links)) → P (with_cells held new)
 same-cells P held new cells links p =
-    subst (λ (n : ℕ). P (with_cells held (kept n new.used new.links))) (sym cells) (subst (λ (links : List ℕ). P (with_cells held (kept held.cells new.used links))) (sym links) p)
+    subst (λ (n : ℕ). P (with_cells held (kept n new.used new.links))) (sym cells) (subst (λ (links : List ℕ). P (with_cells held (kept held.chains.cells new.used links))) (sym links) p)
 
 and-parts : (a b : Bool) → (a && not b) ≡ true → (a ≡ true) × (b ≡ false)
 and-parts true true h = absurd (true≢false (sym h))
@@ -32,25 +32,25 @@ and-parts true false h = (refl, refl)
 and-parts false b h = absurd (true≢false (sym h))
 
 -- the chain of a working slot
-working-chain : (held : Held) (sound : IsSound held) (slot first : ℕ) → held.begun ≡ true → slot < held.cells → first ≡ slice_index held.working slot → IsUsedChain (cells_of_store held) first (get_or sound.sides.working slot [])
+working-chain : (held : Held) (sound : IsSound held) (slot first : ℕ) → held.begun ≡ true → slot < held.chains.cells → first ≡ slice_index held.working slot → IsUsedChain held.chains first (get_or sound.sides.working slot [])
 working-chain held sound slot first begun inside is =
     let k = sound.sides in
     let working_is : firsts held Working ≡ held.working = rw begun refl in
-    let at = chain-at held.links held.working k.working slot (subst (λ (firsts : List ℕ). AreChains held.links firsts k.working) working_is k.working_has.are) (omega (arith, inside, sound.working_count)) in
+    let at = chain-at held.chains.links held.working k.working slot (subst (λ (firsts : List ℕ). AreChains held.chains.links firsts k.working) working_is k.working_has.are) (omega (arith, inside, sound.working_count)) in
     record {
-      linked = subst (λ (first : ℕ). AreLinked (link_in held.links) (length held.links) first (get_or k.working slot [])) (sym is) at.0;
-      used = all-among (λ cell. is_marked held.used cell ≡ true) (get_or k.working slot []) (λ cell here. working-used held k cell (in-chains cell k.working slot here));
+      linked = subst (λ (first : ℕ). AreLinked (link_in held.chains.links) (length held.chains.links) first (get_or k.working slot [])) (sym is) at.0;
+      used = all-among (λ cell. is_marked held.chains.used cell ≡ true) (get_or k.working slot []) (λ cell here. working-used held k cell (in-chains cell k.working slot here));
       short = at.1;
     }
 
 -- the working chain of a slot is freed where it isn't the committed one
-pub freed-sound : (held : Held) (new : Cells) (slot first : ℕ) → IsSound held → held.begun ≡ true → slot < held.cells → first ≡ slice_index held.working slot → first ≢ slice_index held.committed slot
-    → ((chain : List ℕ) → IsUsedChain (cells_of_store held) first chain → new ≡ freed (cells_of_store held) chain) → new.cells ≡ held.cells → new.links ≡ held.links → length new.used ≡ length held.used
-    → IsSound (record { cells = new.cells; used = new.used; links = new.links; selector = held.selector; committed = held.committed; working = set held.working slot 65535; begun = held.begun })
+pub freed-sound : (held : Held) (new : Cells) (slot first : ℕ) → IsSound held → held.begun ≡ true → slot < held.chains.cells → first ≡ slice_index held.working slot → first ≢ slice_index held.committed slot
+    → ((chain : List ℕ) → IsUsedChain held.chains first chain → new ≡ freed held.chains chain) → new.cells ≡ held.chains.cells → new.links ≡ held.chains.links → length new.used ≡ length held.chains.used
+    → IsSound (record held { chains = new; working = set held.working slot 65535 })
 freed-sound held new slot first sound begun inside is other frees cells links size =
-    same-cells (λ (h : Held). IsSound (record { cells = h.cells; used = h.used; links = h.links; selector = h.selector; committed = h.committed; working = set held.working slot 65535; begun = h.begun })) held new cells links
+    same-cells (λ (h : Held). IsSound (record h { working = set held.working slot 65535 })) held new cells links
     (sound-emptied held slot new.used sound begun inside size (record {
-      less = λ cell marked. (let parts = and-parts (is_marked held.used cell) (is_among cell chain) (sym (marks cell) ∙ marked) in (parts.0, λ unlike. parts.1));
+      less = λ cell marked. (let parts = and-parts (is_marked held.chains.used cell) (is_among cell chain) (sym (marks cell) ∙ marked) in (parts.0, λ unlike. parts.1));
       rest = λ cell marked either. elim either [
         | inl alike ↦ absurd (other (is ∙ alike))
         | inr apart ↦ marks cell ∙ rw (marked, apart) refl
@@ -60,11 +60,11 @@ freed-sound held new slot first sound begun inside is other frees cells links si
     chain : List ℕ
     chain = get_or sound.sides.working slot []
 
-    marks : (cell : ℕ) → is_marked new.used cell ≡ (is_marked held.used cell && not (is_among cell chain))
-    marks cell = ap (λ (store : Cells). is_marked store.used cell) (frees chain (working-chain held sound slot first begun inside is)) ∙ unmarked-with held.used chain cell
+    marks : (cell : ℕ) → is_marked new.used cell ≡ (is_marked held.chains.used cell && not (is_among cell chain))
+    marks cell = ap (λ (store : Cells). is_marked store.used cell) (frees chain (working-chain held sound slot first begun inside is)) ∙ unmarked-with held.chains.used chain cell
 
-pub kept-sound : (held : Held) (slot : ℕ) → IsSound held → held.begun ≡ true → slot < held.cells → slice_index held.working slot ≡ slice_index held.committed slot → IsSound (emptied held slot held.used)
-kept-sound held slot sound begun inside same = sound-emptied held slot held.used sound begun inside refl (record {
+pub kept-sound : (held : Held) (slot : ℕ) → IsSound held → held.begun ≡ true → slot < held.chains.cells → slice_index held.working slot ≡ slice_index held.committed slot → IsSound (emptied held slot held.chains.used)
+kept-sound held slot sound begun inside same = sound-emptied held slot held.chains.used sound begun inside refl (record {
   less = λ cell marked. (marked, λ unlike. absurd (unlike same));
   rest = λ cell marked either. marked;
 })
@@ -74,11 +74,11 @@ pub record Emptied (held mid : Held) (used : List Bool) (slot weight count : ℕ
   pub sound : IsSound held
   pub mid_sound : IsSound mid
   pub is : mid ≡ emptied held slot used
-  pub fewer : StaysMarked used held.used
+  pub fewer : StaysMarked used held.chains.used
   pub begun : held.begun ≡ true
-  pub inside : slot < held.cells
-  pub weight_is : weight ≡ steps_without held.links held.working slot
-  pub fits : weight + count ≤ held.cells
+  pub inside : slot < held.chains.cells
+  pub weight_is : weight ≡ steps_without held.chains.links held.working slot
+  pub fits : weight + count ≤ held.chains.cells
 
 room : (held mid : Held) (used : List Bool) (slot weight count : ℕ) (e : Emptied held mid used slot weight count) → HasRoom held mid slot weight e.mid_sound
 room held mid used slot weight count e =
@@ -86,24 +86,24 @@ room held mid used slot weight count e =
     let all : (next : IsSound mid) → HasRoom held mid slot weight next = subst (λ (mid : Held). (next : IsSound mid) → HasRoom held mid slot weight next) (sym e.is) any in
     all e.mid_sound
 
-pub room-enough : (held mid : Held) (used : List Bool) (slot weight count : ℕ) → Emptied held mid used slot weight count → count ≤ unmarked mid.used
+pub room-enough : (held mid : Held) (used : List Bool) (slot weight count : ℕ) → Emptied held mid used slot weight count → count ≤ unmarked mid.chains.used
 room-enough held mid used slot weight count e = omega (arith, (room held mid used slot weight count e).free, e.fits)
 
-pub filled-sound : (held mid : Held) (used : List Bool) (slot weight count first : ℕ) (new : Cells) → Emptied held mid used slot weight count → TakesChain (cells_of_store mid) new first count
-    → IsSound (record { cells = new.cells; used = new.used; links = new.links; selector = mid.selector; committed = mid.committed; working = set mid.working slot first; begun = mid.begun })
+pub filled-sound : (held mid : Held) (used : List Bool) (slot weight count first : ℕ) (new : Cells) → Emptied held mid used slot weight count → TakesChain mid.chains new first count
+    → IsSound (record mid { chains = new; working = set mid.working slot first })
 filled-sound held mid used slot weight count first new e takes =
     let r = room held mid used slot weight count e in
-    let cells : mid.cells ≡ held.cells = ap (λ (h : Held). h.cells) e.is in
+    let cells : mid.chains.cells ≡ held.chains.cells = ap (λ (h : Held). h.chains.cells) e.is in
     let begun : mid.begun ≡ true = ap (λ (h : Held). h.begun) e.is ∙ e.begun in
     let empty : slice_index mid.working slot ≡ 65535 = ap (λ (h : Held). slice_index h.working slot) e.is ∙ get_or-set_same held.working slot 65535 0 (omega (arith, e.inside, e.sound.working_count)) in
     let done = sound-put mid slot first count new.used new.links e.mid_sound begun (omega (arith, e.inside, cells)) empty (put_in-takes mid new first count takes) (omega (arith, r.cells, e.fits, cells)) in
-    subst (λ (n : ℕ). IsSound (record { cells = n; used = new.used; links = new.links; selector = mid.selector; committed = mid.committed; working = set mid.working slot first; begun = mid.begun })) (sym takes.cells) done
+    subst (λ (n : ℕ). IsSound (record mid { chains = kept n new.used new.links; working = set mid.working slot first })) (sym takes.cells) done
 
 -- a write that failed left the chains as they were
-pub failed-sound : (held : Held) (new : Cells) → IsSound held → KeepsChains (cells_of_store held) new → IsSound (with_cells held new)
+pub failed-sound : (held : Held) (new : Cells) → IsSound held → KeepsChains held.chains new → IsSound (with_cells held new)
 failed-sound held new sound keeps =
     let k = sound.sides in
-    let at : IsSound (record { cells = held.cells; used = held.used; links = new.links; selector = held.selector; committed = held.committed; working = held.working; begun = held.begun }) =
+    let at : IsSound (with_cells held (kept held.chains.cells held.chains.used new.links)) =
     record {
       range = record { few = sound.range.few; many = sound.range.many; used_count = sound.range.used_count; links_count = keeps.links_count ∙ sound.range.links_count };
       selector = sound.selector;
@@ -112,35 +112,35 @@ failed-sound held new sound keeps =
       sides = record {
         committed = k.committed;
         working = k.working;
-        committed_has = record { are = chains-stay held.used held.links new.links held.committed k.committed keeps.links_count keeps.stay (committed-marked held k) k.committed_has.are; distinct = k.committed_has.distinct; few = k.committed_has.few };
-        working_has = record { are = chains-stay held.used held.links new.links (firsts held Working) k.working keeps.links_count keeps.stay (working-marked held k) k.working_has.are; distinct = k.working_has.distinct; few = k.working_has.few };
+        committed_has = record { are = chains-stay held.chains.used held.chains.links new.links held.committed k.committed keeps.links_count keeps.stay (committed-marked held k) k.committed_has.are; distinct = k.committed_has.distinct; few = k.committed_has.few };
+        working_has = record { are = chains-stay held.chains.used held.chains.links new.links (firsts held Working) k.working keeps.links_count keeps.stay (working-marked held k) k.working_has.are; distinct = k.working_has.distinct; few = k.working_has.few };
         beside = k.beside;
         used = k.used;
       };
     } in
-    subst (λ (n : ℕ). IsSound (with_cells held (kept n new.used new.links))) (sym keeps.cells) (subst (λ (used : List Bool). IsSound (with_cells held (kept held.cells used new.links))) (sym keeps.used) at)
+    subst (λ (n : ℕ). IsSound (with_cells held (kept n new.used new.links))) (sym keeps.cells) (subst (λ (used : List Bool). IsSound (with_cells held (kept held.chains.cells used new.links))) (sym keeps.used) at)
 
 -- the record is there then
-put-into : (held mid : Held) (used : List Bool) (slot first count : ℕ) (new : Cells) (octets was now : List ℕ) → IsSound held → held.begun ≡ true → slot < held.cells → StaysMarked used held.used → mid ≡ emptied held slot used → IsSound mid
-    → IsSound (record { cells = new.cells; used = new.used; links = new.links; selector = mid.selector; committed = mid.committed; working = set mid.working slot first; begun = mid.begun })
-    → StandsFor held was → TakesChain (cells_of_store mid) new first count → IsWritten (cells_of_store mid) new first octets was now
-    → IsPut held (record { cells = new.cells; used = new.used; links = new.links; selector = mid.selector; committed = mid.committed; working = set mid.working slot first; begun = mid.begun }) slot octets was now
+put-into : (held mid : Held) (used : List Bool) (slot first count : ℕ) (new : Cells) (octets was now : List ℕ) → IsSound held → held.begun ≡ true → slot < held.chains.cells → StaysMarked used held.chains.used → mid ≡ emptied held slot used → IsSound mid
+    → IsSound (record mid { chains = new; working = set mid.working slot first })
+    → StandsFor held was → TakesChain mid.chains new first count → IsWritten mid.chains new first octets was now
+    → IsPut held (record mid { chains = new; working = set mid.working slot first }) slot octets was now
 put-into held mid used slot first count new octets was now sound begun inside fewer is =
-    subst (λ (mid : Held). IsSound mid → IsSound (filled mid) → StandsFor held was → TakesChain (cells_of_store mid) new first count → IsWritten (cells_of_store mid) new first octets was now → IsPut held (filled mid) slot octets was now) (sym is)
+    subst (λ (mid : Held). IsSound mid → IsSound (filled mid) → StandsFor held was → TakesChain mid.chains new first count → IsWritten mid.chains new first octets was now → IsPut held (filled mid) slot octets was now) (sym is)
     (λ mid_sound next_sound stands takes written.
-    let cells : new.cells ≡ held.cells = takes.cells in
-    let next : IsSound (put_into (emptied held slot used) slot first new.used new.links) = subst (λ (n : ℕ). IsSound (record { cells = n; used = new.used; links = new.links; selector = held.selector; committed = held.committed; working = set (set held.working slot 65535) slot first; begun = held.begun })) cells next_sound in
-    let same : new ≡ kept held.cells new.used new.links = ap (λ (n : ℕ). kept n new.used new.links) cells in
+    let cells : new.cells ≡ held.chains.cells = takes.cells in
+    let next : IsSound (put_into (emptied held slot used) slot first new.used new.links) = subst (λ (n : ℕ). IsSound (record held { chains = kept n new.used new.links; working = set (set held.working slot 65535) slot first })) cells next_sound in
+    let same : new ≡ kept held.chains.cells new.used new.links = ap (λ (n : ℕ). kept n new.used new.links) cells in
     let put = put-emptied held slot first count used new.used new.links octets was now sound mid_sound next begun inside fewer stands
-    (subst (λ (new : Cells). TakesChain (cells_of_store (emptied held slot used)) new first count) same takes) (subst (λ (new : Cells). IsWritten (cells_of_store (emptied held slot used)) new first octets was now) same written) in
-    subst (λ (n : ℕ). IsPut held (record { cells = n; used = new.used; links = new.links; selector = held.selector; committed = held.committed; working = set (set held.working slot 65535) slot first; begun = held.begun }) slot octets was now) (sym cells) put)
+    (subst (λ (new : Cells). TakesChain (emptied held slot used).chains new first count) same takes) (subst (λ (new : Cells). IsWritten (emptied held slot used).chains new first octets was now) same written) in
+    subst (λ (n : ℕ). IsPut held (record held { chains = kept n new.used new.links; working = set (set held.working slot 65535) slot first }) slot octets was now) (sym cells) put)
   where
     filled : Held → Held
-    filled mid = record { cells = new.cells; used = new.used; links = new.links; selector = mid.selector; committed = mid.committed; working = set mid.working slot first; begun = mid.begun }
+    filled mid = record mid { chains = new; working = set mid.working slot first }
 
-pub filled-becomes : (held mid : Held) (used : List Bool) (slot weight count first : ℕ) (new : Cells) (octets : List ℕ) (old now : Option (List ℕ)) → Emptied held mid used slot weight count → IfSome old (StandsFor held) → TakesChain (cells_of_store mid) new first count
-    → Becomes (IsWritten (cells_of_store mid) new first octets) old now
-    → Becomes (IsPut held (record { cells = new.cells; used = new.used; links = new.links; selector = mid.selector; committed = mid.committed; working = set mid.working slot first; begun = mid.begun }) slot octets) old now
+pub filled-becomes : (held mid : Held) (used : List Bool) (slot weight count first : ℕ) (new : Cells) (octets : List ℕ) (old now : Option (List ℕ)) → Emptied held mid used slot weight count → IfSome old (StandsFor held) → TakesChain mid.chains new first count
+    → Becomes (IsWritten mid.chains new first octets) old now
+    → Becomes (IsPut held (record mid { chains = new; working = set mid.working slot first }) slot octets) old now
 filled-becomes held mid used slot weight count first new octets old now e stands takes written = λ image told.
     let from = written image told in
     let there : StandsFor held from.0 = rw (from.1) at stands in
@@ -148,7 +148,7 @@ filled-becomes held mid used slot weight count first new octets old now e stands
     (from.0, from.1, put-into held mid used slot first count new octets from.0 image e.sound e.begun e.inside e.fewer e.is e.mid_sound next there takes from.2)
 
 -- at each moment of the writing the store of the image is as it was
-pub filled-keeps : (held mid : Held) (used marks : List Bool) (slot weight count n : ℕ) (old new : Chip) → Emptied held mid used slot weight count → IfSome old.image (StandsFor held) → marks ≡ mid.used → n ≡ mid.cells → KeepsMarked marks n old new → Keeps store_of old new
+pub filled-keeps : (held mid : Held) (used marks : List Bool) (slot weight count n : ℕ) (old new : Chip) → Emptied held mid used slot weight count → IfSome old.image (StandsFor held) → marks ≡ mid.chains.used → n ≡ mid.chains.cells → KeepsMarked marks n old new → Keeps store_of old new
 filled-keeps held mid used marks slot weight count n old new e stands marks_are cells keeps = keeps-store mid marks n old new cells marks_are e.mid_sound (told old.image stands) keeps
   where
     told : (image : Option (List ℕ)) → IfSome image (StandsFor held) → IfSome image (StandsFor mid)
@@ -156,31 +156,31 @@ filled-keeps held mid used marks slot weight count n old new e stands marks_are 
     told (Some image) stands = subst (λ (mid : Held). StandsFor mid image) (sym e.is) (stands-emptied held slot used image e.sound (subst IsSound e.is e.mid_sound) e.begun e.inside e.fewer stands).stands
 
 -- a transaction is rolled back, and its chains are freed
-pub rollback-sound : (held : Held) (new : Cells) (replaced kept : List ℕ) → IsSound held → held.begun ≡ true → replaced ≡ held.working → kept ≡ held.committed → new.cells ≡ held.cells → new.links ≡ held.links
-    → ((chains : List (List ℕ)) → AreUsedChains (cells_of_store held) replaced chains → (cell : ℕ) → is_marked new.used cell ≡ true → AreReplaced replaced kept chains (length replaced) cell → ⊥)
-    → ((chains : List (List ℕ)) → AreUsedChains (cells_of_store held) replaced chains → (cell : ℕ) → is_marked held.used cell ≡ true → ¬ (AreReplaced replaced kept chains (length replaced) cell) → is_marked new.used cell ≡ true)
-    → StaysMarked new.used held.used → length new.used ≡ length held.used
-    → IsSound (record { cells = new.cells; used = new.used; links = new.links; selector = held.selector; committed = held.committed; working = held.working; begun = false })
+pub rollback-sound : (held : Held) (new : Cells) (replaced kept : List ℕ) → IsSound held → held.begun ≡ true → replaced ≡ held.working → kept ≡ held.committed → new.cells ≡ held.chains.cells → new.links ≡ held.chains.links
+    → ((chains : List (List ℕ)) → AreUsedChains held.chains replaced chains → (cell : ℕ) → is_marked new.used cell ≡ true → AreReplaced replaced kept chains (length replaced) cell → ⊥)
+    → ((chains : List (List ℕ)) → AreUsedChains held.chains replaced chains → (cell : ℕ) → is_marked held.chains.used cell ≡ true → ¬ (AreReplaced replaced kept chains (length replaced) cell) → is_marked new.used cell ≡ true)
+    → StaysMarked new.used held.chains.used → length new.used ≡ length held.chains.used
+    → IsSound (record held { chains = new; begun = false })
 rollback-sound held new replaced others sound begun first second cells links freed rest fewer size =
     let frees : Frees held replaced others new.used = record { freed = freed; others = rest; fewer = fewer; count_is = size } in
     let at = subst (λ (others : List ℕ). Frees held held.working others new.used) second (subst (λ (replaced : List ℕ). Frees held replaced others new.used) first frees) in
-    same-cells (λ (h : Held). IsSound (record { cells = h.cells; used = h.used; links = h.links; selector = h.selector; committed = h.committed; working = h.working; begun = false })) held new cells links
+    same-cells (λ (h : Held). IsSound (record h { begun = false })) held new cells links
     (sound-rolled_back held new.used sound begun at)
 
 -- it is committed, and what was committed before is freed
-pub commit-sound : (held : Held) (new : Cells) (selector : ℕ) (working : List ℕ) (replaced kept : List ℕ) → IsSound held → held.begun ≡ true → replaced ≡ held.committed → kept ≡ held.working → new.cells ≡ held.cells → new.links ≡ held.links → selector ≡ 1 - held.selector → working ≡ held.working
-    → ((chains : List (List ℕ)) → AreUsedChains (cells_of_store held) replaced chains → (cell : ℕ) → is_marked new.used cell ≡ true → AreReplaced replaced kept chains (length replaced) cell → ⊥)
-    → ((chains : List (List ℕ)) → AreUsedChains (cells_of_store held) replaced chains → (cell : ℕ) → is_marked held.used cell ≡ true → ¬ (AreReplaced replaced kept chains (length replaced) cell) → is_marked new.used cell ≡ true)
-    → StaysMarked new.used held.used → length new.used ≡ length held.used
-    → IsSound (record { cells = new.cells; used = new.used; links = new.links; selector = selector; committed = working; working = held.working; begun = false })
+pub commit-sound : (held : Held) (new : Cells) (selector : ℕ) (working : List ℕ) (replaced kept : List ℕ) → IsSound held → held.begun ≡ true → replaced ≡ held.committed → kept ≡ held.working → new.cells ≡ held.chains.cells → new.links ≡ held.chains.links → selector ≡ 1 - held.selector → working ≡ held.working
+    → ((chains : List (List ℕ)) → AreUsedChains held.chains replaced chains → (cell : ℕ) → is_marked new.used cell ≡ true → AreReplaced replaced kept chains (length replaced) cell → ⊥)
+    → ((chains : List (List ℕ)) → AreUsedChains held.chains replaced chains → (cell : ℕ) → is_marked held.chains.used cell ≡ true → ¬ (AreReplaced replaced kept chains (length replaced) cell) → is_marked new.used cell ≡ true)
+    → StaysMarked new.used held.chains.used → length new.used ≡ length held.chains.used
+    → IsSound (record { chains = new; selector = selector; committed = working; working = held.working; begun = false })
 commit-sound held new selector working replaced others sound begun first second cells links selector_is working_is freed rest fewer size =
     let frees : Frees held replaced others new.used = record { freed = freed; others = rest; fewer = fewer; count_is = size } in
     let at = subst (λ (others : List ℕ). Frees held held.committed others new.used) second (subst (λ (replaced : List ℕ). Frees held replaced others new.used) first frees) in
-    let done = same-cells (λ (h : Held). IsSound (record { cells = h.cells; used = h.used; links = h.links; selector = 1 - h.selector; committed = h.working; working = h.working; begun = false })) held new cells links
+    let done = same-cells (λ (h : Held). IsSound (record { chains = h.chains; selector = 1 - h.selector; committed = h.working; working = h.working; begun = false })) held new cells links
     (sound-committed held new.used sound begun at) in
-    subst (λ (selector : ℕ). IsSound (record { cells = new.cells; used = new.used; links = new.links; selector = selector; committed = working; working = held.working; begun = false })) (sym selector_is)
-    (subst (λ (working : List ℕ). IsSound (record { cells = new.cells; used = new.used; links = new.links; selector = 1 - held.selector; committed = working; working = held.working; begun = false })) (sym working_is) done)
+    subst (λ (selector : ℕ). IsSound (record { chains = new; selector = selector; committed = working; working = held.working; begun = false })) (sym selector_is)
+    (subst (λ (working : List ℕ). IsSound (record { chains = new; selector = 1 - held.selector; committed = working; working = held.working; begun = false })) (sym working_is) done)
 
-pub commit-view : (held : Held) (new : Cells) (selector : ℕ) (committed working : List ℕ) → new.cells ≡ held.cells → new.links ≡ held.links → selector ≡ 1 - held.selector → committed ≡ held.working → working ≡ held.working
-    → record { cells = new.cells; used = new.used; links = new.links; selector = selector; committed = committed; working = working; begun = false } ≡ after_commit held new.used
+pub commit-view : (held : Held) (new : Cells) (selector : ℕ) (committed working : List ℕ) → new.cells ≡ held.chains.cells → new.links ≡ held.chains.links → selector ≡ 1 - held.selector → committed ≡ held.working → working ≡ held.working
+    → record { chains = new; selector = selector; committed = committed; working = working; begun = false } ≡ after_commit held new.used
 commit-view held new selector committed working cells links selects committed_is working_is = rw (cells, links, selects, committed_is, working_is) refl

@@ -7,39 +7,35 @@ use Rattle.std.proofs.lemmas.List.Folds.{list_all-append}
 use Rattle.std.proofs.lemmas.Option.{same_Some}
 use Rattle.eeprom.specs.Chip.{Chip, Becomes, RisesBy}
 use Rattle.eeprom.specs.StoreOf.{Slots, numbers_at, chain_of, chains_of, is_record, slot_of, slots_at, store_of, directory, are_apart, cells_for, cells_of, weight_of}
-use Rattle.cell_store.specs.Cells.{Cells, StandsFor, all_free, kept}
+use Rattle.cell_store.specs.Cells.{Cells, AreLinkedIn, all_free}
 use Rattle.cell_store.specs.Chains.{AreFree, IsRecordChain, is_among}
 use Rattle.cell_store.specs.Claims.{TakesChain, HasRecord, HasNoRecord}
 use Rattle.cell_store.proofs.Chains.{chain-empty, chains-push, chains-take}
 use Rattle.cell_store.proofs.Placements.{nowhere}
 use Rattle.record_store.specs.Header.{IsHeaderOf}
 use Rattle.record_store.specs.declared.header.Header.{Header}
-use Rattle.record_store.specs.Held.{Held, IsOver, contents, StandsFor as HeldStandsFor}
+use Rattle.record_store.specs.Held.{Held, IsOver, contents, StandsFor}
 use Rattle.record_store.specs.Opening.{HeldSoFar, IsOverSoFar, StandsSoFar, IsSoundSoFar, TakesSlot, IsSlot, ReadsStore, front_octets, slots_so_far, slot_with}
 use Rattle.record_store.specs.Sound.{Claimed, IsSound, cells_in}
 use Rattle.record_store.specs.declared.side.Side.TheVariants.{Committed}
-use Rattle.record_store.proofs.ClaimedSlots.{all_free-range, claimed-start, stands-start, Claims, cells-more, claims-so_far, claims-record, claims-refused, claims-over, claimed-more, distinct-more, marked-claimed, takes-range}
+use Rattle.record_store.proofs.ClaimedSlots.{all_free-range, claimed-start, linked-start, Claims, cells-more, claims-so_far, claims-record, claims-refused, claims-over, claimed-more, distinct-more, marked-claimed, takes-range}
 use Rattle.record_store.proofs.Weights.{store-begins, slots-chains, some-slots, header-room, cells-chains, chains-told}
 
 -- so many octets were read until then
 abbrev pub ReadsSoFar : HeldSoFar → ℕ → ℕ → Type 0
-ReadsSoFar held = RisesBy (front_octets held.cells + 32 * held.weight)
+ReadsSoFar held = RisesBy (front_octets held.chains.cells + 32 * held.weight)
 
 -- What holds before each slot is claimed, of so many cells over this EEPROM, where so many octets had been read before and now.
 pub record IsOpening (held : HeldSoFar) (slot cells : ℕ) (chip : Chip) (before now : Option ℕ) : Type 0 where
   pub claimed : held.claimed ≡ slot
-  pub cells_are : held.cells ≡ cells
+  pub cells_are : held.chains.cells ≡ cells
   pub over : IsOverSoFar held chip
-  pub few : held.weight ≤ held.cells
+  pub few : held.weight ≤ held.chains.cells
   pub read : Becomes (ReadsSoFar held) before now
-
--- its cells in memory
-abbrev pub cells_so_far : HeldSoFar → Cells
-cells_so_far held = kept held.cells held.used held.links
 
 -- these cells, selector and first cells, with so many slots claimed and so many cells in their chains
 abbrev pub held_of : Cells → ℕ → List ℕ → ℕ → ℕ → HeldSoFar
-held_of store selector firsts claimed weight = record { cells = store.cells; used = store.used; links = store.links; selector = selector; firsts = firsts; claimed = claimed; weight = weight }
+held_of store selector firsts claimed weight = record { chains = store; selector = selector; firsts = firsts; claimed = claimed; weight = weight }
 
 -- one slot more is claimed, whose chain has so many cells
 abbrev pub with_slot : HeldSoFar → Cells → ℕ → HeldSoFar
@@ -68,41 +64,41 @@ stands-begun header firsts store (Some image) is begins selected =
     let none : nat_le 0 header.cells ≡ true = grind (arith, nat_tests) in
     subst (λ (store : Cells). StandsSoFar (held_of store header.selector firsts 0 0) image) (sym is) (record {
       begins = record { front = begins.front; header = begins.fields; cells = begins.cells; selector = begins.selector; selected = rw (begins.selector) (sym selected) };
-      links = (stands-start header.cells image).links;
+      links = linked-start header.cells image;
       claimed = rw none refl;
     })
 
 -- the chains in memory are those of the image, with their records
 record ToldSoFar (held : HeldSoFar) (image : List ℕ) (chains : List (List ℕ)) (slots : Slots) : Type 0 where
-  of : chains_of image held.cells (take held.claimed held.firsts) ≡ Some chains
-  records : list_all (is_record image held.cells) chains ≡ true
-  is : slots ≡ map (slot_of image held.cells) chains
+  of : chains_of image held.chains.cells (take held.claimed held.firsts) ≡ Some chains
+  records : list_all (is_record image held.chains.cells) chains ≡ true
+  is : slots ≡ map (slot_of image held.chains.cells) chains
 
 told-so_far : (held : HeldSoFar) (image : List ℕ) (slots : Slots) → (sound : IsSoundSoFar held) → StandsSoFar held image → slots_so_far held image ≡ Some slots → ToldSoFar held image sound.chains.slots.chains slots
 told-so_far held image slots sound stands there =
-    let n = held.cells in
+    let n = held.chains.cells in
     let firsts = take held.claimed held.firsts in
     let c = sound.chains in
-    let marked = marked-claimed (cells_so_far held) firsts c.slots in
-    let of : chains_of image n firsts ≡ Some sound.chains.slots.chains = chains-told image n held.used held.links firsts c.slots.chains sound.range.few sound.range.many sound.range.links_count stands.links marked c.slots.has.are in
+    let marked = marked-claimed held.chains firsts c.slots in
+    let of : chains_of image n firsts ≡ Some sound.chains.slots.chains = chains-told image n held.chains.used held.chains.links firsts c.slots.chains sound.range.few sound.range.many sound.range.links_count stands.links marked c.slots.has.are in
     let t = slots-chains image n firsts slots there in
     let same : t.chains ≡ c.slots.chains = same_Some _ _ (sym t.of ∙ of) in
     record { of = of; records = subst (λ (chains : List (List ℕ)). list_all (is_record image n) chains ≡ true) same t.records; is = t.is ∙ ap (λ (chains : List (List ℕ)). map (slot_of image n) chains) same }
 
-apart-more : (held : HeldSoFar) (chain : List ℕ) (count : ℕ) → (sound : IsSoundSoFar held) → AreFree held.used chain → length chain ≡ count → held.weight + count ≤ held.cells → are_apart held.cells (sound.chains.slots.chains ++ chain ∷ []) ≡ true
+apart-more : (held : HeldSoFar) (chain : List ℕ) (count : ℕ) → (sound : IsSoundSoFar held) → AreFree held.chains.used chain → length chain ≡ count → held.weight + count ≤ held.chains.cells → are_apart held.chains.cells (sound.chains.slots.chains ++ chain ∷ []) ≡ true
 apart-more held chain count sound free count_is fits =
     let c = sound.chains in
     let chains : List (List ℕ) = c.slots.chains ++ chain ∷ [] in
-    let distinct = distinct-more (cells_so_far held) (take held.claimed held.firsts) chain c.slots free in
+    let distinct = distinct-more held.chains (take held.claimed held.firsts) chain c.slots free in
     let total : length (cells_in chains) ≡ held.weight + count = ap (length {A = ℕ}) (cells-more c.slots.chains chain) ∙ (length-append (cells_in c.slots.chains) chain ∙ omega (arith, c.count_is, count_is)) in
-    let few : nat_le (length (cells_in chains)) held.cells ≡ true = grind (arith, nat_tests, total, fits) in
+    let few : nat_le (length (cells_in chains)) held.chains.cells ≡ true = grind (arith, nat_tests, total, fits) in
     rw (distinct, few) refl
 
 -- the slots with the one that is claimed
-next-slots : (held : HeldSoFar) (new : Cells) (count : ℕ) (octets image : List ℕ) (slots : Slots) → IsSoundSoFar held → held.claimed < held.cells → TakesSlot (Some image) (cells_so_far held) new (get_or held.firsts held.claimed 0) octets count
-    → held.weight + count ≤ held.cells → StandsSoFar held image → slots_so_far held image ≡ Some slots → slots_so_far (with_slot held new count) image ≡ Some (slots ++ slot_with octets ∷ [])
+next-slots : (held : HeldSoFar) (new : Cells) (count : ℕ) (octets image : List ℕ) (slots : Slots) → IsSoundSoFar held → held.claimed < held.chains.cells → TakesSlot (Some image) held.chains new (get_or held.firsts held.claimed 0) octets count
+    → held.weight + count ≤ held.chains.cells → StandsSoFar held image → slots_so_far held image ≡ Some slots → slots_so_far (with_slot held new count) image ≡ Some (slots ++ slot_with octets ∷ [])
 next-slots held new count octets image slots sound left takes fits stands before =
-    let n = held.cells in
+    let n = held.chains.cells in
     let first : ℕ = get_or held.firsts held.claimed 0 in
     let told = told-so_far held image slots sound stands before in
     let is = takes.told in
@@ -111,15 +107,15 @@ next-slots held new count octets image slots sound left takes fits stands before
     subst (λ (n : ℕ). slots_at image n (take (held.claimed + 1) held.firsts) ≡ Some (slots ++ slot_with octets ∷ [])) (sym takes.chain.cells)
     (subst (λ (firsts : List ℕ). slots_at image n firsts ≡ Some (slots ++ slot_with octets ∷ [])) (sym more) pushed)
 
-pub slots-next : (held : HeldSoFar) (new : Cells) (count : ℕ) (octets : List ℕ) (image : Option (List ℕ)) → IsSoundSoFar held → held.claimed < held.cells → TakesSlot image (cells_so_far held) new (get_or held.firsts held.claimed 0) octets count
-    → held.weight + count ≤ held.cells → IfSome image (StandsSoFar held) → IfSome image (λ image. slots_so_far (with_slot held new count) image ≡ option_map (λ slots. slots ++ slot_with octets ∷ []) (slots_so_far held image))
+pub slots-next : (held : HeldSoFar) (new : Cells) (count : ℕ) (octets : List ℕ) (image : Option (List ℕ)) → IsSoundSoFar held → held.claimed < held.chains.cells → TakesSlot image held.chains new (get_or held.firsts held.claimed 0) octets count
+    → held.weight + count ≤ held.chains.cells → IfSome image (StandsSoFar held) → IfSome image (λ image. slots_so_far (with_slot held new count) image ≡ option_map (λ slots. slots ++ slot_with octets ∷ []) (slots_so_far held image))
 slots-next held new count octets None sound left takes fits stands = tt
 slots-next held new count octets (Some image) sound left takes fits stands =
     let slots = some-slots (slots_so_far held image) stands.claimed in
     next-slots held new count octets image slots.0 sound left takes fits stands slots.1 ∙ ap (λ (slots : Option Slots). option_map (λ slots. slots ++ slot_with octets ∷ []) slots) (sym slots.1)
 
-pub stands-next : (held : HeldSoFar) (new : Cells) (count : ℕ) (octets : List ℕ) (image : Option (List ℕ)) → IsSoundSoFar held → held.claimed < held.cells → TakesSlot image (cells_so_far held) new (get_or held.firsts held.claimed 0) octets count
-    → IfSome image (λ image. StandsFor (cells_so_far held) image → StandsFor new image) → held.weight + count ≤ held.cells → IfSome image (StandsSoFar held) → IfSome image (StandsSoFar (with_slot held new count))
+pub stands-next : (held : HeldSoFar) (new : Cells) (count : ℕ) (octets : List ℕ) (image : Option (List ℕ)) → IsSoundSoFar held → held.claimed < held.chains.cells → TakesSlot image held.chains new (get_or held.firsts held.claimed 0) octets count
+    → IfSome image (λ image. AreLinkedIn held.chains image → AreLinkedIn new image) → held.weight + count ≤ held.chains.cells → IfSome image (StandsSoFar held) → IfSome image (StandsSoFar (with_slot held new count))
 stands-next held new count octets None sound left takes links fits stands = tt
 stands-next held new count octets (Some image) sound left takes links fits stands =
     let slots = some-slots (slots_so_far held image) stands.claimed in
@@ -131,64 +127,64 @@ stands-next held new count octets (Some image) sound left takes links fits stand
         selector = stands.begins.selector;
         selected = ap (directory image) takes.chain.cells ∙ stands.begins.selected;
       };
-      links = (links (record { links = stands.links })).links;
+      links = links stands.links;
       claimed = rw (next-slots held new count octets image slots.0 sound left takes fits stands slots.1) refl;
     }
 
-pub sound-next : (held : HeldSoFar) (new : Cells) (count : ℕ) → IsSoundSoFar held → held.claimed < held.cells → TakesChain (cells_so_far held) new (get_or held.firsts held.claimed 0) count → held.weight + count ≤ held.cells → IsSoundSoFar (with_slot held new count)
+pub sound-next : (held : HeldSoFar) (new : Cells) (count : ℕ) → IsSoundSoFar held → held.claimed < held.chains.cells → TakesChain held.chains new (get_or held.firsts held.claimed 0) count → held.weight + count ≤ held.chains.cells → IsSoundSoFar (with_slot held new count)
 sound-next held new count sound left takes fits = record {
-  range = takes-range (cells_so_far held) new (get_or held.firsts held.claimed 0) count takes sound.range;
+  range = takes-range held.chains new (get_or held.firsts held.claimed 0) count takes sound.range;
   selector = sound.selector;
   count = sound.count ∙ sym takes.cells;
   claimed = rw (takes.cells) (omega (arith, left));
-  chains = claimed-more (cells_so_far held) new held.firsts held.weight count held.claimed sound.range (omega (arith, left, sound.count)) takes fits sound.chains;
+  chains = claimed-more held.chains new held.firsts held.weight count held.claimed sound.range (omega (arith, left, sound.count)) takes fits sound.chains;
 }
 
 -- there is none where a slot can't be claimed, or with one cell too many
-claims-held : (held : HeldSoFar) (image : List ℕ) → IsSoundSoFar held → StandsSoFar held image → Claims held.cells held.firsts held.used held.weight (drop held.claimed held.firsts) image
+claims-held : (held : HeldSoFar) (image : List ℕ) → IsSoundSoFar held → StandsSoFar held image → Claims held.chains.cells held.firsts held.chains.used held.weight (drop held.claimed held.firsts) image
 claims-held held image sound stands =
     let slots = some-slots (slots_so_far held image) stands.claimed in
     let told = told-so_far held image slots.0 sound stands slots.1 in
-    claims-so_far (cells_so_far held) held.firsts held.weight held.claimed image sound.range sound.chains told.of told.records
+    claims-so_far held.chains held.firsts held.weight held.claimed image sound.range sound.chains told.of told.records
 
 -- a chain that doesn't begin nowhere has a cell
 some-cells : (image : List ℕ) (n first : ℕ) (chain : List ℕ) → first ≢ 65535 → chain_of image n (2 * n) first ≡ Some chain → 0 < length chain
 some-cells image n first [] there of = absurd (there (chain-empty image n (2 * n) first of))
 some-cells image n first (cell ∷ cells) there of = omega arith
 
-pub store-refused : (held : HeldSoFar) (image : Option (List ℕ)) → IsSoundSoFar held → held.claimed < held.cells → get_or held.firsts held.claimed 0 ≢ 65535 → IfSome image (HasNoRecord (cells_so_far held) (get_or held.firsts held.claimed 0)) → IfSome image (StandsSoFar held)
+pub store-refused : (held : HeldSoFar) (image : Option (List ℕ)) → IsSoundSoFar held → held.claimed < held.chains.cells → get_or held.firsts held.claimed 0 ≢ 65535 → IfSome image (HasNoRecord held.chains (get_or held.firsts held.claimed 0)) → IfSome image (StandsSoFar held)
     → IfSome image (λ image. store_of image ≡ None)
 store-refused held None sound left there none stands = tt
 store-refused held (Some image) sound left there none stands =
     let first : ℕ = get_or held.firsts held.claimed 0 in
-    store-begins held.cells held.selector held.firsts image stands.begins ∙ claims-refused held.cells held.firsts held.used held.weight held.claimed image sound.range.used_count (omega (arith, left, sound.count))
-    (λ chain of is free. none chain (record { of = of; is = is; some = some-cells image held.cells first chain there of }) free) (claims-held held image sound stands)
+    store-begins held.chains.cells held.selector held.firsts image stands.begins ∙ claims-refused held.chains.cells held.firsts held.chains.used held.weight held.claimed image sound.range.used_count (omega (arith, left, sound.count))
+    (λ chain of is free. none chain (record { of = of; is = is; some = some-cells image held.chains.cells first chain there of }) free) (claims-held held image sound stands)
 
-pub store-over : (held : HeldSoFar) (new : Cells) (count : ℕ) (octets : List ℕ) (image : Option (List ℕ)) → IsSoundSoFar held → held.claimed < held.cells → TakesSlot image (cells_so_far held) new (get_or held.firsts held.claimed 0) octets count
-    → held.cells < held.weight + count → IfSome image (StandsSoFar held) → IfSome image (λ image. store_of image ≡ None)
+pub store-over : (held : HeldSoFar) (new : Cells) (count : ℕ) (octets : List ℕ) (image : Option (List ℕ)) → IsSoundSoFar held → held.claimed < held.chains.cells → TakesSlot image held.chains new (get_or held.firsts held.claimed 0) octets count
+    → held.chains.cells < held.weight + count → IfSome image (StandsSoFar held) → IfSome image (λ image. store_of image ≡ None)
 store-over held new count octets None sound left takes over stands = tt
 store-over held new count octets (Some image) sound left takes over stands =
     let first : ℕ = get_or held.firsts held.claimed 0 in
-    store-begins held.cells held.selector held.firsts image stands.begins ∙ claims-over held.cells held.firsts held.used new.used held.weight count held.claimed image sound.range.used_count (omega (arith, left, sound.count)) over
-    (claims-record (cells_so_far held) new first count octets image takes) (claims-held held image sound stands)
+    store-begins held.chains.cells held.selector held.firsts image stands.begins ∙ claims-over held.chains.cells held.firsts held.chains.used new.used held.weight count held.claimed image sound.range.used_count (omega (arith, left, sound.count)) over
+    (claims-record held.chains new first count octets image takes) (claims-held held image sound stands)
 
 -- once all slots were claimed
 weight-held : (held : HeldSoFar) (image : List ℕ) (slots : Slots) → IsSoundSoFar held → StandsSoFar held image → slots_so_far held image ≡ Some slots → held.weight ≡ weight_of slots
 weight-held held image slots sound stands there =
     let told = told-so_far held image slots sound stands there in
-    let room = header-room image held.cells stands.begins.header stands.begins.cells in
-    let cells = cells-chains image held.cells (take held.claimed held.firsts) sound.chains.slots.chains room told.of told.records in
+    let room = header-room image held.chains.cells stands.begins.header stands.begins.cells in
+    let cells = cells-chains image held.chains.cells (take held.claimed held.firsts) sound.chains.slots.chains room told.of told.records in
     sym sound.chains.count_is ∙ (sym cells ∙ ap weight_of (sym told.is))
 
-pub weight-finished : (held : HeldSoFar) (image : List ℕ) (slots : Slots) → IsSoundSoFar held → held.claimed ≡ held.cells → StandsSoFar held image → slots_at image held.cells held.firsts ≡ Some slots → held.weight ≡ weight_of slots
+pub weight-finished : (held : HeldSoFar) (image : List ℕ) (slots : Slots) → IsSoundSoFar held → held.claimed ≡ held.chains.cells → StandsSoFar held image → slots_at image held.chains.cells held.firsts ≡ Some slots → held.weight ≡ weight_of slots
 weight-finished held image slots sound all stands there =
     let whole : take held.claimed held.firsts ≡ held.firsts = take_all held.claimed held.firsts (omega (arith, all, sound.count)) in
-    weight-held held image slots sound stands (ap (slots_at image held.cells) whole ∙ there)
+    weight-held held image slots sound stands (ap (slots_at image held.chains.cells) whole ∙ there)
 
-pub sound-finished : (held : HeldSoFar) (working : List ℕ) → IsSoundSoFar held → held.claimed ≡ held.cells → length working ≡ held.cells
-    → IsSound (record { cells = held.cells; used = held.used; links = held.links; selector = held.selector; committed = held.firsts; working = working; begun = false })
+pub sound-finished : (held : HeldSoFar) (working : List ℕ) → IsSoundSoFar held → held.claimed ≡ held.chains.cells → length working ≡ held.chains.cells
+    → IsSound (record { chains = held.chains; selector = held.selector; committed = held.firsts; working = working; begun = false })
 sound-finished held working sound all count =
-    let c : Claimed (cells_so_far held) held.firsts = subst (Claimed (cells_so_far held)) (take_all held.claimed held.firsts (omega (arith, all, sound.count))) sound.chains.slots in
+    let c : Claimed held.chains held.firsts = subst (Claimed held.chains) (take_all held.claimed held.firsts (omega (arith, all, sound.count))) sound.chains.slots in
     record {
       range = sound.range;
       selector = sound.selector;
@@ -240,11 +236,11 @@ result-count (Ok count) octets is some = is ∙ cells-with octets some
 result-count (Err e) octets is some = tt
 
 -- what is said of an opened store, where its image is told
-finished-stands : (held : HeldSoFar) (store : Held) (image : Option (List ℕ)) → ((image : List ℕ) → StandsSoFar held image → HeldStandsFor store image) → IfSome image (StandsSoFar held) → IfSome image (HeldStandsFor store)
+finished-stands : (held : HeldSoFar) (store : Held) (image : Option (List ℕ)) → ((image : List ℕ) → StandsSoFar held image → StandsFor store image) → IfSome image (StandsSoFar held) → IfSome image (StandsFor store)
 finished-stands held store None finished stands = tt
 finished-stands held store (Some image) finished stands = finished image stands
 
-pub finished-over : (held : HeldSoFar) (store : Held) (chip : Chip) → ((image : List ℕ) → StandsSoFar held image → HeldStandsFor store image) → store.cells ≡ held.cells → IsOverSoFar held chip → IsOver store chip
+pub finished-over : (held : HeldSoFar) (store : Held) (chip : Chip) → ((image : List ℕ) → StandsSoFar held image → StandsFor store image) → store.chains.cells ≡ held.chains.cells → IsOverSoFar held chip → IsOver store chip
 finished-over held store chip finished cells over = record { room = rw cells over.room; stands = finished-stands held store chip.image finished over.stands }
 
 pub finished-opened : (held : HeldSoFar) (store : Held) (image : Option (List ℕ)) → ((image : List ℕ) → StandsSoFar held image → store_of image ≡ contents store Committed image) → IfSome image (StandsSoFar held) → IfSome image (λ image. store_of image ≡ contents store Committed image)
@@ -252,8 +248,8 @@ finished-opened held store None opened stands = tt
 finished-opened held store (Some image) opened stands = opened image stands
 
 pub finished-read : (held : HeldSoFar) (store : Held) (image : Option (List ℕ)) (old new : Option ℕ) → ((image : List ℕ) → StandsSoFar held image → store_of image ≡ contents store Committed image)
-    → ((image : List ℕ) (slots : Slots) → StandsSoFar held image → contents store Committed image ≡ Some slots → held.weight ≡ weight_of slots) → store.cells ≡ held.cells → IfSome image (StandsSoFar held)
-    → Becomes (ReadsSoFar held) old new → IfSome image (λ image. (slots : Slots) → store_of image ≡ Some slots → Becomes (ReadsStore store.cells slots) old new)
+    → ((image : List ℕ) (slots : Slots) → StandsSoFar held image → contents store Committed image ≡ Some slots → held.weight ≡ weight_of slots) → store.chains.cells ≡ held.chains.cells → IfSome image (StandsSoFar held)
+    → Becomes (ReadsSoFar held) old new → IfSome image (λ image. (slots : Slots) → store_of image ≡ Some slots → Becomes (ReadsStore store.chains.cells slots) old new)
 finished-read held store None old new opened weight cells stands read = tt
 finished-read held store (Some image) old new opened weight cells stands read = λ slots there.
     let weighs : held.weight ≡ weight_of slots = weight image slots stands (sym (opened image stands) ∙ there) in
@@ -262,8 +258,8 @@ finished-read held store (Some image) old new opened weight cells stands read = 
 -- the slots that were claimed are the first ones of the image's store
 pub so_far-first : (held : HeldSoFar) (image : List ℕ) (slots : Slots) → StandsSoFar held image → store_of image ≡ Some slots → slots_so_far held image ≡ Some (take held.claimed slots)
 so_far-first held image slots stands stored =
-    let n = held.cells in
-    let whole = slots-chains image n held.firsts slots (sym (store-begins held.cells held.selector held.firsts image stands.begins) ∙ stored) in
+    let n = held.chains.cells in
+    let whole = slots-chains image n held.firsts slots (sym (store-begins held.chains.cells held.selector held.firsts image stands.begins) ∙ stored) in
     let some = some-slots (slots_so_far held image) stands.claimed in
     let part = slots-chains image n (take held.claimed held.firsts) some.0 some.1 in
     let same : part.chains ≡ take held.claimed whole.chains = same_Some _ _ (sym part.of ∙ chains-take image n held.firsts whole.chains held.claimed whole.of) in

@@ -7,7 +7,7 @@ use Rattle.std.proofs.lemmas.Option.{same_Some}
 use Rattle.std.proofs.lemmas.List.Sums.{sum_by-cons, sum_by-set}
 use Rattle.eeprom.specs.Chip.{Chip, Keeps}
 use Rattle.eeprom.specs.StoreOf.{Slots, chain_of, chains_of, cells_for, cells_of, is_record, slot_of, slots_at, are_apart, directory, starts_with_magic, has_header, number_at, store_of}
-use Rattle.cell_store.specs.Cells.{kept, AreLinksOf}
+use Rattle.cell_store.specs.Cells.{kept, AreLinkedIn}
 use Rattle.cell_store.specs.Chains.{is_among, steps}
 use Rattle.cell_store.specs.Claims.{TakesChain}
 use Rattle.cell_store.specs.Marks.{StaysMarked, is_marked, marked, unmarked}
@@ -20,7 +20,7 @@ use Rattle.cell_store.proofs.Linking.{steps-end}
 use Rattle.cell_store.proofs.Marking.{marked-all, unmarked-set}
 use Rattle.cell_store.proofs.Placements.{nowhere}
 use Rattle.eeprom.proofs.Regions.{SameFront, same-magic, same-cells, same-header, numbers-agree}
-use Rattle.record_store.specs.Held.{Held, cells_of_store, StandsFor, firsts, contents}
+use Rattle.record_store.specs.Held.{Held, StandsFor, firsts, contents}
 use Rattle.record_store.specs.Put.{IsPut, emptied, weight_with, IsFull, IsWithin}
 use Rattle.record_store.specs.Slots.{steps_without}
 use Rattle.record_store.specs.Sound.{IsSound, AreChains, cells_in}
@@ -57,31 +57,31 @@ directory-same marks n left was keeping =
     rw selector (numbers-agree left was (32 + 2 * n * s) n (λ k from below. octet-same marks n left was k keeping (omega arith)))
 
 -- an image that keeps the used cells has the same records on each side
-side-kept : (held : Held) (side : Side) (left was : List ℕ) → IsSound held → StandsFor held was → IsSome (contents held side was) → Keeping held.used held.cells left was → contents held side left ≡ contents held side was
+side-kept : (held : Held) (side : Side) (left was : List ℕ) → IsSound held → StandsFor held was → IsSome (contents held side was) → Keeping held.chains.used held.chains.cells left was → contents held side left ≡ contents held side was
 side-kept held side left was sound stands there keeping =
-    let n = held.cells in
+    let n = held.chains.cells in
     let s = side-chains held side sound in
     let slots = some-slots (contents held side was) there in
     let told = told-chains held was (firsts held side) s.chains slots.0 sound stands s.has s.marked slots.1 in
     slots-same left was n (firsts held side) slots.0 s.chains sound.range.many told.of told.records told.apart told.is
-    (all-marked-same held.used n left was s.chains keeping (marked-chains held.used s.chains s.marked)) ∙ sym slots.1
+    (all-marked-same held.chains.used n left was s.chains keeping (marked-chains held.chains.used s.chains s.marked)) ∙ sym slots.1
 
-pub store-kept : (held : Held) (left was : List ℕ) → IsSound held → StandsFor held was → Keeping held.used held.cells left was → store_of left ≡ store_of was
+pub store-kept : (held : Held) (left was : List ℕ) → IsSound held → StandsFor held was → Keeping held.chains.used held.chains.cells left was → store_of left ≡ store_of was
 store-kept held left was sound stands keeping =
-    let n = held.cells in
-    let front = front-same held.used n left was keeping in
+    let n = held.chains.cells in
+    let front = front-same held.chains.used n left was keeping in
     let magic : starts_with_magic left ≡ true = same-magic left was front ∙ stands.begins.front in
     let header : has_header left ≡ true = same-header left was front ∙ stands.begins.header in
     let number : number_at left 6 ≡ n = same-cells left was front ∙ stands.begins.cells in
-    let selected : directory left n ≡ held.committed = directory-same held.used n left was keeping ∙ stands.begins.selected in
+    let selected : directory left n ≡ held.committed = directory-same held.chains.used n left was keeping ∙ stands.begins.selected in
     let now : store_of left ≡ slots_at left n held.committed = rw (magic, header, number, selected) refl in
     let before : store_of was ≡ slots_at was n held.committed = store-begins n held.selector held.committed was stands.begins in
     now ∙ (side-kept held Committed left was sound stands stands.committed keeping ∙ sym before)
 
-pub keeps-store : (held : Held) (marks : List Bool) (n : ℕ) (old new : Chip) → n ≡ held.cells → marks ≡ held.used → IsSound held → IfSome old.image (StandsFor held) → KeepsMarked marks n old new → Keeps store_of old new
+pub keeps-store : (held : Held) (marks : List Bool) (n : ℕ) (old new : Chip) → n ≡ held.chains.cells → marks ≡ held.chains.used → IsSound held → IfSome old.image (StandsFor held) → KeepsMarked marks n old new → Keeps store_of old new
 keeps-store held marks n old new cells used sound stands keeps =
-    let keeping_is : (left was : List ℕ) → Keeping marks n left was → Keeping held.used held.cells left was =
-    λ left was keeping. subst (λ (n : ℕ). Keeping held.used n left was) cells (subst (λ (marks : List Bool). Keeping marks n left was) used keeping) in
+    let keeping_is : (left was : List ℕ) → Keeping marks n left was → Keeping held.chains.used held.chains.cells left was =
+    λ left was keeping. subst (λ (n : ℕ). Keeping held.chains.used n left was) cells (subst (λ (marks : List Bool). Keeping marks n left was) used keeping) in
     let kept : (left was : List ℕ) → old.image ≡ Some was → Keeping marks n left was → store_of left ≡ store_of was =
     λ left was told keeping. store-kept held left was sound (rw told at stands) (keeping_is left was keeping) in
     record {
@@ -95,16 +95,16 @@ keeps-store held marks n old new cells used sound stands keeps =
     }
 
 -- one slot has another chain, and the others are as they were
-refilled : (held next : Held) (slot first : ℕ) (chain was now : List ℕ) (slots : Slots) → IsSound held → IsSound next → next.cells ≡ held.cells → firsts next Working ≡ set (firsts held Working) slot first → StandsFor held was → AreLinksOf now next.cells next.used next.links
-    → Keeping held.used held.cells now was → slot < length (firsts held Working) → chain_of now held.cells (2 * held.cells) first ≡ Some chain → is_record now held.cells chain ≡ true → contents held Working was ≡ Some slots
-    → contents next Working now ≡ Some (set slots slot (slot_of now held.cells chain))
+refilled : (held next : Held) (slot first : ℕ) (chain was now : List ℕ) (slots : Slots) → IsSound held → IsSound next → next.chains.cells ≡ held.chains.cells → firsts next Working ≡ set (firsts held Working) slot first → StandsFor held was → AreLinkedIn next.chains now
+    → Keeping held.chains.used held.chains.cells now was → slot < length (firsts held Working) → chain_of now held.chains.cells (2 * held.chains.cells) first ≡ Some chain → is_record now held.chains.cells chain ≡ true → contents held Working was ≡ Some slots
+    → contents next Working now ≡ Some (set slots slot (slot_of now held.chains.cells chain))
 refilled held next slot first chain was now slots sound next_sound same_cells same_firsts stands links keeping inside of is there =
-    let n = held.cells in
+    let n = held.chains.cells in
     let s = side-chains held Working sound in
     let told = told-chains held was (firsts held Working) s.chains slots sound stands s.has s.marked there in
-    let r = replaced held.used now was n (firsts held Working) s.chains slot first chain sound.range.many keeping inside told.of told.records (marked-chains held.used s.chains s.marked) of is in
+    let r = replaced held.chains.used now was n (firsts held Working) s.chains slot first chain sound.range.many keeping inside told.of told.records (marked-chains held.chains.used s.chains s.marked) of is in
     let t = side-chains next Working next_sound in
-    let next_of = chains-told now next.cells next.used next.links (firsts next Working) t.chains next_sound.range.few next_sound.range.many next_sound.range.links_count links t.marked t.has.are in
+    let next_of = chains-told now next.chains.cells next.chains.used next.chains.links (firsts next Working) t.chains next_sound.range.few next_sound.range.many next_sound.range.links_count links t.marked t.has.are in
     let same : t.chains ≡ set s.chains slot chain = same_Some _ _ (sym next_of ∙ (ap (λ (n : ℕ). chains_of now n (firsts next Working)) same_cells ∙ (ap (λ (firsts : List ℕ). chains_of now n firsts) same_firsts ∙ r.of))) in
     let few : nat_le (length (cells_in t.chains)) n ≡ true = le-leb (length (cells_in t.chains)) n (subst (λ (n : ℕ). length (cells_in t.chains) ≤ n) same_cells t.has.few) in
     let apart : are_apart n t.chains ≡ true = rw (t.has.distinct, few) refl in
@@ -123,16 +123,16 @@ pub record StandsEmptied (held : Held) (slot : ℕ) (used : List Bool) (image : 
   pub committed : contents (emptied held slot used) Committed image ≡ contents held Committed image
   pub working : contents (emptied held slot used) Working image ≡ option_map (λ slots. set slots slot None) (contents held Working image)
 
-pub stands-emptied : (held : Held) (slot : ℕ) (used : List Bool) (image : List ℕ) → IsSound held → IsSound (emptied held slot used) → held.begun ≡ true → slot < held.cells → StaysMarked used held.used → StandsFor held image → StandsEmptied held slot used image
+pub stands-emptied : (held : Held) (slot : ℕ) (used : List Bool) (image : List ℕ) → IsSound held → IsSound (emptied held slot used) → held.begun ≡ true → slot < held.chains.cells → StaysMarked used held.chains.used → StandsFor held image → StandsEmptied held slot used image
 stands-emptied held slot used image sound next_sound begun inside fewer stands =
-    let n = held.cells in
+    let n = held.chains.cells in
     let slots = some-slots (contents held Working image) stands.working in
     let working_is : firsts held Working ≡ held.working = rw begun refl in
     let next_is : firsts (emptied held slot used) Working ≡ set (firsts held Working) slot 65535 = rw begun refl in
     let within : slot < length (firsts held Working) = rw working_is (omega (arith, inside, sound.working_count)) in
-    let links : AreLinksOf image n used held.links = λ cell is. stands.links cell (fewer cell is) in
+    let links : AreLinkedIn (record held.chains { used = used }) image = record { each = λ cell is. stands.links.each cell (fewer cell is) } in
     let there : contents (emptied held slot used) Working image ≡ Some (set slots.0 slot None) =
-    refilled held (emptied held slot used) slot 65535 [] image image slots.0 sound next_sound refl next_is stands links (Keeping-same held.used n image) within (nowhere image n (2 * n)) refl slots.1 in
+    refilled held (emptied held slot used) slot 65535 [] image image slots.0 sound next_sound refl next_is stands links (Keeping-same held.chains.used n image) within (nowhere image n (2 * n)) refl slots.1 in
     record {
       stands = record {
         begins = stands.begins;
@@ -145,22 +145,22 @@ stands-emptied held slot used image sound next_sound begun inside fewer stands =
     }
 
 -- a record is put into a slot that is empty
-pub put-done : (held : Held) (slot first count : ℕ) (used : List Bool) (links octets was now : List ℕ) → IsSound held → IsSound (put_into held slot first used links) → held.begun ≡ true → slot < held.cells → StandsFor held was
-    → TakesChain (cells_of_store held) (kept held.cells used links) first count → IsWritten (cells_of_store held) (kept held.cells used links) first octets was now → IsPut held (put_into held slot first used links) slot octets was now
+pub put-done : (held : Held) (slot first count : ℕ) (used : List Bool) (links octets was now : List ℕ) → IsSound held → IsSound (put_into held slot first used links) → held.begun ≡ true → slot < held.chains.cells → StandsFor held was
+    → TakesChain held.chains (kept held.chains.cells used links) first count → IsWritten held.chains (kept held.chains.cells used links) first octets was now → IsPut held (put_into held slot first used links) slot octets was now
 put-done held slot first count used links octets was now sound next_sound begun inside stands takes w =
-    let n = held.cells in
+    let n = held.chains.cells in
     let next : Held = put_into held slot first used links in
     let slots = some-slots (contents held Working was) stands.working in
     let working_is : firsts held Working ≡ held.working = rw begun refl in
     let next_is : firsts next Working ≡ set (firsts held Working) slot first = rw begun refl in
     let within : slot < length (firsts held Working) = rw working_is (omega (arith, inside, sound.working_count)) in
     let reads = w.reads takes.chain takes.linked in
-    let linked = (w.stands (record { links = stands.links })).links in
+    let linked = w.links stands.links in
     let there = refilled held next slot first takes.chain was now slots.0 sound next_sound refl next_is stands linked w.keeping within reads.0.of reads.0.is slots.1 in
     let working : contents next Working now ≡ Some (set slots.0 slot (Some octets)) = there ∙ ap (λ (entry : Option (List ℕ)). Some (set slots.0 slot entry)) reads.1 in
     let committed = side-kept held Committed now was sound stands stands.committed w.keeping in
-    let front = front-same held.used n now was w.keeping in
-    let octet = octet-same held.used n now was 8 w.keeping (omega arith) in
+    let front = front-same held.chains.used n now was w.keeping in
+    let octet = octet-same held.chains.used n now was 8 w.keeping (omega arith) in
     record {
       stands = record {
         begins = record {
@@ -168,7 +168,7 @@ put-done held slot first count used links octets was now sound next_sound begun 
           header = same-header now was front ∙ stands.begins.header;
           cells = same-cells now was front ∙ stands.begins.cells;
           selector = rw octet (stands.begins.selector);
-          selected = directory-same held.used n now was w.keeping ∙ stands.begins.selected;
+          selected = directory-same held.chains.used n now was w.keeping ∙ stands.begins.selected;
         };
         links = linked;
         committed = subst (λ (o : Option Slots). IsSome o) (sym committed) stands.committed;
@@ -179,8 +179,8 @@ put-done held slot first count used links octets was now sound next_sound begun 
     }
 
 -- both, one after the other
-pub put-emptied : (held : Held) (slot first count : ℕ) (less used : List Bool) (links octets was now : List ℕ) → IsSound held → IsSound (emptied held slot less) → IsSound (put_into (emptied held slot less) slot first used links) → held.begun ≡ true → slot < held.cells → StaysMarked less held.used
-    → StandsFor held was → TakesChain (cells_of_store (emptied held slot less)) (kept held.cells used links) first count → IsWritten (cells_of_store (emptied held slot less)) (kept held.cells used links) first octets was now
+pub put-emptied : (held : Held) (slot first count : ℕ) (less used : List Bool) (links octets was now : List ℕ) → IsSound held → IsSound (emptied held slot less) → IsSound (put_into (emptied held slot less) slot first used links) → held.begun ≡ true → slot < held.chains.cells → StaysMarked less held.chains.used
+    → StandsFor held was → TakesChain (emptied held slot less).chains (kept held.chains.cells used links) first count → IsWritten (emptied held slot less).chains (kept held.chains.cells used links) first octets was now
     → IsPut held (put_into (emptied held slot less) slot first used links) slot octets was now
 put-emptied held slot first count less used links octets was now sound mid_sound next_sound begun inside fewer stands takes w =
     let e = stands-emptied held slot less was sound mid_sound begun inside fewer stands in
@@ -196,21 +196,21 @@ put-emptied held slot first count less used links octets was now sound mid_sound
     again (Some slots) = ap (λ (slots : Slots). Some slots) (set-again slots slot None (Some octets))
 
 -- what the working records weigh with one in a slot
-weight-put : (held : Held) (slot : ℕ) (octets image : List ℕ) (slots : Slots) → IsSound held → held.begun ≡ true → StandsFor held image → slot < held.cells → contents held Working image ≡ Some slots
-    → weight_with slot octets slots ≡ steps_without held.links held.working slot + cells_for (length octets)
+weight-put : (held : Held) (slot : ℕ) (octets image : List ℕ) (slots : Slots) → IsSound held → held.begun ≡ true → StandsFor held image → slot < held.chains.cells → contents held Working image ≡ Some slots
+    → weight_with slot octets slots ≡ steps_without held.chains.links held.working slot + cells_for (length octets)
 weight-put held slot octets image slots sound begun stands inside there =
-    let n = held.cells in
+    let n = held.chains.cells in
     let working_is : firsts held Working ≡ held.working = rw begun refl in
     let k = sound.sides in
     let s = side-chains held Working sound in
     let told = told-chains held image (firsts held Working) s.chains slots sound stands s.has s.marked there in
-    let are : AreChains held.links held.working s.chains = subst (λ (firsts : List ℕ). AreChains held.links firsts s.chains) working_is s.has.are in
-    let within : slot < length s.chains = omega (arith, inside, length-chains held.links held.working s.chains are, sound.working_count) in
+    let are : AreChains held.chains.links held.working s.chains = subst (λ (firsts : List ℕ). AreChains held.chains.links firsts s.chains) working_is s.has.are in
+    let within : slot < length s.chains = omega (arith, inside, length-chains held.chains.links held.working s.chains are, sound.working_count) in
     let count : length slots ≡ length s.chains = ap (length {A = Option (List ℕ)}) told.is ∙ length-map s.chains (slot_of image n) in
     let change = sum_by-set cells_of slots slot (Some octets) None (omega (arith, count, within)) in
     let own = chain-cells image n held.working s.chains slot (header-room image n stands.begins.header stands.begins.cells) (subst (λ (firsts : List ℕ). chains_of image n firsts ≡ Some s.chains) working_is told.of) told.records in
     let own_is : cells_of (get_or slots slot None) ≡ length (get_or s.chains slot []) = ap (λ (slots : Slots). cells_of (get_or slots slot None)) told.is ∙ own in
-    let walk = walk-without held.links held.working s.chains slot (small-links held sound) (omega (arith, inside, sound.working_count)) are in
+    let walk = walk-without held.chains.links held.working s.chains slot (small-links held sound) (omega (arith, inside, sound.working_count)) are in
     let less = length-put s.chains slot [] within in
     omega (arith, change, own_is, walk, less, told.weight)
   where
@@ -226,22 +226,22 @@ weight-put held slot octets image slots sound begun stands inside there =
         at-slot zero chain chains here rest = sym here
         at-slot (suc slot) chain chains here rest = rest slot
 
-told-weight : (held : Held) (slot : ℕ) (octets image : List ℕ) (P : ℕ → Type 0) → IsSound held → held.begun ≡ true → StandsFor held image → slot < held.cells → P (steps_without held.links held.working slot + cells_for (length octets))
+told-weight : (held : Held) (slot : ℕ) (octets image : List ℕ) (P : ℕ → Type 0) → IsSound held → held.begun ≡ true → StandsFor held image → slot < held.chains.cells → P (steps_without held.chains.links held.working slot + cells_for (length octets))
     → (o : Option Slots) → contents held Working image ≡ o → IfSome o (λ slots. P (weight_with slot octets slots))
 told-weight held slot octets image P sound begun stands inside p None e = tt
 told-weight held slot octets image P sound begun stands inside p (Some slots) e = subst P (sym (weight-put held slot octets image slots sound begun stands inside e)) p
 
-pub put-within : (held : Held) (slot weight : ℕ) (octets : List ℕ) (image : Option (List ℕ)) → IsSound held → held.begun ≡ true → IfSome image (StandsFor held) → slot < held.cells → weight ≡ steps_without held.links held.working slot → weight + cells_for (length octets) ≤ held.cells
+pub put-within : (held : Held) (slot weight : ℕ) (octets : List ℕ) (image : Option (List ℕ)) → IsSound held → held.begun ≡ true → IfSome image (StandsFor held) → slot < held.chains.cells → weight ≡ steps_without held.chains.links held.working slot → weight + cells_for (length octets) ≤ held.chains.cells
     → IfSome image (IsWithin held slot octets)
 put-within held slot weight octets None sound begun stands inside is fits = tt
 put-within held slot weight octets (Some image) sound begun stands inside is fits =
-    told-weight held slot octets image (λ w. w ≤ held.cells) sound begun stands inside (omega (arith, is, fits)) (contents held Working image) refl
+    told-weight held slot octets image (λ w. w ≤ held.chains.cells) sound begun stands inside (omega (arith, is, fits)) (contents held Working image) refl
 
-pub put-over : (held : Held) (slot weight : ℕ) (octets : List ℕ) (image : Option (List ℕ)) → IsSound held → held.begun ≡ true → IfSome image (StandsFor held) → slot < held.cells → weight ≡ steps_without held.links held.working slot → held.cells < weight + cells_for (length octets)
+pub put-over : (held : Held) (slot weight : ℕ) (octets : List ℕ) (image : Option (List ℕ)) → IsSound held → held.begun ≡ true → IfSome image (StandsFor held) → slot < held.chains.cells → weight ≡ steps_without held.chains.links held.working slot → held.chains.cells < weight + cells_for (length octets)
     → IfSome image (IsFull held (Some slot) octets)
 put-over held slot weight octets None sound begun stands inside is over = tt
 put-over held slot weight octets (Some image) sound begun stands inside is over =
-    told-weight held slot octets image (λ w. held.cells < w) sound begun stands inside (omega (arith, is, over)) (contents held Working image) refl
+    told-weight held slot octets image (λ w. held.chains.cells < w) sound begun stands inside (omega (arith, is, over)) (contents held Working image) refl
 
 -- there are enough free cells for it, whatever the image tells
 count-marked : (cells : List ℕ) (marks : List Bool) → ((cell : ℕ) → is_marked marks cell ≡ true → is_among cell cells ≡ true) → marked marks ≤ length cells
@@ -286,14 +286,14 @@ walk-emptied links (first ∷ firsts) (suc slot) few inside =
 
 pub record HasRoom (held : Held) (mid : Held) (slot weight : ℕ) (sound : IsSound mid) : Type 0 where
   pub cells : length (cells_in sound.sides.working) ≡ weight
-  pub free : held.cells ≤ unmarked mid.used + weight
+  pub free : held.chains.cells ≤ unmarked mid.chains.used + weight
 
-pub emptied-room : (held : Held) (slot weight : ℕ) (used : List Bool) (sound : IsSound held) (next : IsSound (emptied held slot used)) → held.begun ≡ true → slot < held.cells → weight ≡ steps_without held.links held.working slot → HasRoom held (emptied held slot used) slot weight next
+pub emptied-room : (held : Held) (slot weight : ℕ) (used : List Bool) (sound : IsSound held) (next : IsSound (emptied held slot used)) → held.begun ≡ true → slot < held.chains.cells → weight ≡ steps_without held.chains.links held.working slot → HasRoom held (emptied held slot used) slot weight next
 emptied-room held slot weight used sound next begun inside is =
     let k = next.sides in
     let next_is : firsts (emptied held slot used) Working ≡ set held.working slot 65535 = rw begun refl in
-    let walk = walk-chains held.links (set held.working slot 65535) k.working (small-links held sound) (subst (λ (firsts : List ℕ). AreChains held.links firsts k.working) next_is k.working_has.are) in
-    let emptied_is = walk-emptied held.links held.working slot (small-links held sound) (omega (arith, inside, sound.working_count)) in
+    let walk = walk-chains held.chains.links (set held.working slot 65535) k.working (small-links held sound) (subst (λ (firsts : List ℕ). AreChains held.chains.links firsts k.working) next_is k.working_has.are) in
+    let emptied_is = walk-emptied held.chains.links held.working slot (small-links held sound) (omega (arith, inside, sound.working_count)) in
     let cells : length (cells_in k.working) ≡ weight = sym walk ∙ (emptied_is ∙ sym is) in
     let few = count-marked (cells_in k.committed ++ cells_in k.working) used (λ cell marked. among-append cell (cells_in k.committed) (cells_in k.working) ∙ (sym (k.used cell) ∙ marked)) in
     record {

@@ -56,28 +56,28 @@ contents-there : (held : Held) (side : Side) (image : List ℕ) → StandsFor he
 contents-there held side image stands = elim side as (λ side. IsSome (contents held side image)) [ Committed ↦ stands.committed | Working ↦ stands.working ]
 
 -- a slot that begins at a cell has the record of its chain
-record-told : (held : Held) (side : Side) (slot n first : ℕ) (image : List ℕ) → n ≡ held.cells → first ≡ slice_index (firsts held side) slot → slot < length (firsts held side) → first ≢ 65535 → StandsFor held image
+record-told : (held : Held) (side : Side) (slot n first : ℕ) (image : List ℕ) → n ≡ held.chains.cells → first ≡ slice_index (firsts held side) slot → slot < length (firsts held side) → first ≢ 65535 → StandsFor held image
     → (chain : List ℕ) × IsRecordChain image n first chain × (record_at held side slot image ≡ slot_of image n chain)
 record-told held side slot n first image cells start inside some stands =
-    let entry = chain-entry image held.cells (firsts held side) slot inside (contents-there held side image stands) in
+    let entry = chain-entry image held.chains.cells (firsts held side) slot inside (contents-there held side image stands) in
     let there : 0 < length entry.chain = nonempty entry.chain entry.of in (
       entry.chain,
-      subst (λ (n : ℕ). IsRecordChain image n first entry.chain) (sym cells) (subst (λ (first : ℕ). IsRecordChain image held.cells first entry.chain) (sym start) (record { of = entry.of; is = entry.is; some = there })),
+      subst (λ (n : ℕ). IsRecordChain image n first entry.chain) (sym cells) (subst (λ (first : ℕ). IsRecordChain image held.chains.cells first entry.chain) (sym start) (record { of = entry.of; is = entry.is; some = there })),
       entry.entry_is ∙ ap (λ (n : ℕ). slot_of image n entry.chain) (sym cells),
     )
   where
-    nonempty : (chain : List ℕ) → chain_of image held.cells (2 * held.cells) (slice_index (firsts held side) slot) ≡ Some chain → 0 < length chain
-    nonempty [] of = absurd (some (start ∙ chain-empty image held.cells (2 * held.cells) (slice_index (firsts held side) slot) of))
+    nonempty : (chain : List ℕ) → chain_of image held.chains.cells (2 * held.chains.cells) (slice_index (firsts held side) slot) ≡ Some chain → 0 < length chain
+    nonempty [] of = absurd (some (start ∙ chain-empty image held.chains.cells (2 * held.chains.cells) (slice_index (firsts held side) slot) of))
     nonempty (cell ∷ cells) of = omega arith
 
-pub record-found : (held : Held) (side : Side) (slot n first : ℕ) (image : Option (List ℕ)) (out : List ℕ) → n ≡ held.cells → first ≡ slice_index (firsts held side) slot → slot < length (firsts held side) → first ≢ 65535
+pub record-found : (held : Held) (side : Side) (slot n first : ℕ) (image : Option (List ℕ)) (out : List ℕ) → n ≡ held.chains.cells → first ≡ slice_index (firsts held side) slot → slot < length (firsts held side) → first ≢ 65535
     → IfSome image (StandsFor held) → IfSome image (λ image. (chain : List ℕ) → IsRecordChain image n first chain → slot_of image n chain ≡ Some out) → IfSome image (λ image. record_at held side slot image ≡ Some out)
 record-found held side slot n first None out cells start inside some stands got = tt
 record-found held side slot n first (Some image) out cells start inside some stands got =
     let told = record-told held side slot n first image cells start inside some stands in
     told.2 ∙ got told.0 told.1
 
-pub record-read : (held : Held) (side : Side) (slot n first : ℕ) (image : Option (List ℕ)) (out : List ℕ) (old new : Option ℕ) → n ≡ held.cells → first ≡ slice_index (firsts held side) slot → slot < length (firsts held side) → first ≢ 65535
+pub record-read : (held : Held) (side : Side) (slot n first : ℕ) (image : Option (List ℕ)) (out : List ℕ) (old new : Option ℕ) → n ≡ held.chains.cells → first ≡ slice_index (firsts held side) slot → slot < length (firsts held side) → first ≢ 65535
     → IfSome image (StandsFor held) → IfSome image (λ image. (chain : List ℕ) → IsRecordChain image n first chain → Becomes (ReadsRecord (Some out)) old new) → IfSome image (λ _. Becomes (ReadsRecord (Some out)) old new)
 record-read held side slot n first None out old new cells start inside some stands got = tt
 record-read held side slot n first (Some image) out old new cells start inside some stands got =
@@ -88,9 +88,9 @@ record-read held side slot n first (Some image) out old new cells start inside s
 pub record-nowhere : (held : Held) (side : Side) (slot first : ℕ) (image : Option (List ℕ)) → first ≡ slice_index (firsts held side) slot → slot < length (firsts held side) → first ≡ 65535 → IfSome image (StandsFor held) → IfSome image (λ image. record_at held side slot image ≡ None)
 record-nowhere held side slot first None start inside none stands = tt
 record-nowhere held side slot first (Some image) start inside none stands =
-    let entry = chain-entry image held.cells (firsts held side) slot inside (contents-there held side image stands) in
+    let entry = chain-entry image held.chains.cells (firsts held side) slot inside (contents-there held side image stands) in
     let at : slice_index (firsts held side) slot ≡ 65535 = sym start ∙ none in
-    let no_chain : entry.chain ≡ [] = chain-nowhere image held.cells (2 * held.cells) entry.chain (rw at at entry.of) in
+    let no_chain : entry.chain ≡ [] = chain-nowhere image held.chains.cells (2 * held.chains.cells) entry.chain (rw at at entry.of) in
     entry.entry_is ∙ rw no_chain refl
 
 -- and nothing is read of it

@@ -11,7 +11,7 @@ use Rattle.cell_store.specs.Marks.{StaysMarked, is_marked, marked}
 use Rattle.cell_store.proofs.Among.{among-append, distinct-parts, distinct-join}
 use Rattle.cell_store.proofs.Linking.{linked-same, linked-one, linked-inside}
 use Rattle.cell_store.proofs.Marking.{marked-with, length-with_marked}
-use Rattle.record_store.specs.Held.{Held, cells_of_store, firsts}
+use Rattle.record_store.specs.Held.{Held, firsts}
 use Rattle.record_store.specs.Put.{emptied}
 use Rattle.record_store.specs.Slots.{AreUsedChains, AreReplaced}
 use Rattle.record_store.specs.Sound.{AreChains, AreBeside, HasChains, KeepsSides, IsSound, cells_in}
@@ -19,7 +19,7 @@ use Rattle.record_store.specs.declared.side.Side.TheVariants.{Working}
 
 -- a record was put, whose chain begins at this cell
 abbrev pub put_into : Held → ℕ → ℕ → List Bool → List ℕ → Held
-put_into held slot first used links = record { cells = held.cells; used = used; links = links; selector = held.selector; committed = held.committed; working = slice_set held.working slot first; begun = held.begun }
+put_into held slot first used links = record held { chains = record held.chains { used = used; links = links }; working = slice_set held.working slot first }
 
 -- tests that are each true where the other is
 same-test : (a b : Bool) → (a ≡ true → b ≡ true) → (b ≡ true → a ≡ true) → a ≡ b
@@ -163,47 +163,47 @@ distinct-put (old ∷ chains) (suc slot) chain distinct one apart =
     ])))
 
 -- what is known of a used cell
-pub used-cases : (held : Held) (k : KeepsSides held) (cell : ℕ) → is_marked held.used cell ≡ true → (is_among cell (cells_in k.committed) ≡ true) ⊎ (is_among cell (cells_in k.working) ≡ true)
+pub used-cases : (held : Held) (k : KeepsSides held) (cell : ℕ) → is_marked held.chains.used cell ≡ true → (is_among cell (cells_in k.committed) ≡ true) ⊎ (is_among cell (cells_in k.working) ≡ true)
 used-cases held k cell is = or_cases (is_among cell (cells_in k.committed)) (is_among cell (cells_in k.working)) (sym (k.used cell) ∙ is)
 
-pub committed-used : (held : Held) (k : KeepsSides held) (cell : ℕ) → is_among cell (cells_in k.committed) ≡ true → is_marked held.used cell ≡ true
+pub committed-used : (held : Held) (k : KeepsSides held) (cell : ℕ) → is_among cell (cells_in k.committed) ≡ true → is_marked held.chains.used cell ≡ true
 committed-used held k cell is = k.used cell ∙ or_left (is_among cell (cells_in k.committed)) (is_among cell (cells_in k.working)) is
 
-pub working-used : (held : Held) (k : KeepsSides held) (cell : ℕ) → is_among cell (cells_in k.working) ≡ true → is_marked held.used cell ≡ true
+pub working-used : (held : Held) (k : KeepsSides held) (cell : ℕ) → is_among cell (cells_in k.working) ≡ true → is_marked held.chains.used cell ≡ true
 working-used held k cell is = k.used cell ∙ or_right (is_among cell (cells_in k.committed)) (is_among cell (cells_in k.working)) is
 
-pub committed-marked : (held : Held) (k : KeepsSides held) → AllByRecursion (λ cell. is_marked held.used cell ≡ true) (cells_in k.committed)
-committed-marked held k = all-among (λ cell. is_marked held.used cell ≡ true) (cells_in k.committed) (committed-used held k)
+pub committed-marked : (held : Held) (k : KeepsSides held) → AllByRecursion (λ cell. is_marked held.chains.used cell ≡ true) (cells_in k.committed)
+committed-marked held k = all-among (λ cell. is_marked held.chains.used cell ≡ true) (cells_in k.committed) (committed-used held k)
 
-pub working-marked : (held : Held) (k : KeepsSides held) → AllByRecursion (λ cell. is_marked held.used cell ≡ true) (cells_in k.working)
-working-marked held k = all-among (λ cell. is_marked held.used cell ≡ true) (cells_in k.working) (working-used held k)
+pub working-marked : (held : Held) (k : KeepsSides held) → AllByRecursion (λ cell. is_marked held.chains.used cell ≡ true) (cells_in k.working)
+working-marked held k = all-among (λ cell. is_marked held.chains.used cell ≡ true) (cells_in k.working) (working-used held k)
 
-pub small-links : (held : Held) → IsSound held → length held.links ≤ 65535
+pub small-links : (held : Held) → IsSound held → length held.chains.links ≤ 65535
 small-links held sound = omega (arith, sound.range.links_count, sound.range.many)
 
-pub count-firsts : (held : Held) → IsSound held → length (firsts held Working) ≡ held.cells
-count-firsts held sound = elim held.begun as (λ begun. length (if begun then held.working else held.committed) ≡ held.cells) [ true ↦ sound.working_count | false ↦ sound.committed_count ]
+pub count-firsts : (held : Held) → IsSound held → length (firsts held Working) ≡ held.chains.cells
+count-firsts held sound = elim held.begun as (λ begun. length (if begun then held.working else held.committed) ≡ held.chains.cells) [ true ↦ sound.working_count | false ↦ sound.committed_count ]
 
 -- in a slot that begins at the same cell on both sides there is the same chain
-pub same-chain : (held : Held) (sound : IsSound held) (slot : ℕ) → slot < held.cells → slice_index (firsts held Working) slot ≡ slice_index held.committed slot → get_or sound.sides.working slot [] ≡ get_or sound.sides.committed slot []
+pub same-chain : (held : Held) (sound : IsSound held) (slot : ℕ) → slot < held.chains.cells → slice_index (firsts held Working) slot ≡ slice_index held.committed slot → get_or sound.sides.working slot [] ≡ get_or sound.sides.committed slot []
 same-chain held sound slot inside same =
-    let w = chain-at held.links (firsts held Working) sound.sides.working slot sound.sides.working_has.are (omega (arith, count-firsts held sound)) in
-    let c = chain-at held.links held.committed sound.sides.committed slot sound.sides.committed_has.are (omega (arith, sound.committed_count)) in
-    linked-one (link_in held.links) (length held.links) (slice_index held.committed slot) (get_or sound.sides.working slot []) (get_or sound.sides.committed slot []) (small-links held sound)
-    (subst (λ (first : ℕ). AreLinked (link_in held.links) (length held.links) first (get_or sound.sides.working slot [])) same w.0) c.0
+    let w = chain-at held.chains.links (firsts held Working) sound.sides.working slot sound.sides.working_has.are (omega (arith, count-firsts held sound)) in
+    let c = chain-at held.chains.links held.committed sound.sides.committed slot sound.sides.committed_has.are (omega (arith, sound.committed_count)) in
+    linked-one (link_in held.chains.links) (length held.chains.links) (slice_index held.committed slot) (get_or sound.sides.working slot []) (get_or sound.sides.committed slot []) (small-links held sound)
+    (subst (λ (first : ℕ). AreLinked (link_in held.chains.links) (length held.chains.links) first (get_or sound.sides.working slot [])) same w.0) c.0
 
-working-inside : (held : Held) (sound : IsSound held) (slot : ℕ) → slot < length sound.sides.working → slot < held.cells
-working-inside held sound slot inside = omega (arith, inside, length-chains held.links (firsts held Working) sound.sides.working sound.sides.working_has.are, count-firsts held sound)
+working-inside : (held : Held) (sound : IsSound held) (slot : ℕ) → slot < length sound.sides.working → slot < held.chains.cells
+working-inside held sound slot inside = omega (arith, inside, length-chains held.chains.links (firsts held Working) sound.sides.working sound.sides.working_has.are, count-firsts held sound)
 
-committed-inside : (held : Held) (sound : IsSound held) (slot : ℕ) → slot < length sound.sides.committed → slot < held.cells
-committed-inside held sound slot inside = omega (arith, inside, length-chains held.links held.committed sound.sides.committed sound.sides.committed_has.are, sound.committed_count)
+committed-inside : (held : Held) (sound : IsSound held) (slot : ℕ) → slot < length sound.sides.committed → slot < held.chains.cells
+committed-inside held sound slot inside = omega (arith, inside, length-chains held.chains.links held.committed sound.sides.committed sound.sides.committed_has.are, sound.committed_count)
 
 -- A slot is emptied: which cells are used no more.
 pub record Empties (old : Held) (slot : ℕ) (chain : List ℕ) (used : List Bool) : Type 0 where
-  pub less : (cell : ℕ) → is_marked used cell ≡ true → (is_marked old.used cell ≡ true) × (slice_index old.working slot ≢ slice_index old.committed slot → is_among cell chain ≡ false)
-  pub rest : (cell : ℕ) → is_marked old.used cell ≡ true → (slice_index old.working slot ≡ slice_index old.committed slot) ⊎ (is_among cell chain ≡ false) → is_marked used cell ≡ true
+  pub less : (cell : ℕ) → is_marked used cell ≡ true → (is_marked old.chains.used cell ≡ true) × (slice_index old.working slot ≢ slice_index old.committed slot → is_among cell chain ≡ false)
+  pub rest : (cell : ℕ) → is_marked old.chains.used cell ≡ true → (slice_index old.working slot ≡ slice_index old.committed slot) ⊎ (is_among cell chain ≡ false) → is_marked used cell ≡ true
 
-emptied-used : (held : Held) (sound : IsSound held) (slot : ℕ) (used : List Bool) → held.begun ≡ true → slot < held.cells → Empties held slot (get_or sound.sides.working slot []) used
+emptied-used : (held : Held) (sound : IsSound held) (slot : ℕ) (used : List Bool) → held.begun ≡ true → slot < held.chains.cells → Empties held slot (get_or sound.sides.working slot []) used
     → (cell : ℕ) → is_marked used cell ≡ (is_among cell (cells_in sound.sides.committed) || is_among cell (cells_in (set sound.sides.working slot [])))
 emptied-used held sound slot used begun inside e cell = same-test (is_marked used cell) (is_among cell (cells_in k.committed) || is_among cell (cells_in (set k.working slot []))) there back
   where
@@ -243,10 +243,14 @@ emptied-used held sound slot used begun inside e cell = same-test (is_marked use
       ]
     ]
 
+-- the chains are the same, whichever cells are used
+with-used : (store : Cells) (used : List Bool) {firsts : List ℕ} {chains : List (List ℕ)} → HasChains store firsts chains → HasChains (record store { used = used }) firsts chains
+with-used store used has = record { are = has.are; distinct = has.distinct; few = has.few }
+
 few-put : (n : ℕ) (chains : List (List ℕ)) (slot : ℕ) → slot < length chains → length (cells_in chains) ≤ n → length (cells_in (set chains slot [])) ≤ n
 few-put n chains slot inside few = omega (arith, length-put chains slot [] inside, few)
 
-pub sound-emptied : (held : Held) (slot : ℕ) (used : List Bool) (sound : IsSound held) → held.begun ≡ true → slot < held.cells → length used ≡ length held.used → Empties held slot (get_or sound.sides.working slot []) used → IsSound (emptied held slot used)
+pub sound-emptied : (held : Held) (slot : ℕ) (used : List Bool) (sound : IsSound held) → held.begun ≡ true → slot < held.chains.cells → length used ≡ length held.chains.used → Empties held slot (get_or sound.sides.working slot []) used → IsSound (emptied held slot used)
 sound-emptied held slot used sound begun inside size e = record {
   range = record { few = sound.range.few; many = sound.range.many; used_count = size ∙ sound.range.used_count; links_count = sound.range.links_count };
   selector = sound.selector;
@@ -255,11 +259,11 @@ sound-emptied held slot used sound begun inside size e = record {
   sides = record {
     committed = k.committed;
     working = set k.working slot [];
-    committed_has = k.committed_has;
-    working_has = subst (λ (firsts : List ℕ). HasChains held.cells held.links firsts (set k.working slot [])) (sym firsts_are) (record {
-      are = chains-set held.links held.working k.working slot 65535 [] refl (omega arith) (subst (λ (firsts : List ℕ). AreChains held.links firsts k.working) working_is k.working_has.are);
+    committed_has = with-used held.chains used k.committed_has;
+    working_has = subst (λ (firsts : List ℕ). HasChains (record held.chains { used = used }) firsts (set k.working slot [])) (sym firsts_are) (record {
+      are = chains-set held.chains.links held.working k.working slot 65535 [] refl (omega arith) (subst (λ (firsts : List ℕ). AreChains held.chains.links firsts k.working) working_is k.working_has.are);
       distinct = distinct-put k.working slot [] k.working_has.distinct refl (λ cell at other none there. true≢false (sym none));
-      few = few-put held.cells k.working slot there k.working_has.few;
+      few = few-put held.chains.cells k.working slot there k.working_has.few;
     });
     beside = subst (λ (firsts : List ℕ). AreBeside held.committed firsts (set k.working slot []) (cells_in k.committed)) (sym firsts_are) beside;
     used = emptied-used held sound slot used begun inside e;
@@ -276,7 +280,7 @@ sound-emptied held slot used sound begun inside size e = record {
     firsts_are = rw begun refl
 
     there : slot < length k.working
-    there = omega (arith, inside, length-chains held.links (firsts held Working) k.working k.working_has.are, count-firsts held sound)
+    there = omega (arith, inside, length-chains held.chains.links (firsts held Working) k.working k.working_has.are, count-firsts held sound)
 
     beside : AreBeside held.committed (set held.working slot 65535) (set k.working slot []) (cells_in k.committed)
     beside at = elim (same-or-other at slot) [
@@ -291,14 +295,14 @@ sound-emptied held slot used sound begun inside size e = record {
 pub record PutIn (old : Held) (marks : List Bool) (links : List ℕ) (first count : ℕ) : Type 0 where
   pub chain : List ℕ
   pub linked : AreLinked (link_in links) (length links) first chain
-  pub free : AreFree old.used chain
+  pub free : AreFree old.chains.used chain
   pub count_is : length chain ≡ count
   pub short : count ≤ 18
-  pub used : marks ≡ with_marked old.used chain
-  pub stay : StayLinked old.used old.links links
-  pub size : length links ≡ length old.links
+  pub used : marks ≡ with_marked old.chains.used chain
+  pub stay : StayLinked old.chains.used old.chains.links links
+  pub size : length links ≡ length old.chains.links
 
-pub put_in-takes : (old : Held) (new : Cells) (first count : ℕ) → TakesChain (cells_of_store old) new first count → PutIn old new.used new.links first count
+pub put_in-takes : (old : Held) (new : Cells) (first count : ℕ) → TakesChain old.chains new first count → PutIn old new.used new.links first count
 put_in-takes old new first count t = record { chain = t.chain; linked = t.linked; free = t.free; count_is = t.count_is; short = t.short; used = t.used; stay = t.stay; size = t.links_count }
 
 empty-chain : (link : ℕ → ℕ) (size : ℕ) (chain : List ℕ) → size ≤ 65535 → AreLinked link size 65535 chain → chain ≡ []
@@ -308,10 +312,10 @@ empty-chain link size (x ∷ chain) few linked = absurd (omega (arith, linked.1)
 free-cell : (used : List Bool) (chain : List ℕ) (cell : ℕ) → AllByRecursion (λ cell. is_marked used cell ≡ false) chain → is_among cell chain ≡ true → is_marked used cell ≡ false
 free-cell used chain cell free here = among-all (λ cell. is_marked used cell ≡ false) chain free cell here
 
-pub sound-put : (held : Held) (slot first count : ℕ) (used : List Bool) (links : List ℕ) (sound : IsSound held) → held.begun ≡ true → slot < held.cells → slice_index held.working slot ≡ 65535 → PutIn held used links first count
-    → length (cells_in sound.sides.working) + count ≤ held.cells → IsSound (put_into held slot first used links)
+pub sound-put : (held : Held) (slot first count : ℕ) (used : List Bool) (links : List ℕ) (sound : IsSound held) → held.begun ≡ true → slot < held.chains.cells → slice_index held.working slot ≡ 65535 → PutIn held used links first count
+    → length (cells_in sound.sides.working) + count ≤ held.chains.cells → IsSound (put_into held slot first used links)
 sound-put held slot first count used links sound begun inside empty p fits = record {
-  range = record { few = sound.range.few; many = sound.range.many; used_count = ap (length {A = Bool}) p.used ∙ (length-with_marked held.used p.chain ∙ sound.range.used_count); links_count = p.size ∙ sound.range.links_count };
+  range = record { few = sound.range.few; many = sound.range.many; used_count = ap (length {A = Bool}) p.used ∙ (length-with_marked held.chains.used p.chain ∙ sound.range.used_count); links_count = p.size ∙ sound.range.links_count };
   selector = sound.selector;
   committed_count = sound.committed_count;
   working_count = length-set held.working slot first ∙ sound.working_count;
@@ -319,15 +323,15 @@ sound-put held slot first count used links sound begun inside empty p fits = rec
     committed = k.committed;
     working = set k.working slot p.chain;
     committed_has = record {
-      are = chains-stay held.used held.links links held.committed k.committed p.size p.stay (committed-marked held k) k.committed_has.are;
+      are = chains-stay held.chains.used held.chains.links links held.committed k.committed p.size p.stay (committed-marked held k) k.committed_has.are;
       distinct = k.committed_has.distinct;
       few = k.committed_has.few;
     };
-    working_has = subst (λ (firsts : List ℕ). HasChains held.cells links firsts (set k.working slot p.chain)) (sym firsts_are) (record {
+    working_has = subst (λ (firsts : List ℕ). HasChains (record held.chains { used = used; links = links }) firsts (set k.working slot p.chain)) (sym firsts_are) (record {
       are = chains-set links held.working k.working slot first p.chain p.linked (omega (arith, p.count_is, p.short))
-          (chains-stay held.used held.links links held.working k.working p.size p.stay (working-marked held k) (subst (λ (firsts : List ℕ). AreChains held.links firsts k.working) working_is k.working_has.are));
+          (chains-stay held.chains.used held.chains.links links held.working k.working p.size p.stay (working-marked held k) (subst (λ (firsts : List ℕ). AreChains held.chains.links firsts k.working) working_is k.working_has.are));
       distinct = distinct-put k.working slot p.chain k.working_has.distinct p.free.distinct (λ cell at other here there.
-          true≢false (sym (working-used held k cell (in-chains cell k.working at there)) ∙ free-cell held.used p.chain cell p.free.free here));
+          true≢false (sym (working-used held k cell (in-chains cell k.working at there)) ∙ free-cell held.chains.used p.chain cell p.free.free here));
       few = omega (arith, length-put k.working slot p.chain there, p.count_is, fits);
     });
     beside = subst (λ (firsts : List ℕ). AreBeside held.committed firsts (set k.working slot p.chain) (cells_in k.committed)) (sym firsts_are) beside;
@@ -345,10 +349,10 @@ sound-put held slot first count used links sound begun inside empty p fits = rec
     firsts_are = rw begun refl
 
     there : slot < length k.working
-    there = omega (arith, inside, length-chains held.links (firsts held Working) k.working k.working_has.are, count-firsts held sound)
+    there = omega (arith, inside, length-chains held.chains.links (firsts held Working) k.working k.working_has.are, count-firsts held sound)
 
     not-committed : (cell : ℕ) → is_among cell p.chain ≡ true → is_among cell (cells_in k.committed) ≡ false
-    not-committed cell here = false_from_ne_true (is_among cell (cells_in k.committed)) (λ committed. true≢false (sym (committed-used held k cell committed) ∙ free-cell held.used p.chain cell p.free.free here))
+    not-committed cell here = false_from_ne_true (is_among cell (cells_in k.committed)) (λ committed. true≢false (sym (committed-used held k cell committed) ∙ free-cell held.chains.used p.chain cell p.free.free here))
 
     beside : AreBeside held.committed (set held.working slot first) (set k.working slot p.chain) (cells_in k.committed)
     beside at = elim (same-or-other at slot) [
@@ -361,17 +365,17 @@ sound-put held slot first count used links sound begun inside empty p fits = rec
 
     was-empty : get_or k.working slot [] ≡ []
     was-empty =
-        let at = chain-at held.links held.working k.working slot (subst (λ (firsts : List ℕ). AreChains held.links firsts k.working) working_is k.working_has.are) (omega (arith, inside, sound.working_count)) in
-        empty-chain (link_in held.links) (length held.links) (get_or k.working slot []) (small-links held sound) (subst (λ (first : ℕ). AreLinked (link_in held.links) (length held.links) first (get_or k.working slot [])) empty at.0)
+        let at = chain-at held.chains.links held.working k.working slot (subst (λ (firsts : List ℕ). AreChains held.chains.links firsts k.working) working_is k.working_has.are) (omega (arith, inside, sound.working_count)) in
+        empty-chain (link_in held.chains.links) (length held.chains.links) (get_or k.working slot []) (small-links held sound) (subst (λ (first : ℕ). AreLinked (link_in held.chains.links) (length held.chains.links) first (get_or k.working slot [])) empty at.0)
 
-    marks : (cell : ℕ) → is_marked used cell ≡ (is_marked held.used cell || is_among cell p.chain)
+    marks : (cell : ℕ) → is_marked used cell ≡ (is_marked held.chains.used cell || is_among cell p.chain)
     marks cell =
         let within = subst (λ (size : ℕ). AllByRecursion (λ cell. cell < size) p.chain) (p.size ∙ sound.range.links_count) (linked-inside (link_in links) (length links) first p.chain p.linked) in
-        ap (λ (used : List Bool). is_marked used cell) p.used ∙ marked-with (2 * held.cells) held.used p.chain cell sound.range.used_count within
+        ap (λ (used : List Bool). is_marked used cell) p.used ∙ marked-with (2 * held.chains.cells) held.chains.used p.chain cell sound.range.used_count within
 
     used_is : (cell : ℕ) → is_marked used cell ≡ (is_among cell (cells_in k.committed) || is_among cell (cells_in (set k.working slot p.chain)))
     used_is cell = same-test (is_marked used cell) (is_among cell (cells_in k.committed) || is_among cell (cells_in (set k.working slot p.chain)))
-        (λ is. elim (or_cases (is_marked held.used cell) (is_among cell p.chain) (sym (marks cell) ∙ is)) [
+        (λ is. elim (or_cases (is_marked held.chains.used cell) (is_among cell p.chain) (sym (marks cell) ∙ is)) [
           | inr here ↦ or_right (is_among cell (cells_in k.committed)) (is_among cell (cells_in (set k.working slot p.chain))) (set-among-here cell k.working slot p.chain there here)
           | inl before ↦ elim (used-cases held k cell before) [
             | inl committed ↦ or_left (is_among cell (cells_in k.committed)) (is_among cell (cells_in (set k.working slot p.chain))) committed
@@ -381,22 +385,22 @@ sound-put held slot first count used links sound begun inside empty p fits = rec
           ]
         ])
         (λ h. elim (or_cases (is_among cell (cells_in k.committed)) (is_among cell (cells_in (set k.working slot p.chain))) h) [
-          | inl committed ↦ marks cell ∙ or_left (is_marked held.used cell) (is_among cell p.chain) (committed-used held k cell committed)
+          | inl committed ↦ marks cell ∙ or_left (is_marked held.chains.used cell) (is_among cell p.chain) (committed-used held k cell committed)
           | inr working ↦ elim (among-set cell k.working slot p.chain working) [
-            | inl here ↦ marks cell ∙ or_right (is_marked held.used cell) (is_among cell p.chain) here
-            | inr from ↦ marks cell ∙ or_left (is_marked held.used cell) (is_among cell p.chain) (working-used held k cell (in-chains cell k.working from.0 from.2))
+            | inl here ↦ marks cell ∙ or_right (is_marked held.chains.used cell) (is_among cell p.chain) here
+            | inr from ↦ marks cell ∙ or_left (is_marked held.chains.used cell) (is_among cell p.chain) (working-used held k cell (in-chains cell k.working from.0 from.2))
           ]
         ])
 
 -- The transaction has ended, and the chains are freed in whose place others are kept.
-used-chains : (held : Held) (cells : List (List ℕ)) (firsts : List ℕ) → HasChains held.cells held.links firsts cells → AllByRecursion (λ cell. is_marked held.used cell ≡ true) (cells_in cells) → AreUsedChains (cells_of_store held) firsts cells
+used-chains : (held : Held) (cells : List (List ℕ)) (firsts : List ℕ) → HasChains held.chains firsts cells → AllByRecursion (λ cell. is_marked held.chains.used cell ≡ true) (cells_in cells) → AreUsedChains held.chains firsts cells
 used-chains held cells firsts has marked = record { are = has.are; distinct = has.distinct; used = marked }
 
 pub record Frees (held : Held) (replaced kept : List ℕ) (used : List Bool) : Type 0 where
-  pub freed : (chains : List (List ℕ)) → AreUsedChains (cells_of_store held) replaced chains → (cell : ℕ) → is_marked used cell ≡ true → AreReplaced replaced kept chains (length replaced) cell → ⊥
-  pub others : (chains : List (List ℕ)) → AreUsedChains (cells_of_store held) replaced chains → (cell : ℕ) → is_marked held.used cell ≡ true → ¬ (AreReplaced replaced kept chains (length replaced) cell) → is_marked used cell ≡ true
-  pub fewer : StaysMarked used held.used
-  pub count_is : length used ≡ length held.used
+  pub freed : (chains : List (List ℕ)) → AreUsedChains held.chains replaced chains → (cell : ℕ) → is_marked used cell ≡ true → AreReplaced replaced kept chains (length replaced) cell → ⊥
+  pub others : (chains : List (List ℕ)) → AreUsedChains held.chains replaced chains → (cell : ℕ) → is_marked held.chains.used cell ≡ true → ¬ (AreReplaced replaced kept chains (length replaced) cell) → is_marked used cell ≡ true
+  pub fewer : StaysMarked used held.chains.used
+  pub count_is : length used ≡ length held.chains.used
 
 twice : (b : Bool) → b ≡ (b || b)
 twice true = refl
@@ -404,11 +408,11 @@ twice false = refl
 
 -- a transaction has ended, and what was committed stays; these cells are used then
 abbrev pub rolled_back : Held → List Bool → Held
-rolled_back held used = record { cells = held.cells; used = used; links = held.links; selector = held.selector; committed = held.committed; working = held.working; begun = false }
+rolled_back held used = record held { chains = record held.chains { used = used }; begun = false }
 
 -- it was committed: the working records are now those that are committed, and the other directory is selected
 abbrev pub after_commit : Held → List Bool → Held
-after_commit held used = record { cells = held.cells; used = used; links = held.links; selector = 1 - held.selector; committed = held.working; working = held.working; begun = false }
+after_commit held used = record { chains = record held.chains { used = used }; selector = 1 - held.selector; committed = held.working; working = held.working; begun = false }
 
 pub sound-committed : (held : Held) (used : List Bool) (sound : IsSound held) → held.begun ≡ true → Frees held held.committed held.working used → IsSound (after_commit held used)
 sound-committed held used sound begun f = record {
@@ -419,8 +423,8 @@ sound-committed held used sound begun f = record {
   sides = record {
     committed = k.working;
     working = k.working;
-    committed_has = has;
-    working_has = has;
+    committed_has = with-used held.chains used has;
+    working_has = with-used held.chains used has;
     beside = λ slot. inl refl;
     used = λ cell. used_is cell ∙ twice (is_among cell (cells_in k.working));
   };
@@ -432,10 +436,10 @@ sound-committed held used sound begun f = record {
     working_is : firsts held Working ≡ held.working
     working_is = rw begun refl
 
-    has : HasChains held.cells held.links held.working k.working
-    has = subst (λ (firsts : List ℕ). HasChains held.cells held.links firsts k.working) working_is k.working_has
+    has : HasChains held.chains held.working k.working
+    has = subst (λ (firsts : List ℕ). HasChains held.chains firsts k.working) working_is k.working_has
 
-    are : AreUsedChains (cells_of_store held) held.committed k.committed
+    are : AreUsedChains held.chains held.committed k.committed
     are = used-chains held k.committed held.committed k.committed_has (committed-marked held k)
 
     used_is : (cell : ℕ) → is_marked used cell ≡ is_among cell (cells_in k.working)
@@ -467,8 +471,8 @@ sound-rolled_back held used sound begun f = record {
   sides = record {
     committed = k.committed;
     working = k.committed;
-    committed_has = k.committed_has;
-    working_has = k.committed_has;
+    committed_has = with-used held.chains used k.committed_has;
+    working_has = with-used held.chains used k.committed_has;
     beside = λ slot. inl refl;
     used = λ cell. used_is cell ∙ twice (is_among cell (cells_in k.committed));
   };
@@ -480,8 +484,8 @@ sound-rolled_back held used sound begun f = record {
     working_is : firsts held Working ≡ held.working
     working_is = rw begun refl
 
-    are : AreUsedChains (cells_of_store held) held.working k.working
-    are = used-chains held k.working held.working (subst (λ (firsts : List ℕ). HasChains held.cells held.links firsts k.working) working_is k.working_has) (working-marked held k)
+    are : AreUsedChains held.chains held.working k.working
+    are = used-chains held k.working held.working (subst (λ (firsts : List ℕ). HasChains held.chains firsts k.working) working_is k.working_has) (working-marked held k)
 
     used_is : (cell : ℕ) → is_marked used cell ≡ is_among cell (cells_in k.committed)
     used_is cell = same-test (is_marked used cell) (is_among cell (cells_in k.committed))

@@ -5,7 +5,7 @@ use Rattle.std.proofs.lemmas.Bool.{and_parts}
 use Rattle.std.proofs.lemmas.Option.{same_Some, none-some}
 use Rattle.std.proofs.lemmas.List.Sums.{sum_by-cons}
 use Rattle.eeprom.specs.StoreOf.{Slots, store_of, chain_of, chains_of, cell_place, number_at, is_record, slot_of, slots_at, are_apart, has_header, cells_of, weight_of}
-use Rattle.cell_store.specs.Cells.{link_in, AreLinksOf}
+use Rattle.cell_store.specs.Cells.{kept, link_in, AreLinkedIn}
 use Rattle.cell_store.specs.Chains.{AreLinked, link_of, steps}
 use Rattle.cell_store.specs.Marks.{is_marked}
 use Rattle.cell_store.proofs.Chains.{cells-chain, chains-parts}
@@ -44,7 +44,7 @@ pub store-begins : (n selects : ℕ) (first_cells image : List ℕ) → BeginsAs
 store-begins n selects first_cells image begins = rw (begins.front, begins.header, begins.cells, begins.selected) refl
 
 pub store_of-stands : (held : Held) (image : List ℕ) → StandsFor held image → store_of image ≡ contents held Committed image
-store_of-stands held image stands = store-begins held.cells held.selector held.committed image stands.begins
+store_of-stands held image stands = store-begins held.chains.cells held.selector held.committed image stands.begins
 
 -- the room of an image with a header
 pub header-room : (image : List ℕ) (n : ℕ) → has_header image ≡ true → number_at image 6 ≡ n → 70 * n + 34 ≤ length image
@@ -82,7 +82,7 @@ walk-without links (first ∷ firsts) (chain ∷ chains) (suc slot) few inside a
     rw next (omega (arith, sum_by-cons (steps links 18) first (take slot firsts), steps-linked links first 18 chain few are.0 are.1, walk-without links firsts chains slot few (omega arith) are.2, length-append chain (cells_in (set chains slot []))))
 
 -- chains in memory are the image's
-pub chains-told : (image : List ℕ) (n : ℕ) (used : List Bool) (links firsts : List ℕ) (chains : List (List ℕ)) → 16 ≤ n → n ≤ 2048 → length links ≡ 2 * n → AreLinksOf image n used links → AllByRecursion (λ cell. is_marked used cell ≡ true) (cells_in chains) → AreChains links firsts chains
+pub chains-told : (image : List ℕ) (n : ℕ) (used : List Bool) (links firsts : List ℕ) (chains : List (List ℕ)) → 16 ≤ n → n ≤ 2048 → length links ≡ 2 * n → AreLinkedIn (kept n used links) image → AllByRecursion (λ cell. is_marked used cell ≡ true) (cells_in chains) → AreChains links firsts chains
     → chains_of image n firsts ≡ Some chains
 chains-told image n used links [] [] few many size all marked are = refl
 chains-told image n used links [] (chain ∷ chains) few many size all marked are = absurd are
@@ -100,13 +100,13 @@ chains-told image n used links (first ∷ firsts) (chain ∷ chains) few many si
 
     agree : (cells : List ℕ) → AllByRecursion (λ cell. is_marked used cell ≡ true) cells → AllByRecursion (λ cell. number_at image (cell_place n cell) ≡ slice_index links cell) cells
     agree [] marked = tt
-    agree (cell ∷ cells) marked = (sym (all cell marked.0), agree cells marked.1)
+    agree (cell ∷ cells) marked = (sym (all.each cell marked.0), agree cells marked.1)
 
 -- the chains of a side
 pub record SideChains (held : Held) (side : Side) : Type 0 where
   pub chains : List (List ℕ)
-  pub has : HasChains held.cells held.links (firsts held side) chains
-  pub marked : AllByRecursion (λ cell. is_marked held.used cell ≡ true) (cells_in chains)
+  pub has : HasChains held.chains (firsts held side) chains
+  pub marked : AllByRecursion (λ cell. is_marked held.chains.used cell ≡ true) (cells_in chains)
 
 pub side-chains : (held : Held) (side : Side) → IsSound held → SideChains held side
 side-chains held Committed sound = record { chains = sound.sides.committed; has = sound.sides.committed_has; marked = committed-marked held sound.sides }
@@ -114,18 +114,18 @@ side-chains held Working sound = record { chains = sound.sides.working; has = so
 
 -- they are those of the image, and their records are the side's
 pub record Told (held : Held) (image : List ℕ) (firsts : List ℕ) (chains : List (List ℕ)) (slots : Slots) : Type 0 where
-  pub of : chains_of image held.cells firsts ≡ Some chains
-  pub records : list_all (is_record image held.cells) chains ≡ true
-  pub apart : are_apart held.cells chains ≡ true
-  pub is : slots ≡ map (slot_of image held.cells) chains
+  pub of : chains_of image held.chains.cells firsts ≡ Some chains
+  pub records : list_all (is_record image held.chains.cells) chains ≡ true
+  pub apart : are_apart held.chains.cells chains ≡ true
+  pub is : slots ≡ map (slot_of image held.chains.cells) chains
   pub weight : weight_of slots ≡ length (cells_in chains)
 
-pub told-chains : (held : Held) (image firsts : List ℕ) (chains : List (List ℕ)) (slots : Slots) → IsSound held → StandsFor held image → HasChains held.cells held.links firsts chains → AllByRecursion (λ cell. is_marked held.used cell ≡ true) (cells_in chains)
-    → slots_at image held.cells firsts ≡ Some slots → Told held image firsts chains slots
+pub told-chains : (held : Held) (image firsts : List ℕ) (chains : List (List ℕ)) (slots : Slots) → IsSound held → StandsFor held image → HasChains held.chains firsts chains → AllByRecursion (λ cell. is_marked held.chains.used cell ≡ true) (cells_in chains)
+    → slots_at image held.chains.cells firsts ≡ Some slots → Told held image firsts chains slots
 told-chains held image firsts chains slots sound stands has marked there =
-    let n = held.cells in
+    let n = held.chains.cells in
     let c = slots-chains image n firsts slots there in
-    let of = chains-told image n held.used held.links firsts chains sound.range.few sound.range.many sound.range.links_count stands.links marked has.are in
+    let of = chains-told image n held.chains.used held.chains.links firsts chains sound.range.few sound.range.many sound.range.links_count stands.links marked has.are in
     let same : c.chains ≡ chains = same_Some _ _ (sym c.of ∙ of) in
     let records : list_all (is_record image n) chains ≡ true = rw same at c.records in
     record {
@@ -141,21 +141,21 @@ some-slots None h = absurd (cc)
 some-slots (Some x) h = (x, refl)
 
 pub steps-firsts : (held : Held) (side : Side) (image : List ℕ) (slots : Slots) → IsSound held → StandsFor held image → contents held side image ≡ Some slots
-    → (sum_by (steps held.links 18) (firsts held side) ≡ weight_of slots) × (sum_by (steps held.links 18) (firsts held side) ≤ held.cells)
+    → (sum_by (steps held.chains.links 18) (firsts held side) ≡ weight_of slots) × (sum_by (steps held.chains.links 18) (firsts held side) ≤ held.chains.cells)
 steps-firsts held side image slots sound stands h =
     let s = side-chains held side sound in
     let told = told-chains held image (firsts held side) s.chains slots sound stands s.has s.marked h in
-    let walk = walk-chains held.links (firsts held side) s.chains (small-links held sound) s.has.are in
+    let walk = walk-chains held.chains.links (firsts held side) s.chains (small-links held sound) s.has.are in
     (walk ∙ sym told.weight, omega (arith, walk, s.has.few))
 
-pub weight-is : (held : Held) (side : Side) (links first_cells : List ℕ) (result : ℕ) → IsSound held → links ≡ held.links → first_cells ≡ firsts held side → result ≡ sum_by (steps links 18) first_cells
+pub weight-is : (held : Held) (side : Side) (links first_cells : List ℕ) (result : ℕ) → IsSound held → links ≡ held.chains.links → first_cells ≡ firsts held side → result ≡ sum_by (steps links 18) first_cells
     → (image : List ℕ) → (slots : Slots) → StandsFor held image → contents held side image ≡ Some slots → result ≡ weight_of slots
 weight-is held side links first_cells result sound links_are firsts_are is = λ image slots stands h.
     is ∙ rw (links_are, firsts_are) ((steps-firsts held side image slots sound stands h).0)
 
-pub weight-most : (held : Held) (side : Side) (links first_cells : List ℕ) (result : ℕ) → IsSound held → links ≡ held.links → first_cells ≡ firsts held side → result ≡ sum_by (steps links 18) first_cells → result ≤ held.cells
+pub weight-most : (held : Held) (side : Side) (links first_cells : List ℕ) (result : ℕ) → IsSound held → links ≡ held.chains.links → first_cells ≡ firsts held side → result ≡ sum_by (steps links 18) first_cells → result ≤ held.chains.cells
 weight-most held side links first_cells result sound links_are firsts_are is =
     let s = side-chains held side sound in
-    let walk = walk-chains held.links (firsts held side) s.chains (small-links held sound) s.has.are in
-    let sum : result ≡ sum_by (steps held.links 18) (firsts held side) = is ∙ rw (links_are, firsts_are) refl in
+    let walk = walk-chains held.chains.links (firsts held side) s.chains (small-links held sound) s.has.are in
+    let sum : result ≡ sum_by (steps held.chains.links 18) (firsts held side) = is ∙ rw (links_are, firsts_are) refl in
     omega (arith, sum, walk, s.has.few)

@@ -3,24 +3,18 @@ use Rattle.std.specs.Prelude.{◌≡◌, ℕ, ◌%◌, Bool, true, if◌then◌e
 use Rattle.eeprom.specs.Chip.{Chip}
 use Rattle.eeprom.specs.Frame.{HasRoom}
 use Rattle.eeprom.specs.StoreOf.{Slots, slots_at, starts_with_magic, has_header, number_at, directory}
-use Rattle.cell_store.specs.Cells.{Cells, kept, AreLinksOf}
+use Rattle.cell_store.specs.Cells.{Cells, AreLinkedIn}
 use Rattle.record_store.specs.declared.side.Side.{Side}
 use Rattle.record_store.specs.declared.side.Side.TheVariants.{Committed, Working}
 
--- the number of cells; which cells are used, and of each used cell the number of the next one; the octet that selects the
--- directory; for each slot the first cell of its chain as it was committed and, where a transaction was begun, as it is in it
+-- the cells and the chains of them; the octet that selects the directory; for each slot the first cell of its chain as it was
+-- committed and, where a transaction was begun, as it is in it
 pub record Held : Type 0 where
-  pub cells : ℕ
-  pub used : List Bool
-  pub links : List ℕ
+  pub chains : Cells
   pub selector : ℕ
   pub committed : List ℕ
   pub working : List ℕ
   pub begun : Bool
-
--- its store of cells
-abbrev pub cells_of_store : Held → Cells
-cells_of_store held = kept held.cells held.used held.links
 
 abbrev pub firsts : Held → Side → List ℕ
 firsts held Committed = held.committed
@@ -28,7 +22,7 @@ firsts held Working = if held.begun then held.working else held.committed
 
 -- the records of a side
 abbrev pub contents : Held → Side → List ℕ → Option Slots
-contents held side image = slots_at image held.cells (firsts held side)
+contents held side image = slots_at image held.chains.cells (firsts held side)
 
 -- the record of a slot
 abbrev pub record_at : Held → Side → ℕ → List ℕ → Option (List ℕ)
@@ -44,12 +38,12 @@ pub record BeginsAs (n selects : ℕ) (first_cells image : List ℕ) : Type 0 wh
 
 -- the image has the store that is held, and each side has its records
 pub record StandsFor (held : Held) (image : List ℕ) : Type 0 where
-  pub begins : BeginsAs held.cells held.selector held.committed image
-  pub links : AreLinksOf image held.cells held.used held.links
+  pub begins : BeginsAs held.chains.cells held.selector held.committed image
+  pub links : AreLinkedIn held.chains image
   pub committed : IsSome (contents held Committed image)
   pub working : IsSome (contents held Working image)
 
 -- the EEPROM has room for the store that is held, and its image, where told, has that store
 pub record IsOver (held : Held) (chip : Chip) : Type 0 where
-  pub room : HasRoom held.cells chip
+  pub room : HasRoom held.chains.cells chip
   pub stands : IfSome chip.image (StandsFor held)

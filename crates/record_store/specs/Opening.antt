@@ -1,19 +1,17 @@
 -- A store that is being opened: its slots are claimed one after another.
-use Rattle.std.specs.Prelude.{◌≡◌, ℕ, ◌+◌, ◌*◌, ◌<◌, ◌≤◌, Bool, true, List, [], ◌∷◌, length, take, Option, Some, None, IsSome, IfSome}
+use Rattle.std.specs.Prelude.{◌≡◌, ℕ, ◌+◌, ◌*◌, ◌<◌, ◌≤◌, true, List, [], ◌∷◌, length, take, Option, Some, None, IsSome, IfSome}
 use Rattle.eeprom.specs.Chip.{Chip, RisesBy}
 use Rattle.eeprom.specs.Frame.{HasRoom}
 use Rattle.eeprom.specs.StoreOf.{Slots, slots_at, chain_of, is_record, slot_of, weight_of, cell_size, longest_chain}
-use Rattle.cell_store.specs.Cells.{Cells, IsInRange, kept, AreLinksOf}
+use Rattle.cell_store.specs.Cells.{Cells, IsInRange, AreLinkedIn}
 use Rattle.cell_store.specs.Claims.{TakesChain}
 use Rattle.record_store.specs.Held.{BeginsAs}
 use Rattle.record_store.specs.Sound.{Claimed, cells_in}
 
--- the number of cells; which cells are used, and of each used cell the number of the next one; the octet that selects the
--- directory; for each slot the first cell of its chain; how many slots were claimed, and how many cells their chains have
+-- the cells and the chains of them; the octet that selects the directory; for each slot the first cell of its chain; how many
+-- slots were claimed, and how many cells their chains have
 pub record HeldSoFar : Type 0 where
-  pub cells : ℕ
-  pub used : List Bool
-  pub links : List ℕ
+  pub chains : Cells
   pub selector : ℕ
   pub firsts : List ℕ
   pub claimed : ℕ
@@ -26,17 +24,17 @@ slot_with (octet ∷ octets) = Some (octet ∷ octets)
 
 -- the records of the slots that were claimed
 abbrev pub slots_so_far : HeldSoFar → List ℕ → Option Slots
-slots_so_far held image = slots_at image held.cells (take held.claimed held.firsts)
+slots_so_far held image = slots_at image held.chains.cells (take held.claimed held.firsts)
 
 -- the image begins as that of a store with these first cells, and the slots that were claimed have their records
 pub record StandsSoFar (held : HeldSoFar) (image : List ℕ) : Type 0 where
-  pub begins : BeginsAs held.cells held.selector held.firsts image
-  pub links : AreLinksOf image held.cells held.used held.links
+  pub begins : BeginsAs held.chains.cells held.selector held.firsts image
+  pub links : AreLinkedIn held.chains image
   pub claimed : IsSome (slots_so_far held image)
 
 -- the EEPROM has room for the store, and its image, where told, has what was opened so far
 pub record IsOverSoFar (held : HeldSoFar) (chip : Chip) : Type 0 where
-  pub room : HasRoom held.cells chip
+  pub room : HasRoom held.chains.cells chip
   pub stands : IfSome chip.image (StandsSoFar held)
 
 -- these slots are claimed, and their chains have so many cells
@@ -57,11 +55,11 @@ pub record TakesSlot (image : Option (List ℕ)) (old new : Cells) (first : ℕ)
 
 -- what holds of it in memory, whatever an EEPROM tells
 pub record IsSoundSoFar (held : HeldSoFar) : Type 0 where
-  pub range : IsInRange (kept held.cells held.used held.links)
+  pub range : IsInRange held.chains
   pub selector : held.selector < 2
-  pub count : length held.firsts ≡ held.cells
-  pub claimed : held.claimed ≤ held.cells
-  pub chains : ClaimedSoFar (kept held.cells held.used held.links) (take held.claimed held.firsts) held.weight
+  pub count : length held.firsts ≡ held.chains.cells
+  pub claimed : held.claimed ≤ held.chains.cells
+  pub chains : ClaimedSoFar held.chains (take held.claimed held.firsts) held.weight
 
 -- how many octets begin an image of so many cells, as far as it is looked at: 9, and a directory
 abbrev pub front_octets : ℕ → ℕ

@@ -17,7 +17,7 @@ weight_with slot octets slots = weight_of (slice_set slots slot (Some octets))
 
 -- they are no more than the store has
 abbrev pub IsWithin : Held → ℕ → List ℕ → List ℕ → Type 0
-IsWithin held slot octets image = IfSome (contents held Working image) (λ slots. weight_with slot octets slots ≤ held.cells)
+IsWithin held slot octets image = IfSome (contents held Working image) (λ slots. weight_with slot octets slots ≤ held.chains.cells)
 
 -- the cells with these octets in the slot that is named, or else in one more
 abbrev pub weight_after : Option ℕ → List ℕ → Slots → ℕ
@@ -26,8 +26,8 @@ weight_after (Some slot) octets slots = weight_with slot octets slots
 
 -- they are more than the store has
 abbrev pub IsFull : Held → Option ℕ → List ℕ → List ℕ → Type 0
-IsFull held slot octets image = IfSome (contents held Working image) (λ slots. held.cells < weight_after slot octets slots)
+IsFull held slot octets image = IfSome (contents held Working image) (λ slots. held.chains.cells < weight_after slot octets slots)
 
 -- a slot was emptied, and these cells are used then
 abbrev pub emptied : Held → ℕ → List Bool → Held
-emptied held slot used = record { cells = held.cells; used = used; links = held.links; selector = held.selector; committed = held.committed; working = slice_set held.working slot 65535; begun = held.begun }
+emptied held slot used = record held { chains = record held.chains { used = used }; working = slice_set held.working slot 65535 }

@@ -7,7 +7,7 @@ use Rattle.record_store.specs.declared.side.Side.TheVariants.{Committed, Working
 
 -- a transaction is begun: the working records are those that were committed
 abbrev pub begun_from : Held → Held
-begun_from held = record { cells = held.cells; used = held.used; links = held.links; selector = held.selector; committed = held.committed; working = held.committed; begun = true }
+begun_from held = record held { working = held.committed; begun = true }
 
 -- the image has the working records as its store
 pub record IsCommitted (old new : Held) (was now : List ℕ) : Type 0 where

@@ -6,7 +6,7 @@ ghost use Rattle.eeprom.specs.Frame.{HasRoom, Reads};
 ghost use Rattle.eeprom.specs.StoreOf.{store_of, cells_of, cell_size, longest_chain};
 ghost use Rattle.cell_store.specs.Reading.{ReadsAtMost, ReadsCells};
 ghost use Rattle.cell_store.specs.Claims.{HasNoRecord};
-ghost use Rattle.cell_store.specs.Cells.{StandsFor};
+ghost use Rattle.cell_store.specs.Cells.{AreLinkedIn};
 ghost use Rattle.cell_store.specs.Faults.{is_claim_fault};
 ghost use Rattle.record_store.specs.Opening.{IsOverSoFar, TakesSlot, front_octets, slots_so_far, slot_with};
 ghost use Rattle.record_store.specs.Faults.{is_open_fault};
@@ -36,9 +36,9 @@ impl Model for Opening {
 
     ghost Value = { HeldSoFar };
 
-    ghost view = { λ opening. record { cells = opening.chains.cells; used = opening.chains.used; links = opening.chains.links; selector = opening.selector; firsts = opening.committed.items; claimed = opening.claimed; weight = opening.weight } };
+    ghost view = { λ opening. record { chains = opening.chains; selector = opening.selector; firsts = opening.committed.items; claimed = opening.claimed; weight = opening.weight } };
 
-    ghost invariant = { λ opening. (length opening.working.items ≡ opening.chains.cells) × IsSoundSoFar (record { cells = opening.chains.cells; used = opening.chains.used; links = opening.chains.links; selector = opening.selector; firsts = opening.committed.items; claimed = opening.claimed; weight = opening.weight }) };
+    ghost invariant = { λ opening. (length opening.working.items ≡ opening.chains.cells) × IsSoundSoFar (record { chains = opening.chains; selector = opening.selector; firsts = opening.committed.items; claimed = opening.claimed; weight = opening.weight }) };
 }
 
 impl Opening {
@@ -47,7 +47,7 @@ impl Opening {
         ensures begins { IfOk result (λ opening. opening.claimed ≡ 0) }
         ensures weight { IfOk result (λ opening. opening.weight ≡ 0) }
         ensures over { IfOk result (λ opening. IsOverSoFar opening (B.chip bench.old)) }
-        ensures octets_read { IfOk result (λ opening. Becomes (RisesBy (front_octets opening.cells)) (B.octets_read bench.old) (B.octets_read bench.new)) }
+        ensures octets_read { IfOk result (λ opening. Becomes (RisesBy (front_octets opening.chains.cells)) (B.octets_read bench.old) (B.octets_read bench.new)) }
         ensures most_read { Becomes (ReadsAtMost (front_octets 2048)) (B.octets_read bench.old) (B.octets_read bench.new) }
         ensures not_a_card { IsErrOf result OpenRefusal.NotACard → IfSome (B.chip bench.old).image (λ image. store_of image ≡ None) }
         ensures frame { Reads is_open_fault B.chip B.faults bench.old bench.new result }
@@ -68,7 +68,7 @@ impl Opening {
 
     /// The number of slots, and of cells that the records can have.
     pub fn cells(&self) -> u16
-        ensures number { result ≡ self.now.cells }
+        ensures number { result ≡ self.now.chains.cells }
         ensures few { 16 ≤ result }
         ensures many { result ≤ 2048 }
     {
@@ -89,15 +89,15 @@ impl Opening {
         bench: &mut B,
         out: &mut RecordOctets,
     ) -> Result<Opening, OpenRefusal>
-        requires left { self.claimed < self.cells }
+        requires left { self.claimed < self.chains.cells }
         requires over { IsOverSoFar self (B.chip bench.old) }
         ensures slots { IfOk result (λ next. IfSome (B.chip bench.old).image (λ image.
             slots_so_far next image ≡ option_map (λ slots. slots ++ slot_with out.new.items ∷ []) (slots_so_far self image))) }
         ensures over { IfOk result (λ next. IsOverSoFar next (B.chip bench.old)) }
         ensures claimed { IfOk result (λ next. next.claimed ≡ self.claimed + 1) }
         ensures weight { IfOk result (λ next. next.weight ≡ self.weight + cells_of (slot_with out.new.items)) }
-        ensures few { IfOk result (λ next. next.weight ≤ next.cells) }
-        ensures cells { IfOk result (λ next. next.cells ≡ self.cells) }
+        ensures few { IfOk result (λ next. next.weight ≤ next.chains.cells) }
+        ensures cells { IfOk result (λ next. next.chains.cells ≡ self.chains.cells) }
         ensures octets_read { OnOk result (Becomes (ReadsCells (cells_of (slot_with out.new.items))) (B.octets_read bench.old) (B.octets_read bench.new)) }
         ensures most_read { Becomes (ReadsAtMost (cell_size * longest_chain)) (B.octets_read bench.old) (B.octets_read bench.new) }
         ensures no_memory_taken { ¬ (IsErrOf result OpenRefusal.NoMemory) }
@@ -138,7 +138,7 @@ fn claim_slot<B: Eeprom>(
 ) -> Result<u16, ClaimRefusal>
     requires room { HasRoom chains.old.cells (B.chip bench.old) }
     ensures takes { IfOk result (λ count. TakesSlot (B.chip bench.old).image chains.old chains.new first out.new.items count) }
-    ensures stands { OnOk result (IfSome (B.chip bench.old).image (λ image. StandsFor chains.old image → StandsFor chains.new image)) }
+    ensures linked { OnOk result (IfSome (B.chip bench.old).image (λ image. AreLinkedIn chains.old image → AreLinkedIn chains.new image)) }
     ensures count { IfOk result (λ count. count ≡ cells_of (slot_with out.new.items)) }
     ensures octets_read { IfOk result (λ count. Becomes (ReadsCells count) (B.octets_read bench.old) (B.octets_read bench.new)) }
     ensures most_read { Becomes (ReadsAtMost (cell_size * longest_chain)) (B.octets_read bench.old) (B.octets_read bench.new) }

@@ -40,21 +40,21 @@ impl Model for Store {
 
     ghost Value = { Held };
 
-    ghost view = { λ store. record { cells = store.chains.cells; used = store.chains.used; links = store.chains.links; selector = store.selector; committed = store.committed.items; working = store.working.items; begun = store.begun } };
+    ghost view = { λ store. record { chains = store.chains; selector = store.selector; committed = store.committed.items; working = store.working.items; begun = store.begun } };
 
-    ghost invariant = { λ store. IsSound (record { cells = store.chains.cells; used = store.chains.used; links = store.chains.links; selector = store.selector; committed = store.committed.items; working = store.working.items; begun = store.begun }) };
+    ghost invariant = { λ store. IsSound (record { chains = store.chains; selector = store.selector; committed = store.committed.items; working = store.working.items; begun = store.begun }) };
 }
 
 impl Opening {
     /// The store, once all slots were claimed.
     pub fn finish(self) -> Store
-        requires all { self.claimed ≡ self.cells }
+        requires all { self.claimed ≡ self.chains.cells }
         ensures stands { (image : List ℕ) → StandsSoFar self image → StandsFor result image }
         ensures opened { (image : List ℕ) → StandsSoFar self image → store_of image ≡ contents result Committed image }
         ensures slots { (image : List ℕ) → StandsSoFar self image → contents result Committed image ≡ slots_so_far self image }
         ensures weight { (image : List ℕ) (slots : Slots) → StandsSoFar self image → contents result Committed image ≡ Some slots → self.weight ≡ weight_of slots }
         ensures idle { result.begun ≡ false }
-        ensures cells { result.cells ≡ self.cells }
+        ensures cells { result.chains.cells ≡ self.chains.cells }
     {
         Store {
             chains: self.chains,
@@ -75,7 +75,7 @@ impl Store {
         ensures opened { IfOk result (λ store. IfSome (B.chip bench.old).image (λ image. store_of image ≡ contents store Committed image)) }
         ensures idle { IfOk result (λ store. store.begun ≡ false) }
         ensures octets_read { IfOk result (λ store. IfSome (B.chip bench.old).image (λ image. (slots : Slots) → store_of image ≡ Some slots
-            → Becomes (ReadsStore store.cells slots) (B.octets_read bench.old) (B.octets_read bench.new))) }
+            → Becomes (ReadsStore store.chains.cells slots) (B.octets_read bench.old) (B.octets_read bench.new))) }
         ensures most_read { Becomes (ReadsAtMost most_octets) (B.octets_read bench.old) (B.octets_read bench.new) }
         ensures not_a_card { IsErrOf result OpenRefusal.NotACard → IfSome (B.chip bench.old).image (λ image. store_of image ≡ None) }
         ensures frame { Reads is_open_fault B.chip B.faults bench.old bench.new result }
@@ -90,7 +90,7 @@ impl Store {
 
     /// The number of slots, and of cells that the records can have.
     pub fn cells(&self) -> u16
-        ensures number { result ≡ self.now.cells }
+        ensures number { result ≡ self.now.chains.cells }
         ensures few { 16 ≤ result }
         ensures many { result ≤ 2048 }
     {
@@ -107,7 +107,7 @@ impl Store {
     /// How many cells the records of a side have.
     pub fn weight(&self, side: Side) -> u16
         ensures weight { (image : List ℕ) → (slots : Slots) → StandsFor self.now image → contents self.now side image ≡ Some slots → result ≡ weight_of slots }
-        ensures most { result ≤ self.now.cells }
+        ensures most { result ≤ self.now.chains.cells }
     {
         length_of_chains(&self.chains, self.first_cells(side))
     }
@@ -121,7 +121,7 @@ impl Store {
         out: &mut RecordOctets,
     ) -> Result<bool, EepromFault>
         requires over { IsOver self.now (B.chip bench.old) }
-        requires slot { slot < self.now.cells }
+        requires slot { slot < self.now.chains.cells }
         ensures found { IfOk result (λ found. IfSome (B.chip bench.old).image
             (λ image. record_at self.now side slot image ≡ (if found then Some out.new.items else None))) }
         ensures octets_read { IfOk result (λ found. IfSome (B.chip bench.old).image
@@ -158,20 +158,20 @@ impl Store {
         octets: &[u8],
     ) -> Result<u16, StoreRefusal>
         requires begun { IsTrue self.old.begun }
-        requires slot { IfSome slot (λ slot. slot < self.old.cells) }
+        requires slot { IfSome slot (λ slot. slot < self.old.chains.cells) }
         requires some { 1 ≤ length octets.now }
         requires most { length octets.now ≤ longest_record }
         requires over { IsOver self.old (B.chip bench.old) }
         ensures named { IfOk result (λ found. IfSome slot (λ slot. found ≡ slot)) }
         ensures empty { IfOk result (λ found. slot ≡ None → IfSome (B.chip bench.old).image (λ image. record_at self.old Working found image ≡ None)) }
-        ensures there { IfOk result (λ found. found < self.old.cells) }
+        ensures there { IfOk result (λ found. found < self.old.chains.cells) }
         ensures put { IfOk result (λ found. Becomes (IsPut self.old self.new found octets.now) (B.chip bench.old).image (B.chip bench.new).image) }
         ensures within { IfOk result (λ found. IfSome (B.chip bench.old).image (IsWithin self.old found octets.now)) }
         ensures full { IsErrOf result StoreRefusal.Full → IfSome (B.chip bench.old).image (IsFull self.old slot octets.now) }
         ensures unchanged { IsErrOf result StoreRefusal.Full → (self.new ≡ self.old) × (bench.new ≡ bench.old) }
         ensures told { OnOk result (is_some (B.chip bench.new).image ≡ is_some (B.chip bench.old).image) }
         ensures begun { OnOk result (self.new.begun ≡ self.old.begun) }
-        ensures cells { OnOk result (self.new.cells ≡ self.old.cells) }
+        ensures cells { OnOk result (self.new.chains.cells ≡ self.old.chains.cells) }
         ensures octets_written { OnOk result (Becomes (RisesBy (cell_size * image.cells_for (length octets.now))) (B.chip bench.old).written (B.chip bench.new).written) }
         ensures moments { Keeps store_of (B.chip bench.old) (B.chip bench.new) }
         ensures cause { CountsFaults is_put_fault (B.faults bench.old) (B.faults bench.new) result }
@@ -197,9 +197,9 @@ impl Store {
     /// Empties a working slot. Its chain is freed, unless it is the one that was committed.
     fn empty(&mut self, slot: u16)
         requires begun { IsTrue self.old.begun }
-        requires slot { slot < self.old.cells }
-        ensures emptied { self.new ≡ emptied self.old slot self.new.used }
-        ensures fewer { StaysMarked self.new.used self.old.used }
+        requires slot { slot < self.old.chains.cells }
+        ensures emptied { self.new ≡ emptied self.old slot self.new.chains.used }
+        ensures fewer { StaysMarked self.new.chains.used self.old.chains.used }
     {
         let first = self.working[slot as usize];
         if first != self.committed[slot as usize] {
@@ -215,7 +215,7 @@ impl Store {
         requires begun { IsTrue self.old.begun }
         requires over { IsOver self.old (B.chip bench.old) }
         ensures ended { OnOk result (self.new.begun ≡ false) }
-        ensures cells { OnOk result (self.new.cells ≡ self.old.cells) }
+        ensures cells { OnOk result (self.new.chains.cells ≡ self.old.chains.cells) }
         ensures told { OnOk result (is_some (B.chip bench.new).image ≡ is_some (B.chip bench.old).image) }
         ensures done { OnOk result (Becomes (IsCommitted self.old self.new) (B.chip bench.old).image (B.chip bench.new).image) }
         ensures moments { Commits self.old (B.chip bench.old) (B.chip bench.new) }
@@ -243,7 +243,7 @@ impl Store {
     pub fn rollback(&mut self)
         requires begun { IsTrue self.old.begun }
         ensures ended { self.new.begun ≡ false }
-        ensures cells { self.new.cells ≡ self.old.cells }
+        ensures cells { self.new.chains.cells ≡ self.old.chains.cells }
         ensures stands { (image : List ℕ) → StandsFor self.old image → StandsFor self.new image }
         ensures committed { (image : List ℕ) → contents self.new Committed image ≡ contents self.old Committed image }
     {
@@ -253,7 +253,7 @@ impl Store {
     }
 
     fn first_cell(&self, side: Side, slot: u16) -> u16
-        requires slot { slot < self.now.cells }
+        requires slot { slot < self.now.chains.cells }
         ensures first { result ≡ slice_index (firsts self.now side) slot }
         ensures there { slot < length (firsts self.now side) }
     {
@@ -263,7 +263,7 @@ impl Store {
     /// The first cell of each slot.
     fn first_cells(&self, side: Side) -> &[u16]
         ensures firsts { result.now ≡ firsts self.now side }
-        ensures count { length result.now ≡ self.now.cells }
+        ensures count { length result.now ≡ self.now.chains.cells }
     {
         match side {
             Side::Working if self.begun => self.working.as_slice(),

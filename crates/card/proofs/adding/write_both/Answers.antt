@@ -21,7 +21,7 @@ pub returns-in_err-put-2-clause-adds : goal.returns-in_err-put-2-clause-adds
 returns-in_err-put-2-clause-adds g c = record {
   written = search rules;
   told = search rules;
-  full = λ is. never_full g (goal.at.returns-in_err-put-2-clause-adds g c).After-put-2 (HasNoRoom c.args.store.now.cells c.args.added.now) (search rules);
+  full = λ is. never_full g (goal.at.returns-in_err-put-2-clause-adds g c).After-put-2 (HasNoRoom c.args.store.now.chains.cells c.args.added.now) (search rules);
   stands = search rules;
   cells = search rules;
   still = search rules;
@@ -33,7 +33,7 @@ returns-in_err-put-2-clause-unchanged g c = λ is.
     never_full g (goal.at.returns-in_err-put-2-clause-unchanged g c).After-put-2 (λ slots. (g.B.Eeprom.chip c.put-2.new.bench ≡ g.B.Eeprom.chip c.args.bench.now) × (c.put-2.new.self ≡ c.args.store.now)) (search rules)
 
 both : (g : _) (c : After-commit g) → Becomes (λ was now. (contents c.put-2.new.self Committed now ≡ contents c.args.store.now Committed was)
-    × AddedTo c.args.store.now.cells c.args.added.now c.args.slot c.args.changed.now (contents c.args.store.now Committed was) (contents c.put-2.new.self Working now))
+    × AddedTo c.args.store.now.chains.cells c.args.added.now c.args.slot c.args.changed.now (contents c.args.store.now Committed was) (contents c.put-2.new.self Working now))
     (g.B.Eeprom.chip c.args.bench.now).image (g.B.Eeprom.chip c.put-2.new.bench).image
 both g c =
     both_put c.args.store.now c.put.new.self c.put-2.new.self c.args.added.now c.args.slot c.in_ok-put.field-0 c.args.changed.now (g.B.Eeprom.chip c.args.bench.now).image (g.B.Eeprom.chip c.put.new.bench).image

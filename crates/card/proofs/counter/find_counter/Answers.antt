@@ -22,19 +22,19 @@ loop-slot-init g c = record {
 pub loop-slot-preserved : goal.loop-slot-preserved
 loop-slot-preserved g c =
     let slots : Option Slots = committed_slots c.args.store.now (g.B.Eeprom.chip c.args.bench.now).image in
-    let within : c.loop-slot.slot < c.args.store.now.cells = omega (arith, c.loop-slot.invariant.bound, c.loop-slot-test.true) in
+    let within : c.loop-slot.slot < c.args.store.now.chains.cells = omega (arith, c.loop-slot.invariant.bound, c.loop-slot-test.true) in
     let here = rw c.loop-slot.invariant.same at c.in_ok-counter.ensures.counter in
     record {
       same = c.in_ok-counter.ensures.frame.same ∙ c.loop-slot.invariant.same;
       faults = c.in_ok-counter.ensures.frame.counts.1 ∙ c.loop-slot.invariant.faults;
       bound = c.loop-slot.invariant.bound;
       count = c.loop-slot.invariant.count;
-      left = passed_here (λ (n : ℕ). true) (in_slot records.counter_in) slots c.args.store.now.cells c.loop-slot.slot (option_map next_of c.in_ok-counter.field-0)
+      left = passed_here (λ (n : ℕ). true) (in_slot records.counter_in) slots c.args.store.now.chains.cells c.loop-slot.slot (option_map next_of c.in_ok-counter.field-0)
           c.loop-slot.invariant.count within here (rw c.in_default.is tt) c.loop-slot.invariant.left;
     }
 
 pub returns-clause-none : goal.returns-clause-none
 returns-clause-none g c =
     let slots : Option Slots = committed_slots c.args.store.now (g.B.Eeprom.chip c.args.bench.now).image in
-    let at_end : c.loop-slot.slot ≡ c.args.store.now.cells = omega (arith, c.loop-slot.invariant.bound, c.loop-slot-test.false, c.loop-slot.auto.slot-end) in
-    none_left (λ (n : ℕ). true) (in_slot records.counter_in) slots c.args.store.now.cells c.loop-slot.invariant.count (rw at_end at c.loop-slot.invariant.left)
+    let at_end : c.loop-slot.slot ≡ c.args.store.now.chains.cells = omega (arith, c.loop-slot.invariant.bound, c.loop-slot-test.false, c.loop-slot.auto.slot-end) in
+    none_left (λ (n : ℕ). true) (in_slot records.counter_in) slots c.args.store.now.chains.cells c.loop-slot.invariant.count (rw at_end at c.loop-slot.invariant.left)

@@ -30,8 +30,8 @@ next-found g c slots db told holds =
     let image = (g.B.Eeprom.chip c.args.bench.now).image in
     let counts = if_some-at (λ (slots : Slots). Some c.in-Some-2.found.counter.next ≡ in_slot counter_in (slice_index_or slots c.in-Some-2.found.slot None)) (committed_slots c.args.store.now image) slots told
     (rw (c.in-Some-2.is, c.in_ok-is_taken.ensures.frame.same) at c.in_ok-found.ensures.counter) in
-    let size = if_some-at (λ (slots : Slots). length slots ≡ c.args.store.now.cells) (committed_slots c.args.store.now image) slots told (length-committed_slots c.args.store.now image c.requires.over.stands) in
-    let there : c.in-Some-2.found.slot < c.args.store.now.cells = rw c.in-Some-2.is at c.in_ok-found.ensures.there in
+    let size = if_some-at (λ (slots : Slots). length slots ≡ c.args.store.now.chains.cells) (committed_slots c.args.store.now image) slots told (length-committed_slots c.args.store.now image c.requires.over.stands) in
+    let there : c.in-Some-2.found.slot < c.args.store.now.chains.cells = rw c.in-Some-2.is at c.in_ok-found.ensures.there in
     (counts, counter-in_slot slots db c.in-Some-2.found.slot c.in-Some-2.found.counter.next holds (subst (λ (n : ℕ). c.in-Some-2.found.slot < n) (sym size) there) (sym counts))
 
 pub returns-then-stamp-clause-prepares : goal.returns-then-stamp-clause-prepares

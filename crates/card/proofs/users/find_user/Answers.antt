@@ -24,15 +24,15 @@ loop-slot-init g c = record {
 pub returns-then-is_found-clause-user : goal.returns-then-is_found-clause-user
 returns-then-is_found-clause-user g c =
     let slots : Option Slots = committed_slots c.args.store.now (g.B.Eeprom.chip c.args.bench.now).image in
-    let within : c.loop-slot.slot < c.args.store.now.cells = omega (arith, c.loop-slot.invariant.bound, c.loop-slot-test.true) in
+    let within : c.loop-slot.slot < c.args.store.now.chains.cells = omega (arith, c.loop-slot.invariant.bound, c.loop-slot-test.true) in
     let here = rw c.loop-slot.invariant.same at c.in_ok-user.ensures.user in
-    found_here (is_wanted c.args.wanted) (in_slot records.user_in) slots c.args.store.now.cells c.loop-slot.slot c.in-Some.user
+    found_here (is_wanted c.args.wanted) (in_slot records.user_in) slots c.args.store.now.chains.cells c.loop-slot.slot c.in-Some.user
     c.loop-slot.invariant.count within (rw c.in-Some.is at here) (sym c.is_found.ensures ∙ c.if-is_found.true) c.loop-slot.invariant.left
 
 pub loop-slot-preserved : goal.loop-slot-preserved
 loop-slot-preserved g c =
     let slots : Option Slots = committed_slots c.args.store.now (g.B.Eeprom.chip c.args.bench.now).image in
-    let within : c.loop-slot.slot < c.args.store.now.cells = omega (arith, c.loop-slot.invariant.bound, c.loop-slot-test.true) in
+    let within : c.loop-slot.slot < c.args.store.now.chains.cells = omega (arith, c.loop-slot.invariant.bound, c.loop-slot-test.true) in
     let here = rw c.loop-slot.invariant.same at c.in_ok-user.ensures.user in
     let passed : IfSome c.in_ok-user.field-0 (λ (u : User). is_wanted c.args.wanted u ≡ false) =
     elim c.match-branch-2.branch [
@@ -44,12 +44,12 @@ loop-slot-preserved g c =
       faults = c.in_ok-user.ensures.frame.counts.1 ∙ c.loop-slot.invariant.faults;
       bound = c.loop-slot.invariant.bound;
       count = c.loop-slot.invariant.count;
-      left = passed_here (is_wanted c.args.wanted) (in_slot records.user_in) slots c.args.store.now.cells c.loop-slot.slot c.in_ok-user.field-0
+      left = passed_here (is_wanted c.args.wanted) (in_slot records.user_in) slots c.args.store.now.chains.cells c.loop-slot.slot c.in_ok-user.field-0
           c.loop-slot.invariant.count within here passed c.loop-slot.invariant.left;
     }
 
 pub returns-clause-user : goal.returns-clause-user
 returns-clause-user g c =
     let slots : Option Slots = committed_slots c.args.store.now (g.B.Eeprom.chip c.args.bench.now).image in
-    let at_end : c.loop-slot.slot ≡ c.args.store.now.cells = omega (arith, c.loop-slot.invariant.bound, c.loop-slot-test.false, c.loop-slot.auto.slot-end) in
-    none_left (is_wanted c.args.wanted) (in_slot records.user_in) slots c.args.store.now.cells c.loop-slot.invariant.count (rw at_end at c.loop-slot.invariant.left)
+    let at_end : c.loop-slot.slot ≡ c.args.store.now.chains.cells = omega (arith, c.loop-slot.invariant.bound, c.loop-slot-test.false, c.loop-slot.auto.slot-end) in
+    none_left (is_wanted c.args.wanted) (in_slot records.user_in) slots c.args.store.now.chains.cells c.loop-slot.invariant.count (rw at_end at c.loop-slot.invariant.left)

@@ -11,8 +11,8 @@ abbrev pub invariant-loop-slot : goal.invariant-loop-slot
 invariant-loop-slot g l = record {
   same : g.B.Eeprom.chip l.bench ≡ g.B.Eeprom.chip l.fn.bench;
   faults : g.B.Eeprom.faults l.bench ≡ g.B.Eeprom.faults l.fn.bench;
-  bound : l.slot-end ≡ l.store.cells;
-  count : IfSome (committed_slots l.store (g.B.Eeprom.chip l.fn.bench).image) (λ slots. length slots ≡ l.store.cells);
+  bound : l.slot-end ≡ l.store.chains.cells;
+  count : IfSome (committed_slots l.store (g.B.Eeprom.chip l.fn.bench).image) (λ slots. length slots ≡ l.store.chains.cells);
   left : IfSome (committed_slots l.store (g.B.Eeprom.chip l.fn.bench).image)
       (λ slots. find (is_wanted l.wanted) (filter_map (in_slot records.user_in) slots) ≡ find (is_wanted l.wanted) (filter_map (in_slot records.user_in) (drop l.slot slots)));
 }

@@ -3,7 +3,7 @@ use Rattle.eeprom.specs.StoreOf.{payload_of}
 use Rattle.cell_store.specs.Cells.{Cells, kept}
 use Rattle.cell_store.specs.Claims.{TakesChain}
 use Rattle.cell_store.specs.Claiming.{record_cells}
-use Rattle.cell_store.proofs.Claiming.{Claiming, Claiming-start, Claiming-more, Claiming-taken, Claiming-on, Claiming-record, Claiming-takes, Claiming-stands, longer-none, longer-counted, no-length}
+use Rattle.cell_store.proofs.Claiming.{Claiming, Claiming-start, Claiming-more, Claiming-taken, Claiming-on, Claiming-record, Claiming-takes, Claiming-linked, longer-none, longer-counted, no-length}
 use Rattle.cell_store.proofs.Counting.{told-count, count-short, record_cells-append}
 use Rattle.cell_store.proofs.Reading.{reads-more, reads-less, reads-then, reads-whole}
 use Rattle.cell_store.proofs.Walking.{Walked-start, Walked-more, Walked-end}
@@ -94,9 +94,9 @@ returns-then-next-clause-takes g c =
     subst (TakesChain start now c.args.first) end (Claiming-takes start now (g.B.Eeprom.chip c.args.bench.now).image c.args.first c.loop-cell._cell c.loop-cell.next c.requires.links c.loop-cell.invariant.links c.if-next.true
     (omega (arith, end, short.1)) c.loop-cell.invariant.claiming)
 
-pub returns-then-next-clause-stands : goal.returns-then-next-clause-stands
-returns-then-next-clause-stands g c =
-    Claiming-stands (kept c.args.cells c.args.used.now c.args.links.now) (kept c.args.cells c.loop-cell.used c.loop-cell.links) (g.B.Eeprom.chip c.args.bench.now).image c.args.first c.loop-cell._cell c.loop-cell.next c.requires.used
+pub returns-then-next-clause-linked : goal.returns-then-next-clause-linked
+returns-then-next-clause-linked g c =
+    Claiming-linked (kept c.args.cells c.args.used.now c.args.links.now) (kept c.args.cells c.loop-cell.used c.loop-cell.links) (g.B.Eeprom.chip c.args.bench.now).image c.args.first c.loop-cell._cell c.loop-cell.next c.requires.used
     c.loop-cell.invariant.claiming
 
 pub returns-then-next-clause-record : goal.returns-then-next-clause-record

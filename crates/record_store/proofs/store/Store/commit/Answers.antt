@@ -33,10 +33,10 @@ invariant_of-self g c =
 
 pub returns-clause-done : goal.returns-clause-done
 returns-clause-done g c =
-    let cells = c.free_replaced.ensures.cells ∙ ap (λ (held : Held). held.cells) c.self.view_is in
-    let links = c.free_replaced.ensures.links ∙ ap (λ (held : Held). held.links) c.self.view_is in
+    let cells = c.free_replaced.ensures.cells ∙ ap (λ (held : Held). held.chains.cells) c.self.view_is in
+    let links = c.free_replaced.ensures.links ∙ ap (λ (held : Held). held.chains.links) c.self.view_is in
     let working = ap (λ (held : Held). held.working) c.self.view_is in
-    let used : c.self.inside.chains.used ≡ c.args.self.now.used = ap (λ (held : Held). held.used) c.self.view_is in
+    let used : c.self.inside.chains.used ≡ c.args.self.now.chains.used = ap (λ (held : Held). held.chains.used) c.self.view_is in
     commit-done c.args.self.now _ c.free_replaced.new.cells.used c.directory_place-place.result c.as_slice-octets.result.now _ (g.B.Eeprom.chip c.args.bench.now).image (g.B.Eeprom.chip c.write.new.self).image (g.B.Eeprom.chip c.write-2.new.self).image
     (ready g (goal.at.returns-clause-done g c).After-write) c.requires.begun (subst (λ (used : List Bool). StaysMarked c.free_replaced.new.cells.used used) used c.free_replaced.ensures.fewer)
     (commit-view c.args.self.now c.free_replaced.new.cells _ _ _ cells links (ap (λ (held : Held). 1 - held.selector) c.self.view_is) (c.copy_from_slice.ensures.items ∙ (c.as_slice-4.ensures.value ∙ working)) working)

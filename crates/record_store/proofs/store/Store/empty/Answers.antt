@@ -8,12 +8,12 @@ use Rattle.record_store.proofs.store.Store.empty.Goals.{then-first-index, else-f
 use Rattle.record_store.proofs.store.Store.empty.Goals as goal
 
 abbrev emptied_is_sound : ℕ → Inside → Type 0
-emptied_is_sound slot inside = IsSound (record { cells = inside.chains.cells; used = inside.chains.used; links = inside.chains.links; selector = inside.selector; committed = inside.committed.items; working = set inside.working.items slot 65535; begun = inside.begun })
+emptied_is_sound slot inside = IsSound (record { chains = inside.chains; selector = inside.selector; committed = inside.committed.items; working = set inside.working.items slot 65535; begun = inside.begun })
 
 pub invariant_of-self : goal.invariant_of-self
 invariant_of-self c =
     let begun : c.self.inside.begun ≡ true = ap (λ (held : Held). held.begun) c.self.view_is ∙ c.requires.begun in
-    let cells : c.self.inside.chains.cells ≡ c.args.self.now.cells = ap (λ (held : Held). held.cells) c.self.view_is in
+    let cells : c.self.inside.chains.cells ≡ c.args.self.now.chains.cells = ap (λ (held : Held). held.chains.cells) c.self.view_is in
     let inside : c.args.slot < c.self.inside.chains.cells = omega (arith, cells, c.requires.slot) in
     let first : c.index-first.result.now ≡ slice_index c.self.inside.working.items c.args.slot =
     link-read c.self.inside.working.items c.self.inside.working.items c.args.slot c.index-first.result.now refl (omega (arith, cells, c.requires.slot, c.self.invariant.working_count)) c.index-first.ensures in

@@ -17,7 +17,7 @@ working : (g : _) (c : After-as_slice g) → c.as_slice.result.now ≡ c.args.se
 working g c = working-of _ c.args.self.now c.as_slice.result.now c.self.view_is c.as_slice.ensures.value
 
 -- the slot that was found
-inside : (g : _) (c : In-Some g) → c.in-Some.slot < c.args.self.now.cells
+inside : (g : _) (c : In-Some g) → c.in-Some.slot < c.args.self.now.chains.cells
 inside g c =
     let there : c.in-Some.slot < length c.args.self.now.working = rw (working g (goal.at.In-Some g c).After-as_slice) at c.in-Some.ensures.there in
     omega (arith, there, (sound g (goal.at.In-Some g c).After-as_slice).working_count)
@@ -26,9 +26,9 @@ empty : (g : _) (c : In-Some g) → c.args.slot ≡ None → slice_index c.args.
 empty g c = λ none. rw (working g (goal.at.In-Some g c).After-as_slice) at (c.in-Some.ensures.empty none)
 
 -- what the other records weigh
-weight : (g : _) (c : After-length_without-weight g) → c.length_without-weight.result ≡ steps_without c.args.self.now.links c.args.self.now.working c.in-Some.slot
+weight : (g : _) (c : After-length_without-weight g) → c.length_without-weight.result ≡ steps_without c.args.self.now.chains.links c.args.self.now.working c.in-Some.slot
 weight g c =
-    let links : c.self.inside.chains.links ≡ c.args.self.now.links = ap (λ (held : Held). held.links) c.self.view_is in
+    let links : c.self.inside.chains.links ≡ c.args.self.now.chains.links = ap (λ (held : Held). held.chains.links) c.self.view_is in
     let slots : c.as_slice-2.result.now ≡ c.args.self.now.working = working-of _ c.args.self.now c.as_slice-2.result.now c.self.view_is c.as_slice-2.ensures.value in
     c.length_without-weight.ensures.sum ∙ ap₂ (λ (links firsts : List ℕ). steps_without links firsts c.in-Some.slot) links slots
 
@@ -41,7 +41,7 @@ returns-in_default-clause-full g c = λ _.
 pub returns-then-weight-cells_for-clause-full : goal.returns-then-weight-cells_for-clause-full
 returns-then-weight-cells_for-clause-full g c = λ _.
     let at = goal.at.returns-then-weight-cells_for-clause-full g c in
-    let cells : c.self.inside.chains.cells ≡ c.args.self.now.cells = ap (λ (held : Held). held.cells) c.self.view_is in
+    let cells : c.self.inside.chains.cells ≡ c.args.self.now.chains.cells = ap (λ (held : Held). held.chains.cells) c.self.view_is in
     let image = (g.B.Eeprom.chip c.args.bench.now).image in
     let sound = sound g at.After-as_slice in
     let inside = inside g at.In-Some in
@@ -51,13 +51,13 @@ returns-then-weight-cells_for-clause-full g c = λ _.
 
 -- the store once the slot was emptied
 abbrev mid : (g : _) (c : After-write_chain g) → Held
-mid g c = record { cells = c.self-2.inside.chains.cells; used = c.self-2.inside.chains.used; links = c.self-2.inside.chains.links; selector = c.self-2.inside.selector; committed = c.self-2.inside.committed.items; working = c.self-2.inside.working.items; begun = c.self-2.inside.begun }
+mid g c = record { chains = c.self-2.inside.chains; selector = c.self-2.inside.selector; committed = c.self-2.inside.committed.items; working = c.self-2.inside.working.items; begun = c.self-2.inside.begun }
 
 -- there is room in it for the record
-emptied : (g : _) (c : After-write_chain g) → Emptied c.args.self.now (mid g c) c.empty.new.self.used c.in-Some.slot c.length_without-weight.result (cells_for (length c.args.octets.now))
+emptied : (g : _) (c : After-write_chain g) → Emptied c.args.self.now (mid g c) c.empty.new.self.chains.used c.in-Some.slot c.length_without-weight.result (cells_for (length c.args.octets.now))
 emptied g c =
     let at = goal.at.After-write_chain g c in
-    let cells : c.self.inside.chains.cells ≡ c.args.self.now.cells = ap (λ (held : Held). held.cells) c.self.view_is in
+    let cells : c.self.inside.chains.cells ≡ c.args.self.now.chains.cells = ap (λ (held : Held). held.chains.cells) c.self.view_is in
     record {
       sound = sound g at.After-as_slice;
       mid_sound = c.self-2.invariant;
@@ -72,7 +72,7 @@ emptied g c =
 pub invariant_of-self : goal.invariant_of-self
 invariant_of-self g c =
     let at = (goal.at.invariant_of-self g c).After-write_chain in
-    filled-sound c.args.self.now (mid g at) c.empty.new.self.used c.in-Some.slot c.length_without-weight.result (cells_for (length c.args.octets.now)) c.in-Ok.first c.write_chain.new.self (emptied g at) c.in-Ok.ensures.takes
+    filled-sound c.args.self.now (mid g at) c.empty.new.self.chains.used c.in-Some.slot c.length_without-weight.result (cells_for (length c.args.octets.now)) c.in-Ok.first c.write_chain.new.self (emptied g at) c.in-Ok.ensures.takes
 
 pub invariant_of-self-in-Err-Fault : goal.invariant_of-self-in-Err-Fault
 invariant_of-self-in-Err-Fault g c = failed-sound _ c.write_chain.new.self c.self-2.invariant (c.in-Err-Fault.ensures.fault (search rules))
@@ -81,18 +81,18 @@ pub unreachable-requires : goal.unreachable-requires
 unreachable-requires g c =
     let at = (goal.at.unreachable-requires g c).After-write_chain in
     let few = c.in-Err-NoCell.ensures.no_cell.0 (search rules) in
-    absurd (omega (arith, few, room-enough c.args.self.now (mid g at) c.empty.new.self.used c.in-Some.slot c.length_without-weight.result (cells_for (length c.args.octets.now)) (emptied g at)))
+    absurd (omega (arith, few, room-enough c.args.self.now (mid g at) c.empty.new.self.chains.used c.in-Some.slot c.length_without-weight.result (cells_for (length c.args.octets.now)) (emptied g at)))
 
 pub returns-in-Ok-clause-put : goal.returns-in-Ok-clause-put
 returns-in-Ok-clause-put g c =
     let at = (goal.at.returns-in-Ok-clause-put g c).After-write_chain in
-    filled-becomes c.args.self.now (mid g at) c.empty.new.self.used c.in-Some.slot c.length_without-weight.result (cells_for (length c.args.octets.now)) c.in-Ok.first c.write_chain.new.self c.args.octets.now
+    filled-becomes c.args.self.now (mid g at) c.empty.new.self.chains.used c.in-Some.slot c.length_without-weight.result (cells_for (length c.args.octets.now)) c.in-Ok.first c.write_chain.new.self c.args.octets.now
     (g.B.Eeprom.chip c.args.bench.now).image (g.B.Eeprom.chip c.write_chain.new.bench).image (emptied g at) c.requires.over.stands c.in-Ok.ensures.takes c.in-Ok.ensures.written
 
 -- at each moment, also where the write failed
 moments : (g : _) (c : After-write_chain g) → Keeps store_of (g.B.Eeprom.chip c.args.bench.now) (g.B.Eeprom.chip c.write_chain.new.bench)
 moments g c =
-    filled-keeps c.args.self.now (mid g c) c.empty.new.self.used c.self-2.inside.chains.used c.in-Some.slot c.length_without-weight.result (cells_for (length c.args.octets.now)) c.self-2.inside.chains.cells
+    filled-keeps c.args.self.now (mid g c) c.empty.new.self.chains.used c.self-2.inside.chains.used c.in-Some.slot c.length_without-weight.result (cells_for (length c.args.octets.now)) c.self-2.inside.chains.cells
     (g.B.Eeprom.chip c.args.bench.now) (g.B.Eeprom.chip c.write_chain.new.bench) (emptied g c) c.requires.over.stands refl refl c.write_chain.ensures.moments
 
 pub returns-in-Ok-clause-moments : goal.returns-in-Ok-clause-moments
@@ -109,6 +109,6 @@ returns-in-Ok-clause-empty g c = λ none.
 pub returns-in-Ok-clause-within : goal.returns-in-Ok-clause-within
 returns-in-Ok-clause-within g c =
     let at = goal.at.returns-in-Ok-clause-within g c in
-    let cells : c.self.inside.chains.cells ≡ c.args.self.now.cells = ap (λ (held : Held). held.cells) c.self.view_is in
+    let cells : c.self.inside.chains.cells ≡ c.args.self.now.chains.cells = ap (λ (held : Held). held.chains.cells) c.self.view_is in
     put-within c.args.self.now c.in-Some.slot c.length_without-weight.result c.args.octets.now (g.B.Eeprom.chip c.args.bench.now).image (sound g at.After-as_slice) c.requires.begun c.requires.over.stands (inside g at.In-Some)
     (weight g at.After-length_without-weight) (omega (arith, c.if-weight-cells_for.false, c.cells.ensures.number, cells, c.cells_for.ensures))
