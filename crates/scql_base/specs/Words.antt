@@ -60,9 +60,13 @@ instruction_not_supported = INSTRUCTION_NOT_SUPPORTED
 abbrev pub class_not_supported : StatusWord
 class_not_supported = CLASS_NOT_SUPPORTED
 
+-- a number in four bits, where 15 stands for more
+abbrev pub in_four_bits : ℕ → ℕ
+in_four_bits n = if nat_lt n 16 then n else 15
+
 -- 63CX: the secret was wrong, and so many tries are left
 abbrev pub tries_left : ℕ → StatusWord
-tries_left n = record { word = 0x63C0 + n }
+tries_left n = record { word = 0x63C0 + in_four_bits n }
 
 -- a number of octets in SW2, where 256 and more is 00
 abbrev pub in_sw2 : ℕ → ℕ

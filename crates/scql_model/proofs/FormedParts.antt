@@ -13,6 +13,7 @@ use Rattle.scql_model.specs.Operations.{Takes, Line, has_instruction, has_secret
 use Rattle.scql_model.specs.Parameters.{operation_in}
 use Rattle.scql_model.specs.Refusals.{or_refused, provided}
 use Rattle.scql_model.specs.Form.{class_of, is_chained, is_open, channel_of, Tail, le_of, data_of, tail_of, takes_case, is_case_3, data_in, channel_asked, line_on, taken_in, parts_of, Form, refused, refused_on, part_on, a_command, formed_on, formed, part_in, command_in, form_of}
+use Rattle.scql_model.specs.Accepting.{channel_named}
 use Rattle.scql_model.proofs.FieldLaws.{AreOctets}
 use Rattle.scql_model.proofs.FormedCommands.{both, refused-not, bound, not_refused, not_unless, on_channel}
 
@@ -113,6 +114,18 @@ asked-open table cla ins channels channel is =
     bound (class_of cla) _ channel is (λ _ _ is.
     bound (provided (has_instruction table ins) instruction_not_supported) _ channel is (λ _ _ is. open-read cla channels channel is))
 
+named-read : (cla : ℕ) (channels : List Bool) (channel : ℕ) → channel_of cla channels ≡ Ok channel → channel ≡ cla % 4
+named-read cla channels channel is = go (is_open (slice_get channels (cla % 4))) is
+  where
+    go : (open' : Bool) → (if open' then Ok (cla % 4) else Err channel_not_supported) ≡ Ok channel → channel ≡ cla % 4
+    go true is = cc
+    go false is = refused-not channel_not_supported channel is
+
+asked-named : (table : List Line) (cla ins : ℕ) (channels : List Bool) (channel : ℕ) → channel_asked table cla ins channels ≡ Ok channel → channel ≡ cla % 4
+asked-named table cla ins channels channel is =
+    bound (class_of cla) _ channel is (λ _ _ is.
+    bound (provided (has_instruction table ins) instruction_not_supported) _ channel is (λ _ _ is. named-read cla channels channel is))
+
 -- what comes of a channel is on it
 on_open : (r : Result ℕ StatusWord) (f : ℕ → Result Form StatusWord) (P : ℕ → Type 0) → ((channel : ℕ) → r ≡ Ok channel → P channel)
     → ((channel : ℕ) (form : Form) → f channel ≡ Ok form → read_on form ≡ Some channel) → IfSome (read_on (formed r f)) P
@@ -134,17 +147,32 @@ on_its_channel secrets false channel limit kind parts tail form is =
     let read : Command = record { channel = channel; operation = operation; le = tail.le } in
     let same : a_command read ≡ form = cc in ap read_on (sym same))
 
--- What is read or refused on a channel is so on an open one.
-pub IfSome-read_on : (table : List Line) (octets : List ℕ) (channels : List Bool) (chain : ℕ → Option Chain) (limit : ℕ)
-    → IfSome (read_on (form_of table octets channels chain limit)) (λ channel. slice_get channels channel ≡ Some true)
+-- What is read or refused on a channel is so on the one that is asked for.
+on_asked : (table : List Line) (octets : List ℕ) (channels : List Bool) (chain : ℕ → Option Chain) (limit : ℕ) (P : ℕ → Type 0)
+    → ((cla ins channel : ℕ) (rest : List ℕ) → octets ≡ cla ∷ ins ∷ rest → channel_asked table cla ins channels ≡ Ok channel → P channel)
+    → IfSome (read_on (form_of table octets channels chain limit)) P
 unfolding form_of
-IfSome-read_on table [] channels chain limit = tt
-IfSome-read_on table (cla ∷ []) channels chain limit = tt
-IfSome-read_on table (cla ∷ ins ∷ []) channels chain limit = tt
-IfSome-read_on table (cla ∷ ins ∷ p1 ∷ []) channels chain limit = tt
-IfSome-read_on table (cla ∷ ins ∷ p1 ∷ p2 ∷ after) channels chain limit =
-    on_open (channel_asked table cla ins channels) _ (λ channel. slice_get channels channel ≡ Some true) (asked-open table cla ins channels)
+on_asked table [] channels chain limit P holds = tt
+on_asked table (cla ∷ []) channels chain limit P holds = tt
+on_asked table (cla ∷ ins ∷ []) channels chain limit P holds = tt
+on_asked table (cla ∷ ins ∷ p1 ∷ []) channels chain limit P holds = tt
+on_asked table (cla ∷ ins ∷ p1 ∷ p2 ∷ after) channels chain limit P holds =
+    on_open (channel_asked table cla ins channels) _ P (λ channel. holds cla ins channel (p1 ∷ p2 ∷ after) refl)
     (λ channel form is.
     bound (line_on table channel ins p1 p2) _ form is (λ line _ is.
     bound (taken_in line.takes (is_chained cla) after) _ form is (λ tail _ is.
     on_its_channel (has_secrets table) (is_chained cla) channel limit line.kind (parts_of line.kind (chain channel)) tail form is)))
+
+-- It is an open one.
+pub IfSome-read_on : (table : List Line) (octets : List ℕ) (channels : List Bool) (chain : ℕ → Option Chain) (limit : ℕ)
+    → IfSome (read_on (form_of table octets channels chain limit)) (λ channel. slice_get channels channel ≡ Some true)
+IfSome-read_on table octets channels chain limit =
+    on_asked table octets channels chain limit (λ channel. slice_get channels channel ≡ Some true)
+    (λ cla ins channel rest is. asked-open table cla ins channels channel)
+
+-- It is the one that the class names.
+pub IfSome-read_on-named : (table : List Line) (octets : List ℕ) (channels : List Bool) (chain : ℕ → Option Chain) (limit : ℕ)
+    → IfSome (read_on (form_of table octets channels chain limit)) (λ channel. channel ≡ channel_named octets)
+IfSome-read_on-named table octets channels chain limit =
+    on_asked table octets channels chain limit (λ channel. channel ≡ channel_named octets)
+    (λ cla ins channel rest is at. asked-named table cla ins channels channel at ∙ sym (ap channel_named is))

@@ -1,6 +1,6 @@
 -- A command that isn't accepted leaves the machine, but for the parts of a command, and commits nothing.
-use Rattle.std.proofs.Common.{◌≡◌, ◌⊎◌, ℕ, zero, suc, ◌-◌, ◌==◌, Bool, true, false, List, [], ◌∷◌, length, drop, Option, Some, None, option_map, Result, Ok, Err, not, is_some, if◌then◌else◌, refl, inl, inr}
-use Rattle.std.specs.Prelude.{IfOk}
+use Rattle.std.proofs.Common.{◌≡◌, ◌⊎◌, ℕ, zero, suc, ◌-◌, ◌==◌, Bool, true, false, List, [], ◌∷◌, length, drop, Option, Some, None, option_map, Result, Ok, Err, not, is_some, if◌then◌else◌, refl, ap, ◌∙◌, inl, inr}
+use Rattle.std.specs.Prelude.{IfOk, IfSome}
 use Rattle.std.specs.Option.{option_map_or}
 use Rattle.std.specs.Str.{bytes_eq}
 use Rattle.scql_base.specs.declared.words.StatusWord.{StatusWord}
@@ -27,9 +27,10 @@ use Rattle.scql_model.specs.Moves.{selected, opened, rows_under, first_row, row_
 use Rattle.scql_model.specs.Rights.{seen_named}
 use Rattle.scql_model.specs.Edits.{Edit}
 use Rattle.scql_model.specs.Changing.{edits_of, with_edits}
-use Rattle.scql_model.specs.Accepting.{Accepts, is_done, at_its_end, has_more, costs_a_try, AcceptsOrLeaves}
+use Rattle.scql_model.specs.Accepting.{Accepts, is_done, at_its_end, has_more, costs_a_try, channel_named, AcceptsOrLeaves}
 use Rattle.scql_model.specs.Step.{Answer, answered, reading_done, changed_to, changed, user_and_sessions_deleted, session_named, secret_right, secret_wrong, verified, channel_opened, channel_closed, operated, carried_out, stepped, step_by}
 use Rattle.scql_model.proofs.ChangingSessions.{changing_session-same}
+use Rattle.scql_model.proofs.FormedParts.{read_on, IfSome-read_on-named}
 use Rattle.scql_model.proofs.LastCommits.{of_outcome}
 
 -- Reading commands that aren't refused.
@@ -174,18 +175,21 @@ stays-carried_out m c =
     either (Some command) = stays-has_read m c.channel command
 
 -- A step accepts, or leaves the machine but for the parts of a command.
-leaves-ended : (m : Machine) (channel : ℕ) (answer : Answer) → AcceptsOrStays (changing_session without_chain m channel) answer → AcceptsOrLeaves m answer
-leaves-ended m channel answer (inl accepts) = inl accepts
-leaves-ended m channel answer (inr stays) = inr (stays.0, inr (channel, stays.1))
+leaves-ended : (m : Machine) (octets : List ℕ) (channel : ℕ) (answer : Answer) → channel ≡ channel_named octets
+    → AcceptsOrStays (changing_session without_chain m channel) answer → AcceptsOrLeaves m octets answer
+leaves-ended m octets channel answer named (inl accepts) = inl accepts
+leaves-ended m octets channel answer named (inr stays) = inr (stays.0, inr (stays.1 ∙ ap (changing_session without_chain m) named))
 
-leaves-stepped : (m : Machine) (form : Form) → AcceptsOrLeaves m (stepped m form)
-leaves-stepped m (refused word) = inr (refl, inl refl)
-leaves-stepped m (refused_on channel word) = inr (refl, inr (channel, refl))
-leaves-stepped m (part_on channel kind octets) = inl is_done
-leaves-stepped m (a_command c) =
+leaves-stepped : (m : Machine) (octets : List ℕ) (form : Form) → IfSome (read_on form) (λ channel. channel ≡ channel_named octets) → AcceptsOrLeaves m octets (stepped m form)
+leaves-stepped m octets (refused word) named = inr (refl, inl refl)
+leaves-stepped m octets (refused_on channel word) named = inr (refl, inr (ap (changing_session without_chain m) named))
+leaves-stepped m octets (part_on channel kind part) named = inl is_done
+leaves-stepped m octets (a_command c) named =
     let ended : Machine = changing_session without_chain m c.channel in
-    leaves-ended m c.channel (answered ended (carried_out ended c)) (stays-answered ended (carried_out ended c) (stays-carried_out ended c))
+    leaves-ended m octets c.channel (answered ended (carried_out ended c)) named (stays-answered ended (carried_out ended c) (stays-carried_out ended c))
 
-pub step-accepts_or_leaves : (table : List Line) (m : Machine) (octets : List ℕ) → AcceptsOrLeaves m (step_by table m octets)
+pub step-accepts_or_leaves : (table : List Line) (m : Machine) (octets : List ℕ) → AcceptsOrLeaves m octets (step_by table m octets)
 unfolding step_by
-step-accepts_or_leaves table m octets = leaves-stepped m (form_of table octets (open_channels m) (command_chain m) m.committed.limit)
+step-accepts_or_leaves table m octets =
+    leaves-stepped m octets (form_of table octets (open_channels m) (command_chain m) m.committed.limit)
+    (IfSome-read_on-named table octets (open_channels m) (command_chain m) m.committed.limit)

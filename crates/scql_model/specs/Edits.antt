@@ -96,8 +96,8 @@ cells_written edits = sum_by (λ (e : Edit). cells_of_edit e.action e.entry) edi
 abbrev pub octets_for_cells : ℕ → ℕ
 octets_for_cells cells = 32 * cells
 
--- and for a commit: two for the count of the journal's entries and two for its gate, and for each touched record four in the journal and
--- two in the directory
+-- and for a commit: two for the count of the journal's entries, two for its gate, which is opened and closed, and for each touched
+-- record four in the journal and two in the directory
 abbrev pub octets_for_commit : ℕ → ℕ
 octets_for_commit count = 4 + 6 * count
 
@@ -109,7 +109,7 @@ octets_for edits = octets_for_cells (cells_written edits) + octets_for_commit (l
 abbrev pub has_record : Database → ℕ → Bool
 has_record db stamp = stamp == 0 || list_any (λ other. stamp == other) (stamps db)
 
--- the stamps of some more records behind those of others, each once
+-- the stamps of some more records behind those of others, without those that are there
 abbrev pub joined : List ℕ → List ℕ → List ℕ
 joined before more = before ++ filter (λ stamp. not (list_any (λ other. stamp == other) before)) more
 

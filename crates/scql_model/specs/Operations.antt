@@ -92,7 +92,8 @@ abbrev pub is_for_channel : ℕ → OperationKind → Bool
 is_for_channel channel (CloseChannel number) = not (channel == 0 && number == 0)
 is_for_channel channel kind = true
 
--- The same of the two operations whose data field may come in parts (command chaining): INSERT or UPDATE.
+-- A command goes on with the parts of another, where both are of the same operation and it is one of the two whose data field may
+-- come in parts (command chaining): INSERT or UPDATE.
 abbrev pub goes_on : OperationKind → OperationKind → Bool
 goes_on Insert Insert = true
 goes_on Update Update = true

@@ -58,12 +58,13 @@ presented u = record { stamp = u.stamp; proved = length u.secret == 0 }
 abbrev pub proving : Session → Session
 proving s = record s { user = option_map (λ (p : Presented). record p { proved = true }) s.user }
 
--- a session that presented the user of a stamp has neither user nor cursor any more
-abbrev pub is_user : ℕ → Session → Bool
-is_user stamp s = option_map_or (λ (p : Presented). p.stamp == stamp) s.user false
+-- the user of a stamp is presented in a session
+abbrev pub is_of_user : ℕ → Session → Bool
+is_of_user stamp s = option_map_or (λ (p : Presented). p.stamp == stamp) s.user false
 
+-- such a session has neither user nor cursor any more
 abbrev pub left_by : ℕ → Session → Session
-left_by stamp s = if is_user stamp s then without_cursor (record s { user = None }) else s
+left_by stamp s = if is_of_user stamp s then without_cursor (record s { user = None }) else s
 
 abbrev pub without_user : Machine → ℕ → Machine
 without_user m stamp = record m { sessions = map (option_map (left_by stamp)) m.sessions }

@@ -1,4 +1,4 @@
--- Well-formed commands: those that octets are read as.
+-- Well-formed commands: those that can be written. What octets are read as is one, with a row within the card's limit besides.
 use Rattle.std.specs.Prelude.{◌≡◌, ◌≤◌, ◌==◌, Bool, true, false, IfSome, is_some}
 use Rattle.scql_base.specs.declared.words.Profile.TheVariants.{DbO}
 use Rattle.scql_base.specs.Name.{is_name}

@@ -114,10 +114,10 @@ pub fn a_step_reads_what_is_shown()
         → ¬ (c.channel ≡ other) → shown_on (stepped m (a_command c)).machine other ≡ shown_on m other }
 {}
 
-/// A step that doesn't accept its command leaves the machine as it was, but that a channel may lose the parts of a command, and
+/// A step that doesn't accept its command leaves the machine as it was, but that its channel may lose the parts of a command, and
 /// commits nothing. A step ends at the last database that it commits.
 pub fn a_step_accepts_or_leaves_the_machine()
-    ensures accepts { (operations : List Line) (m : Machine) (octets : List ℕ) → AcceptsOrLeaves m (step_by operations m octets) }
+    ensures accepts { (operations : List Line) (m : Machine) (octets : List ℕ) → AcceptsOrLeaves m octets (step_by operations m octets) }
     ensures last { (operations : List Line) (m : Machine) (octets : List ℕ)
         → after_commits m.committed (step_by operations m octets).commits (length (step_by operations m octets).commits) ≡ (step_by operations m octets).machine.committed }
 {}
