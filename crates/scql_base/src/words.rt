@@ -27,7 +27,7 @@ pub enum Subject {
     Grants,
 }
 
-/// Who acts on a channel: nobody in particular, or a presented user, named by the stamp of its record.
+/// Who acts on a channel: the public, or a proved user, with the stamp of its record and its profile.
 #[derive(Clone, Copy, PartialEq, Eq, Debug)]
 pub enum Actor {
     Public,
@@ -68,7 +68,7 @@ impl StatusWord {
 
     pub const FUNCTION_NOT_SUPPORTED: StatusWord = StatusWord { word: 0x6A81 };
 
-    /// The row at a cursor's place is gone, or no longer meets its conditions.
+    /// The row at a cursor's place is no longer among the rows of the cursor.
     pub const RECORD_NOT_FOUND: StatusWord = StatusWord { word: 0x6A83 };
 
     pub const NO_SPACE: StatusWord = StatusWord { word: 0x6A84 };

@@ -130,7 +130,7 @@ is_founded objects o = is_right o.kind
         are_different columns && option_map_or (rests_on objects o columns conditions) (object_stamped objects base) false
     is_right (Dictionary subject) = true
 
--- a record has at most 512 octets, as each has that is no row's; of objects only a view could have more
+-- an object's record has at most 512 octets; only a view's could have more
 abbrev pub is_short : Object → Bool
 is_short o = nat_le (length (object_spelling o)) 512
 
