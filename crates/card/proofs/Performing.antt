@@ -32,7 +32,7 @@ use Rattle.scql_model.specs.WellFormed.{HasForm}
 use Rattle.scql_model.proofs.Acting.{IsActorOf-actor}
 use Rattle.scql_model.proofs.Naming.{user_stamped-slots}
 use Rattle.card.specs.Sessions.{proved_stamp, proved_user}
-use Rattle.card.specs.Adding.{IsAdded, AddedTo, LeavesAdded, IsWritten, HasNoRoom, IfCommitted}
+use Rattle.card.specs.Adding.{IsAdded, AddedTo, LeavesAdded, HasBothRecords, HasNoRoom, IfCommitted}
 use Rattle.card.specs.Card.{Kept, IsReady, IsAt, committed_slots}
 use Rattle.card.specs.Answering.{Answers, LeavesOneOf, Performs, answer_to, committed_at_once}
 use Rattle.card.specs.Creating.{IsAddition}
@@ -185,7 +185,7 @@ module _ (card : Kept) (old : Chip) (m : Machine) (at : IsAt card old m) (ready 
   ))
 
   -- the answer, where it was committed
-  done_now : (store : Held) (new : Chip) → is_some new.image ≡ is_some old.image → Becomes (IsWritten card.store store user_octets addition.counter_slot counter_octets) old.image new.image
+  done_now : (store : Held) (new : Chip) → is_some new.image ≡ is_some old.image → Becomes (HasBothRecords card.store store user_octets addition.counter_slot counter_octets) old.image new.image
       → Answers (answered m (committed_at_once m outcome)) (said done) (record card { store = store }) new
   unfolding committed_slots
   done_now store new told written = go new.image refl
@@ -208,7 +208,7 @@ module _ (card : Kept) (old : Chip) (m : Machine) (at : IsAt card old m) (ready 
           })
 
   -- something was committed
-  not_idle : (store : Held) (new : Chip) → is_some new.image ≡ is_some old.image → Becomes (IsWritten card.store store user_octets addition.counter_slot counter_octets) old.image new.image
+  not_idle : (store : Held) (new : Chip) → is_some new.image ≡ is_some old.image → Becomes (HasBothRecords card.store store user_octets addition.counter_slot counter_octets) old.image new.image
       → (answered m (committed_at_once m outcome)).commits ≡ [] → ⊥
   not_idle store new told written idle = go new.image refl
     where
@@ -268,7 +268,7 @@ module _ (card : Kept) (old : Chip) (m : Machine) (at : IsAt card old m) (ready 
 pub Performs-added : (card : Kept) (store : Held) (old new : Chip) (m : Machine) (at : IsAt card old m) (who : Actor) (name : List ℕ) (profile : Profile) (secret : List ℕ) (addition : Addition) (result : Result (Unit {0}) StoreRefusal)
     → IsReady card old → IsAddition m.committed who name profile secret at.slots addition → addition.counter_slot < card.store.chains.cells
     → OnOk result (is_some new.image ≡ is_some old.image)
-    → OnOk result (Becomes (IsWritten card.store store (user_record.spell addition.user) addition.counter_slot (counter_record.spell (addition.user.stamp + 1))) old.image new.image)
+    → OnOk result (Becomes (HasBothRecords card.store store (user_record.spell addition.user) addition.counter_slot (counter_record.spell (addition.user.stamp + 1))) old.image new.image)
     → (IsErrOf result Full → IfCommitted card.store old.image (HasNoRoom card.store.chains.cells (user_record.spell addition.user)))
     → (IsErrOf result Full → IfCommitted card.store old.image (λ slots. (new ≡ old) × ((image : List ℕ) → contents store Committed image ≡ contents card.store Committed image)))
     → LeavesAdded card.store (user_record.spell addition.user) addition.counter_slot (counter_record.spell (addition.user.stamp + 1)) old new

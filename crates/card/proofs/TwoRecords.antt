@@ -13,7 +13,7 @@ use Rattle.record_store.specs.Put.{IsPut, IsWithin, IsFull, weight_with}
 use Rattle.record_store.specs.Transaction.{Commits, IsCommitted}
 use Rattle.record_store.specs.declared.side.Side.TheVariants.{Committed, Working}
 use Rattle.eeprom.proofs.Moments.{throughout-then}
-use Rattle.card.specs.Adding.{IsAdded, AddedTo, LeavesAdded, IsWritten, IsAsLong, IfCommitted}
+use Rattle.card.specs.Adding.{IsAdded, AddedTo, LeavesAdded, HasBothRecords, IsAsLong, IfCommitted}
 use Rattle.record_store.proofs.Weights.{store_of-stands}
 use Rattle.card.proofs.SlotCount.{length-committed}
 
@@ -122,7 +122,7 @@ commit_leaves start store added slot changed old mid new still put before commit
 -- what is committed then
 pub both_written : (s0 s2 s3 : Held) (added : List ℕ) (slot : ℕ) (changed : List ℕ) (i0 i2 i3 : Option (List ℕ))
     → Becomes (λ was now. (contents s2 Committed now ≡ contents s0 Committed was) × AddedTo s0.chains.cells added slot changed (contents s0 Committed was) (contents s2 Working now)) i0 i2
-    → Becomes (IsCommitted s2 s3) i2 i3 → Becomes (IsWritten s0 s3 added slot changed) i0 i3
+    → Becomes (IsCommitted s2 s3) i2 i3 → Becomes (HasBothRecords s0 s3 added slot changed) i0 i3
 both_written s0 s2 s3 added slot changed i0 i2 i3 put committed = λ now told.
     let c = committed now told in
     let b = put c.0 c.1 in

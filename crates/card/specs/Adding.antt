@@ -27,8 +27,8 @@ LeavesAdded store added slot changed old new =
     LeavesOf (λ was left. (store_of left ≡ contents store Committed was) ⊎ AddedTo store.chains.cells added slot changed (contents store Committed was) (store_of left)) old new
 
 -- the store stands for the image, which has now both records
-abbrev pub IsWritten : Held → Held → List ℕ → ℕ → List ℕ → List ℕ → List ℕ → Type 0
-IsWritten old new added slot changed was now =
+abbrev pub HasBothRecords : Held → Held → List ℕ → ℕ → List ℕ → List ℕ → List ℕ → Type 0
+HasBothRecords old new added slot changed was now =
     StandsFor new now × AddedTo old.chains.cells added slot changed (contents old Committed was) (contents new Committed now)
 
 -- the record of a slot takes as many cells as the one that takes its place
@@ -53,7 +53,7 @@ pub record MayAdd (store : Held) (chip : Chip) (added : List ℕ) (slot : ℕ) (
 
 -- What becomes of a store and its EEPROM where both are to be committed: they are, or there was no room for the one that is added, or a device failed.
 pub record Adds (added : List ℕ) (slot : ℕ) (changed : List ℕ) (result : Result (Unit {0}) StoreRefusal) (old new : Held) (before after : Chip) : Type 0 where
-  pub written : OnOk result (Becomes (IsWritten old new added slot changed) before.image after.image)
+  pub written : OnOk result (Becomes (HasBothRecords old new added slot changed) before.image after.image)
   pub told : OnOk result (is_some after.image ≡ is_some before.image)
   pub full : IsErrOf result Full → IfCommitted old before.image (HasNoRoom old.chains.cells added)
   pub stands : ¬ IsErrOf result Fault → IfSome after.image (StandsFor new)

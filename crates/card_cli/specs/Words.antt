@@ -22,13 +22,13 @@ abbrev pub in_limits : ℕ → Option ℕ
 in_limits cells = if nat_lt cells 16 || nat_lt 2048 cells then None else Some cells
 
 -- the number of cells that digits tell
-abbrev pub cells_in : List ℕ → Option ℕ
-cells_in digits = option_and_then in_limits (decimal_in digits)
+abbrev pub cells_asked : List ℕ → Option ℕ
+cells_asked digits = option_and_then in_limits (decimal_in digits)
 
 -- what the words ask for: `apdu`, or `new` and a number of cells
 abbrev pub form_in : List (List ℕ) → Option Form
 form_in (word ∷ []) = if bytes_eq word (codes "apdu") then Some Apdu else None
-form_in (word ∷ digits ∷ []) = if bytes_eq word (codes "new") then option_map New (cells_in digits) else None
+form_in (word ∷ digits ∷ []) = if bytes_eq word (codes "new") then option_map New (cells_asked digits) else None
 form_in words = None
 
 -- the card that is to be made has 16 to 2,048 cells

@@ -35,7 +35,7 @@ pub(crate) fn form_of(words: &[String]) -> Option<Form>
 
 // The number of cells that digits tell.
 fn cells_of(digits: &[u8]) -> Option<u16>
-    ensures { result ≡ forms.cells_in digits.now }
+    ensures { result ≡ forms.cells_asked digits.now }
 {
     let cells = decimal_of(digits)?;
     if cells < FEWEST || MOST < cells {

@@ -5,7 +5,7 @@ use Rattle.eeprom.specs.Chip.{Becomes}
 use Rattle.eeprom.specs.StoreOf.{Slots}
 use Rattle.record_store.specs.Held.{Held, contents, StandsFor}
 use Rattle.record_store.specs.declared.side.Side.TheVariants.{Committed}
-use Rattle.card.specs.Adding.{LeavesAdded, IsWritten}
+use Rattle.card.specs.Adding.{LeavesAdded, HasBothRecords}
 use Rattle.card.proofs.Told.{if_some-then}
 use Rattle.card.proofs.adding.add_and_change.Goals.{After-write_both-written}
 use Rattle.card.proofs.adding.add_and_change.Goals as goal
@@ -54,7 +54,7 @@ returns-clause-adds g c = record {
 
 pub returns-2-clause-adds : goal.returns-2-clause-adds
 returns-2-clause-adds g c = record {
-  written = subst (λ (s : Held). OnOk c.write_both-written.result (Becomes (IsWritten s c.write_both-written.new.store c.args.added.now c.args.slot c.args.changed.now) (g.B.Eeprom.chip c.args.bench.now).image
+  written = subst (λ (s : Held). OnOk c.write_both-written.result (Becomes (HasBothRecords s c.write_both-written.new.store c.args.added.now c.args.slot c.args.changed.now) (g.B.Eeprom.chip c.args.bench.now).image
       (g.B.Eeprom.chip c.write_both-written.new.bench).image)) c.begin.ensures.begun c.write_both-written.ensures.adds.written;
   told = search rules;
   full = search rules;
