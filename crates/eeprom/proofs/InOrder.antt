@@ -167,7 +167,7 @@ all-place key P x (y ∷ ys) here all =
       | inr f ↦ rw f (all.0, all-place key P x ys here all.1)
     ]
 
-all-filter : {X : Type 0} (P : X → Type 0) (p : X → Bool) (xs : List X) → AllByRecursion P xs → AllByRecursion P (filter p xs)
+pub all-filter : {X : Type 0} (P : X → Type 0) (p : X → Bool) (xs : List X) → AllByRecursion P xs → AllByRecursion P (filter p xs)
 all-filter P p [] all = tt
 all-filter P p (x ∷ xs) all =
     elim (cases_Bool (p x)) [

@@ -1,8 +1,8 @@
 -- What a write leaves of an image, and what it puts there.
-use Rattle.std.proofs.Common.{◌≡◌, ℕ, zero, suc, ◌+◌, ◌*◌, ◌-◌, ◌<◌, ◌≤◌, List, [], ◌∷◌, ◌++◌, length, take, drop, slice_index, get_or, sym, refl, ap, ap₂, ◌∙◌, arith, length-append, length-take, length-take-le, length-drop, get_or-take, get_or-drop, get_or-append-add, drop-drop}
+use Rattle.std.proofs.Common.{◌≡◌, ℕ, zero, suc, ◌+◌, ◌*◌, ◌-◌, ◌<◌, ◌≤◌, List, [], ◌∷◌, ◌++◌, length, take, drop, slice_index, slice_range, get_or, sym, refl, ap, ap₂, ◌∙◌, arith, length-append, length-take, length-take-le, length-drop, get_or-take, get_or-drop, get_or-append-add, drop-drop}
 use Rattle.std.proofs.lemmas.List.{get_or_append_left}
 use Rattle.eeprom.specs.Image.{overwrite}
-use Rattle.eeprom.specs.StoreOf.{number_at, numbers_at, starts_with_magic, has_header}
+use Rattle.eeprom.specs.StoreOf.{number_at, numbers_at, starts_with_magic, has_header, row_limit}
 use Rattle.eeprom.proofs.Places.{drop-behind, numbers_at-behind}
 
 pub length-overwrite : (image : List ℕ) (at : ℕ) (octets : List ℕ) → at + length octets ≤ length image → length (overwrite image at octets) ≡ length image
@@ -70,10 +70,11 @@ numbers-written image at octets count fits long =
     ∙ numbers-agree (octets ++ drop (at + length octets) image) octets 0 count
     (λ k from below. get_or_append_left octets (drop (at + length octets) image) 0 k (omega arith))
 
--- the first eight octets say whether there is a store, and of which size
+-- all octets before the gate and behind it up to the directory, which say whether there is a store, and of which size
 pub record SameFront (left was : List ℕ) : Type 0 where
   pub size : length left ≡ length was
   pub front : take 8 left ≡ take 8 was
+  pub behind_gate : slice_range left 9 32 ≡ slice_range was 9 32
 
 magic-front : (image : List ℕ) → starts_with_magic image ≡ starts_with_magic (take 8 image)
 magic-front [] = refl
@@ -89,8 +90,16 @@ same-octet : (left was : List ℕ) (k : ℕ) → k < 8 → SameFront left was �
 same-octet left was k inside same =
     sym (get_or-take 8 left k 0 inside) ∙ ap (λ (xs : List ℕ). get_or xs k 0) same.front ∙ get_or-take 8 was k 0 inside
 
+same-behind : (left was : List ℕ) (k : ℕ) → k < 23 → SameFront left was → slice_index left (9 + k) ≡ slice_index was (9 + k)
+same-behind left was k inside same =
+    sym (get_or-take 23 (drop 9 left) k 0 inside ∙ get_or-drop 9 left k 0)
+    ∙ ap (λ (xs : List ℕ). get_or xs k 0) same.behind_gate ∙ get_or-take 23 (drop 9 was) k 0 inside ∙ get_or-drop 9 was k 0
+
 pub same-cells : (left was : List ℕ) → SameFront left was → number_at left 6 ≡ number_at was 6
 same-cells left was same = rw (same-octet left was 6 (omega arith) same, same-octet left was 7 (omega arith) same) refl
+
+pub same-limit : (left was : List ℕ) → SameFront left was → row_limit left ≡ row_limit was
+same-limit left was same = rw (same-octet left was 5 (omega arith) same) refl
 
 pub same-header : (left was : List ℕ) → SameFront left was → has_header left ≡ has_header was
 same-header left was same =
@@ -99,5 +108,7 @@ same-header left was same =
       same-octet left was 5 (omega arith) same,
       same-octet left was 6 (omega arith) same,
       same-octet left was 7 (omega arith) same,
+      same-behind left was 0 (omega arith) same,
+      same-behind left was 1 (omega arith) same,
       same.size,
     ) refl

@@ -1,5 +1,5 @@
 -- One event more, at the end of a record.
-use Rattle.std.proofs.Common.{◌≡◌, ℕ, map, option_map, slice_get, ◌+◌, ◌≤◌, List, [], ◌∷◌, ◌++◌, length, refl, ap, sym, ◌∙◌, subst, arith, take, drop, inl, inr}
+use Rattle.std.proofs.Common.{◌≡◌, ℕ, map, option_map, slice_get, ◌+◌, ◌≤◌, List, [], ◌∷◌, ◌++◌, length, refl, ap, sym, ◌∙◌, subst, arith, take, drop}
 use Rattle.std.proofs.lemmas.Grind.{common_steps}
 use Rattle.std.proofs.lemmas.List.{length-map}
 use Rattle.std.proofs.lemmas.Option.{slice_get-map}
@@ -9,7 +9,7 @@ use Rattle.eeprom.specs.Chip.{Writing, writing, giving}
 use Rattle.eeprom.specs.Image.{overwrite, IsTorn}
 use Rattle.eeprom.specs.Recorded.{replayed, AllFit, past_of}
 use Rattle.eeprom.specs.Recording.{tells}
-use Rattle.eeprom.specs.Told.{WritesDown, GivesDown, writes_of}
+use Rattle.eeprom.specs.Told.{with_write, with_output, writes_of}
 use Rattle.eeprom.specs.declared.recording.Written.{Written}
 use Rattle.eeprom.specs.declared.recording.Event.{Event}
 use Rattle.eeprom.specs.declared.recording.Event.TheVariants.{Write, Give}
@@ -70,47 +70,24 @@ fits-written first image events w replays fits h =
     let size : length image ≡ length first = ap length replays ∙ length-replayed first events fits in
     AllFit-append (length first) events (Write w ∷ []) fits (omega arith, tt)
 
-pub writes-down : (first image output : List ℕ) (events : List Event) (w : Written) → image ≡ replayed first events → w.at + length w.octets.items ≤ length image → w.mark ≡ length output →
-    WritesDown w.at (length w.octets.items) (tells first image output events) (tells first (overwrite image w.at w.octets.items) output (events ++ Write w ∷ []))
-writes-down first image output events w replays fits mark = record {
-  size = length-overwrite image w.at w.octets.items fits;
-  output = refl;
-  image = record { octets = w.octets.items; count_is = refl; is = refl };
-  later = grind (arith, common_steps);
-  past = inl (past_of-append first events (Write w ∷ []) ∙ ap (λ stretch. past_of first events ++ stretch ∷ []) (stretch-written (replayed first events) image w (length output) (sym replays) mark));
-}
+-- what is told after one write more, and after one piece of output more
+pub tells-written : (first image image2 output : List ℕ) (events events2 : List Event) (w : Written) → image ≡ replayed first events → w.mark ≡ length output →
+    image2 ≡ overwrite image w.at w.octets.items → events2 ≡ events ++ Write w ∷ [] → tells first image2 output events2 ≡ with_write w.at w.octets.items (tells first image output events)
+tells-written first image image2 output events events2 w replays mark e f =
+    let past = past_of-append first events (Write w ∷ []) ∙ ap (λ stretch. past_of first events ++ stretch ∷ []) (stretch-written (replayed first events) image w (length output) (sym replays) mark) in
+    let clock : length (events ++ Write w ∷ []) ≡ length events + 1 = grind (arith, common_steps) in
+    rw (e, f, past, clock) refl
   where
     stretch-written : (was image : List ℕ) (w : Written) (mark : ℕ) → was ≡ image → w.mark ≡ mark →
         writing (record { image = was; at = w.at; count = length w.octets.items; mark = w.mark }) ≡ writing (record { image = image; at = w.at; count = length w.octets.items; mark = mark })
     stretch-written was image w mark e f = cc
 
-pub writes-more : (first image output image2 : List ℕ) (events events2 : List Event) (w : Written) → image ≡ replayed first events → w.at + length w.octets.items ≤ length image → w.mark ≡ length output →
-    image2 ≡ overwrite image w.at w.octets.items → events2 ≡ events ++ Write w ∷ [] → WritesDown w.at (length w.octets.items) (tells first image output events) (tells first image2 output events2)
-writes-more first image output image2 events events2 w replays fits mark e f = rw (e, f) (writes-down first image output events w replays fits mark)
-
-pub writes-nothing : (first image output : List ℕ) (events events2 : List Event) (at count : ℕ) → at + count ≤ length image → events2 ≡ events →
-    WritesDown at count (tells first image output events) (tells first image output events2)
-writes-nothing first image output events events2 at count fits e = rw e (record {
-  size = refl;
-  output = refl;
-  image = overwrite-own image at count fits;
-  later = omega arith;
-  past = inr (refl, refl);
-})
-
-pub gives-down : (first image output : List ℕ) (events : List Event) (more : List ℕ) → image ≡ replayed first events →
-    GivesDown (tells first image output events) (tells first image (output ++ more) (events ++ Give (length output) (length (output ++ more)) ∷ []))
-gives-down first image output events more replays = record {
-  image = refl;
-  mark = grind (arith, common_steps);
-  later = grind (arith, common_steps);
-  past = inl (past_of-append first events (Give (length output) (length (output ++ more)) ∷ []) ∙ ap (λ image. past_of first events ++ giving image (length output) (length (output ++ more)) ∷ []) (sym replays));
-}
-
-pub gives-more : (first image output output2 more : List ℕ) (events events2 : List Event) (from to : ℕ) → image ≡ replayed first events → from ≡ length output → to ≡ length output2 →
-    output2 ≡ output ++ more → events2 ≡ events ++ Give from to ∷ [] → GivesDown (tells first image output events) (tells first image output2 events2)
-gives-more first image output output2 more events events2 from to replays a b e f =
-    rw (f, a, b, e) (gives-down first image output events more replays)
+pub tells-given : (first image output output2 more : List ℕ) (events events2 : List Event) (from to : ℕ) → image ≡ replayed first events → from ≡ length output → to ≡ length output2 →
+    output2 ≡ output ++ more → events2 ≡ events ++ Give from to ∷ [] → tells first image output2 events2 ≡ with_output more (tells first image output events)
+tells-given first image output output2 more events events2 from to replays a b e f =
+    let past = past_of-append first events (Give from to ∷ []) ∙ ap (λ image. past_of first events ++ giving image from to ∷ []) (sym replays) in
+    let clock : length (events ++ Give from to ∷ []) ≡ length events + 1 = grind (arith, common_steps) in
+    rw (f, past, clock, a, b, e) refl
 
 -- an event put behind a list that stayed meanwhile
 pub behind : (events kept events2 : List Event) (e : Event) → kept ≡ events → events2 ≡ kept ++ e ∷ [] → events2 ≡ events ++ e ∷ []

@@ -1,11 +1,13 @@
 -- What a device in memory tells becomes what an EEPROM's calls say.
-use Rattle.std.proofs.Common.{◌≡◌, ℕ, ◌+◌, ◌<◌, min, ltb, List, ◌++◌, length, take, Some, None, Result, Ok, Err, OnOk, OnErr, refl, ap, inl, inr, sym, ◌∙◌, subst, arith}
+use Rattle.std.proofs.Common.{◌≡◌, ℕ, ◌+◌, ◌<◌, ◌≤◌, min, ltb, List, ◌++◌, length, take, Some, None, Result, Ok, Err, OnOk, OnErr, refl, ap, inl, inr, sym, ◌∙◌, subst, arith}
 use Rattle.std.proofs.lemmas.Bool.{cases_Bool, ltb-true, lt-ltb}
 use Rattle.std.proofs.lemmas.Grind.{common_steps}
 use Rattle.std.specs.declared.alloc.AllocError.{AllocError}
 use Rattle.eeprom.specs.Chip.{Becomes, RisesBy, Writes}
+use Rattle.eeprom.specs.Image.{overwrite}
 use Rattle.eeprom.specs.Output.{Follows}
-use Rattle.eeprom.specs.Told.{Told, WritesDown, told_count, chip_from}
+use Rattle.eeprom.specs.Told.{Told, with_write, with_output, told_count, chip_from}
+use Rattle.eeprom.proofs.Replayed.{length-overwrite, overwrite-own}
 
 same_some : {A : Type 0} (x y : A) → Some x ≡ Some y → x ≡ y
 same_some x y e = cc
@@ -27,22 +29,35 @@ counted-more before more after e now told =
       | inr f ↦ (let none : None ≡ Some now = rw f at told in cc)
     ]
 
-pub writes-chip : (at : ℕ) (octets : List ℕ) (old new : Told) (written written2 sink_faults : ℕ) → WritesDown at (length octets) old new → written2 ≡ min (written + length octets) 340282366920938463463374607431768211455 →
-    Writes at octets (chip_from old written sink_faults) (chip_from new written2 sink_faults)
-writes-chip at octets old new written written2 sink_faults w e = record {
-  still = rw (w.size, w.output) refl;
+-- a write that was recorded, and one for whose record there was no room
+writes_recorded : (at : ℕ) (octets wrote : List ℕ) (old new : Told) (written written2 sink_faults : ℕ) → new ≡ with_write at wrote old → length wrote ≡ length octets → at + length octets ≤ length old.image →
+    written2 ≡ min (written + length octets) 340282366920938463463374607431768211455 → Writes at octets (chip_from old written sink_faults) (chip_from new written2 sink_faults)
+writes_recorded at octets wrote old new written written2 sink_faults is same fits e = rw is (record {
+  still = rw (length-overwrite old.image at wrote (rw same fits)) refl;
   written = counted-more written (length octets) written2 e;
-  image = becomes_told _ old.image new.image w.image;
-  later = w.later;
-  past = becomes_told _ old.past new.past
-      (elim w.past [
-        | inl more ↦ inl (old.image, refl, more)
-        | inr none ↦ inr (none.0, ap (λ (image : List ℕ). Some image) none.1)
-      ]);
-}
+  image = becomes_told _ old.image (overwrite old.image at wrote) (record { octets = wrote; count_is = same; is = refl });
+  later = omega arith;
+  past = becomes_told _ old.past _ (inl (old.image, refl, rw same refl));
+})
 
--- a piece was given, or nothing where there was no room
-pub follows-half : (result : Result (Unit {0}) AllocError) (before after piece octets : List ℕ) (count : ℕ) → OnOk result (after ≡ before ++ piece) → OnErr result (after ≡ before) → piece ≡ take count octets →
-    (count : ℕ) × Follows count octets (Some before) (Some after)
-follows-half (Ok _) before after piece octets count ok err is = (count, becomes_told _ before after (ok ∙ ap (λ piece. before ++ piece) is))
-follows-half (Err _) before after piece octets count ok err is = (0, becomes_told _ before after (err ∙ grind (arith, common_steps)))
+writes_nothing : (at : ℕ) (octets : List ℕ) (old new : Told) (written written2 sink_faults : ℕ) → new ≡ old → at + length octets ≤ length old.image →
+    written2 ≡ min (written + length octets) 340282366920938463463374607431768211455 → Writes at octets (chip_from old written sink_faults) (chip_from new written2 sink_faults)
+writes_nothing at octets old new written written2 sink_faults is fits e = rw is (record {
+  still = refl;
+  written = counted-more written (length octets) written2 e;
+  image = becomes_told _ old.image old.image (overwrite-own old.image at (length octets) fits);
+  later = omega arith;
+  past = becomes_told _ old.past old.past (inr (refl, refl));
+})
+
+pub writes-chip : (result : Result (Unit {0}) AllocError) (at : ℕ) (octets wrote : List ℕ) (old new : Told) (written written2 sink_faults : ℕ) → OnOk result (new ≡ with_write at wrote old) → OnErr result (new ≡ old) →
+    length wrote ≡ length octets → at + length octets ≤ length old.image → written2 ≡ min (written + length octets) 340282366920938463463374607431768211455 →
+    Writes at octets (chip_from old written sink_faults) (chip_from new written2 sink_faults)
+writes-chip (Ok _) at octets wrote old new written written2 sink_faults ok err same fits e = writes_recorded at octets wrote old new written written2 sink_faults ok same fits e
+writes-chip (Err _) at octets wrote old new written written2 sink_faults ok err same fits e = writes_nothing at octets old new written written2 sink_faults err fits e
+
+-- a piece of output was given, or nothing where there was no room
+pub follows-half : (result : Result (Unit {0}) AllocError) (old new : Told) (piece octets : List ℕ) (count : ℕ) → OnOk result (new ≡ with_output piece old) → OnErr result (new ≡ old) → piece ≡ take count octets →
+    (count : ℕ) × Follows count octets (Some old.output) (Some new.output)
+follows-half (Ok _) old new piece octets count ok err is = (count, becomes_told _ old.output new.output (ap (λ (told : Told). told.output) ok ∙ ap (λ piece. old.output ++ piece) is))
+follows-half (Err _) old new piece octets count ok err is = (0, becomes_told _ old.output new.output (ap (λ (told : Told). told.output) err ∙ grind (arith, common_steps)))

@@ -5,6 +5,7 @@ pub mod Image
 pub mod Input
 pub mod MemBench
 pub mod Output
+pub mod Planned
 pub mod Recorded
 pub mod Recording
 pub mod Slots

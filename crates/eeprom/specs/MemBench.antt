@@ -1,21 +1,47 @@
 -- What a bench in memory tells.
-use Rattle.std.specs.Prelude.{◌≡◌, ℕ, ◌<◌, ◌≤◌, ◌^◌, Option, IfSome, length}
+use Rattle.std.specs.Prelude.{◌≡◌, ◌⊎◌, ℕ, ◌/◌, ◌<◌, ◌≤◌, ◌^◌, IsTrue, List, Option, IfSome, length, take, replicate}
 use Rattle.std.proofs.Common.{arith}
 use Rattle.eeprom.specs.Chip.{Chip, Gives}
-use Rattle.eeprom.specs.Told.{chip_from, told_count}
+use Rattle.eeprom.specs.Planned.{Plan, calls_of, is_next_failing}
+use Rattle.eeprom.specs.Told.{Told, with_write, with_output, chip_from, told_count}
 use Rattle.eeprom.specs.Recorded.{length-past_of}
 use Rattle.eeprom.specs.Recording.{told}
 use Rattle.eeprom.specs.declared.mem_bench.MemBench.{MemBench}
 
+-- its image, its output, and each stretch of time
+abbrev pub told_of : MemBench → Told
+told_of b = told b.recording
+
 abbrev pub chip_of : MemBench → Chip
-chip_of b = chip_from (told b.recording) b.octets_written b.sink_faults
+chip_of b = chip_from (told_of b) b.octets_written b.sink_faults
+
+-- which calls are to fail, and how
+abbrev pub plan_of : MemBench → Plan
+plan_of b = record { reads = calls_of b.reads; writes = calls_of b.writes; gives = calls_of b.gives; fill = b.fill }
+
+-- how often the EEPROM failed, and how often the outlet
+abbrev pub faults_of : MemBench → ℕ
+faults_of b = b.faults
+
+abbrev pub sink_faults_of : MemBench → ℕ
+sink_faults_of b = b.sink_faults
 
 abbrev pub octets_read_of : MemBench → Option ℕ
 octets_read_of b = told_count b.octets_read
 
+-- A failing write: a planned one leaves the plan's octet in its whole range; one without room for its record leaves all as it was.
+abbrev pub FailsWrite : ℕ → ℕ → MemBench → MemBench → Type 0
+FailsWrite at count old new =
+    (IsTrue (is_next_failing (plan_of old).writes) × (told_of new ≡ with_write at (replicate count (plan_of old).fill) (told_of old))) ⊎ (told_of new ≡ told_of old)
+
+-- A failing give: a planned one gives the first half of its piece, rounded down; one without room for its record gives nothing.
+abbrev pub FailsGive : List ℕ → MemBench → MemBench → Type 0
+FailsGive octets old new =
+    (IsTrue (is_next_failing (plan_of old).gives) × (told_of new ≡ with_output (take (length octets / 2) octets) (told_of old))) ⊎ (told_of new ≡ told_of old)
+
 -- what giving leaves of the EEPROM
 abbrev pub Leaves : MemBench → MemBench → Type 0
-Leaves old new = Gives (chip_of old) (chip_of new) × (new.faults ≡ old.faults) × (octets_read_of new ≡ octets_read_of old)
+Leaves old new = Gives (chip_of old) (chip_of new) × (faults_of new ≡ faults_of old) × (octets_read_of new ≡ octets_read_of old)
 
 -- the laws of an EEPROM
 pub small_length : (n len cap : ℕ) → (len ≡ n) × (len ≤ cap) → cap < 2 ^ 63 → n < 2 ^ 64

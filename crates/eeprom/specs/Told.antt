@@ -1,7 +1,7 @@
 -- What a device in memory tells of itself, and what one more write or piece of output makes of it.
-use Rattle.std.specs.Prelude.{◌≡◌, ◌⊎◌, ℕ, ◌≤◌, List, [], ◌∷◌, ◌++◌, length, replicate, nat_lt, if◌then◌else◌, Option, Some, None}
+use Rattle.std.specs.Prelude.{ℕ, ◌+◌, List, [], ◌∷◌, ◌++◌, length, replicate, nat_lt, if◌then◌else◌, Option, Some, None}
 use Rattle.eeprom.specs.Chip.{Chip, Stretch, Writing, writing, giving}
-use Rattle.eeprom.specs.Image.{overwrite, IsTorn}
+use Rattle.eeprom.specs.Image.{overwrite}
 
 pub record Told : Type 0 where
   pub image : List ℕ
@@ -14,21 +14,23 @@ pub record Told : Type 0 where
 abbrev pub untouched : List ℕ → Told
 untouched image = record { image = image; output = []; past = []; clock = 0 }
 
--- one write more; or nothing was written
-pub record WritesDown (at count : ℕ) (old new : Told) : Type 0 where
-  pub size : length new.image ≡ length old.image
-  pub output : new.output ≡ old.output
-  pub image : IsTorn old.image at count new.image
-  pub later : old.clock ≤ new.clock
-  pub past : (new.past ≡ old.past ++ writing (record { image = old.image; at = at; count = count; mark = length old.output }) ∷ [])
-      ⊎ ((new.past ≡ old.past) × (new.image ≡ old.image))
+-- these octets were written at this place
+abbrev pub with_write : ℕ → List ℕ → Told → Told
+with_write at octets old = record {
+  image = overwrite old.image at octets;
+  output = old.output;
+  past = old.past ++ writing (record { image = old.image; at = at; count = length octets; mark = length old.output }) ∷ [];
+  clock = old.clock + 1;
+}
 
--- a piece of output more; or nothing was given
-pub record GivesDown (old new : Told) : Type 0 where
-  pub image : new.image ≡ old.image
-  pub mark : length old.output ≤ length new.output
-  pub later : old.clock ≤ new.clock
-  pub past : (new.past ≡ old.past ++ giving old.image (length old.output) (length new.output) ∷ []) ⊎ (new.past ≡ old.past)
+-- this piece of output was given
+abbrev pub with_output : List ℕ → Told → Told
+with_output octets old = record {
+  image = old.image;
+  output = old.output ++ octets;
+  past = old.past ++ giving old.image (length old.output) (length (old.output ++ octets)) ∷ [];
+  clock = old.clock + 1;
+}
 
 -- a count as far as it is kept, below the last value of a u128
 abbrev pub told_count : ℕ → Option ℕ

@@ -3,6 +3,7 @@
 
 mod counting;
 mod device;
+mod entry;
 mod fault;
 mod input;
 mod mem_bench;
@@ -14,6 +15,7 @@ mod sources;
 mod steady_bench;
 
 pub use device::{Bench, Eeprom};
+pub use entry::Entry;
 pub use fault::{EepromFault, SinkFault, SourceFault};
 pub use input::Source;
 pub use mem_bench::MemBench;

@@ -1,6 +1,6 @@
 // Which calls of a fake are to fail.
-ghost use Rattle.std.specs.Prelude.{◌≡◌, ◌+◌, ◌-◌, ◌^◌, ◌==◌, min};
-ghost use Rattle.std.specs.List.{list_any};
+ghost use Rattle.std.specs.Prelude.{◌≡◌};
+ghost use Rattle.eeprom.specs.Planned.{calls_of, none_made, next_made, is_next_failing};
 
 /// The numbers, from 0, of the calls that fail. A failing write leaves `fill` in its whole range,
 /// and a failing give gives the first half of its piece, rounded down.
@@ -21,17 +21,15 @@ pub struct Calls {
 
 impl Calls {
     pub fn new(failing: Vec<usize>) -> Calls
-        ensures failing { result.failing.items ≡ failing.items }
-        ensures made { result.made ≡ 0 }
+        ensures { calls_of result ≡ none_made failing.items }
     {
         Calls { failing, made: 0 }
     }
 
     /// Makes the next call, and answers whether it fails.
     pub fn next_fails(&mut self) -> bool
-        ensures fails { result ≡ list_any (λ number. number == self.old.made) self.old.failing.items }
-        ensures made { self.new.made ≡ min (self.old.made + 1) (2 ^ 64 - 1) }
-        ensures failing { self.new.failing.items ≡ self.old.failing.items }
+        ensures fails { result ≡ is_next_failing (calls_of self.old) }
+        ensures made { calls_of self.new ≡ next_made (calls_of self.old) }
     {
         let number = self.made;
         self.made = number.saturating_add(1);

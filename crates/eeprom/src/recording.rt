@@ -31,10 +31,9 @@ pub struct Recording {
 }
 
 impl Recording {
-    ghost use Rattle.std.specs.Prelude.{◌≡◌, ◌+◌, ◌≤◌, ◌++◌, [], length, replicate, slice_get, option_map, IfOk, OnOk, OnErr};
-    ghost use Rattle.eeprom.specs.Image.{overwrite};
+    ghost use Rattle.std.specs.Prelude.{◌≡◌, ◌+◌, ◌≤◌, length, replicate, slice_get, option_map, IfOk, OnOk, OnErr};
     ghost use Rattle.eeprom.specs.Recording.{told};
-    ghost use Rattle.eeprom.specs.Told.{untouched, WritesDown, GivesDown, writes_of, filled};
+    ghost use Rattle.eeprom.specs.Told.{untouched, with_write, with_output, writes_of, filled};
 
     pub fn new(alloc: Global, image: Vec<u8>) -> Result<Recording, AllocError>
         ensures { IfOk result (λ recording. told recording ≡ untouched image.items) }
@@ -123,9 +122,8 @@ impl Recording {
     /// Writes octets from `at` on. Where there is no room for their record nothing is written.
     pub fn write(&mut self, alloc: Global, at: usize, octets: &[u8]) -> Result<(), AllocError>
         requires { at + length octets.now ≤ length (told self.old).image }
-        ensures ok { OnOk result ((told self.new).image ≡ overwrite (told self.old).image at octets.now) }
-        ensures writes { WritesDown at (length octets.now) (told self.old) (told self.new) }
-        ensures err { OnErr result ((told self.new).image ≡ (told self.old).image) }
+        ensures ok { OnOk result (told self.new ≡ with_write at octets.now (told self.old)) }
+        ensures err { OnErr result (told self.new ≡ told self.old) }
     {
         self.write_owned(at, Vec::from_slice(alloc, octets)?)
     }
@@ -139,9 +137,8 @@ impl Recording {
         octet: u8,
     ) -> Result<(), AllocError>
         requires { at + count ≤ length (told self.old).image }
-        ensures ok { OnOk result ((told self.new).image ≡ overwrite (told self.old).image at (replicate count octet)) }
-        ensures writes { WritesDown at count (told self.old) (told self.new) }
-        ensures err { OnErr result ((told self.new).image ≡ (told self.old).image) }
+        ensures ok { OnOk result (told self.new ≡ with_write at (replicate count octet) (told self.old)) }
+        ensures err { OnErr result (told self.new ≡ told self.old) }
     {
         self.write_owned(at, vec![in alloc; octet; count]?)
     }
@@ -149,9 +146,8 @@ impl Recording {
     // Writes octets, which stay in the record.
     fn write_owned(&mut self, at: usize, octets: Vec<u8>) -> Result<(), AllocError>
         requires { at + length octets.items ≤ length (told self.old).image }
-        ensures ok { OnOk result ((told self.new).image ≡ overwrite (told self.old).image at octets.items) }
-        ensures writes { WritesDown at (length octets.items) (told self.old) (told self.new) }
-        ensures err { OnErr result ((told self.new).image ≡ (told self.old).image) }
+        ensures ok { OnOk result (told self.new ≡ with_write at octets.items (told self.old)) }
+        ensures err { OnErr result (told self.new ≡ told self.old) }
     {
         self.events.reserve(1)?;
         write_over(&mut self.image, at, &octets);
@@ -165,9 +161,8 @@ impl Recording {
 
     /// Adds octets to the output. Where there is no room for them and their record nothing is given.
     pub fn give(&mut self, octets: &[u8]) -> Result<(), AllocError>
-        ensures ok { OnOk result ((told self.new).output ≡ (told self.old).output ++ octets.now) }
-        ensures gives { GivesDown (told self.old) (told self.new) }
-        ensures err { OnErr result ((told self.new).output ≡ (told self.old).output) }
+        ensures ok { OnOk result (told self.new ≡ with_output octets.now (told self.old)) }
+        ensures err { OnErr result (told self.new ≡ told self.old) }
     {
         self.events.reserve(1)?;
         let from = self.output.len();

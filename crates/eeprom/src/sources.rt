@@ -16,13 +16,14 @@ pub struct Pieces {
 }
 
 impl Pieces {
-    ghost use Rattle.std.specs.Prelude.{◌≡◌, min, length, Some};
+    ghost use Rattle.std.specs.Prelude.{◌≡◌, length, Some};
     ghost use Rattle.eeprom.specs.Input.{Takes};
-    ghost use Rattle.eeprom.specs.Sources.{left_of};
+    ghost use Rattle.eeprom.specs.Sources.{left_of, supply_of, taken_into};
 
     fn new(octets: Vec<u8>, piece: usize) -> Pieces
         requires { 0 < piece }
-        ensures { left_of result ≡ octets.items }
+        ensures left { left_of result ≡ octets.items }
+        ensures piece { (supply_of result).piece ≡ piece }
     {
         Pieces {
             octets,
@@ -35,7 +36,8 @@ impl Pieces {
     fn take(&mut self, into: &mut [u8]) -> usize
         requires { 0 < length into.old }
         ensures taken { Takes result into.new (Some (left_of self.old)) (Some (left_of self.new)) }
-        ensures count { result ≡ min (min (length (left_of self.old)) self.old.piece) (length into.old) }
+        ensures count { result ≡ taken_into (length into.old) (supply_of self.old) }
+        ensures piece { (supply_of self.new).piece ≡ (supply_of self.old).piece }
     {
         let left = &self.octets[self.taken..];
         let count = left.len().min(self.piece).min(into.len());
@@ -55,11 +57,15 @@ pub struct MemSource {
 
 impl MemSource {
     ghost use Rattle.std.specs.Prelude.{◌≡◌, Some};
+    ghost use Rattle.eeprom.specs.Planned.{none_made};
+    ghost use Rattle.eeprom.specs.Sources.{mem_supply, mem_reads};
 
     /// The reads whose numbers, from 0, are in `fails` fail, and leave what is left.
     pub fn new(octets: Vec<u8>, piece: usize, fails: Vec<usize>) -> MemSource
         requires { 1 ≤ piece }
         ensures left { ⟦<MemSource as Source>⟧.left result ≡ Some octets.items }
+        ensures piece { (mem_supply result).piece ≡ piece }
+        ensures reads { mem_reads result ≡ none_made fails.items }
         ensures faults { ⟦<MemSource as Source>⟧.source_faults result ≡ 0 }
     {
         MemSource {
@@ -71,14 +77,26 @@ impl MemSource {
 }
 
 impl Source for MemSource {
-    ghost use Rattle.std.specs.Prelude.{Some};
-    ghost use Rattle.eeprom.specs.Sources.{left_of};
+    ghost use Rattle.std.specs.Prelude.{◌≡◌, ◌↔◌, ◌<◌, length, Some, IsTrue, IsErr, IfOk, OnErr};
+    ghost use Rattle.eeprom.specs.Fault.{Counts};
+    ghost use Rattle.eeprom.specs.Input.{Takes};
+    ghost use Rattle.eeprom.specs.Planned.{next_made, is_next_failing};
+    ghost use Rattle.eeprom.specs.Sources.{mem_supply, mem_reads, mem_faults, taken_into};
 
-    ghost left = { λ source. Some (left_of source.pieces) };
+    ghost left = { λ source. Some (mem_supply source).left };
 
-    ghost source_faults = { λ source. source.faults };
+    ghost source_faults = { mem_faults };
 
-    fn read(&mut self, into: &mut [u8]) -> Result<usize, SourceFault> {
+    fn read(&mut self, into: &mut [u8]) -> Result<usize, SourceFault>
+        requires { 0 < length into.old }
+        ensures fails { IsErr result ↔ IsTrue (is_next_failing (mem_reads self.old)) }
+        ensures taken { IfOk result (λ count. Takes count into.new (Some (mem_supply self.old).left) (Some (mem_supply self.new).left)) }
+        ensures count { IfOk result (λ count. count ≡ taken_into (length into.old) (mem_supply self.old)) }
+        ensures err { OnErr result (Some (mem_supply self.new).left ≡ Some (mem_supply self.old).left) }
+        ensures piece { (mem_supply self.new).piece ≡ (mem_supply self.old).piece }
+        ensures reads { mem_reads self.new ≡ next_made (mem_reads self.old) }
+        ensures cause { Counts (mem_faults self.old) (mem_faults self.new) result }
+    {
         if self.reads.next_fails() {
             count(&mut self.faults);
             return Err(SourceFault);
@@ -95,10 +113,12 @@ pub struct SteadySource {
 
 impl SteadySource {
     ghost use Rattle.std.specs.Prelude.{◌≡◌, Some};
+    ghost use Rattle.eeprom.specs.Sources.{steady_supply};
 
     pub fn new(octets: Vec<u8>, piece: usize) -> SteadySource
         requires { 1 ≤ piece }
         ensures left { ⟦<SteadySource as Source>⟧.left result ≡ Some octets.items }
+        ensures piece { (steady_supply result).piece ≡ piece }
         ensures faults { ⟦<SteadySource as Source>⟧.source_faults result ≡ 0 }
     {
         SteadySource {
@@ -108,14 +128,24 @@ impl SteadySource {
 }
 
 impl Source for SteadySource {
-    ghost use Rattle.std.specs.Prelude.{Some};
-    ghost use Rattle.eeprom.specs.Sources.{left_of};
+    ghost use Rattle.std.specs.Prelude.{◌≡◌, ◌<◌, length, Some, IsOk, IfOk, OnErr};
+    ghost use Rattle.eeprom.specs.Fault.{Counts};
+    ghost use Rattle.eeprom.specs.Input.{Takes};
+    ghost use Rattle.eeprom.specs.Sources.{steady_supply, taken_into};
 
-    ghost left = { λ source. Some (left_of source.pieces) };
+    ghost left = { λ source. Some (steady_supply source).left };
 
     ghost source_faults = { λ source. 0 };
 
-    fn read(&mut self, into: &mut [u8]) -> Result<usize, SourceFault> {
+    fn read(&mut self, into: &mut [u8]) -> Result<usize, SourceFault>
+        requires { 0 < length into.old }
+        ensures succeeds { IsOk result }
+        ensures taken { IfOk result (λ count. Takes count into.new (Some (steady_supply self.old).left) (Some (steady_supply self.new).left)) }
+        ensures count { IfOk result (λ count. count ≡ taken_into (length into.old) (steady_supply self.old)) }
+        ensures err { OnErr result (Some (steady_supply self.new).left ≡ Some (steady_supply self.old).left) }
+        ensures piece { (steady_supply self.new).piece ≡ (steady_supply self.old).piece }
+        ensures cause { Counts 0 0 result }
+    {
         Ok(self.pieces.take(into))
     }
 }

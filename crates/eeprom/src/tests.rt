@@ -1,4 +1,4 @@
-// What no clause says: which calls are planned to fail, that ample memory suffices, and printed texts.
+// What no clause says: that ample memory suffices, and printed texts; and each call of the fakes once.
 ghost use Rattle.std.specs.Prelude.{◌≡◌, length, IfOk};
 
 use crate::{
