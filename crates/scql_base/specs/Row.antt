@@ -1,6 +1,7 @@
 -- Which values are a row, and what becomes of a row by a further value.
 use Rattle.std.specs.Prelude.{◌≡◌, ℕ, ◌+◌, ◌≤◌, ◌==◌, nat_le, nat_lt, Bool, true, ◌||◌, List, [], ◌∷◌, ◌++◌, length, Result, Ok, Err, if◌then◌else◌}
 use Rattle.std.specs.List.{list_all, sum_by}
+use Rattle.scql_base.specs.declared.row.TheConstants.Row.{MOST, LONGEST_VALUE, LARGEST}
 use Rattle.scql_base.specs.declared.row_refusal.RowRefusal.{RowRefusal}
 use Rattle.scql_base.specs.declared.row_refusal.RowRefusal.TheVariants.{TooMany, TooWide}
 
@@ -9,16 +10,16 @@ abbrev pub row_size : List (List ℕ) → ℕ
 row_size values = sum_by (λ value. length value + 1) values
 
 abbrev pub is_narrow : List ℕ → Bool
-is_narrow value = nat_le (length value) 200
+is_narrow value = nat_le (length value) LONGEST_VALUE
 
 pub record IsRow (values : List (List ℕ)) : Type 0 where
-  pub count : length values ≤ 15
+  pub count : length values ≤ MOST
   pub widths : list_all is_narrow values ≡ true
-  pub size : row_size values ≤ 1020
+  pub size : row_size values ≤ LARGEST
 
 -- the row with one more value at its end, or why there is no such row
 abbrev pub with_value : List (List ℕ) → List ℕ → Result (List (List ℕ)) RowRefusal
 with_value values value =
-    if length values == 15 then Err TooMany
-    else if nat_lt 200 (length value) || nat_lt 1020 (row_size values + length value + 1) then Err TooWide
+    if length values == MOST then Err TooMany
+    else if nat_lt LONGEST_VALUE (length value) || nat_lt LARGEST (row_size values + length value + 1) then Err TooWide
     else Ok (values ++ value ∷ [])

@@ -1,6 +1,7 @@
 // Lists of changes to the columns of a row.
 ghost use Rattle.std.specs.Prelude.{◌≡◌, ◌<◌, ◌↔◌, [], ◌∷◌, ◌++◌, IsOk, IsSome, OnOk, OnErr, length, map, option_copied, slice_get};
 ghost use Rattle.scql_base.specs.Lists.{AreChanges};
+ghost use Rattle.scql_base.specs.declared.changes.TheConstants.Changes.{MOST};
 
 use crate::blank::Blank;
 use crate::{ListFull, Name, Octets};
@@ -27,7 +28,7 @@ impl Change {
 /// A list of at most 15 changes.
 #[derive(Drop)]
 pub struct Changes {
-    held: ArrayVec<Change, 15, Blank>,
+    held: ArrayVec<Change, { Changes::MOST }, Blank>,
 }
 
 impl Model for Changes {
@@ -42,6 +43,9 @@ impl Model for Changes {
 }
 
 impl Changes {
+    /// How many changes a list may have: one of each column.
+    pub const MOST: usize = 15;
+
     /// No changes.
     pub fn new() -> Changes
         ensures { result ≡ [] }
@@ -80,7 +84,7 @@ impl Changes {
 
     /// Adds a change at the end. A full list stays as it is.
     pub fn push(&mut self, change: (Name, Octets<200>)) -> Result<(), ListFull>
-        ensures variant { IsOk result ↔ (length self.old < 15) }
+        ensures variant { IsOk result ↔ (length self.old < MOST) }
         ensures ok { OnOk result (self.new ≡ self.old ++ change ∷ []) }
         ensures full { OnErr result (self.new ≡ self.old) }
     {

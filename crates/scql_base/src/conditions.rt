@@ -1,6 +1,7 @@
 // Lists of conditions, all of which a row has to meet.
 ghost use Rattle.std.specs.Prelude.{◌≡◌, ◌<◌, ◌↔◌, [], ◌∷◌, ◌++◌, IsOk, IsSome, OnOk, OnErr, length, option_copied, slice_get};
 ghost use Rattle.scql_base.specs.Lists.{AreConditions};
+ghost use Rattle.scql_base.specs.declared.conditions.TheConstants.Conditions.{MOST};
 
 use crate::blank::Blank;
 use crate::{Condition, ListFull};
@@ -10,7 +11,7 @@ use std::marker::Model;
 /// A list of at most 8 conditions.
 #[derive(Drop)]
 pub struct Conditions {
-    held: ArrayVec<Condition, 8, Blank>,
+    held: ArrayVec<Condition, { Conditions::MOST }, Blank>,
 }
 
 impl Model for Conditions {
@@ -26,6 +27,9 @@ impl Model for Conditions {
 }
 
 impl Conditions {
+    /// How many conditions a list may have.
+    pub const MOST: usize = 8;
+
     /// No conditions.
     pub fn new() -> Conditions
         ensures { result ≡ [] }
@@ -61,7 +65,7 @@ impl Conditions {
 
     /// Adds a condition at the end. A full list stays as it is.
     pub fn push(&mut self, condition: Condition) -> Result<(), ListFull>
-        ensures variant { IsOk result ↔ (length self.old < 8) }
+        ensures variant { IsOk result ↔ (length self.old < MOST) }
         ensures ok { OnOk result (self.new ≡ self.old ++ condition ∷ []) }
         ensures full { OnErr result (self.new ≡ self.old) }
     {

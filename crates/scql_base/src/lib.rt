@@ -26,7 +26,7 @@ pub use list_full::ListFull;
 pub use name::Name;
 pub use name_list::NameList;
 pub use octets::Octets;
-pub use operation::{Command, Operation, OperationKind};
+pub use operation::{Command, Line, Operation, OperationKind, Takes};
 pub use params::Params;
 pub use privileges::Privileges;
 pub use records::{Grant, Object, ObjectKind, RowRecord, User};

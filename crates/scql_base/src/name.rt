@@ -2,6 +2,7 @@
 ghost use Rattle.std.specs.Prelude.{◌≡◌, ◌≤◌, ◌↔◌, ◌∷◌, [], IsSome, length};
 ghost use Rattle.std.specs.List.{list_all};
 ghost use Rattle.scql_base.specs.Name as names;
+ghost use Rattle.scql_base.specs.declared.name.TheConstants.Name.{LONGEST};
 
 use arrayvec::ArrayVec;
 use std::marker::Model;
@@ -9,7 +10,7 @@ use std::marker::Model;
 /// A name: 1 to 8 octets, a letter `A` to `Z`, then letters, digits `0` to `9` and `_`.
 #[derive(Drop)]
 pub struct Name {
-    held: ArrayVec<u8, 8>,
+    held: ArrayVec<u8, { Name::LONGEST }>,
 }
 
 impl Model for Name {
@@ -24,6 +25,9 @@ impl Model for Name {
 }
 
 impl Name {
+    /// The octets of the longest name.
+    pub const LONGEST: usize = 8;
+
     /// The name of the user with whom a card is made.
     pub const OWNER: &'static [u8] = b"OWNER";
 
@@ -47,7 +51,7 @@ impl Name {
     pub fn octets(&self) -> &[u8]
         ensures octets { result.now ≡ self.now }
         ensures name { names.IsName result.now }
-        ensures short { length result.now ≤ 8 }
+        ensures short { length result.now ≤ LONGEST }
     {
         self.held.as_slice()
     }
@@ -78,7 +82,7 @@ impl Name {
     }
 }
 
-fn held_name(octets: &[u8]) -> ArrayVec<u8, 8>
+fn held_name(octets: &[u8]) -> ArrayVec<u8, { Name::LONGEST }>
     requires { names.IsName octets.now }
     ensures { result.items ≡ octets.now }
 {
@@ -93,7 +97,7 @@ fn is_name(octets: &[u8]) -> bool
 {
     match octets {
         [first, rest @ ..] => {
-            first.is_ascii_uppercase() && are_name_octets(rest) && rest.len() <= 7
+            first.is_ascii_uppercase() && are_name_octets(rest) && rest.len() < Name::LONGEST
         }
         [] => false,
     }

@@ -1,6 +1,7 @@
 // Lists of names, as the columns of a table.
 ghost use Rattle.std.specs.Prelude.{◌≡◌, ◌<◌, ◌↔◌, [], ◌∷◌, ◌++◌, IsOk, IsSome, OnOk, OnErr, length, option_copied, slice_get};
 ghost use Rattle.scql_base.specs.Lists.{AreNames};
+ghost use Rattle.scql_base.specs.declared.name_list.TheConstants.NameList.{MOST};
 
 use crate::blank::Blank;
 use crate::{ListFull, Name};
@@ -10,7 +11,7 @@ use std::marker::Model;
 /// A list of at most 15 names.
 #[derive(Drop)]
 pub struct NameList {
-    held: ArrayVec<Name, 15, Blank>,
+    held: ArrayVec<Name, { NameList::MOST }, Blank>,
 }
 
 impl Model for NameList {
@@ -25,6 +26,9 @@ impl Model for NameList {
 }
 
 impl NameList {
+    /// How many names a list may have.
+    pub const MOST: usize = 15;
+
     /// No names.
     pub fn new() -> NameList
         ensures { result ≡ [] }
@@ -60,7 +64,7 @@ impl NameList {
 
     /// Adds a name at the end. A full list stays as it is.
     pub fn push(&mut self, name: Name) -> Result<(), ListFull>
-        ensures variant { IsOk result ↔ (length self.old < 15) }
+        ensures variant { IsOk result ↔ (length self.old < MOST) }
         ensures ok { OnOk result (self.new ≡ self.old ++ name ∷ []) }
         ensures full { OnErr result (self.new ≡ self.old) }
     {

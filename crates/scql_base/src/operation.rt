@@ -111,10 +111,46 @@ pub enum OperationKind {
     GetResponse,
 }
 
+/// What a command of an operation has behind P2: no data field (case 1 or 2), a data field (case 3 or 4), or Le alone (case 2).
+#[derive(Clone, Copy, PartialEq, Eq, Debug)]
+pub enum Takes {
+    Nothing,
+    DataField,
+    LeAlone,
+}
+
+/// A line of the table of operations: INS, P1 and P2, the operation that they ask for, what it takes, and whether it is built.
+#[derive(Clone, Copy, PartialEq, Eq, Debug)]
+pub struct Line {
+    pub ins: u8,
+    pub p1: u8,
+    pub p2: u8,
+    pub kind: OperationKind,
+    pub takes: Takes,
+    pub is_built: bool,
+}
+
 /// A command on a logical channel, 0 to 3. Le is the greatest number of octets wanted, 1 to 256.
 #[derive(Drop)]
 pub struct Command {
     pub channel: u8,
     pub operation: Operation,
     pub le: Option<u16>,
+}
+
+impl Command {
+    /// The greatest number of a channel.
+    pub const LAST_CHANNEL: u8 = 3;
+
+    /// The octets of the longest data field of one command.
+    pub const LONGEST_DATA: usize = 255;
+
+    /// How many parts of a command may come before its last one.
+    pub const MOST_PARTS: usize = 4;
+
+    /// The octets of the longest data field that comes in parts.
+    pub const LONGEST_IN_PARTS: usize = (Command::MOST_PARTS + 1) * Command::LONGEST_DATA;
+
+    /// The greatest Le, which is 00 in one octet.
+    pub const LARGEST_LE: u16 = 256;
 }

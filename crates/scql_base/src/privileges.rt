@@ -9,12 +9,13 @@ pub struct Privileges {
 
 impl Model for Privileges {
     ghost use Rattle.std.specs.Prelude.{ℕ, ◌≤◌};
+    ghost use Rattle.scql_base.specs.declared.privileges.TheConstants.Privileges.{ALL};
 
     ghost Value = { ℕ };
 
     ghost view = { λ p. p.bits };
 
-    ghost invariant = { λ p. (1 ≤ p.bits) × (p.bits ≤ 15) };
+    ghost invariant = { λ p. (1 ≤ p.bits) × (p.bits ≤ ALL) };
 
     ghost inverse = { λ bits. record { bits = bits } };
 }
@@ -27,4 +28,7 @@ impl Privileges {
     pub const UPDATE: u8 = 4;
 
     pub const DELETE: u8 = 8;
+
+    /// All four.
+    pub const ALL: u8 = 15;
 }

@@ -15,6 +15,17 @@ pub struct User {
     pub tries: u8,
 }
 
+impl User {
+    /// The octets of the shortest secret that isn't empty.
+    pub const SHORTEST_SECRET: usize = 4;
+
+    /// The octets of the longest secret.
+    pub const LONGEST_SECRET: usize = 8;
+
+    /// How often a secret may be presented after one that was right.
+    pub const ALL_TRIES: u8 = 3;
+}
+
 /// What an object is.
 #[derive(Drop)]
 pub enum ObjectKind {
@@ -41,6 +52,11 @@ pub struct Object {
     pub kind: ObjectKind,
 }
 
+impl Object {
+    /// The octets of the longest record of an object.
+    pub const LONGEST: usize = 512;
+}
+
 /// What a user may do with an object.
 #[derive(Drop)]
 pub struct Grant {
@@ -57,4 +73,9 @@ pub struct RowRecord {
     pub stamp: u32,
     pub table: u32,
     pub row: Row,
+}
+
+impl RowRecord {
+    /// The octets of the longest record of a row: its mark, two stamps and the row.
+    pub const LONGEST: usize = 9 + Row::LARGEST;
 }

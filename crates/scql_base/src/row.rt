@@ -3,6 +3,7 @@ ghost use Rattle.std.specs.Prelude.{◌≡◌, ◌<◌, ◌≤◌, ◌+◌, ◌�
 ghost use Rattle.std.specs.List.{flat_map};
 ghost use Rattle.scql_base.specs.Strings.{spelled};
 ghost use Rattle.scql_base.specs.Row.{IsRow, row_size, with_value};
+ghost use Rattle.scql_base.specs.declared.row.TheConstants.Row.{LARGEST, LONGEST_VALUE};
 
 use crate::RowRefusal;
 use crate::params::Params;
@@ -13,7 +14,7 @@ use std::marker::Model;
 /// It is kept as it stands in records, commands and answers: each value as its length in one octet and its octets.
 #[derive(Drop)]
 pub struct Row {
-    octets: ArrayVec<u8, 1020>,
+    octets: ArrayVec<u8, { Row::LARGEST }>,
     count: usize,
 }
 
@@ -31,6 +32,18 @@ impl Model for Row {
 }
 
 impl Row {
+    /// How many values a row may have: one in each column.
+    pub const MOST: usize = 15;
+
+    /// The octets of the longest value.
+    pub const LONGEST_VALUE: usize = 200;
+
+    /// The octets that a row may take in a record.
+    pub const LARGEST: usize = 1020;
+
+    /// The octets that a row may take in a record until a card is migrated to longer rows.
+    pub const LARGEST_UNMIGRATED: usize = 240;
+
     /// No values.
     pub fn new() -> Row
         ensures { result ≡ [] }
@@ -81,10 +94,10 @@ impl Row {
         ensures err { IfErr result (λ refusal. with_value self.old value.now ≡ Err refusal) }
         ensures same { OnErr result (self.new ≡ self.old) }
     {
-        if self.count == 15 {
+        if self.count == Row::MOST {
             return Err(RowRefusal::TooMany);
         }
-        if value.len() > 200 || self.octets.len() + value.len() >= 1020 {
+        if value.len() > Row::LONGEST_VALUE || self.octets.len() + value.len() >= Row::LARGEST {
             return Err(RowRefusal::TooWide);
         }
         spell(&mut self.octets, value);
@@ -107,9 +120,9 @@ impl Row {
 }
 
 // Puts a value behind others: its length in one octet, and its octets.
-fn spell(octets: &mut ArrayVec<u8, 1020>, value: &[u8])
-    requires short { length value.now ≤ 200 }
-    requires room { length octets.old.items + length value.now < 1020 }
+fn spell(octets: &mut ArrayVec<u8, { Row::LARGEST }>, value: &[u8])
+    requires short { length value.now ≤ LONGEST_VALUE }
+    requires room { length octets.old.items + length value.now < LARGEST }
     ensures { octets.new.items ≡ octets.old.items ++ spelled value.now }
 {
     octets.push(value.len() as u8);

@@ -11,6 +11,26 @@ pub enum Comparison {
     NotEqual,
 }
 
+impl Comparison {
+    /// The code of equality, in records and commands: `=`.
+    pub const EQUAL: u8 = b'=';
+
+    /// The code of less: `<`.
+    pub const LESS: u8 = b'<';
+
+    /// The code of greater: `>`.
+    pub const GREATER: u8 = b'>';
+
+    /// The code of at most: `L`.
+    pub const AT_MOST: u8 = b'L';
+
+    /// The code of at least: `G`.
+    pub const AT_LEAST: u8 = b'G';
+
+    /// The code of inequality: `#`.
+    pub const NOT_EQUAL: u8 = b'#';
+}
+
 /// What a user may do: the database's owner, the owner of objects, or a basic user.
 #[derive(Clone, Copy, PartialEq, Eq, Debug)]
 pub enum Profile {
@@ -19,12 +39,34 @@ pub enum Profile {
     Dbbu,
 }
 
+impl Profile {
+    /// The code of the database's owner, in records, commands and dictionaries.
+    pub const DB_O: u8 = 0x01;
+
+    /// The code of an owner of objects.
+    pub const DBOO: u8 = 0x02;
+
+    /// The code of a basic user.
+    pub const DBBU: u8 = 0x03;
+}
+
 /// What a dictionary tells of.
 #[derive(Clone, Copy, PartialEq, Eq, Debug)]
 pub enum Subject {
     Objects,
     Users,
     Grants,
+}
+
+impl Subject {
+    /// The letter of objects, in records, commands and dictionaries: `O`.
+    pub const OBJECTS: u8 = b'O';
+
+    /// The letter of users: `U`.
+    pub const USERS: u8 = b'U';
+
+    /// The letter of grants: `P`.
+    pub const GRANTS: u8 = b'P';
 }
 
 /// Who acts on a channel: the public, or a proved user, with the stamp of its record and its profile.

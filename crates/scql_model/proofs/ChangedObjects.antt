@@ -17,7 +17,7 @@ use Rattle.scql_base.specs.declared.records.Grant.{Grant}
 use Rattle.scql_base.specs.declared.records.RowRecord.{RowRecord}
 use Rattle.scql_model.specs.Objects.{columns_of, depth_over, depth_below, depth_of}
 use Rattle.scql_model.specs.Records.{counter_record, object_fits}
-use Rattle.scql_model.specs.Rules.{AreObjects, AreGrants, AreRows, are_among, are_different, is_made_by_maker, object_stamped, may_have_view, rests_on, is_founded, is_short, has_object_and_grantee, has_table, fits_table}
+use Rattle.scql_model.specs.Rules.{AreObjects, AreGrants, AreRows, are_named_among, are_different, is_made_by_maker, object_stamped, may_have_view, rests_on, is_founded, is_short, has_object_and_grantee, has_table, fits_table}
 use Rattle.scql_model.specs.Database.{Database, IsValid, weight, stored_object}
 use Rattle.scql_model.proofs.LongerLists.{all-weaker, all-added, any-more, found-more, rises-added, not_equal-sym}
 use Rattle.scql_model.proofs.Apart.{apart_by-added}
@@ -63,15 +63,14 @@ may_have_view-more objects more base may = go (depth_below 5 objects base.stamp)
 rests_on-more : (objects more : List Object) (o : Object) (columns : List (List ℕ)) (conditions : List Condition) (base : Object) → rests_on objects o columns conditions base ≡ true
     → rests_on (objects ++ more) o columns conditions base ≡ true
 rests_on-more objects more o columns conditions base rests =
-    third (nat_lt base.stamp o.stamp) (base.owner == o.owner) (may_have_view objects base) (may_have_view (objects ++ more) base) (are_among columns (columns_of base.kind))
-    (are_among (map (λ (c : Condition). c.column) conditions) (columns_of base.kind)) (may_have_view-more objects more base) rests
+    third (nat_lt base.stamp o.stamp) (base.owner == o.owner) (may_have_view objects base) (may_have_view (objects ++ more) base) (are_named_among (columns_of base.kind) columns conditions)
+    (may_have_view-more objects more base) rests
   where
-    third : (a b c c' d e : Bool) → (c ≡ true → c' ≡ true) → a && b && c && d && e ≡ true → a && b && c' && d && e ≡ true
-    third a b c c' d e more all =
-        let last = and_parts (a && b && c && d) e all in
-        let fourth = and_parts (a && b && c) d last.0 in
-        let front = and_parts (a && b) c fourth.0 in
-        and_from (a && b && c' && d) e (and_from (a && b && c') d (and_from (a && b) c' front.0 (more front.1)) fourth.1) last.1
+    third : (a b c c' d : Bool) → (c ≡ true → c' ≡ true) → a && b && c && d ≡ true → a && b && c' && d ≡ true
+    third a b c c' d more all =
+        let last = and_parts (a && b && c) d all in
+        let front = and_parts (a && b) c last.0 in
+        and_from (a && b && c') d (and_from (a && b) c' front.0 (more front.1)) last.1
 
 option_map_or-weaker : {X : Type 0} (p q : X → Bool) (o : Option X) → ((x : X) → p x ≡ true → q x ≡ true) → option_map_or p o false ≡ true → option_map_or q o false ≡ true
 option_map_or-weaker p q None more is = absurd (false≢true is)

@@ -58,7 +58,7 @@ ok-from_IsCreated db actor name profile secret new made = rw (made.may, made.fre
 pub name-size : (name : List ℕ) → is_name name ≡ true → length name ≤ 8
 name-size [] right = absurd (false≢true right)
 name-size (first ∷ rest) right =
-    let short = leb-true (length rest) 7 (and_parts (is_ascii_uppercase first && list_all is_name_octet rest) (nat_le (length rest) 7) right).1 in omega arith
+    let short = ltb-true (length rest) 8 (and_parts (is_ascii_uppercase first && list_all is_name_octet rest) (nat_lt (length rest) 8) right).1 in omega arith
 
 secret-size : (secret : List ℕ) → is_secret secret ≡ true → length secret ≤ 8
 secret-size secret right = go (length secret) right

@@ -76,7 +76,6 @@ Holds-user_created slots db counter_slot slot u holds valid stamp fits next_fits
     subst (λ n. AllByRecursion (λ (v : User). v.stamp < n) db.users) (sym stamp) (users_below db valid) in
     record {
       cells = length-set between slot user ∙ (length-set slots counter_slot counter ∙ holds.cells);
-      limit = holds.limit;
       spelled = all-set is_spelled between slot user (all-set is_spelled slots counter_slot counter holds.spelled (spelled-counter (db.next + 1) next_fits)) (spelled-user u fits);
       counter = kept-other counter_stamp (in_slot counter_in) between slot user still_within (ap (in_slot counter_in) still_empty) refl
           ∙ counter_written slots db counter_slot (db.next + 1) holds ready.counter_within ready.counts next_fits;
@@ -98,13 +97,14 @@ Holds-created slots db new counter_slot slot actor name profile secret holds val
     (Holds-user_created slots db counter_slot slot u holds valid refl addable.fits (next_fits db.next valid.counter made.stamps_left) ready)
 
 -- An image with those slots opens to the new database.
-pub Opens-created : (slots : Slots) (image : List ℕ) (db new : Database) (counter_slot slot : ℕ) (actor : Actor) (name : List ℕ) (profile : Profile) (secret : List ℕ)
+pub Opens-created : (slots : Slots) (limit : ℕ) (image : List ℕ) (db new : Database) (counter_slot slot : ℕ) (actor : Actor) (name : List ℕ) (profile : Profile) (secret : List ℕ)
     → Holds slots db → IsValid db → IsAsked db actor name profile secret → created db actor name profile secret ≡ Ok new → AreReady slots db counter_slot slot
-    → store_of image ≡ Some (with_user_written slots counter_slot slot (db.next + 1) (new_user db actor name profile secret)) → Opens image new
-Opens-created slots image db new counter_slot slot actor name profile secret holds valid asked ok ready stored =
+    → db.limit ≡ limit → store_of image ≡ Some (record { row_limit = limit; slots = with_user_written slots counter_slot slot (db.next + 1) (new_user db actor name profile secret) }) → Opens image new
+Opens-created slots limit image db new counter_slot slot actor name profile secret holds valid asked ok ready limit_is stored =
     record {
-      slots = with_user_written slots counter_slot slot (db.next + 1) (new_user db actor name profile secret);
+      store = record { row_limit = limit; slots = with_user_written slots counter_slot slot (db.next + 1) (new_user db actor name profile secret) };
       stored = stored;
+      limit = ap (λ (db : Database). db.limit) (sym (IsCreated-from_ok db actor name profile secret new ok).made) ∙ limit_is;
       holds = Holds-created slots db new counter_slot slot actor name profile secret holds valid asked ok ready;
       valid = IsValid-created db actor name profile secret new valid asked ok;
     }

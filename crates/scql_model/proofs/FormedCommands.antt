@@ -1,7 +1,7 @@
 -- What is read of octets as a command is well-formed.
-use Rattle.std.proofs.Common.{◌≡◌, ◌≤◌, ◌<◌, ◌+◌, ◌%◌, ℕ, suc, ◌==◌, nat_le, not, ◌&&◌, ◌||◌, Bool, true, false, List, [], ◌∷◌, ◌++◌, length, take, drop, get_or, Option, Some, None, is_some, Result, Ok, Err, if◌then◌else◌, refl, ap, subst, sym, ◌∙◌, arith}
-use Rattle.std.specs.Prelude.{IfSome, IfOk, slice_get}
-use Rattle.std.specs.List.{list_all, find, concat}
+use Rattle.std.proofs.Common.{◌≡◌, ◌≤◌, ◌<◌, ◌+◌, ◌%◌, ℕ, zero, suc, ◌==◌, nat_le, not, ◌&&◌, ◌||◌, Bool, true, false, List, [], ◌∷◌, ◌++◌, length, take, drop, get_or, Option, Some, None, is_some, Result, Ok, Err, if◌then◌else◌, refl, ap, subst, sym, ◌∙◌, arith}
+use Rattle.std.specs.Prelude.{IfSome, IfOk, map, slice_get}
+use Rattle.std.specs.List.{list_all, find, concat, Contains}
 use Rattle.std.specs.Result.{result_ok}
 use Rattle.std.proofs.lemmas.Option.{none-some, same_Some}
 use Rattle.std.proofs.lemmas.Bool.{false≢true, leb-true, le-leb}
@@ -17,12 +17,15 @@ use Rattle.scql_base.specs.declared.operation.Operation.{Operation}
 use Rattle.scql_base.specs.declared.operation.Operation.TheVariants.{CreateTable, CreateView, CreateDictionary, DropTable, DropView, Grant, Revoke, DeclareCursor, OpenCursor, Next, Fetch, FetchNext, Insert, Update, Delete, Begin, Commit, Rollback, PresentUser, CreateUser, DeleteUser, Verify, OpenChannel, CloseChannel, GetResponse}
 use Rattle.scql_base.specs.declared.operation.OperationKind.{OperationKind}
 use Rattle.scql_base.specs.declared.operation.OperationKind.TheVariants as kind
-use Rattle.scql_model.specs.Records.{is_secret, is_privileges, is_row, subject_of, is_one_to_fifteen}
+use Rattle.scql_model.specs.Records.{is_secret, is_privileges, is_row, is_row_within, subject_of, is_count_of_columns}
 use Rattle.scql_model.specs.Machine.{Chain}
-use Rattle.scql_model.specs.Operations.{Takes, nothing, a_data_field, le_alone, Line, operations, built_operations, has_instruction, has_secrets, is_for_channel, line_of, comes_in_parts, kind_of}
+use Rattle.scql_base.specs.declared.operation.Line.{Line}
+use Rattle.scql_base.specs.declared.operation.Takes.{Takes}
+use Rattle.scql_base.specs.declared.operation.Takes.TheVariants.{Nothing, DataField, LeAlone}
+use Rattle.scql_model.specs.Operations.{is_le_alone, WantsLe, operations, built_operations, has_instruction, has_secrets, is_for_channel, line_of, comes_in_parts, kind_of}
 use Rattle.scql_model.specs.Parameters as parameters
-use Rattle.scql_model.specs.Parameters.{only_where, are_columns, are_chosen_columns, are_conditions, are_changes, Choice, conditions_in, choice_in, changes_in, create_table_in, create_view_in, create_dictionary_in, named_in, granted_in, declare_cursor_in, is_row_within, insert_in, update_in, made_profile_of, is_new_secret, create_user_in, is_verified_secret, operation_in}
-use Rattle.scql_model.specs.WellFormed.{HasForm, wants_le, IsWellFormed}
+use Rattle.scql_model.specs.Parameters.{only_where, are_columns, are_chosen_columns, are_conditions, are_changes, Choice, conditions_in, choice_in, changes_in, create_table_in, create_view_in, create_dictionary_in, named_in, granted_in, declare_cursor_in, insert_in, update_in, made_profile_of, is_new_secret, create_user_in, is_verified_secret, operation_in}
+use Rattle.scql_model.specs.WellFormed.{HasForm, IsWellFormed}
 use Rattle.scql_model.specs.Refusals.{◌>>=◌, or_refused, provided}
 use Rattle.scql_model.specs.Form.{class_of, is_chained, is_open, channel_of, Tail, le_of, data_of, tail_of, takes_case, is_case_3, data_in, channel_asked, line_on, taken_in, parts_of, Form, refused, refused_on, part_on, a_command, as_command, formed_on, formed, part_in, command_in, form_of}
 use Rattle.scql_model.proofs.FieldLaws.{AreOctets}
@@ -111,7 +114,7 @@ read-cursor (object ∷ strings) o is = found (choice_in strings) _ o is (λ cho
 -- a row within a card's limit is one within the largest limit
 row-within : (limit : ℕ) (values : List (List ℕ)) → limit ≤ 1020 → is_row_within limit values ≡ true → is_row values ≡ true
 row-within limit values least is =
-    let t = both (is_one_to_fifteen (length values) && list_all is_narrow values) (nat_le (row_size values) limit) is in
+    let t = both (is_count_of_columns (length values) && list_all is_narrow values) (nat_le (row_size values) limit) is in
     let fits : row_size values ≤ 1020 = omega (arith, leb-true (row_size values) limit t.1) in
     rw (t.0) (le-leb (row_size values) 1020 fits)
 
@@ -229,19 +232,34 @@ tail-read (lc ∷ x ∷ rest) tail octets is = go (lc == 0) is
     go false is = data-read lc (x ∷ rest) tail (λ i. octets (suc i)) is
 
 -- a line of a table as the operations have it
-abbrev is_le_alone : Takes → Bool
-is_le_alone nothing = false
-is_le_alone a_data_field = false
-is_le_alone le_alone = true
+abbrev wants_le : OperationKind → Bool
+wants_le kind.Fetch = true
+wants_le kind.FetchNext = true
+wants_le (kind.OpenChannel number) = number == 0
+wants_le kind.GetResponse = true
+wants_le asked = false
+
+wants_le-of : (asked : OperationKind) → WantsLe asked → wants_le asked ≡ true
+wants_le-of asked is = go is.0 is.1 is.2
+  where
+    so : (k : OperationKind) → wants_le k ≡ true → k ≡ asked → wants_le asked ≡ true
+    so k wants same = subst (λ (k : OperationKind). wants_le k ≡ true) same wants
+
+    go : (k : ℕ) → k < 4 → get_or (kind.Fetch ∷ kind.FetchNext ∷ kind.OpenChannel 0 ∷ kind.GetResponse ∷ []) k asked ≡ asked → wants_le asked ≡ true
+    go zero lt same = so kind.Fetch refl same
+    go (suc zero) lt same = so kind.FetchNext refl same
+    go (suc (suc zero)) lt same = so (kind.OpenChannel 0) refl same
+    go (suc (suc (suc zero))) lt same = so kind.GetResponse refl same
+    go (suc (suc (suc (suc k)))) lt same = absurd (omega (arith, lt))
 
 abbrev pub is_sound : Line → Bool
 is_sound l = has_channel l.kind && (not (wants_le l.kind) || is_le_alone l.takes)
 
 le-wanted : (wants : Bool) (takes : Takes) (tail : Tail) → not wants || is_le_alone takes ≡ true → takes_case takes tail ≡ true → wants ≡ true → is_some tail.le ≡ true
 le-wanted false takes tail sound taken is = absurd (false≢true is)
-le-wanted true nothing tail sound taken is = absurd (false≢true sound)
-le-wanted true a_data_field tail sound taken is = absurd (false≢true sound)
-le-wanted true le_alone tail sound taken is = (both _ (is_some tail.le) taken).1
+le-wanted true Nothing tail sound taken is = absurd (false≢true sound)
+le-wanted true DataField tail sound taken is = absurd (false≢true sound)
+le-wanted true LeAlone tail sound taken is = (both _ (is_some tail.le) taken).1
 
 -- what is found passes its test, and each test that all pass
 found-passes : {A : Type 0} (p q : A → Bool) (xs : List A) (x : A) → list_all q xs ≡ true → find p xs ≡ Some x → (p x ≡ true) × (q x ≡ true)
@@ -300,7 +318,7 @@ no_part channel asked parts tail c is =
     bound (provided (not (length parts == 4)) wrong_length) _ (a_command c) is (λ _ _ is. absurd cc))
 
 command-read : (secrets : Bool) (channel : ℕ) (asked : OperationKind) (limit : ℕ) (parts : List (List ℕ)) (tail : Tail) (c : Command)
-    → channel ≤ 3 → is_for_channel channel asked ≡ true → IsLe tail.le → (wants_le asked ≡ true → is_some tail.le ≡ true) → limit ≤ 1020 → has_channel asked ≡ true
+    → channel ≤ 3 → is_for_channel channel asked ≡ true → IsLe tail.le → (WantsLe asked → is_some tail.le ≡ true) → limit ≤ 1020 → has_channel asked ≡ true
     → command_in secrets channel asked limit parts tail ≡ Ok (a_command c) → IsWellFormed c
 command-read secrets channel asked limit parts tail c near closed le_fits wanted least number is =
     let octets : List ℕ = concat parts ++ data_in tail in
@@ -312,7 +330,7 @@ command-read secrets channel asked limit parts tail c near closed le_fits wanted
       channel = near;
       closed = subst (λ (k : OperationKind). is_for_channel channel k ≡ true) (sym read.kind) closed;
       le = le_fits;
-      wanted = subst (λ (k : OperationKind). wants_le k ≡ true → is_some tail.le ≡ true) (sym read.kind) wanted;
+      wanted = subst (λ (k : OperationKind). WantsLe k → is_some tail.le ≡ true) (sym read.kind) wanted;
       form = read.form;
     }))
 
@@ -352,10 +370,10 @@ IsWellFormed-form_of table (cla ∷ ins ∷ p1 ∷ p2 ∷ after) channels chain 
     let read = line-read table channel ins p1 p2 line sound on_line in
     let right = both (has_channel line.kind) (not (wants_le line.kind) || is_le_alone line.takes) read.1 in
     let taken = tail-taken line.takes (is_chained cla) after tail (λ i. are (suc (suc (suc (suc i))))) on_tail in
-    go (is_chained cla) channel line tail (channel-read cla channels channel at) read.0 taken.0 (le-wanted (wants_le line.kind) line.takes tail right.1 taken.1) right.0 is)))))
+    go (is_chained cla) channel line tail (channel-read cla channels channel at) read.0 taken.0 (λ wants. le-wanted (wants_le line.kind) line.takes tail right.1 taken.1 (wants_le-of line.kind wants)) right.0 is)))))
   where
     go : (more : Bool) (channel : ℕ) (line : Line) (tail : Tail) → channel ≤ 3 → is_for_channel channel line.kind ≡ true → IsLe tail.le
-        → (wants_le line.kind ≡ true → is_some tail.le ≡ true) → has_channel line.kind ≡ true
+        → (WantsLe line.kind → is_some tail.le ≡ true) → has_channel line.kind ≡ true
         → (if more then part_in channel line.kind (parts_of line.kind (chain channel)) tail else command_in (has_secrets table) channel line.kind limit (parts_of line.kind (chain channel)) tail) ≡ Ok (a_command c)
         → IsWellFormed c
     go true channel line tail near closed le_fits wanted number is = no_part channel line.kind (parts_of line.kind (chain channel)) tail c is
@@ -382,13 +400,29 @@ sound-operations = refl
 pub sound-built_operations : list_all is_sound built_operations ≡ true
 sound-built_operations = refl
 
--- A command is of the kind of a line, so it passes each test that all lines of a table pass.
+-- A line that is found passes each test that all lines of its table pass, and its operation is one of the table.
 line-passes : (q : Line → Bool) (table : List Line) (channel ins p1 p2 : ℕ) (line : Line) → list_all q table ≡ true → line_on table channel ins p1 p2 ≡ Ok line → q line ≡ true
 line-passes q table channel ins p1 p2 line all is =
     bound (or_refused (line_of table ins p1 p2) wrong_parameters) _ line is (λ found_line at is.
     bound (provided (is_for_channel channel found_line.kind) wrong_parameters) _ line is (λ closed at_closed same.
     subst (λ (l : Line). q l ≡ true) (same_Ok found_line line same)
     (found-passes (λ (l : Line). l.ins == ins && l.p1 == p1 && l.p2 == p2) q table found_line all (not_refused (line_of table ins p1 p2) wrong_parameters found_line at)).1))
+
+-- what is found is in the list
+Contains-find : {A B : Type 0} (p : A → Bool) (f : A → B) (xs : List A) (x : A) → find p xs ≡ Some x → Contains (map f xs) (f x)
+Contains-find p f [] x is = absurd (none-some x is)
+Contains-find {A} {B} p f (y ∷ ys) x is = go (p y) is (Contains-find p f ys x)
+  where
+    go : (b : Bool) → (if b then Some y else find p ys) ≡ Some x → (find p ys ≡ Some x → Contains (map f ys) (f x)) → Contains (map f (y ∷ ys)) (f x)
+    go true is later = (0, omega arith, ap f (same_Some y x is))
+    go false is later = let at = later is in (suc at.0, omega (arith, at.1), at.2)
+
+line-in : (table : List Line) (channel ins p1 p2 : ℕ) (line : Line) → line_on table channel ins p1 p2 ≡ Ok line → Contains (map (λ (l : Line). l.kind) table) line.kind
+line-in table channel ins p1 p2 line is =
+    bound (or_refused (line_of table ins p1 p2) wrong_parameters) _ line is (λ found_line at is.
+    bound (provided (is_for_channel channel found_line.kind) wrong_parameters) _ line is (λ closed at_closed same.
+    subst (λ (l : Line). Contains (map (λ (l : Line). l.kind) table) l.kind) (same_Ok found_line line same)
+    (Contains-find (λ (l : Line). l.ins == ins && l.p1 == p1 && l.p2 == p2) (λ (l : Line). l.kind) table found_line (not_refused (line_of table ins p1 p2) wrong_parameters found_line at))))
 
 command-kind : (secrets : Bool) (channel : ℕ) (asked : OperationKind) (limit : ℕ) (parts : List (List ℕ)) (tail : Tail) (c : Command) → limit ≤ 1020 → has_channel asked ≡ true
     → command_in secrets channel asked limit parts tail ≡ Ok (a_command c) → kind_of c.operation ≡ asked
@@ -399,28 +433,32 @@ command-kind secrets channel asked limit parts tail c least number is =
     let is_whole : whole ≡ c = cc in
     subst (λ (c : Command). kind_of c.operation ≡ asked) is_whole read.kind)
 
-pub kind-form_of : (q : OperationKind → Bool) (table : List Line) (octets : List ℕ) (channels : List Bool) (chain : ℕ → Option Chain) (limit : ℕ) (c : Command)
-    → list_all (λ (l : Line). q l.kind) table ≡ true → list_all is_sound table ≡ true → limit ≤ 1020 → form_of table octets channels chain limit ≡ a_command c
-    → q (kind_of c.operation) ≡ true
+-- A command is of an operation of the table by which it is read.
+pub kind-form_of : (table : List Line) (octets : List ℕ) (channels : List Bool) (chain : ℕ → Option Chain) (limit : ℕ) (c : Command)
+    → list_all is_sound table ≡ true → limit ≤ 1020 → form_of table octets channels chain limit ≡ a_command c
+    → Contains (map (λ (l : Line). l.kind) table) (kind_of c.operation)
 unfolding form_of
-kind-form_of q table [] channels chain limit c all sound least is = absurd cc
-kind-form_of q table (cla ∷ []) channels chain limit c all sound least is = absurd cc
-kind-form_of q table (cla ∷ ins ∷ []) channels chain limit c all sound least is = absurd cc
-kind-form_of q table (cla ∷ ins ∷ p1 ∷ []) channels chain limit c all sound least is = absurd cc
-kind-form_of q table (cla ∷ ins ∷ p1 ∷ p2 ∷ after) channels chain limit c all sound least is =
+kind-form_of table [] channels chain limit c sound least is = absurd cc
+kind-form_of table (cla ∷ []) channels chain limit c sound least is = absurd cc
+kind-form_of table (cla ∷ ins ∷ []) channels chain limit c sound least is = absurd cc
+kind-form_of table (cla ∷ ins ∷ p1 ∷ []) channels chain limit c sound least is = absurd cc
+kind-form_of table (cla ∷ ins ∷ p1 ∷ p2 ∷ after) channels chain limit c sound least is =
     on_channel (channel_asked table cla ins channels) _ (a_command c) refl is (λ channel at is.
     bound (line_on table channel ins p1 p2) _ (a_command c) is (λ line on_line is.
     bound (taken_in line.takes (is_chained cla) after) _ (a_command c) is (λ tail on_tail is.
     let sound_line = line-passes is_sound table channel ins p1 p2 line sound on_line in
-    go (is_chained cla) channel line tail (line-passes (λ (l : Line). q l.kind) table channel ins p1 p2 line all on_line)
+    go (is_chained cla) channel line tail (line-in table channel ins p1 p2 line on_line)
     (both (has_channel line.kind) (not (wants_le line.kind) || is_le_alone line.takes) sound_line).0 is)))
   where
-    go : (more : Bool) (channel : ℕ) (line : Line) (tail : Tail) → q line.kind ≡ true → has_channel line.kind ≡ true
+    kinds : List OperationKind
+    kinds = map (λ (l : Line). l.kind) table
+
+    go : (more : Bool) (channel : ℕ) (line : Line) (tail : Tail) → Contains kinds line.kind → has_channel line.kind ≡ true
         → (if more then part_in channel line.kind (parts_of line.kind (chain channel)) tail else command_in (has_secrets table) channel line.kind limit (parts_of line.kind (chain channel)) tail) ≡ Ok (a_command c)
-        → q (kind_of c.operation) ≡ true
-    go true channel line tail passes number is = no_part channel line.kind (parts_of line.kind (chain channel)) tail c is
-    go false channel line tail passes number is =
-        subst (λ (k : OperationKind). q k ≡ true) (sym (command-kind (has_secrets table) channel line.kind limit (parts_of line.kind (chain channel)) tail c least number is)) passes
+        → Contains kinds (kind_of c.operation)
+    go true channel line tail has number is = no_part channel line.kind (parts_of line.kind (chain channel)) tail c is
+    go false channel line tail has number is =
+        subst (Contains kinds) (sym (command-kind (has_secrets table) channel line.kind limit (parts_of line.kind (chain channel)) tail c least number is)) has
 
 -- Where no operation of a table comes in parts, nothing is read as a part.
 pub no_part-form_of : (table : List Line) (octets : List ℕ) (channels : List Bool) (chain : ℕ → Option Chain) (limit channel : ℕ) (asked : OperationKind) (octets' : List ℕ)

@@ -9,7 +9,9 @@ use Rattle.scql_base.specs.Words.{wrong_data, wrong_length, channel_not_supporte
 use Rattle.scql_base.specs.declared.operation.Command.{Command}
 use Rattle.scql_base.specs.declared.operation.OperationKind.{OperationKind}
 use Rattle.scql_model.specs.Machine.{Chain}
-use Rattle.scql_model.specs.Operations.{Takes, Line, has_instruction, has_secrets, comes_in_parts}
+use Rattle.scql_base.specs.declared.operation.Line.{Line}
+use Rattle.scql_base.specs.declared.operation.Takes.{Takes}
+use Rattle.scql_model.specs.Operations.{has_instruction, has_secrets, comes_in_parts}
 use Rattle.scql_model.specs.Parameters.{operation_in}
 use Rattle.scql_model.specs.Refusals.{or_refused, provided}
 use Rattle.scql_model.specs.Form.{class_of, is_chained, is_open, channel_of, Tail, le_of, data_of, tail_of, takes_case, is_case_3, data_in, channel_asked, line_on, taken_in, parts_of, Form, refused, refused_on, part_on, a_command, formed_on, formed, part_in, command_in, form_of}

@@ -1,7 +1,7 @@
 -- A fresh database is valid, and the example image of a fresh card of 16 cells opens to it.
 use Rattle.std.proofs.Common.{◌≡◌, ℕ, zero, suc, ◌≤◌, ◌-◌, Option, List, [], ◌∷◌, replicate, refl, ap, true, Some, None, arith}
 use Rattle.std.proofs.lemmas.List.{length-replicate}
-use Rattle.eeprom.specs.StoreOf.{store_of, fresh_slots}
+use Rattle.eeprom.specs.StoreOf.{store_of, fresh_slots, fresh_store}
 use Rattle.scql_base.specs.declared.records.User.{User}
 use Rattle.scql_model.specs.Records.{counter_record, user_record, counter_in, user_in}
 use Rattle.scql_model.specs.Stored.{StoredRecord}
@@ -37,7 +37,6 @@ list_all-replicate_none (suc count) = list_all-replicate_none count
 pub Holds-fresh : (n : ℕ) → 16 ≤ n → Holds (fresh_slots n (counter_record.spell 2) (user_record.spell owner)) (fresh n)
 Holds-fresh n few = record {
   cells = omega (arith, length-replicate {A = Option (List ℕ)} (n - 2) None);
-  limit = refl;
   spelled = list_all-replicate_none (n - 2);
   counter = ap (λ (xs : List ℕ). in_order counter_stamp (2 ∷ xs)) (filter_map-replicate_none counter_in (n - 2));
   users = ap (λ (xs : List User). in_order (λ (u : User). u.stamp) (owner ∷ xs)) (filter_map-replicate_none user_in (n - 2));
@@ -46,11 +45,12 @@ Holds-fresh n few = record {
   rows = refl;
 }
 
-pub Opens-fresh : (n : ℕ) (image : List ℕ) → 16 ≤ n → n ≤ 2048 → store_of image ≡ Some (fresh_slots n (counter_record.spell 2) (user_record.spell owner))
+pub Opens-fresh : (n : ℕ) (image : List ℕ) → 16 ≤ n → n ≤ 2048 → store_of image ≡ Some (fresh_store n (counter_record.spell 2) (user_record.spell owner))
     → Opens image (fresh n)
 Opens-fresh n image few many stored = record {
-  slots = fresh_slots n (counter_record.spell 2) (user_record.spell owner);
+  store = fresh_store n (counter_record.spell 2) (user_record.spell owner);
   stored = stored;
+  limit = refl;
   holds = Holds-fresh n few;
   valid = IsValid-fresh n few many;
 }

@@ -1,5 +1,13 @@
+mod WorkedChanges
+mod WorkedCreating
+mod WorkedForms
+mod WorkedMachine
+mod WorkedReading
+mod WorkedRows
+mod WorkedValidity
 pub mod Acting
 pub mod AddedUser
+pub mod AnswerWords
 pub mod Apart
 pub mod Assigning
 pub mod ChangeLaws
@@ -45,10 +53,3 @@ pub mod Spellings
 pub mod Stored
 pub mod Touching
 pub mod Validity
-mod WorkedChanges
-mod WorkedCreating
-mod WorkedForms
-mod WorkedMachine
-mod WorkedReading
-mod WorkedRows
-mod WorkedValidity

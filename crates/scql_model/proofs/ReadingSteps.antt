@@ -10,7 +10,7 @@ use Rattle.scql_base.specs.declared.operation.Command.{Command}
 use Rattle.scql_base.specs.declared.operation.Operation.{Operation}
 use Rattle.scql_base.specs.declared.operation.Operation.TheVariants.{DeclareCursor, OpenCursor, Next, Fetch, FetchNext, GetResponse}
 use Rattle.scql_model.specs.Machine.{Machine, Session, Reading, Transaction, no_reading, session_of, base, actor_of, actor}
-use Rattle.scql_model.specs.Sessions.{changing_session, reading_of, reading_so, without_chain}
+use Rattle.scql_model.specs.Sessions.{changing_session, reading_of, reading_so, without_chain, user_of}
 use Rattle.scql_model.specs.Transactions.{waits, is_kept_waiting}
 use Rattle.scql_model.specs.Operations.{kind_of}
 use Rattle.scql_model.specs.ReadingCommands.{ReadingCommand, reading_command}
@@ -66,6 +66,9 @@ module _ (m : Machine) (channel : ℕ) where
 
   ended-session : session_of ended channel ≡ option_map without_chain (session_of m channel)
   ended-session = changed_there without_chain m.sessions channel
+
+  pub ended-user : user_of ended channel ≡ user_of m channel
+  ended-user = ap user_in ended-session ∙ without_chain-user (session_of m channel)
 
   pub ended-actor : actor ended channel ≡ actor m channel
   ended-actor = ap (λ (user : Option Presented). option_map_or (actor_of (base m channel)) user Public) (ap user_in ended-session ∙ without_chain-user (session_of m channel))

@@ -9,7 +9,7 @@ use Rattle.scql_base.specs.Name.{is_name}
 use Rattle.scql_base.specs.Row.{is_narrow}
 use Rattle.scql_model.specs.Fields.{number, text, ◌then◌}
 use Rattle.scql_base.specs.declared.records.User.{User}
-use Rattle.scql_model.specs.Records.{profile_code, profile_of, subject_code, subject_of, comparison_code, comparison_of, is_secret, is_tries, is_privileges, is_one_to_fifteen, is_at_most_eight, columns, conditions, to_condition, from_condition, to_user, from_user, to_grant, from_grant, to_row, from_row, counter_record, user_record, table_record, view_record, dictionary_record, grant_record, row_record, counter_in, user_in}
+use Rattle.scql_model.specs.Records.{profile_code, profile_of, subject_code, subject_of, comparison_code, comparison_of, is_secret, is_tries, is_privileges, is_count_of_columns, is_count_of_conditions, columns, conditions, to_condition, from_condition, to_user, from_user, to_grant, from_grant, to_row, from_row, counter_record, user_record, table_record, view_record, dictionary_record, grant_record, row_record, counter_in, user_in}
 use Rattle.scql_model.proofs.FieldLaws.{AreOctets, Codes, CodesAlone, IsField, IsLastField, IsLastField-from_IsField, IsField-number, IsField-octet, IsField-letter, IsField-text, IsField-then, IsLastField-then, IsField-counted, IsField-as_record, IsLastField-as_record, IsField-marked, IsLastField-marked, IsLastField-values_to_the_end, whole_took, whole_again}
 
 -- Codes. A chain of choices among numbers gives a value only for its code.
@@ -57,11 +57,11 @@ codes_alone-comparison n x =
 
 -- Lists in records.
 IsField-columns : IsField columns
-IsField-columns = IsField-counted is_one_to_fifteen (text is_name) (IsField-text is_name)
+IsField-columns = IsField-counted is_count_of_columns (text is_name) (IsField-text is_name)
 
 IsField-conditions : IsField conditions
 IsField-conditions =
-    IsField-counted is_at_most_eight _ (IsField-as_record to_condition from_condition _ (λ x. refl) (λ c. refl) (
+    IsField-counted is_count_of_conditions _ (IsField-as_record to_condition from_condition _ (λ x. refl) (λ c. refl) (
     IsField-then _ _ (IsField-text is_name) (IsField-then _ _ (IsField-letter comparison_code comparison_of codes-comparison codes_alone-comparison) (IsField-text is_narrow))))
 
 -- Records.

@@ -14,7 +14,7 @@ use Rattle.scql_base.specs.declared.records.ObjectKind.{ObjectKind}
 use Rattle.scql_base.specs.declared.records.ObjectKind.TheVariants.{Table, View, Dictionary}
 use Rattle.scql_base.specs.declared.records.Grant.{Grant}
 use Rattle.scql_base.specs.declared.records.RowRecord.{RowRecord}
-use Rattle.scql_model.specs.Records.{subject_code, is_one_to_fifteen, is_row, object_spelling, object_fits, row_record}
+use Rattle.scql_model.specs.Records.{subject_code, is_count_of_columns, is_row, object_spelling, object_fits, row_record}
 use Rattle.scql_model.specs.Rules.{is_short}
 use Rattle.scql_model.specs.Stored.{is_storable}
 use Rattle.scql_model.specs.Database.{stored_object, stored_grant, stored_row}
@@ -33,10 +33,10 @@ names-size (name ∷ names) right =
 pub short-table : (o : Object) (columns : List (List ℕ)) → o.kind ≡ Table columns → object_fits o ≡ true → is_short o ≡ true
 short-table o columns is fits =
     let limits = rw is at fits in
-    let named = and_parts (nat_lt o.stamp (2 ^ 32)) (nat_lt o.owner (2 ^ 32) && (is_name o.name && (is_one_to_fifteen (length columns) && list_all is_name columns))) limits in
-    let name = and_parts (nat_lt o.owner (2 ^ 32)) (is_name o.name && (is_one_to_fifteen (length columns) && list_all is_name columns)) named.1 in
-    let shown = and_parts (is_name o.name) (is_one_to_fifteen (length columns) && list_all is_name columns) name.1 in
-    let counted_list = and_parts (is_one_to_fifteen (length columns)) (list_all is_name columns) shown.1 in
+    let named = and_parts (nat_lt o.stamp (2 ^ 32)) (nat_lt o.owner (2 ^ 32) && (is_name o.name && (is_count_of_columns (length columns) && list_all is_name columns))) limits in
+    let name = and_parts (nat_lt o.owner (2 ^ 32)) (is_name o.name && (is_count_of_columns (length columns) && list_all is_name columns)) named.1 in
+    let shown = and_parts (is_name o.name) (is_count_of_columns (length columns) && list_all is_name columns) name.1 in
+    let counted_list = and_parts (is_count_of_columns (length columns)) (list_all is_name columns) shown.1 in
     let few = leb-true (length columns) 15 (and_parts (nat_le 1 (length columns)) (nat_le (length columns) 15) counted_list.0).1 in
     let a = name-size o.name shown.0 in
     let b = names-size columns counted_list.1 in
@@ -70,7 +70,7 @@ pub storable-row : (r : RowRecord) → row_record.fits r ≡ true → is_storabl
 storable-row r fits =
     let named = and_parts (nat_lt r.stamp (2 ^ 32)) (nat_lt r.table (2 ^ 32) && is_row r.row) fits in
     let values = and_parts (nat_lt r.table (2 ^ 32)) (is_row r.row) named.1 in
-    let wide = and_parts (is_one_to_fifteen (length r.row) && list_all is_narrow r.row) (nat_le (row_size r.row) 1020) values.1 in
+    let wide = and_parts (is_count_of_columns (length r.row) && list_all is_narrow r.row) (nat_le (row_size r.row) 1020) values.1 in
     let few = leb-true (row_size r.row) 1020 wide.1 in
     let size = row_size-spelled r.row in
     and_from (nat_le 1 (length (row_record.spell r))) (nat_le (length (row_record.spell r)) 1029) (le-leb 1 (length (row_record.spell r)) (omega arith)) (le-leb (length (row_record.spell r)) 1029 (omega arith))

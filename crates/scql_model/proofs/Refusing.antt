@@ -19,7 +19,8 @@ use Rattle.scql_model.specs.Rules.{user_named, user_stamped}
 use Rattle.scql_model.specs.Machine.{Machine, Session, Reading, Transaction, open_channels, base, actor, session_of, no_reading}
 use Rattle.scql_model.specs.Sessions.{changing_session, command_chain, cursor_of, reading_of, reading_so, without_chain, user_of, is_channel_open, least_closed, without_user}
 use Rattle.scql_model.specs.Transactions.{own_transaction, waits, is_kept_waiting}
-use Rattle.scql_model.specs.Operations.{Line, kind_of}
+use Rattle.scql_base.specs.declared.operation.Line.{Line}
+use Rattle.scql_model.specs.Operations.{kind_of}
 use Rattle.scql_model.specs.Form.{Form, refused, refused_on, part_on, a_command, form_of}
 use Rattle.scql_model.specs.Objects.{StampedRow}
 use Rattle.scql_model.specs.ReadingCommands.{ReadingCommand, declare, open_cursor, next, fetch, fetch_next, get_response, reading_command, Move, or_stays, rest_word, fitting, row_octets, named_among}

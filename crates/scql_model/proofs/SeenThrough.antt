@@ -10,11 +10,11 @@ use Rattle.scql_base.specs.declared.condition.Condition.{Condition}
 use Rattle.scql_base.specs.declared.records.Object.{Object}
 use Rattle.scql_base.specs.declared.records.ObjectKind.{ObjectKind}
 use Rattle.scql_base.specs.declared.records.ObjectKind.TheVariants.{Table, View, Dictionary}
-use Rattle.scql_model.specs.Database.{Database, are_among, object_stamped}
+use Rattle.scql_model.specs.Database.{Database, are_among, object_stamped, are_named_among}
 use Rattle.scql_model.specs.Matching.{Columns, Values, value_of, matches}
 use Rattle.scql_model.specs.Objects.{StampedRow, columns_of, depth_over, depth_below, depth_of}
 use Rattle.scql_model.specs.Contents.{Contents, cut_to, narrowed, contents_in, contents_below, contents_of}
-use Rattle.scql_model.specs.Resolving.{Resolved, resolved_over, resolved_below, resolved_of, passes_filters, rows_of_table, are_named_among, IsSeenThrough, names_its_base}
+use Rattle.scql_model.specs.Resolving.{Resolved, resolved_over, resolved_below, resolved_of, passes_filters, rows_of_table, IsSeenThrough, names_its_base}
 use Rattle.scql_model.proofs.LongerLists.{find-all}
 use Rattle.scql_model.proofs.Depths.{some-map}
 

@@ -1,5 +1,5 @@
 -- A database of users alone is valid exactly where its counter and its users pass the test of them.
-use Rattle.std.proofs.Common.{◌≡◌, ℕ, ◌≤◌, Bool, true, false, not, ◌&&◌, List, [], ◌∷◌, ◌++◌, length, map, filter, refl, sym, ap, ◌∙◌, inl, inr, arith}
+use Rattle.std.proofs.Common.{◌≡◌, ◌||◌, ◌==◌, ℕ, ◌≤◌, Bool, true, false, not, ◌&&◌, List, [], ◌∷◌, ◌++◌, length, map, filter, refl, sym, ap, ◌∙◌, inl, inr, arith}
 use Rattle.std.specs.Prelude.{nat_le}
 use Rattle.std.specs.List.{list_all, list_any}
 use Rattle.std.specs.Str.{bytes_eq}
@@ -12,6 +12,7 @@ use Rattle.eeprom.proofs.InOrder.{AreApart-rising}
 use Rattle.scql_base.specs.declared.words.Profile.{Profile}
 use Rattle.scql_base.specs.declared.words.Profile.TheVariants.{DbO, Dboo, Dbbu}
 use Rattle.scql_base.specs.Name.{is_name}
+use Rattle.scql_base.specs.declared.row.TheConstants.Row.{LARGEST, LARGEST_UNMIGRATED}
 use Rattle.scql_base.specs.declared.records.User.{User}
 use Rattle.scql_model.specs.Records.{counter_record, user_record, is_secret}
 use Rattle.scql_model.specs.Stored.{IsStored, is_storable, is_given_out}
@@ -76,9 +77,9 @@ owner_alone-is (u ∷ []) is = ap (λ (v : User). v ∷ []) (owner-is u is)
 owner_alone-is (u ∷ v ∷ users) is = absurd (false≢true is)
 
 -- users alone are stored, where they have room and their stamps rise
-stored-users : (cells next : ℕ) (users : List User) → weight (of_users cells next users) ≤ cells → list_all (λ (u : User). is_storable (stored_user u)) users ≡ true
-    → list_all (λ (u : User). is_given_out next (stored_user u)) users ≡ true → Rises stamp_of users → IsStored cells (counter_cells (of_users cells next users)) next (records_of (of_users cells next users))
-stored-users cells next users room sizes given rises = record {
+stored-users : (cells limit next : ℕ) (users : List User) → weight (of_users cells limit next users) ≤ cells → list_all (λ (u : User). is_storable (stored_user u)) users ≡ true
+    → list_all (λ (u : User). is_given_out next (stored_user u)) users ≡ true → Rises stamp_of users → IsStored cells (counter_cells (of_users cells limit next users)) next (records_of (of_users cells limit next users))
+stored-users cells limit next users room sizes given rises = record {
   room = room;
   lengths = rw (append-nil (map stored_user users)) (list_all-map is_storable stored_user users ∙ sizes);
   stamped = rw (append-nil (map stored_user users)) (list_all-map (is_given_out next) stored_user users ∙ given);
@@ -86,19 +87,19 @@ stored-users cells next users room sizes given rises = record {
 }
 
 -- Users that pass the test, with room for their records, make a valid database.
-pub IsValid-of_users : (cells next : ℕ) (users : List User) → 16 ≤ cells → cells ≤ 2048 → weight (of_users cells next users) ≤ cells → counter_record.fits next ≡ true → list_all user_record.fits users ≡ true
-    → Rises stamp_of users → are_valid_users next users ≡ true → IsValid (of_users cells next users)
-IsValid-of_users cells next users few many room counter limits rises valid =
+pub IsValid-of_users : (cells limit next : ℕ) (users : List User) → (limit == LARGEST_UNMIGRATED || limit == LARGEST) ≡ true → 16 ≤ cells → cells ≤ 2048 → weight (of_users cells limit next users) ≤ cells → counter_record.fits next ≡ true → list_all user_record.fits users ≡ true
+    → Rises stamp_of users → are_valid_users next users ≡ true → IsValid (of_users cells limit next users)
+IsValid-of_users cells limit next users one few many room counter limits rises valid =
     let names = and_parts (nat_le 2 next && is_owner_alone (filter is_db_o users) && list_all (is_valid_user next users) users) (are_different (map (λ (u : User). u.name) users)) valid in
     let each = and_parts (nat_le 2 next && is_owner_alone (filter is_db_o users)) (list_all (is_valid_user next users) users) names.0 in
     let first = and_parts (nat_le 2 next) (is_owner_alone (filter is_db_o users)) each.0 in
     let rule = all-weaker (is_valid_user next users) in
     record {
       cells = (few, many);
-      limit = refl;
+      limit = one;
       next = leb-true 2 next first.0;
       counter = counter;
-      stored = stored-users cells next users room (all-weaker user_record.fits (λ (u : User). is_storable (stored_user u)) users storable-fitting limits)
+      stored = stored-users cells limit next users room (all-weaker user_record.fits (λ (u : User). is_storable (stored_user u)) users storable-fitting limits)
           (rule (λ (u : User). is_given_out next (stored_user u)) users (λ u h. grind (arith, and_parts)) each.1) rises;
       users = record {
         rises = rises;

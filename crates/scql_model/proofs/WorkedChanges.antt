@@ -30,7 +30,7 @@ use Rattle.scql_model.specs.Granting.{privileges_granted, privileges_revoked}
 use Rattle.scql_model.specs.Writing.{row_inserted, row_updated, row_deleted}
 use Rattle.scql_model.specs.Users.{user_added, user_deleted}
 use Rattle.scql_model.specs.Machine.{Transaction}
-use Rattle.scql_model.specs.Edits.{Edit, octets_for}
+use Rattle.scql_model.specs.Edits.{Edit, octets_for, applied}
 use Rattle.scql_model.specs.Changing.{edits_of, change_of, transaction_after}
 
 -- the edits of a command and what it does, with all definitions open
@@ -615,7 +615,7 @@ abbrev on_with : Option Cursor → Operation → Result Transaction StatusWord �
 on_with cursor operation transaction = do
   t ← transaction
   edits ← edits_by the_owner cursor operation t.working
-  Ok (transaction_after card t edits)
+  Ok (transaction_after card t edits (applied t.working edits))
 
 abbrev at_row : ℕ → Operation → Result Transaction StatusWord → Result Transaction StatusWord
 at_row stamp operation transaction = on_with (cursor_on 2 (At stamp)) operation transaction

@@ -4,7 +4,7 @@ use Rattle.std.specs.Prelude.{codes}
 use Rattle.hex.specs.Hex.{decode_of, encode_upper}
 use Rattle.hex.proofs.OnLiterals.{hex_on_literals}
 use Rattle.scql_base.specs.Strings.{params_of, pieces_of}
-use Rattle.scql_model.specs.Commands.{Reply}
+use Rattle.scql_model.specs.Replies.{Reply}
 use Rattle.scql_model.specs.Rights.{holds, appears}
 use Rattle.scql_model.specs.Objects.{depth_of}
 use Rattle.scql_model.specs.Contents.{contents_of}

@@ -17,7 +17,7 @@ use Rattle.scql_base.specs.declared.records.ObjectKind.TheVariants.{Table, View,
 use Rattle.scql_base.specs.declared.records.Grant.{Grant}
 use Rattle.scql_base.specs.declared.records.RowRecord.{RowRecord}
 use Rattle.scql_base.specs.Strings.{spelled}
-use Rattle.scql_model.specs.Commands.{Reply}
+use Rattle.scql_model.specs.Replies.{Reply}
 use Rattle.scql_model.specs.Database.{Database, are_among, owner}
 use Rattle.scql_model.specs.Machine.{Reading, no_reading}
 use Rattle.scql_model.specs.Lines.{reply_octets}

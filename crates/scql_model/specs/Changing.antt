@@ -1,18 +1,17 @@
 -- What a changing command does to a database: its edits, and the new database or the first refusal that applies.
-use Rattle.std.specs.Prelude.{◌==◌, ◌&&◌, ◌||◌, Bool, true, false, List, Option, Result, Ok, Err, if◌then◌else◌}
-use Rattle.std.specs.List.{list_any}
+use Rattle.std.specs.Prelude.{List, Option, Result, Err}
 use Rattle.scql_base.specs.declared.words.Actor.{Actor}
 use Rattle.scql_base.specs.declared.words.StatusWord.{StatusWord}
 use Rattle.scql_base.specs.declared.cursor.Cursor.{Cursor}
 use Rattle.scql_base.specs.declared.records.ObjectKind.TheVariants.{Table, Dictionary}
 use Rattle.scql_base.specs.declared.operation.Operation.{Operation}
 use Rattle.scql_base.specs.declared.operation.Operation.TheVariants.{CreateTable, CreateView, CreateDictionary, DropTable, DropView, Grant, Revoke, Insert, Update, Delete, CreateUser, DeleteUser}
-use Rattle.scql_base.specs.Words.{no_space, instruction_not_supported}
+use Rattle.scql_base.specs.Words.{instruction_not_supported}
 use Rattle.scql_model.specs.Database.{Database}
 use Rattle.scql_model.specs.Machine.{Transaction}
-use Rattle.scql_model.specs.Creating.{stamps_end, is_overfull}
 use Rattle.scql_model.specs.Refusals.{◌>>=◌}
-use Rattle.scql_model.specs.Edits.{AnyRecord, of_counter, Edit, applied, touched_after}
+use Rattle.scql_model.specs.Edits.{Edit, touched_after}
+pub use Rattle.scql_model.specs.Edits.{is_counter, takes_stamp, lacks_room, with_edits}
 use Rattle.scql_model.specs.Defining.{object_created, view_created, table_dropped, view_dropped}
 use Rattle.scql_model.specs.Granting.{privileges_granted, privileges_revoked}
 use Rattle.scql_model.specs.Writing.{row_inserted, row_updated, row_deleted}
@@ -35,29 +34,12 @@ edits_of db actor cursor (CreateUser name profile secret) = user_added db actor 
 edits_of db actor cursor (DeleteUser name) = user_deleted db actor name
 edits_of db actor cursor operation = Err instruction_not_supported
 
--- a stamp is taken where the counter is changed
-abbrev pub is_counter : AnyRecord → Bool
-is_counter (of_counter next) = true
-is_counter r = false
-
-abbrev pub takes_stamp : List Edit → Bool
-takes_stamp edits = list_any (λ (e : Edit). is_counter e.entry) edits
-
--- no stamp is left that is to be taken, or the records would take more cells than the card has
-abbrev pub lacks_room : Database → List Edit → Bool
-lacks_room db edits = takes_stamp edits && db.next == stamps_end || is_overfull (applied db edits)
-
--- the database with the edits, where there is room for them
-abbrev pub with_edits : Database → List Edit → Result Database StatusWord
-with_edits db edits = if lacks_room db edits then Err no_space else Ok (applied db edits)
-
 -- The new database, or the first refusal that applies.
 unfoldable pub change_of : Database → Actor → Option Cursor → Operation → Result Database StatusWord
 change_of db actor cursor operation = do
   edits ← edits_of db actor cursor operation
   with_edits db edits
 
--- A transaction after further edits: its working database has them, and the records that they touch are touched.
-abbrev pub transaction_after : Database → Transaction → List Edit → Transaction
-transaction_after committed t edits =
-    record t { working = applied t.working edits; touched = touched_after committed (applied t.working edits) t.touched edits }
+-- A transaction after further edits, which made this database of its working one: the records that they touch are touched.
+abbrev pub transaction_after : Database → Transaction → List Edit → Database → Transaction
+transaction_after committed t edits db = record t { working = db; touched = touched_after committed db t.touched edits }

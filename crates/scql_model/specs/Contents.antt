@@ -1,11 +1,11 @@
 -- The contents of tables, views and dictionaries: columns, and rows in rising order of their stamps.
-use Rattle.std.specs.Prelude.{ℕ, zero, suc, ◌+◌, ◌==◌, List, [], map, filter, Option, Some, None}
+use Rattle.std.specs.Prelude.{ℕ, zero, suc, ◌+◌, List, [], map, filter, Option, Some, None}
 use Rattle.scql_base.specs.declared.condition.Condition.{Condition}
 use Rattle.scql_base.specs.declared.records.Object.{Object}
 use Rattle.scql_base.specs.declared.records.ObjectKind.{ObjectKind}
 use Rattle.scql_base.specs.declared.records.ObjectKind.TheVariants.{Table, View, Dictionary}
 use Rattle.scql_base.specs.declared.records.RowRecord.{RowRecord}
-use Rattle.scql_model.specs.Database.{Database, object_stamped}
+use Rattle.scql_model.specs.Database.{Database, object_stamped, rows_of}
 use Rattle.scql_model.specs.Objects.{StampedRow, columns_of, deepest}
 use Rattle.scql_model.specs.Matching.{Columns, Values, value_of, matches}
 use Rattle.scql_model.specs.Dictionaries.{rows_told}
@@ -33,7 +33,7 @@ narrowed columns conditions base =
 
 -- the rows of an object, by the contents of those on which it may rest
 abbrev pub rows_in : (ℕ → Contents) → Database → Object → ObjectKind → List StampedRow
-rows_in contents db o (Table columns) = map of_table (filter (λ (r : RowRecord). r.table == o.stamp) db.rows)
+rows_in contents db o (Table columns) = map of_table (rows_of o.stamp db.rows)
 rows_in contents db o (View base columns conditions) = narrowed columns conditions (contents base)
 rows_in contents db o (Dictionary subject) = rows_told db o.owner subject
 

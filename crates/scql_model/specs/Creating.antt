@@ -1,19 +1,22 @@
 -- CREATE USER: what it does to a database, or the word that refuses it.
-use Rattle.std.specs.Prelude.{◌≡◌, ℕ, ◌+◌, ◌==◌, nat_lt, not, ◌||◌, Bool, true, false, List, [], ◌∷◌, ◌++◌, length, set, get_or, ◌<◌, Some, None, option_map, Result, Ok, Err, if◌then◌else◌}
+use Rattle.std.specs.Prelude.{◌≡◌, ℕ, ◌==◌, not, ◌||◌, Bool, true, false, List, length, set, get_or, ◌<◌, Some, None, option_map, Result, Err, if◌then◌else◌}
 use Rattle.std.specs.List.{list_any}
 use Rattle.std.specs.Str.{bytes_eq}
+use Rattle.scql_base.specs.declared.records.TheConstants.User.{ALL_TRIES}
 use Rattle.scql_base.specs.declared.words.Actor.{Actor}
 use Rattle.scql_base.specs.declared.words.Actor.TheVariants.{Public, User as a_user}
 use Rattle.scql_base.specs.declared.words.Profile.{Profile}
 use Rattle.scql_base.specs.declared.words.Profile.TheVariants.{DbO, Dboo, Dbbu}
 use Rattle.scql_base.specs.declared.words.StatusWord.{StatusWord}
-use Rattle.scql_base.specs.Words.{security_not_satisfied, no_space, already_exists}
+use Rattle.scql_base.specs.Words.{security_not_satisfied, already_exists}
 use Rattle.eeprom.specs.StoreOf.{Slots}
 use Rattle.eeprom.specs.Slots.{in_slot}
 use Rattle.scql_base.specs.Name.{is_name}
 use Rattle.scql_base.specs.declared.records.User.{User}
 use Rattle.scql_model.specs.Records.{is_secret, counter_record, user_record, counter_in}
-use Rattle.scql_model.specs.Database.{Database, public_name, weight, user_stamped, is_named}
+use Rattle.scql_model.specs.Edits.{of_user, making, applied, with_edits}
+pub use Rattle.scql_model.specs.Edits.{stamps_end, is_overfull}
+use Rattle.scql_model.specs.Database.{Database, public_name, user_stamped, is_named}
 
 -- DB_O makes users, and DBOO makes users of profile DBBU
 abbrev pub may_create : Actor → Profile → Bool
@@ -28,6 +31,11 @@ may_create (a_user stamp Dbbu) profile = false
 abbrev pub actor_stamp : Actor → ℕ
 actor_stamp Public = 0
 actor_stamp (a_user stamp profile) = stamp
+
+-- the owner of this stamp is who acts; PUBLIC owns nothing
+abbrev pub is_owned_by : Actor → ℕ → Bool
+is_owned_by Public owner = false
+is_owned_by (a_user stamp profile) owner = owner == stamp
 
 -- PUBLIC acts, or a user of the database, with the profile that the user has there
 abbrev pub IsActorOf : Database → Actor → Type 0
@@ -48,23 +56,15 @@ is_taken db name = list_any (is_named name) db.users || bytes_eq name public_nam
 -- the user takes the next stamp, is owned by who makes it, and has three tries
 abbrev pub new_user : Database → Actor → List ℕ → Profile → List ℕ → User
 new_user db actor name profile secret =
-    record { stamp = db.next; name = name; profile = profile; owner = actor_stamp actor; secret = secret; tries = 3 }
+    record { stamp = db.next; name = name; profile = profile; owner = actor_stamp actor; secret = secret; tries = ALL_TRIES }
 
 -- the user stands behind all others, and its stamp is taken
 abbrev pub with_user : Database → User → Database
-with_user db u = record db { next = db.next + 1; users = db.users ++ u ∷ [] }
-
--- the last number of four octets is no stamp, so that the next stamp always has a spelling
-abbrev pub stamps_end : ℕ
-stamps_end = 4294967295
-
--- the records take more cells than the card has
-abbrev pub is_overfull : Database → Bool
-is_overfull db = nat_lt db.cells (weight db)
+with_user db u = applied db (making db (of_user u))
 
 -- the database with one user more; refused where no stamp or no room is left
 abbrev pub added : Database → User → Result Database StatusWord
-added db u = if db.next == stamps_end || is_overfull (with_user db u) then Err no_space else Ok (with_user db u)
+added db u = with_edits db (making db (of_user u))
 
 -- CREATE USER: the first refusal that applies, or the new database
 abbrev pub created : Database → Actor → List ℕ → Profile → List ℕ → Result Database StatusWord

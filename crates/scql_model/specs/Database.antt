@@ -1,13 +1,14 @@
 -- A database: its records, what makes it valid, and the one that a card is made with.
 use Rattle.std.specs.Prelude.{◌≡◌, ℕ, ◌+◌, ◌≤◌, ◌==◌, ◌||◌, true, List, [], ◌∷◌, ◌++◌, map}
+use Rattle.scql_base.specs.declared.row.TheConstants.Row.{LARGEST, LARGEST_UNMIGRATED}
 use Rattle.scql_base.specs.declared.records.User.{User}
 use Rattle.scql_base.specs.declared.records.Object.{Object}
 use Rattle.scql_base.specs.declared.records.Grant.{Grant}
 use Rattle.scql_base.specs.declared.records.RowRecord.{RowRecord}
-use Rattle.scql_model.specs.Records.{counter_record, user_record, grant_record, row_record, object_spelling}
+use Rattle.scql_model.specs.Records.{counter_record, AnyRecord, of_user, of_object, of_grant, of_row, record_stamp, record_spelling}
 use Rattle.scql_model.specs.Stored.{StoredRecord, IsStored, cells_for_octets, cells_of_records}
 use Rattle.scql_model.specs.Rules.{AreUsers, AreObjects, AreGrants, AreRows}
-pub use Rattle.scql_model.specs.Rules.{are_different, are_among, owner_name, owner, public_name, user_stamped, is_named, user_named, is_maker, is_db_o, is_made_by_maker, has_maker, has_all_tries, object_stamped, is_table}
+pub use Rattle.scql_model.specs.Rules.{are_different, are_among, owner_name, owner, public_name, user_stamped, is_named, user_named, is_maker, is_db_o, is_made_by_maker, has_maker, has_all_tries, object_stamped, is_table, are_named_among, rows_of}
 
 -- the number of cells of its card, the most octets that a row may have, the stamp that the next record takes, and the records in rising
 -- order of their stamps
@@ -22,20 +23,23 @@ pub record Database : Type 0 where
 
 -- the database with which a card is made: OWNER alone
 abbrev pub fresh : ℕ → Database
-fresh n = record { cells = n; limit = 240; next = 2; users = owner ∷ []; objects = []; grants = []; rows = [] }
+fresh n = record { cells = n; limit = LARGEST_UNMIGRATED; next = 2; users = owner ∷ []; objects = []; grants = []; rows = [] }
 
--- how a record of each kind is stored
+-- how a record is stored
+abbrev pub stored : AnyRecord → StoredRecord
+stored r = record { stamp = record_stamp r; octets = record_spelling r }
+
 abbrev pub stored_user : User → StoredRecord
-stored_user u = record { stamp = u.stamp; octets = user_record.spell u }
+stored_user u = stored (of_user u)
 
 abbrev pub stored_object : Object → StoredRecord
-stored_object o = record { stamp = o.stamp; octets = object_spelling o }
+stored_object o = stored (of_object o)
 
 abbrev pub stored_grant : Grant → StoredRecord
-stored_grant g = record { stamp = g.stamp; octets = grant_record.spell g }
+stored_grant g = stored (of_grant g)
 
 abbrev pub stored_row : RowRecord → StoredRecord
-stored_row r = record { stamp = r.stamp; octets = row_record.spell r }
+stored_row r = stored (of_row r)
 
 -- all records but the counter, and their stamps
 abbrev pub records_of : Database → List StoredRecord
@@ -55,8 +59,8 @@ weight db = counter_cells db + cells_of_records (records_of db)
 pub record IsValid (db : Database) : Type 0 where
   -- a card has 16 to 2,048 cells
   pub cells : (16 ≤ db.cells) × (db.cells ≤ 2048)
-  -- a row has at most 240 octets, or on a migrated card 1,020
-  pub limit : (db.limit == 240 || db.limit == 1020) ≡ true
+  -- the limit of rows is that of a new card, or of a migrated one
+  pub limit : (db.limit == LARGEST_UNMIGRATED || db.limit == LARGEST) ≡ true
   -- the next stamp is at least 2, since OWNER has stamp 1, and a number of four octets
   pub next : 2 ≤ db.next
   pub counter : counter_record.fits db.next ≡ true

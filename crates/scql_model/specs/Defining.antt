@@ -13,7 +13,7 @@ use Rattle.scql_base.specs.declared.records.ObjectKind.TheVariants.{View, Dictio
 use Rattle.scql_base.specs.declared.records.Grant.{Grant}
 use Rattle.scql_base.specs.declared.records.RowRecord.{RowRecord}
 use Rattle.scql_base.specs.Words.{security_not_satisfied, conditions_not_satisfied, not_found, already_exists}
-use Rattle.scql_model.specs.Database.{Database, is_maker, is_table}
+use Rattle.scql_model.specs.Database.{Database, is_maker, is_table, rows_of}
 use Rattle.scql_model.specs.Creating.{actor_stamp}
 use Rattle.scql_model.specs.Matching.{Columns}
 use Rattle.scql_model.specs.Objects.{columns_of}
@@ -84,7 +84,7 @@ removing_object db o = removing (of_object o) ∷ map (λ (g : Grant). removing 
 
 -- the rows of a table go
 abbrev pub removing_rows : Database → Object → List Edit
-removing_rows db o = map (λ (r : RowRecord). removing (of_row r)) (filter (λ (r : RowRecord). r.table == o.stamp) db.rows)
+removing_rows db o = map (λ (r : RowRecord). removing (of_row r)) (rows_of o.stamp db.rows)
 
 -- DROP TABLE
 unfoldable pub table_dropped : Database → Actor → List ℕ → Result (List Edit) StatusWord

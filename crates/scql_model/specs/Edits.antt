@@ -1,41 +1,20 @@
 -- Edits of a database: records are added, changed and removed, the counter among them.
-use Rattle.std.specs.Prelude.{ℕ, ◌+◌, ◌*◌, ◌==◌, not, ◌||◌, Bool, List, [], ◌∷◌, ◌++◌, length, map, filter}
+use Rattle.std.specs.Prelude.{ℕ, ◌+◌, ◌*◌, ◌==◌, not, ◌||◌, Bool, List, [], ◌∷◌, ◌++◌, length, map, filter, nat_lt, ◌&&◌, true, false, Result, Ok, Err, if◌then◌else◌}
 use Rattle.std.specs.List.{list_any, sum_by}
-use Rattle.eeprom.specs.StoreOf.{cells_for}
 use Rattle.eeprom.specs.Slots.{replaced, without}
 use Rattle.scql_base.specs.declared.records.User.{User}
 use Rattle.scql_base.specs.declared.records.Object.{Object}
 use Rattle.scql_base.specs.declared.records.Grant.{Grant}
 use Rattle.scql_base.specs.declared.records.RowRecord.{RowRecord}
-use Rattle.scql_model.specs.Records.{counter_record, user_record, object_spelling, grant_record, row_record}
-use Rattle.scql_model.specs.Database.{Database, stamps}
+use Rattle.scql_base.specs.declared.words.StatusWord.{StatusWord}
+use Rattle.scql_base.specs.Words.{no_space}
+pub use Rattle.scql_model.specs.Records.{AnyRecord, of_counter, of_user, of_object, of_grant, of_row, record_stamp, record_spelling}
+use Rattle.scql_model.specs.Stored.{cells_for_octets}
+use Rattle.scql_model.specs.Database.{Database, stamps, weight}
 
--- a record of any kind: that of the counter, which has the next stamp, or of a user, an object, a grant or a row
-pub data AnyRecord : Type 0 where
-  of_counter : ℕ → AnyRecord
-  of_user : User → AnyRecord
-  of_object : Object → AnyRecord
-  of_grant : Grant → AnyRecord
-  of_row : RowRecord → AnyRecord
-
--- a record is named by its stamp, and the counter by 0
-abbrev pub record_stamp : AnyRecord → ℕ
-record_stamp (of_counter next) = 0
-record_stamp (of_user u) = u.stamp
-record_stamp (of_object o) = o.stamp
-record_stamp (of_grant g) = g.stamp
-record_stamp (of_row r) = r.stamp
-
--- how a record is spelled, and how many cells it takes
-abbrev pub record_spelling : AnyRecord → List ℕ
-record_spelling (of_counter next) = counter_record.spell next
-record_spelling (of_user u) = user_record.spell u
-record_spelling (of_object o) = object_spelling o
-record_spelling (of_grant g) = grant_record.spell g
-record_spelling (of_row r) = row_record.spell r
-
+-- how many cells a record takes
 abbrev pub cells_of_record : AnyRecord → ℕ
-cells_of_record r = cells_for (length (record_spelling r))
+cells_of_record r = cells_for_octets (record_spelling r)
 
 -- A record is added behind all others of its kind, it takes the place of the one that has its stamp, or it is removed.
 pub data Action : Type 0 where
@@ -117,3 +96,29 @@ joined before more = before ++ filter (λ stamp. not (list_any (λ other. stamp 
 abbrev pub touched_after : Database → Database → List ℕ → List Edit → List ℕ
 touched_after committed working before edits =
     filter (λ stamp. has_record committed stamp || has_record working stamp) (joined before (touched edits))
+
+-- Where there is room for edits.
+
+-- the last number of four octets is no stamp, so that the next stamp always has a spelling
+abbrev pub stamps_end : ℕ
+stamps_end = 4294967295
+
+-- the records take more cells than the card has
+abbrev pub is_overfull : Database → Bool
+is_overfull db = nat_lt db.cells (weight db)
+
+-- a stamp is taken where the counter is changed
+abbrev pub is_counter : AnyRecord → Bool
+is_counter (of_counter next) = true
+is_counter r = false
+
+abbrev pub takes_stamp : List Edit → Bool
+takes_stamp edits = list_any (λ (e : Edit). is_counter e.entry) edits
+
+-- no stamp is left that is to be taken, or the records would take more cells than the card has
+abbrev pub lacks_room : Database → List Edit → Bool
+lacks_room db edits = takes_stamp edits && db.next == stamps_end || is_overfull (applied db edits)
+
+-- the database with the edits, where there is room for them
+abbrev pub with_edits : Database → List Edit → Result Database StatusWord
+with_edits db edits = if lacks_room db edits then Err no_space else Ok (applied db edits)

@@ -2,13 +2,17 @@
 use Rattle.std.specs.Prelude.{ℕ, ◌+◌, ◌/◌, ◌%◌, ◌==◌, not, ◌&&◌, ◌||◌, Bool, false, List, [], ◌∷◌, ◌++◌, length, take, Option, Some, None, is_some, Result, Ok, Err, slice_get, slice_index, unwrap_or, if◌then◌else◌}
 use Rattle.std.specs.List.{concat}
 use Rattle.std.specs.Option.{is_none}
+use Rattle.scql_base.specs.declared.operation.TheConstants.Command.{MOST_PARTS, LARGEST_LE}
 use Rattle.scql_base.specs.declared.words.StatusWord.{StatusWord}
 use Rattle.scql_base.specs.declared.operation.Command.{Command}
+use Rattle.scql_base.specs.declared.operation.Line.{Line}
 use Rattle.scql_base.specs.declared.operation.OperationKind.{OperationKind}
+use Rattle.scql_base.specs.declared.operation.Takes.{Takes}
+use Rattle.scql_base.specs.declared.operation.Takes.TheVariants.{Nothing, DataField, LeAlone}
 use Rattle.scql_base.specs.Words.{wrong_length, class_not_supported, secure_messaging_not_supported, chaining_not_supported, instruction_not_supported, channel_not_supported, wrong_parameters, wrong_data}
 use Rattle.scql_model.specs.Refusals.{◌>>=◌, or_refused, provided}
 use Rattle.scql_model.specs.Machine.{Chain}
-use Rattle.scql_model.specs.Operations.{Takes, nothing, a_data_field, le_alone, Line, has_instruction, has_secrets, line_of, is_for_channel, goes_on, comes_in_parts}
+use Rattle.scql_model.specs.Operations.{has_instruction, has_secrets, line_of, is_for_channel, goes_on, comes_in_parts}
 use Rattle.scql_model.specs.Parameters.{operation_in}
 
 -- The first interindustry class, without secure messaging: bits b8 b7 b6, then b4 b3 of CLA are 0.
@@ -38,7 +42,7 @@ pub record Tail : Type 0 where
 
 -- Le in one octet is 1 to 256, 256 being 00
 abbrev pub le_of : ℕ → ℕ
-le_of octet = if octet == 0 then 256 else octet
+le_of octet = if octet == 0 then LARGEST_LE else octet
 
 -- Lc octets of data, and nothing or Le behind them
 abbrev pub data_of : ℕ → List ℕ → Option Tail
@@ -55,9 +59,9 @@ tail_of (lc ∷ x ∷ rest) = if lc == 0 then None else data_of lc (x ∷ rest)
 
 -- the cases that an operation takes
 abbrev pub takes_case : Takes → Tail → Bool
-takes_case nothing tail = is_none tail.body
-takes_case a_data_field tail = is_some tail.body
-takes_case le_alone tail = is_none tail.body && is_some tail.le
+takes_case Nothing tail = is_none tail.body
+takes_case DataField tail = is_some tail.body
+takes_case LeAlone tail = is_none tail.body && is_some tail.le
 
 -- case 3: data without Le
 abbrev pub is_case_3 : Tail → Bool
@@ -92,11 +96,11 @@ abbrev pub formed : Result ℕ StatusWord → (ℕ → Result Form StatusWord) �
 formed (Err word) on_channel = refused word
 formed (Ok channel) on_channel = formed_on channel (on_channel channel)
 
--- A part: INSERT and UPDATE have at most four before the last.
+-- A part: INSERT and UPDATE have at most so many before the last.
 abbrev pub part_in : ℕ → OperationKind → List (List ℕ) → Tail → Result Form StatusWord
 part_in channel kind parts tail = do
   _ ← provided (comes_in_parts kind) chaining_not_supported
-  _ ← provided (not (length parts == 4)) wrong_length
+  _ ← provided (not (length parts == MOST_PARTS)) wrong_length
   Ok (part_on channel kind (data_in tail))
 
 -- A command: its data field is that of the parts so far and its own, joined.

@@ -1,6 +1,5 @@
 pub mod Accepting
 pub mod Changing
-pub mod Commands
 pub mod Contents
 pub mod Creating
 pub mod Database
@@ -24,6 +23,7 @@ pub mod ReadingLaws
 pub mod Reads
 pub mod Records
 pub mod Refusals
+pub mod Replies
 pub mod Resolving
 pub mod Rights
 pub mod Rules

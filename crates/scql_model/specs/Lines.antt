@@ -5,7 +5,7 @@ use Rattle.std.specs.Str.{bytes_eq}
 use Rattle.hex.specs.Hex.{decode_of, encode_upper}
 use Rattle.scql_model.specs.Database.{Database}
 use Rattle.scql_model.specs.Machine.{Machine, reset}
-use Rattle.scql_model.specs.Commands.{Reply}
+use Rattle.scql_model.specs.Replies.{Reply}
 use Rattle.scql_model.specs.Step.{step}
 
 -- Input is cut at each line feed. What stands behind the last one is a line where the input has ended and it has an octet.

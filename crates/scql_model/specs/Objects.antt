@@ -25,6 +25,10 @@ columns_of (Table columns) = columns
 columns_of (View base columns conditions) = columns
 columns_of (Dictionary subject) = dictionary_columns subject
 
+-- the object of a stamp
+abbrev pub object_stamped : List Object → ℕ → Option Object
+object_stamped objects stamp = find (λ (o : Object). o.stamp == stamp) objects
+
 -- a table stands at depth 0, and a view one deeper than its base; nothing rests on a dictionary
 abbrev pub depth_over : (ℕ → Option ℕ) → ObjectKind → Option ℕ
 depth_over depth (Table columns) = Some 0
@@ -34,7 +38,7 @@ depth_over depth (Dictionary subject) = None
 -- the depth of the object of a stamp, where that is below a number
 abbrev pub depth_below : ℕ → List Object → ℕ → Option ℕ
 depth_below zero objects stamp = None
-depth_below (suc n) objects stamp = option_and_then (λ (o : Object). depth_over (depth_below n objects) o.kind) (find (λ (o : Object). o.stamp == stamp) objects)
+depth_below (suc n) objects stamp = option_and_then (λ (o : Object). depth_over (depth_below n objects) o.kind) (object_stamped objects stamp)
 
 -- a view stands at most so deep
 abbrev pub deepest : ℕ

@@ -1,7 +1,7 @@
 -- The database to which an image opens.
 use Rattle.std.specs.Prelude.{◌≡◌, ◌⊎◌, ℕ, ◌||◌, Bool, true, List, [], ◌∷◌, length, Option, Some, None, is_some}
 use Rattle.std.specs.List.{list_all}
-use Rattle.eeprom.specs.StoreOf.{Slots, store_of}
+use Rattle.eeprom.specs.StoreOf.{Slots, Stored, store_of}
 use Rattle.eeprom.specs.Slots.{kept}
 use Rattle.scql_base.specs.declared.records.User.{User}
 use Rattle.scql_model.specs.Records.{counter_in, user_in}
@@ -19,8 +19,6 @@ counter_stamp next = 0
 -- The database's records are those in the slots: of each kind those that its reader gives, in rising order of their stamps.
 pub record Holds (slots : Slots) (db : Database) : Type 0 where
   pub cells : length slots ≡ db.cells
-  -- cards with longer rows aren't read yet
-  pub limit : db.limit ≡ 240
   pub spelled : list_all is_spelled slots ≡ true
   pub counter : kept counter_stamp counter_in slots ≡ db.next ∷ []
   pub users : kept (λ (u : User). u.stamp) user_in slots ≡ db.users
@@ -29,11 +27,12 @@ pub record Holds (slots : Slots) (db : Database) : Type 0 where
   pub grants : db.grants ≡ []
   pub rows : db.rows ≡ []
 
--- The image has a store whose slots hold a valid database.
+-- The image has a store whose slots hold a valid database with its row limit.
 pub record Opens (image : List ℕ) (db : Database) : Type 0 where
-  pub slots : Slots
-  pub stored : store_of image ≡ Some slots
-  pub holds : Holds slots db
+  pub store : Stored
+  pub stored : store_of image ≡ Some store
+  pub limit : db.limit ≡ store.row_limit
+  pub holds : Holds store.slots db
   pub valid : IsValid db
 
 -- The image opens to one of these databases.

@@ -1,25 +1,13 @@
 -- The table of operations: which INS, P1 and P2 ask for which (ISO/IEC 7816-7 for those of SCQL, ISO/IEC 7816-4 for VERIFY, MANAGE CHANNEL and GET RESPONSE).
-use Rattle.std.specs.Prelude.{ℕ, ◌==◌, not, ◌&&◌, Bool, true, false, List, [], ◌∷◌, filter, Option}
-use Rattle.std.specs.List.{list_any, find}
+use Rattle.std.specs.Prelude.{ℕ, ◌==◌, not, ◌&&◌, Bool, true, false, List, [], ◌∷◌, map, filter, Option}
+use Rattle.std.specs.List.{list_any, find, Contains}
 use Rattle.scql_base.specs.declared.operation.Operation.{Operation}
 use Rattle.scql_base.specs.declared.operation.Operation.TheVariants as operation
+use Rattle.scql_base.specs.declared.operation.Line.{Line}
+use Rattle.scql_base.specs.declared.operation.Takes.{Takes}
+use Rattle.scql_base.specs.declared.operation.Takes.TheVariants.{Nothing, DataField, LeAlone}
 use Rattle.scql_base.specs.declared.operation.OperationKind.{OperationKind}
 use Rattle.scql_base.specs.declared.operation.OperationKind.TheVariants.{CreateTable, CreateView, CreateDictionary, DropTable, DropView, Grant, Revoke, DeclareCursor, OpenCursor, Next, Fetch, FetchNext, Insert, Update, Delete, Begin, Commit, Rollback, PresentUser, CreateUser, DeleteUser, Verify, OpenChannel, CloseChannel, GetResponse}
-
--- What a command of an operation has behind P2: no data field (case 1 or 2), a data field (case 3 or 4), or Le alone (case 2).
-pub data Takes : Type 0 where
-  nothing : Takes
-  a_data_field : Takes
-  le_alone : Takes
-
--- an operation, the INS, P1 and P2 that ask for it, what it takes, and whether it is built
-pub record Line : Type 0 where
-  pub ins : ℕ
-  pub p1 : ℕ
-  pub p2 : ℕ
-  pub kind : OperationKind
-  pub takes : Takes
-  pub is_built : Bool
 
 -- a line, and one of an operation that is built or isn't yet
 abbrev line : Bool → ℕ → ℕ → ℕ → OperationKind → Takes → Line
@@ -34,37 +22,37 @@ planned = line false
 -- all operations; the number of a channel to open or to close is P2
 abbrev pub operations : List Line
 operations =
-    planned 0x10 0x00 0x80 CreateTable a_data_field
-    ∷ planned 0x10 0x00 0x81 CreateView a_data_field
-    ∷ planned 0x10 0x00 0x82 CreateDictionary a_data_field
-    ∷ planned 0x10 0x00 0x83 DropTable a_data_field
-    ∷ planned 0x10 0x00 0x84 DropView a_data_field
-    ∷ planned 0x10 0x00 0x85 Grant a_data_field
-    ∷ planned 0x10 0x00 0x86 Revoke a_data_field
-    ∷ planned 0x10 0x00 0x87 DeclareCursor a_data_field
-    ∷ planned 0x10 0x00 0x88 OpenCursor nothing
-    ∷ planned 0x10 0x00 0x89 Next nothing
-    ∷ planned 0x10 0x00 0x8A Fetch le_alone
-    ∷ planned 0x10 0x00 0x8B FetchNext le_alone
-    ∷ planned 0x10 0x00 0x8C Insert a_data_field
-    ∷ planned 0x10 0x00 0x8D Update a_data_field
-    ∷ planned 0x10 0x00 0x8E Delete nothing
-    ∷ planned 0x12 0x00 0x80 Begin nothing
-    ∷ planned 0x12 0x00 0x81 Commit nothing
-    ∷ planned 0x12 0x00 0x82 Rollback nothing
-    ∷ built 0x14 0x00 0x80 PresentUser a_data_field
-    ∷ built 0x14 0x00 0x81 CreateUser a_data_field
-    ∷ planned 0x14 0x00 0x82 DeleteUser a_data_field
-    ∷ planned 0x20 0x00 0x00 Verify a_data_field
-    ∷ planned 0x70 0x00 0x00 (OpenChannel 0) le_alone
-    ∷ planned 0x70 0x00 0x01 (OpenChannel 1) nothing
-    ∷ planned 0x70 0x00 0x02 (OpenChannel 2) nothing
-    ∷ planned 0x70 0x00 0x03 (OpenChannel 3) nothing
-    ∷ planned 0x70 0x80 0x00 (CloseChannel 0) nothing
-    ∷ planned 0x70 0x80 0x01 (CloseChannel 1) nothing
-    ∷ planned 0x70 0x80 0x02 (CloseChannel 2) nothing
-    ∷ planned 0x70 0x80 0x03 (CloseChannel 3) nothing
-    ∷ planned 0xC0 0x00 0x00 GetResponse le_alone
+    planned 0x10 0x00 0x80 CreateTable DataField
+    ∷ planned 0x10 0x00 0x81 CreateView DataField
+    ∷ planned 0x10 0x00 0x82 CreateDictionary DataField
+    ∷ planned 0x10 0x00 0x83 DropTable DataField
+    ∷ planned 0x10 0x00 0x84 DropView DataField
+    ∷ planned 0x10 0x00 0x85 Grant DataField
+    ∷ planned 0x10 0x00 0x86 Revoke DataField
+    ∷ planned 0x10 0x00 0x87 DeclareCursor DataField
+    ∷ planned 0x10 0x00 0x88 OpenCursor Nothing
+    ∷ planned 0x10 0x00 0x89 Next Nothing
+    ∷ planned 0x10 0x00 0x8A Fetch LeAlone
+    ∷ planned 0x10 0x00 0x8B FetchNext LeAlone
+    ∷ planned 0x10 0x00 0x8C Insert DataField
+    ∷ planned 0x10 0x00 0x8D Update DataField
+    ∷ planned 0x10 0x00 0x8E Delete Nothing
+    ∷ planned 0x12 0x00 0x80 Begin Nothing
+    ∷ planned 0x12 0x00 0x81 Commit Nothing
+    ∷ planned 0x12 0x00 0x82 Rollback Nothing
+    ∷ built 0x14 0x00 0x80 PresentUser DataField
+    ∷ built 0x14 0x00 0x81 CreateUser DataField
+    ∷ planned 0x14 0x00 0x82 DeleteUser DataField
+    ∷ planned 0x20 0x00 0x00 Verify DataField
+    ∷ planned 0x70 0x00 0x00 (OpenChannel 0) LeAlone
+    ∷ planned 0x70 0x00 0x01 (OpenChannel 1) Nothing
+    ∷ planned 0x70 0x00 0x02 (OpenChannel 2) Nothing
+    ∷ planned 0x70 0x00 0x03 (OpenChannel 3) Nothing
+    ∷ planned 0x70 0x80 0x00 (CloseChannel 0) Nothing
+    ∷ planned 0x70 0x80 0x01 (CloseChannel 1) Nothing
+    ∷ planned 0x70 0x80 0x02 (CloseChannel 2) Nothing
+    ∷ planned 0x70 0x80 0x03 (CloseChannel 3) Nothing
+    ∷ planned 0xC0 0x00 0x00 GetResponse LeAlone
     ∷ []
 
 -- the lines of a table that are built
@@ -74,6 +62,18 @@ built_lines table = filter (λ (l : Line). l.is_built) table
 -- the operations that the card has today
 abbrev pub built_operations : List Line
 built_operations = built_lines operations
+
+-- an operation is built: it is that of a line which is
+abbrev pub IsBuilt : OperationKind → Type 0
+IsBuilt kind = Contains (map (λ (l : Line). l.kind) built_operations) kind
+
+-- the operations whose commands have Le alone
+abbrev pub is_le_alone : Takes → Bool
+is_le_alone LeAlone = true
+is_le_alone takes = false
+
+abbrev pub WantsLe : OperationKind → Type 0
+WantsLe kind = Contains (map (λ (l : Line). l.kind) (filter (λ (l : Line). is_le_alone l.takes) operations)) kind
 
 -- some operation of a table has this instruction
 abbrev pub has_instruction : List Line → ℕ → Bool

@@ -1,17 +1,20 @@
 -- The data fields of commands: which operation the parameters of each ask for (ISO/IEC 7816-7).
 use Rattle.std.specs.Prelude.{ℕ, ◌==◌, nat_le, ◌&&◌, Bool, true, false, List, [], ◌∷◌, length, map, take, drop, Option, Some, None, option_map, option_and_then, if◌then◌else◌}
 use Rattle.std.specs.List.{list_all}
+use Rattle.scql_base.specs.declared.words.TheConstants.Profile.{DBOO, DBBU}
+use Rattle.scql_base.specs.declared.name_list.TheConstants.NameList.{MOST}
+use Rattle.scql_base.specs.declared.operation.TheConstants.Command.{LONGEST_DATA}
 use Rattle.scql_base.specs.declared.words.Profile.{Profile}
 use Rattle.scql_base.specs.declared.words.Profile.TheVariants.{Dboo, Dbbu}
 use Rattle.scql_base.specs.declared.condition.Condition.{Condition}
 use Rattle.scql_base.specs.Name.{is_name}
-use Rattle.scql_base.specs.Row.{is_narrow, row_size}
+use Rattle.scql_base.specs.Row.{is_narrow}
 use Rattle.scql_base.specs.Strings.{params_of}
 use Rattle.scql_base.specs.declared.operation.Operation.{Operation}
 use Rattle.scql_base.specs.declared.operation.Operation.TheVariants.{CreateTable, CreateView, CreateDictionary, DropTable, DropView, Grant, Revoke, DeclareCursor, OpenCursor, Next, Fetch, FetchNext, Insert, Update, Delete, Begin, Commit, Rollback, PresentUser, CreateUser, DeleteUser, Verify, OpenChannel, CloseChannel, GetResponse}
 use Rattle.scql_base.specs.declared.operation.OperationKind.{OperationKind}
 use Rattle.scql_base.specs.declared.operation.OperationKind.TheVariants as kind
-use Rattle.scql_model.specs.Records.{subject_of, comparison_of, is_secret, is_privileges, is_one_to_fifteen, is_at_most_eight}
+use Rattle.scql_model.specs.Records.{subject_of, comparison_of, is_secret, is_privileges, is_count_of_columns, is_count_of_conditions, is_row_within}
 use Rattle.scql_model.specs.Database.{are_different}
 
 -- one value and then the next; where there is none there is none
@@ -30,11 +33,11 @@ are_different_names names = list_all is_name names && are_different names
 
 -- 1 to 15 different names of columns
 abbrev pub are_columns : List (List ℕ) → Bool
-are_columns names = is_one_to_fifteen (length names) && are_different_names names
+are_columns names = is_count_of_columns (length names) && are_different_names names
 
 -- at most 15 different names of columns; none of them stands for all columns of an object
 abbrev pub are_chosen_columns : List (List ℕ) → Bool
-are_chosen_columns names = nat_le (length names) 15 && are_different_names names
+are_chosen_columns names = nat_le (length names) MOST && are_different_names names
 
 -- the columns and the conditions of a view or a cursor
 pub record Choice : Type 0 where
@@ -44,7 +47,7 @@ pub record Choice : Type 0 where
 -- at most eight conditions, each on a name and with a value of at most 200 octets
 abbrev pub are_conditions : List Condition → Bool
 are_conditions conditions =
-    is_at_most_eight (length conditions)
+    is_count_of_conditions (length conditions)
     && list_all (λ (c : Condition). is_name c.column && is_narrow c.value) conditions
 
 -- a condition is three parameters: a name, one octet for the comparison, and a value
@@ -76,10 +79,6 @@ abbrev pub are_changes : List (List ℕ × List ℕ) → Bool
 are_changes changes =
     are_columns (map (λ (change : List ℕ × List ℕ). change.0) changes)
     && list_all (λ (change : List ℕ × List ℕ). is_narrow change.1) changes
-
--- 1 to 15 values that are a row of at most so many octets
-abbrev pub is_row_within : ℕ → List (List ℕ) → Bool
-is_row_within limit values = is_one_to_fifteen (length values) && list_all is_narrow values && nat_le (row_size values) limit
 
 -- CREATE TABLE: a name and its columns
 abbrev pub create_table_in : List (List ℕ) → Option Operation
@@ -131,7 +130,7 @@ update_in strings = do
 
 -- nobody is made with the profile of OWNER
 abbrev pub made_profile_of : ℕ → Option Profile
-made_profile_of code = if code == 0x02 then Some Dboo else if code == 0x03 then Some Dbbu else None
+made_profile_of code = if code == DBOO then Some Dboo else if code == DBBU then Some Dbbu else None
 
 -- a new user's secret is any secret where secrets can be shown, and else is empty
 abbrev pub is_new_secret : Bool → List ℕ → Bool
@@ -147,7 +146,7 @@ create_user_in secrets strings = None
 
 -- VERIFY: the bare secret, 1 to 255 octets
 abbrev pub is_verified_secret : List ℕ → Bool
-is_verified_secret octets = nat_le 1 (length octets) && nat_le (length octets) 255
+is_verified_secret octets = nat_le 1 (length octets) && nat_le (length octets) LONGEST_DATA
 
 -- The operation of a kind that a data field asks for, where secrets can be shown or not, and where a row has at most so many octets. The field of VERIFY is the bare secret; each other one is a list of parameters.
 abbrev pub operation_in : Bool → OperationKind → ℕ → List ℕ → Option Operation

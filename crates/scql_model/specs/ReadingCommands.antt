@@ -1,5 +1,5 @@
 -- The commands that read, and what is asked and answered by each of them alike (ISO/IEC 7816-7; for Le, 61XX and 6CXX ISO/IEC 7816-4).
-use Rattle.std.specs.Prelude.{ℕ, ◌==◌, nat_le, ◌&&◌, ◌||◌, List, [], ◌∷◌, length, map, take, drop, Option, Some, None, option_map, Result, Ok, Err, if◌then◌else◌}
+use Rattle.std.specs.Prelude.{ℕ, ◌==◌, nat_le, ◌||◌, List, [], ◌∷◌, length, take, drop, Option, Some, None, option_map, Result, Ok, Err, if◌then◌else◌}
 use Rattle.std.specs.List.{flat_map}
 use Rattle.scql_base.specs.declared.words.StatusWord.{StatusWord}
 use Rattle.scql_base.specs.declared.condition.Condition.{Condition}
@@ -8,8 +8,8 @@ use Rattle.scql_base.specs.declared.operation.Operation.TheVariants.{DeclareCurs
 use Rattle.scql_base.specs.Strings.{spelled}
 use Rattle.scql_base.specs.Words.{done, not_found, more_left, wrong_le}
 use Rattle.scql_model.specs.Refusals.{provided}
-use Rattle.scql_model.specs.Commands.{Reply, said}
-use Rattle.scql_model.specs.Database.{are_among}
+use Rattle.scql_model.specs.Replies.{Reply, said}
+use Rattle.scql_model.specs.Database.{are_named_among}
 use Rattle.scql_model.specs.Matching.{Columns, Values}
 
 -- the reading commands; Le is the greatest number of octets wanted, 1 to 256
@@ -64,7 +64,7 @@ wanted_of columns (name ∷ names) = name ∷ names
 
 -- the named columns and those of the conditions are among an object's
 abbrev pub named_among : Columns → Columns → List Condition → Result (Unit {0}) StatusWord
-named_among columns named conditions = provided (are_among named columns && are_among (map (λ (c : Condition). c.column) conditions) columns) not_found
+named_among columns named conditions = provided (are_named_among columns named conditions) not_found
 
 -- a row in an answer: each value as its length in one octet and its octets
 abbrev pub row_octets : Values → List ℕ

@@ -6,7 +6,7 @@ use Rattle.scql_base.specs.declared.records.User.{User}
 use Rattle.scql_base.specs.declared.records.Object.{Object}
 use Rattle.scql_base.specs.declared.records.Grant.{Grant}
 use Rattle.scql_base.specs.declared.records.RowRecord.{RowRecord}
-use Rattle.scql_model.specs.Commands.{Reply}
+use Rattle.scql_model.specs.Replies.{Reply}
 use Rattle.scql_model.specs.Database.{Database, are_different}
 use Rattle.scql_model.specs.Machine.{Reading}
 use Rattle.scql_model.specs.ReadingCommands.{ReadingCommand}

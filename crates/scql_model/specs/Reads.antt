@@ -4,7 +4,7 @@ use Rattle.std.specs.List.{find}
 use Rattle.std.specs.Str.{bytes_eq}
 use Rattle.scql_base.specs.declared.words.StatusWord.{StatusWord}
 use Rattle.scql_base.specs.Words.{done, security_not_satisfied, conditions_not_satisfied, not_found, end_reached, record_not_found}
-use Rattle.scql_model.specs.Commands.{Reply, said}
+use Rattle.scql_model.specs.Replies.{Reply, said}
 use Rattle.scql_model.specs.Refusals.{◌>>=◌, or_refused, provided}
 use Rattle.scql_model.specs.Matching.{Values, matches}
 use Rattle.scql_model.specs.Contents.{cut_to}

@@ -1,6 +1,14 @@
 -- The records of a database, and how each is spelled.
-use Rattle.std.specs.Prelude.{ℕ, ◌==◌, nat_le, ◌&&◌, ◌||◌, Bool, List, [], length, Option, Some, None, option_and_then, if◌then◌else◌}
+use Rattle.std.specs.Prelude.{ℕ, ◌==◌, nat_le, ◌&&◌, ◌||◌, Bool, false, List, [], ◌∷◌, length, Option, Some, None, option_and_then, if◌then◌else◌}
 use Rattle.std.specs.List.{flat_map, list_all}
+use Rattle.scql_base.specs.declared.words.TheConstants.Profile.{DB_O, DBOO, DBBU}
+use Rattle.scql_base.specs.declared.words.TheConstants.Subject.{OBJECTS, USERS, GRANTS}
+use Rattle.scql_base.specs.declared.words.TheConstants.Comparison.{EQUAL, LESS, GREATER, AT_MOST, AT_LEAST, NOT_EQUAL}
+use Rattle.scql_base.specs.declared.records.TheConstants.User.{SHORTEST_SECRET, LONGEST_SECRET, ALL_TRIES}
+use Rattle.scql_base.specs.declared.privileges.TheConstants.Privileges.{ALL}
+use Rattle.scql_base.specs.declared.conditions.TheConstants.Conditions as Conditions
+use Rattle.scql_base.specs.declared.name_list.TheConstants.NameList as NameList
+use Rattle.scql_base.specs.declared.row.TheConstants.Row.{LARGEST}
 use Rattle.scql_base.specs.declared.words.Profile.{Profile}
 use Rattle.scql_base.specs.declared.words.Profile.TheVariants.{DbO, Dboo, Dbbu}
 use Rattle.scql_base.specs.declared.words.Subject.{Subject}
@@ -17,65 +25,69 @@ use Rattle.scql_base.specs.declared.records.RowRecord.{RowRecord}
 use Rattle.scql_base.specs.Name.{is_name}
 use Rattle.scql_base.specs.Row.{is_narrow, row_size}
 use Rattle.scql_base.specs.Strings.{spelled, params_of}
-use Rattle.scql_model.specs.Fields.{Field, ◌then◌, number, octet, letter, text, counted_list, as_record, with_mark, whole}
+use Rattle.scql_model.specs.Fields.{Field, ◌then◌, number, octet, letter, text, counted_list, as_record, made_at, with_mark, whole}
 
 -- Codes.
 abbrev pub profile_code : Profile → ℕ
-profile_code DbO = 1
-profile_code Dboo = 2
-profile_code Dbbu = 3
+profile_code DbO = DB_O
+profile_code Dboo = DBOO
+profile_code Dbbu = DBBU
 
 abbrev pub profile_of : ℕ → Option Profile
-profile_of code = if code == 1 then Some DbO else if code == 2 then Some Dboo else if code == 3 then Some Dbbu else None
+profile_of code = if code == DB_O then Some DbO else if code == DBOO then Some Dboo else if code == DBBU then Some Dbbu else None
 
 abbrev pub subject_code : Subject → ℕ
-subject_code Objects = 0x4F
-subject_code Users = 0x55
-subject_code Grants = 0x50
+subject_code Objects = OBJECTS
+subject_code Users = USERS
+subject_code Grants = GRANTS
 
 abbrev pub subject_of : ℕ → Option Subject
-subject_of code = if code == 0x4F then Some Objects else if code == 0x55 then Some Users else if code == 0x50 then Some Grants else None
+subject_of code = if code == OBJECTS then Some Objects else if code == USERS then Some Users else if code == GRANTS then Some Grants else None
 
 abbrev pub comparison_code : Comparison → ℕ
-comparison_code Equal = 0x3D
-comparison_code Less = 0x3C
-comparison_code Greater = 0x3E
-comparison_code AtMost = 0x4C
-comparison_code AtLeast = 0x47
-comparison_code NotEqual = 0x23
+comparison_code Equal = EQUAL
+comparison_code Less = LESS
+comparison_code Greater = GREATER
+comparison_code AtMost = AT_MOST
+comparison_code AtLeast = AT_LEAST
+comparison_code NotEqual = NOT_EQUAL
 
 abbrev pub comparison_of : ℕ → Option Comparison
 comparison_of code =
-    if code == 0x3D then Some Equal
-    else if code == 0x3C then Some Less
-    else if code == 0x3E then Some Greater
-    else if code == 0x4C then Some AtMost
-    else if code == 0x47 then Some AtLeast
-    else if code == 0x23 then Some NotEqual
+    if code == EQUAL then Some Equal
+    else if code == LESS then Some Less
+    else if code == GREATER then Some Greater
+    else if code == AT_MOST then Some AtMost
+    else if code == AT_LEAST then Some AtLeast
+    else if code == NOT_EQUAL then Some NotEqual
     else None
 
 -- Limits.
 abbrev pub is_secret : List ℕ → Bool
-is_secret octets = length octets == 0 || nat_le 4 (length octets) && nat_le (length octets) 8
+is_secret octets = length octets == 0 || nat_le SHORTEST_SECRET (length octets) && nat_le (length octets) LONGEST_SECRET
 
 abbrev pub is_tries : ℕ → Bool
-is_tries n = nat_le n 3
+is_tries n = nat_le n ALL_TRIES
 
 abbrev pub is_privileges : ℕ → Bool
-is_privileges bits = nat_le 1 bits && nat_le bits 15
+is_privileges bits = nat_le 1 bits && nat_le bits ALL
 
-abbrev pub is_one_to_fifteen : ℕ → Bool
-is_one_to_fifteen n = nat_le 1 n && nat_le n 15
+abbrev pub is_count_of_columns : ℕ → Bool
+is_count_of_columns n = nat_le 1 n && nat_le n NameList.MOST
 
-abbrev pub is_at_most_eight : ℕ → Bool
-is_at_most_eight n = nat_le n 8
+abbrev pub is_count_of_conditions : ℕ → Bool
+is_count_of_conditions n = nat_le n Conditions.MOST
+
+-- 1 to 15 values that are a row of at most so many octets
+abbrev pub is_row_within : ℕ → List (List ℕ) → Bool
+is_row_within limit values = is_count_of_columns (length values) && list_all is_narrow values && nat_le (row_size values) limit
 
 abbrev pub is_row : List (List ℕ) → Bool
-is_row values = is_one_to_fifteen (length values) && list_all is_narrow values && nat_le (row_size values) 1020
+is_row values = is_row_within LARGEST values
 
 -- The spellings. Columns and values are texts; a row's values go to the end.
 abbrev pub columns : Field (List (List ℕ))
-columns = counted_list is_one_to_fifteen (text is_name)
+columns = counted_list is_count_of_columns (text is_name)
 
 abbrev pub to_condition : List ℕ × (Comparison × List ℕ) → Condition
 to_condition x = record { column = x.0; comparison = x.1.0; value = x.1.1 }
@@ -85,7 +97,7 @@ from_condition c = (c.column, (c.comparison, c.value))
 
 abbrev pub conditions : Field (List Condition)
 conditions =
-    counted_list is_at_most_eight (as_record to_condition from_condition (text is_name then letter comparison_code comparison_of then text is_narrow))
+    counted_list is_count_of_conditions (as_record to_condition from_condition (text is_name then letter comparison_code comparison_of then text is_narrow))
 
 abbrev pub no_rest : List (List ℕ) → Option (List (List ℕ) × List ℕ)
 no_rest values = if is_row values then Some (values, []) else None
@@ -159,6 +171,53 @@ object_fits o = kind_fits o o.kind
     kind_fits o (Table columns) = table_record.fits (o.stamp, (o.owner, (o.name, columns)))
     kind_fits o (View base columns conditions) = view_record.fits (o.stamp, (o.owner, (base, (o.name, (columns, conditions)))))
     kind_fits o (Dictionary subject) = dictionary_record.fits (o.stamp, (o.owner, (o.name, subject)))
+
+-- object: a table, a view or a dictionary, by its first octet
+abbrev pub to_table : ℕ × (ℕ × (List ℕ × List (List ℕ))) → Object
+to_table x = record { stamp = x.0; owner = x.1.0; name = x.1.1.0; kind = Table x.1.1.1 }
+
+abbrev pub to_view : ℕ × (ℕ × (ℕ × (List ℕ × (List (List ℕ) × List Condition)))) → Object
+to_view x = record { stamp = x.0; owner = x.1.0; name = x.1.1.1.0; kind = View x.1.1.0 x.1.1.1.1.0 x.1.1.1.1.1 }
+
+abbrev pub to_dictionary : ℕ × (ℕ × (List ℕ × Subject)) → Object
+to_dictionary x = record { stamp = x.0; owner = x.1.0; name = x.1.1.0; kind = Dictionary x.1.1.1 }
+
+abbrev pub starts_with : ℕ → List ℕ → Bool
+starts_with mark [] = false
+starts_with mark (octet ∷ octets) = octet == mark
+
+abbrev pub object_from : List ℕ → Option (Object × List ℕ)
+object_from octets =
+    if starts_with 0x02 octets then made_at to_table table_record.read octets
+    else if starts_with 0x03 octets then made_at to_view view_record.read octets
+    else made_at to_dictionary dictionary_record.read octets
+
+abbrev pub object_record : Field Object
+object_record = record { spell = object_spelling; fits = object_fits; read = object_from }
+
+-- a record of any kind: that of the counter, which has the next stamp, or of a user, an object, a grant or a row
+pub data AnyRecord : Type 0 where
+  of_counter : ℕ → AnyRecord
+  of_user : User → AnyRecord
+  of_object : Object → AnyRecord
+  of_grant : Grant → AnyRecord
+  of_row : RowRecord → AnyRecord
+
+-- a record is named by its stamp, and the counter by 0
+abbrev pub record_stamp : AnyRecord → ℕ
+record_stamp (of_counter next) = 0
+record_stamp (of_user u) = u.stamp
+record_stamp (of_object o) = o.stamp
+record_stamp (of_grant g) = g.stamp
+record_stamp (of_row r) = r.stamp
+
+-- how a record is spelled
+abbrev pub record_spelling : AnyRecord → List ℕ
+record_spelling (of_counter next) = counter_record.spell next
+record_spelling (of_user u) = user_record.spell u
+record_spelling (of_object o) = object_spelling o
+record_spelling (of_grant g) = grant_record.spell g
+record_spelling (of_row r) = row_record.spell r
 
 -- The readers of the kinds that are built. What is read has the kind's spelling and limits, with nothing left over.
 abbrev pub counter_in : List ℕ → Option ℕ

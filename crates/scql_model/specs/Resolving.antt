@@ -1,13 +1,12 @@
 -- A view down to its table: its rows are those of the table that pass the conditions of each view between, cut once.
-use Rattle.std.specs.Prelude.{◌≡◌, ℕ, zero, suc, ◌+◌, ◌==◌, ◌&&◌, Bool, true, List, [], ◌∷◌, map, filter, Option, Some, None, option_map, option_and_then}
+use Rattle.std.specs.Prelude.{◌≡◌, ℕ, zero, suc, ◌+◌, ◌&&◌, Bool, true, List, [], ◌∷◌, map, filter, Option, Some, None, option_map, option_and_then}
 use Rattle.std.specs.List.{list_all}
 use Rattle.std.specs.Option.{option_map_or}
 use Rattle.scql_base.specs.declared.condition.Condition.{Condition}
 use Rattle.scql_base.specs.declared.records.Object.{Object}
 use Rattle.scql_base.specs.declared.records.ObjectKind.{ObjectKind}
 use Rattle.scql_base.specs.declared.records.ObjectKind.TheVariants.{Table, View, Dictionary}
-use Rattle.scql_base.specs.declared.records.RowRecord.{RowRecord}
-use Rattle.scql_model.specs.Database.{Database, are_among, object_stamped}
+use Rattle.scql_model.specs.Database.{Database, are_among, are_named_among, object_stamped, rows_of}
 use Rattle.scql_model.specs.Matching.{Columns, Values, matches}
 use Rattle.scql_model.specs.Objects.{StampedRow, columns_of, deepest}
 use Rattle.scql_model.specs.Contents.{Contents, cut_to, of_table, narrowed}
@@ -37,19 +36,15 @@ resolved_of objects stamp = resolved_below (deepest + 1) objects stamp
 abbrev pub passes_filters : Resolved → Values → Bool
 passes_filters r values = list_all (λ (conditions : List Condition). matches r.all conditions values) r.filters
 
--- the rows of a table
+-- the rows of a table, as they are shown
 abbrev pub rows_of_table : Database → ℕ → List StampedRow
-rows_of_table db table = map of_table (filter (λ (r : RowRecord). r.table == table) db.rows)
+rows_of_table db table = map of_table (rows_of table db.rows)
 
 -- the rows of the table that meet conditions and pass each filter, cut to some columns
 abbrev pub rows_through : Database → Resolved → Columns → List Condition → List StampedRow
 rows_through db r wanted conditions =
     map (λ (x : StampedRow). record x { values = cut_to r.all wanted x.values })
     (filter (λ (x : StampedRow). matches r.all conditions x.values && passes_filters r x.values) (rows_of_table db r.table))
-
--- columns and the columns of conditions are among those of an object
-abbrev pub are_named_among : Columns → Columns → List Condition → Bool
-are_named_among all columns conditions = are_among columns all && are_among (map (λ (c : Condition). c.column) conditions) all
 
 -- contents are seen through what is resolved: whatever columns and conditions are asked of them, their rows are those of the table that pass all filters and the conditions, cut once
 pub record IsSeenThrough (db : Database) (contents : Contents) (r : Resolved) : Type 0 where

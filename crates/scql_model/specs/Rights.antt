@@ -1,14 +1,13 @@
 -- Who may do what: owners of objects, the privileges that grants give, and which objects appear to whom.
-use Rattle.std.specs.Prelude.{ℕ, ◌/◌, ◌%◌, ◌==◌, ◌&&◌, ◌||◌, Bool, false, List, [], ◌∷◌, Option}
+use Rattle.std.specs.Prelude.{ℕ, ◌/◌, ◌%◌, ◌==◌, ◌&&◌, ◌||◌, Bool, List, [], ◌∷◌, Option}
 use Rattle.std.specs.List.{find, list_any}
 use Rattle.std.specs.Str.{bytes_eq}
 use Rattle.scql_base.specs.declared.words.Actor.{Actor}
-use Rattle.scql_base.specs.declared.words.Actor.TheVariants.{Public, User as a_user}
 use Rattle.scql_base.specs.declared.privileges.TheConstants.Privileges.{SELECT, INSERT, UPDATE, DELETE}
 use Rattle.scql_base.specs.declared.records.Object.{Object}
 use Rattle.scql_base.specs.declared.records.Grant.{Grant}
 use Rattle.scql_model.specs.Database.{Database}
-use Rattle.scql_model.specs.Creating.{actor_stamp}
+use Rattle.scql_model.specs.Creating.{actor_stamp, is_owned_by}
 
 -- the bits of the four privileges
 abbrev pub select_privilege : ℕ
@@ -30,10 +29,9 @@ all_privileges = select_privilege ∷ insert_privilege ∷ update_privilege ∷ 
 abbrev pub has_bit : ℕ → ℕ → Bool
 has_bit bit bits = bits / bit % 2 == 1
 
--- an object's owner is the user who made it; PUBLIC owns nothing
+-- an object's owner is the user who made it
 abbrev pub owns : Actor → Object → Bool
-owns Public o = false
-owns (a_user stamp profile) o = o.owner == stamp
+owns actor o = is_owned_by actor o.owner
 
 -- a grant gives the actor a privilege on an object: it is on that object, to the actor or to PUBLIC, and has the bit
 abbrev pub gives : Actor → Object → ℕ → Grant → Bool

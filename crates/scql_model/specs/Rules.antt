@@ -4,6 +4,8 @@ use Rattle.std.specs.List.{list_all, list_any, find}
 use Rattle.std.specs.Option.{option_map_or}
 use Rattle.std.specs.Str.{bytes_eq}
 use Rattle.eeprom.specs.Slots.{Rises}
+use Rattle.scql_base.specs.declared.records.TheConstants.Object.{LONGEST}
+use Rattle.scql_base.specs.declared.records.TheConstants.User.{ALL_TRIES}
 use Rattle.scql_base.specs.declared.name.TheConstants.Name.{OWNER, PUBLIC}
 use Rattle.scql_base.specs.Row.{row_size}
 use Rattle.scql_base.specs.declared.words.Profile.{Profile}
@@ -16,6 +18,7 @@ use Rattle.scql_base.specs.declared.records.ObjectKind.TheVariants.{Table, View,
 use Rattle.scql_base.specs.declared.records.Grant.{Grant}
 use Rattle.scql_base.specs.declared.records.RowRecord.{RowRecord}
 use Rattle.scql_model.specs.Objects.{columns_of, deepest, depth_of}
+pub use Rattle.scql_model.specs.Objects.{object_stamped}
 use Rattle.scql_model.specs.Records.{user_record, grant_record, row_record, object_spelling, object_fits}
 
 -- no element is the same as a later one, by a test of two
@@ -31,6 +34,10 @@ are_different names = are_apart_by bytes_eq names
 abbrev pub are_among : List (List ℕ) → List (List ℕ) → Bool
 are_among names columns = list_all (λ name. list_any (bytes_eq name) columns) names
 
+-- whether columns and the columns of conditions are among those of an object
+abbrev pub are_named_among : List (List ℕ) → List (List ℕ) → List Condition → Bool
+are_named_among all columns conditions = are_among columns all && are_among (map (λ (c : Condition). c.column) conditions) all
+
 -- Users.
 
 -- the user with whom a card is made, `OWNER`
@@ -38,7 +45,7 @@ abbrev pub owner_name : List ℕ
 owner_name = OWNER.now
 
 abbrev pub owner : User
-owner = record { stamp = 1; name = owner_name; profile = DbO; owner = 1; secret = []; tries = 3 }
+owner = record { stamp = 1; name = owner_name; profile = DbO; owner = 1; secret = []; tries = ALL_TRIES }
 
 -- `PUBLIC`, which is everybody and no user
 abbrev pub public_name : List ℕ
@@ -83,7 +90,7 @@ has_maker users u = is_right u.profile
 
 -- a user without a secret has three tries
 abbrev pub has_all_tries : User → Bool
-has_all_tries u = not (length u.secret == 0) || (u.tries == 3)
+has_all_tries u = not (length u.secret == 0) || (u.tries == ALL_TRIES)
 
 -- These are the users of a valid database.
 pub record AreUsers (users : List User) : Type 0 where
@@ -101,10 +108,6 @@ pub record AreUsers (users : List User) : Type 0 where
 
 -- Objects.
 
--- the object of a stamp
-abbrev pub object_stamped : List Object → ℕ → Option Object
-object_stamped objects stamp = find (λ (o : Object). o.stamp == stamp) objects
-
 -- an object is a table
 abbrev pub is_table : ObjectKind → Bool
 is_table (Table columns) = true
@@ -118,7 +121,7 @@ may_have_view objects base = option_map_or (λ depth. nat_lt depth deepest) (dep
 abbrev pub rests_on : List Object → Object → List (List ℕ) → List Condition → Object → Bool
 rests_on objects o columns conditions base =
     nat_lt base.stamp o.stamp && (base.owner == o.owner) && may_have_view objects base
-    && are_among columns (columns_of base.kind) && are_among (map (λ (c : Condition). c.column) conditions) (columns_of base.kind)
+    && are_named_among (columns_of base.kind) columns conditions
 
 -- a table's columns are different; so are a view's, and it rests on a base that is there
 abbrev pub is_founded : List Object → Object → Bool
@@ -130,9 +133,9 @@ is_founded objects o = is_right o.kind
         are_different columns && option_map_or (rests_on objects o columns conditions) (object_stamped objects base) false
     is_right (Dictionary subject) = true
 
--- an object's record has at most 512 octets; only a view's could have more
+-- the record of an object isn't too long; only a view's could be
 abbrev pub is_short : Object → Bool
-is_short o = nat_le (length (object_spelling o)) 512
+is_short o = nat_le (length (object_spelling o)) LONGEST
 
 -- These are the objects of a valid database with these users.
 pub record AreObjects (users : List User) (objects : List Object) : Type 0 where
@@ -170,6 +173,10 @@ pub record AreGrants (users : List User) (objects : List Object) (grants : List 
 -- the table is older than the row, and has as many columns as the row has values
 abbrev pub fits_table : RowRecord → Object → Bool
 fits_table r o = is_table o.kind && nat_lt o.stamp r.stamp && (length (columns_of o.kind) == length r.row)
+
+-- the rows of the table of a stamp
+abbrev pub rows_of : ℕ → List RowRecord → List RowRecord
+rows_of table rows = filter (λ (r : RowRecord). r.table == table) rows
 
 -- the row's table is there and fits it
 abbrev pub has_table : List Object → RowRecord → Bool

@@ -2,24 +2,26 @@
 use Rattle.std.specs.Prelude.{ℕ, zero, suc, ◌-◌, ◌==◌, not, List, [], ◌∷◌, Option, Some, None, is_some, Result, Ok, Err, if◌then◌else◌}
 use Rattle.std.specs.Option.{option_map_or}
 use Rattle.std.specs.Str.{bytes_eq}
+use Rattle.scql_base.specs.declared.records.TheConstants.User.{ALL_TRIES}
 use Rattle.scql_base.specs.declared.words.StatusWord.{StatusWord}
 use Rattle.scql_base.specs.declared.operation.Command.{Command}
 use Rattle.scql_base.specs.declared.operation.Operation.{Operation}
 use Rattle.scql_base.specs.declared.operation.Operation.TheVariants.{DeleteUser, Begin, Commit, Rollback, PresentUser, Verify, OpenChannel, CloseChannel}
 use Rattle.scql_base.specs.declared.records.User.{User}
 use Rattle.scql_base.specs.Words.{done, channel_not_supported, authentication_blocked, conditions_not_satisfied, function_not_supported, not_found, tries_left}
-use Rattle.scql_model.specs.Commands.{Reply, said}
+use Rattle.scql_model.specs.Replies.{Reply, said}
 use Rattle.scql_model.specs.Refusals.{◌>>=◌, or_refused, provided}
 use Rattle.scql_model.specs.Database.{Database, public_name, user_named, user_stamped}
 use Rattle.scql_model.specs.Machine.{Machine, Session, Transaction, new_session, session_for, open_channels, base, actor}
 use Rattle.scql_model.specs.Sessions.{with_session, changing_session, command_chain, without_chain, with_part, reading_of, cursor_of, reading_so, without_pending, without_cursor, user_of, presented, proving, without_user, is_channel_open, least_closed}
 use Rattle.scql_model.specs.Transactions.{own_transaction, waits, is_kept_waiting}
-use Rattle.scql_model.specs.Operations.{Line, built_operations, kind_of}
+use Rattle.scql_base.specs.declared.operation.Line.{Line}
+use Rattle.scql_model.specs.Operations.{built_operations, kind_of}
 use Rattle.scql_model.specs.Form.{Form, refused, refused_on, part_on, a_command, form_of}
 use Rattle.scql_model.specs.ReadingCommands.{ReadingCommand, reading_command}
 use Rattle.scql_model.specs.Moves.{move_of}
-use Rattle.scql_model.specs.Edits.{Edit, of_user, changing, applied, touched_after}
-use Rattle.scql_model.specs.Changing.{edits_of, with_edits}
+use Rattle.scql_model.specs.Edits.{Edit, of_user, changing, applied}
+use Rattle.scql_model.specs.Changing.{edits_of, with_edits, transaction_after}
 
 pub record Answer : Type 0 where
   pub reply : Reply
@@ -45,7 +47,7 @@ reading_done m channel command =
 abbrev pub changed_to : Machine → ℕ → List Edit → Database → Option Transaction → Answer
 changed_to m channel edits db None = done_with (record m { committed = db }) channel (db ∷ [])
 changed_to m channel edits db (Some t) =
-    done_with (record m { transaction = Some (record t { working = db; touched = touched_after m.committed db t.touched edits }) }) channel []
+    done_with (record m { transaction = Some (transaction_after m.committed t edits db) }) channel []
 
 abbrev pub changed : Machine → ℕ → Operation → Result Answer StatusWord
 changed m channel operation = do
@@ -103,7 +105,7 @@ secret_wrong m u =
 
 abbrev pub secret_right : Machine → ℕ → User → Answer
 secret_right m channel u =
-    let restored = with_tries m.committed u 3 in
+    let restored = with_tries m.committed u ALL_TRIES in
     done_with (changing_session proving (record m { committed = restored }) channel) channel (with_tries m.committed u (u.tries - 1) ∷ restored ∷ [])
 
 abbrev pub compared : Machine → ℕ → List ℕ → User → Answer

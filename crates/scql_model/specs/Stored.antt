@@ -3,6 +3,7 @@ use Rattle.std.specs.Prelude.{◌≡◌, ℕ, ◌+◌, ◌≤◌, nat_le, nat_lt
 use Rattle.std.specs.List.{list_all, sum_by}
 use Rattle.eeprom.specs.StoreOf.{cells_for}
 use Rattle.eeprom.specs.Slots.{AreApart}
+use Rattle.scql_base.specs.declared.records.TheConstants.RowRecord.{LONGEST}
 
 -- a record of any kind: its stamp, and the octets that it is stored as
 pub record StoredRecord : Type 0 where
@@ -16,9 +17,9 @@ cells_for_octets octets = cells_for (length octets)
 abbrev pub cells_of_records : List StoredRecord → ℕ
 cells_of_records records = sum_by (λ (r : StoredRecord). cells_for_octets r.octets) records
 
--- a record has 1 to 1,029 octets
+-- a record has octets, and at most as many as that of a row may have
 abbrev pub is_storable : StoredRecord → Bool
-is_storable r = nat_le 1 (length r.octets) && nat_le (length r.octets) 1029
+is_storable r = nat_le 1 (length r.octets) && nat_le (length r.octets) LONGEST
 
 -- its stamp was given out: it is at least 1 and below the next
 abbrev pub is_given_out : ℕ → StoredRecord → Bool

@@ -1,9 +1,8 @@
 -- Commands that make and delete users (ISO/IEC 7816-7, CREATE USER, DELETE USER): for each the edits that it makes, or the first refusal that
 -- applies.
-use Rattle.std.specs.Prelude.{ℕ, ◌==◌, not, ◌||◌, Bool, false, List, ◌∷◌, map, filter, Result, Ok}
+use Rattle.std.specs.Prelude.{ℕ, ◌==◌, not, ◌||◌, Bool, List, ◌∷◌, map, filter, Result, Ok}
 use Rattle.std.specs.List.{list_any}
 use Rattle.scql_base.specs.declared.words.Actor.{Actor}
-use Rattle.scql_base.specs.declared.words.Actor.TheVariants.{Public, User as a_user}
 use Rattle.scql_base.specs.declared.words.Profile.{Profile}
 use Rattle.scql_base.specs.declared.words.StatusWord.{StatusWord}
 use Rattle.scql_base.specs.declared.records.User.{User}
@@ -11,7 +10,7 @@ use Rattle.scql_base.specs.declared.records.Object.{Object}
 use Rattle.scql_base.specs.declared.records.Grant.{Grant}
 use Rattle.scql_base.specs.Words.{security_not_satisfied, conditions_not_satisfied, not_found, already_exists}
 use Rattle.scql_model.specs.Database.{Database, is_db_o, user_named}
-use Rattle.scql_model.specs.Creating.{may_create, is_taken, new_user}
+use Rattle.scql_model.specs.Creating.{may_create, is_owned_by, is_taken, new_user}
 use Rattle.scql_model.specs.Refusals.{◌>>=◌, or_refused, provided}
 use Rattle.scql_model.specs.Edits.{Edit, of_user, of_grant, making, removing}
 
@@ -22,10 +21,9 @@ user_added db actor name profile secret = do
   _ ← provided (not (is_taken db name)) already_exists
   Ok (making db (of_user (new_user db actor name profile secret)))
 
--- a user's owner is the user who made it; PUBLIC owns nobody
+-- a user's owner is the user who made it
 abbrev pub owns_user : Actor → User → Bool
-owns_user Public u = false
-owns_user (a_user stamp profile) u = u.owner == stamp
+owns_user actor u = is_owned_by actor u.owner
 
 -- OWNER is needed, and so is who owns a user or an object
 abbrev pub is_needed : Database → User → Bool

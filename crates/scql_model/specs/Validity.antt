@@ -2,19 +2,20 @@
 use Rattle.std.specs.Prelude.{ℕ, ◌==◌, nat_le, not, ◌&&◌, Bool, false, List, [], ◌∷◌, length, map, filter}
 use Rattle.std.specs.List.{list_all}
 use Rattle.std.specs.Str.{bytes_eq}
+use Rattle.scql_base.specs.declared.records.TheConstants.User.{ALL_TRIES}
 use Rattle.scql_base.specs.declared.records.User.{User}
 use Rattle.scql_model.specs.Stored.{is_given_out}
 use Rattle.scql_model.specs.Rules.{owner_name, public_name, is_db_o, has_maker, has_all_tries, are_different}
 use Rattle.scql_model.specs.Database.{Database, stored_user}
 
 -- a database that has no other records than these users
-abbrev pub of_users : ℕ → ℕ → List User → Database
-of_users cells next users = record { cells = cells; limit = 240; next = next; users = users; objects = []; grants = []; rows = [] }
+abbrev pub of_users : ℕ → ℕ → ℕ → List User → Database
+of_users cells limit next users = record { cells = cells; limit = limit; next = next; users = users; objects = []; grants = []; rows = [] }
 
 -- whether a user is OWNER as a card is made with it
 abbrev pub is_owner : User → Bool
 is_owner u =
-    (u.stamp == 1) && bytes_eq u.name owner_name && is_db_o u && (u.owner == 1) && (length u.secret == 0) && (u.tries == 3)
+    (u.stamp == 1) && bytes_eq u.name owner_name && is_db_o u && (u.owner == 1) && (length u.secret == 0) && (u.tries == ALL_TRIES)
 
 -- whether the users are OWNER and nobody else
 abbrev pub is_owner_alone : List User → Bool

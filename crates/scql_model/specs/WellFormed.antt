@@ -1,13 +1,12 @@
 -- Well-formed commands: those that can be written. What octets are read as is one, with a row within the card's limit besides.
-use Rattle.std.specs.Prelude.{◌≡◌, ◌≤◌, ◌==◌, Bool, true, false, IfSome, is_some}
+use Rattle.std.specs.Prelude.{◌≡◌, ◌≤◌, true, IfSome, is_some}
+use Rattle.scql_base.specs.declared.operation.TheConstants.Command.{LAST_CHANNEL, LARGEST_LE}
 use Rattle.scql_base.specs.declared.words.Profile.TheVariants.{DbO}
 use Rattle.scql_base.specs.Name.{is_name}
 use Rattle.scql_base.specs.declared.operation.Command.{Command}
 use Rattle.scql_base.specs.declared.operation.Operation.{Operation}
 use Rattle.scql_base.specs.declared.operation.Operation.TheVariants.{CreateTable, CreateView, CreateDictionary, DropTable, DropView, Grant, Revoke, DeclareCursor, OpenCursor, Next, Fetch, FetchNext, Insert, Update, Delete, Begin, Commit, Rollback, PresentUser, CreateUser, DeleteUser, Verify, OpenChannel, CloseChannel, GetResponse}
-use Rattle.scql_base.specs.declared.operation.OperationKind.{OperationKind}
-use Rattle.scql_base.specs.declared.operation.OperationKind.TheVariants as kind
-use Rattle.scql_model.specs.Operations.{is_for_channel, kind_of}
+use Rattle.scql_model.specs.Operations.{WantsLe, is_for_channel, kind_of}
 use Rattle.scql_model.specs.Records.{is_secret, is_privileges, is_row}
 use Rattle.scql_model.specs.Parameters.{are_columns, are_chosen_columns, are_conditions, are_changes, is_verified_secret}
 
@@ -36,22 +35,14 @@ HasForm (PresentUser name) = is_name name ≡ true
 HasForm (CreateUser name profile secret) = (is_name name ≡ true) × (is_secret secret ≡ true) × (profile ≡ DbO → ⊥)
 HasForm (DeleteUser name) = is_name name ≡ true
 HasForm (Verify secret) = is_verified_secret secret ≡ true
-HasForm (OpenChannel number) = number ≤ 3
-HasForm (CloseChannel number) = number ≤ 3
+HasForm (OpenChannel number) = number ≤ LAST_CHANNEL
+HasForm (CloseChannel number) = number ≤ LAST_CHANNEL
 HasForm GetResponse = Unit {0}
-
--- the operations whose commands have Le and no data field
-abbrev pub wants_le : OperationKind → Bool
-wants_le kind.Fetch = true
-wants_le kind.FetchNext = true
-wants_le (kind.OpenChannel number) = number == 0
-wants_le kind.GetResponse = true
-wants_le kind = false
 
 -- a command on a channel 0 to 3, and none that closes channel 0; with Le none or 1 to 256, and not none where its operation takes Le alone
 pub record IsWellFormed (c : Command) : Type 0 where
-  pub channel : c.channel ≤ 3
+  pub channel : c.channel ≤ LAST_CHANNEL
   pub closed : is_for_channel c.channel (kind_of c.operation) ≡ true
-  pub le : IfSome c.le (λ le. (1 ≤ le) × (le ≤ 256))
-  pub wanted : wants_le (kind_of c.operation) ≡ true → is_some c.le ≡ true
+  pub le : IfSome c.le (λ le. (1 ≤ le) × (le ≤ LARGEST_LE))
+  pub wanted : WantsLe (kind_of c.operation) → is_some c.le ≡ true
   pub form : HasForm c.operation

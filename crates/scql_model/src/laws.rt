@@ -6,21 +6,22 @@ ghost use Rattle.std.specs.List.Sorted.{IsSortedByKey};
 ghost use Rattle.std.specs.Ordering.{nat_cmp};
 ghost use Rattle.scql_base.specs.declared.condition.Condition.{Condition};
 ghost use Rattle.scql_base.specs.declared.operation.Command.{Command};
+ghost use Rattle.scql_base.specs.declared.operation.Line.{Line};
 ghost use Rattle.scql_base.specs.declared.records.Object.{Object};
 ghost use Rattle.scql_base.specs.declared.records.ObjectKind.TheVariants.{Dictionary, Table, View};
 ghost use Rattle.scql_base.specs.declared.records.RowRecord.{RowRecord};
 ghost use Rattle.scql_base.specs.declared.words.Actor.{Actor};
 ghost use Rattle.scql_base.specs.declared.words.Subject.{Subject};
-ghost use Rattle.scql_model.specs.Accepting.{AcceptsOrLeaves};
+ghost use Rattle.scql_base.specs.Words.{end_reached, tries_left};
+ghost use Rattle.scql_model.specs.Accepting.{AcceptsOrLeaves, CostsTry, EndsCursor, channel_named};
 ghost use Rattle.scql_model.specs.Contents.{contents_of, narrowed, of_table};
-ghost use Rattle.scql_model.specs.Database.{Database, IsValid, object_stamped};
+ghost use Rattle.scql_model.specs.Database.{Database, IsValid, object_stamped, rows_of};
 ghost use Rattle.scql_model.specs.Dictionaries.{rows_told};
 ghost use Rattle.scql_model.specs.Form.{a_command};
 ghost use Rattle.scql_model.specs.Heard.{after_commits};
 ghost use Rattle.scql_model.specs.Machine.{Machine, Reading, Session, base, session_of};
 ghost use Rattle.scql_model.specs.Matching.{Columns};
 ghost use Rattle.scql_model.specs.Moves.{move_of};
-ghost use Rattle.scql_model.specs.Operations.{Line};
 ghost use Rattle.scql_model.specs.Objects.{deepest, depth_of, dictionary_columns};
 ghost use Rattle.scql_model.specs.ReadingCommands.{ReadingCommand, reading_command};
 ghost use Rattle.scql_model.specs.ReadingLaws.{IsReadable, reading_after, replies_to};
@@ -35,7 +36,7 @@ ghost use Rattle.scql_model.specs.Step.{step_by, stepped};
 pub fn contents_are_those_of_the_kind()
     ensures table { (db : Database) (o : Object) (columns : Columns)
         → object_stamped db.objects o.stamp ≡ Some o → o.kind ≡ Table columns
-        → contents_of db o.stamp ≡ record { columns = columns; rows = map of_table (filter (λ (r : RowRecord). r.table == o.stamp) db.rows) } }
+        → contents_of db o.stamp ≡ record { columns = columns; rows = map of_table (rows_of o.stamp db.rows) } }
     ensures view { (db : Database) (o : Object) (base : ℕ) (columns : Columns) (conditions : List Condition)
         → object_stamped db.objects o.stamp ≡ Some o → o.kind ≡ View base columns conditions → IsSome (depth_of db.objects o.stamp)
         → contents_of db o.stamp ≡ record { columns = columns; rows = narrowed columns conditions (contents_of db base) } }
@@ -120,4 +121,13 @@ pub fn a_step_accepts_or_leaves_the_machine()
     ensures accepts { (operations : List Line) (m : Machine) (octets : List ℕ) → AcceptsOrLeaves m octets (step_by operations m octets) }
     ensures last { (operations : List Line) (m : Machine) (octets : List ℕ)
         → after_commits m.committed (step_by operations m octets).commits (length (step_by operations m octets).commits) ≡ (step_by operations m octets).machine.committed }
+{}
+
+/// The answer 6282 comes where a cursor has no further row, and changes the cursor, the pending octets and the chain of its session
+/// alone. The answer 63CX comes of a wrong secret, and changes the tries of one user and the chain of its channel alone.
+pub fn an_answer_says_what_it_changes()
+    ensures at_its_end { (operations : List Line) (m : Machine) (octets : List ℕ)
+        → (step_by operations m octets).reply.word ≡ end_reached → EndsCursor m (channel_named octets) (step_by operations m octets) }
+    ensures costs_a_try { (operations : List Line) (m : Machine) (octets : List ℕ) (n : ℕ)
+        → (step_by operations m octets).reply.word ≡ tries_left n → CostsTry m (channel_named octets) (step_by operations m octets) }
 {}

@@ -5,7 +5,7 @@ mod laws;
 
 pub use laws::{
     a_step_accepts_or_leaves_the_machine, a_step_reads_what_is_shown,
-    contents_are_those_of_the_kind, depth_is_one_more_than_the_base_has,
-    equal_shown_gives_equal_replies, objects_are_shown_by_their_names, reading_is_of_what_is_shown,
-    views_are_seen_through,
+    an_answer_says_what_it_changes, contents_are_those_of_the_kind,
+    depth_is_one_more_than_the_base_has, equal_shown_gives_equal_replies,
+    objects_are_shown_by_their_names, reading_is_of_what_is_shown, views_are_seen_through,
 };
