@@ -208,7 +208,7 @@ links-stay : (links : List ℕ) (at next : ℕ) (chain : List ℕ) → AllByRecu
 links-stay links at next [] apart = tt
 links-stay links at next (cell ∷ chain) apart = (get_or-set_other links at cell next 0 apart.0, links-stay links at next chain apart.1)
 
-none-of : (at : ℕ) (chain : List ℕ) → AllByRecursion (λ cell. cell ≢ at) chain → list_any (λ cell. at == cell) chain ≡ false
+pub none-of : (at : ℕ) (chain : List ℕ) → AllByRecursion (λ cell. cell ≢ at) chain → list_any (λ cell. at == cell) chain ≡ false
 none-of at [] apart = refl
 none-of at (cell ∷ chain) apart =
     let other : cell ≢ at = apart.0 in

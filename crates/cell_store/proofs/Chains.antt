@@ -4,7 +4,7 @@ use Rattle.std.proofs.lemmas.Bool.{and_parts}
 use Rattle.std.proofs.lemmas.Option.{same_Some, none-some}
 use Rattle.std.proofs.lemmas.List.{get_or_append_left, length-map}
 use Rattle.std.specs.List.{list_all}
-use Rattle.eeprom.specs.StoreOf.{chain_of, chains_of, slots_at, are_apart, cell_place, cells_for, cells_of, payload_of, number_at, is_record, record_in, slot_of}
+use Rattle.eeprom.specs.StoreOf.{chain_of, chains_of, slots_at, are_apart, cell_place, cells_for, cells_of, payload_of, number_at, is_record, record_in, slot_of, longest_record, longest_chain}
 use Rattle.cell_store.specs.Chains.{IsRecordChain}
 
 -- the payload of a chain is 30 octets a cell
@@ -60,14 +60,14 @@ chain-nowhere image n zero chain h = sym (same_Some _ _ h)
 chain-nowhere image n (suc most) chain h = sym (same_Some _ _ h)
 
 record-of : (n first : ℕ) (image payload out : List ℕ) (cell : ℕ) (cells : List ℕ) → 70 * n + 34 ≤ length image
-    → (length (cell ∷ cells) ≤ 18 → payload ≡ flat_map (payload_of image n) (cell ∷ cells))
-    → (number_at payload 0 ≤ 512 → 2 + number_at payload 0 ≤ length payload → out ≡ record_in payload)
+    → (length (cell ∷ cells) ≤ longest_chain → payload ≡ flat_map (payload_of image n) (cell ∷ cells))
+    → (number_at payload 0 ≤ longest_record → 2 + number_at payload 0 ≤ length payload → out ≡ record_in payload)
     → chain_of image n (2 * n) first ≡ Some (cell ∷ cells) → is_record image n (cell ∷ cells) ≡ true
     → slot_of image n (cell ∷ cells) ≡ Some out
 record-of n first image payload out cell cells room read copied h is =
     let size : ℕ = number_at (payload_of image n cell) 0 in
-    let tests = and_parts (nat_le 1 size && nat_le size 512) (length (cell ∷ cells) == cells_for size) is in
-    let high : size ≤ 512 = leb-true size 512 (and_parts (nat_le 1 size) (nat_le size 512) tests.0).1 in
+    let tests = and_parts (nat_le 1 size && nat_le size longest_record) (length (cell ∷ cells) == cells_for size) is in
+    let high : size ≤ longest_record = leb-true size longest_record (and_parts (nat_le 1 size) (nat_le size longest_record) tests.0).1 in
     let count : length (cell ∷ cells) ≡ cells_for size = eqb-true (length (cell ∷ cells)) (cells_for size) tests.1 in
     let octets : payload ≡ payload_of image n cell ++ flat_map (payload_of image n) cells = read (omega arith) in
     let one : length (payload_of image n cell) ≡ 30 = length-payload image n cell (chain-first image n (2 * n) first cell cells h) room in
@@ -82,8 +82,8 @@ record-of n first image payload out cell cells room read copied h is =
     rw (copy, octets) refl
 
 pub record-some : (n first : ℕ) (image : Option (List ℕ)) (size : ℕ) (payload out : List ℕ) → 70 * n + 34 ≤ size → IfSome image (λ image. length image ≡ size)
-    → IfSome image (λ image. (chain : List ℕ) → chain_of image n (2 * n) first ≡ Some chain → length chain ≤ 18 → payload ≡ flat_map (payload_of image n) chain)
-    → (number_at payload 0 ≤ 512 → 2 + number_at payload 0 ≤ length payload → out ≡ record_in payload)
+    → IfSome image (λ image. (chain : List ℕ) → chain_of image n (2 * n) first ≡ Some chain → length chain ≤ longest_chain → payload ≡ flat_map (payload_of image n) chain)
+    → (number_at payload 0 ≤ longest_record → 2 + number_at payload 0 ≤ length payload → out ≡ record_in payload)
     → IfSome image (λ image. (chain : List ℕ) → IsRecordChain image n first chain → slot_of image n chain ≡ Some out)
 record-some n first None size payload out room sized read copied = tt
 record-some n first (Some image) size payload out room sized read copied =
@@ -119,13 +119,13 @@ chains-take image n (x ∷ firsts) chains (suc k) of =
     (chains-join (chain_of image n (2 * n) x) (chains_of image n (take k firsts)) parts.0 (take k parts.1) parts.2 (chains-take image n firsts parts.1 k parts.3))
 
 -- a record's chain has the cells of its octets
-pub cells-chain : (image : List ℕ) (n first : ℕ) (chain : List ℕ) → 70 * n + 34 ≤ length image → chain_of image n (2 * n) first ≡ Some chain → is_record image n chain ≡ true → (length chain ≤ 18) × (length chain ≡ cells_of (slot_of image n chain))
+pub cells-chain : (image : List ℕ) (n first : ℕ) (chain : List ℕ) → 70 * n + 34 ≤ length image → chain_of image n (2 * n) first ≡ Some chain → is_record image n chain ≡ true → (length chain ≤ longest_chain) × (length chain ≡ cells_of (slot_of image n chain))
 cells-chain image n first [] room h is = (omega arith, refl)
 cells-chain image n first (cell ∷ cells) room h is =
     let size : ℕ = number_at (payload_of image n cell) 0 in
     let payload : List ℕ = payload_of image n cell ++ flat_map (payload_of image n) cells in
-    let tests = and_parts (nat_le 1 size && nat_le size 512) (length (cell ∷ cells) == cells_for size) is in
-    let high : size ≤ 512 = leb-true size 512 (and_parts (nat_le 1 size) (nat_le size 512) tests.0).1 in
+    let tests = and_parts (nat_le 1 size && nat_le size longest_record) (length (cell ∷ cells) == cells_for size) is in
+    let high : size ≤ longest_record = leb-true size longest_record (and_parts (nat_le 1 size) (nat_le size longest_record) tests.0).1 in
     let count : length (cell ∷ cells) ≡ cells_for size = eqb-true (length (cell ∷ cells)) (cells_for size) tests.1 in
     let one : length (payload_of image n cell) ≡ 30 = length-payload image n cell (chain-first image n (2 * n) first cell cells h) room in
     let number : number_at payload 0 ≡ size =

@@ -5,15 +5,15 @@ use Rattle.std.proofs.lemmas.Bool.{and_parts, or_cases}
 use Rattle.std.proofs.lemmas.Bool.Decides.{nat_tests}
 use Rattle.std.proofs.lemmas.List.{length-set, get_or-set_same, get_or-set_other, nil_from_length}
 use Rattle.std.proofs.lemmas.Option.{same_Some, none-some}
-use Rattle.eeprom.specs.StoreOf.{is_distinct, is_record, number_at, cell_place, cells_for, payload_of}
+use Rattle.eeprom.specs.StoreOf.{is_distinct, is_record, number_at, cell_place, cells_for, payload_of, longest_record, longest_chain}
 use Rattle.cell_store.specs.Cells.{Cells, link_in, AreLinkedIn, StayLinked}
 use Rattle.cell_store.specs.Chains.{AreLinked, AreFree, link_of, with_marked, is_among, IsRecordChain}
 use Rattle.cell_store.specs.Claiming.{ClaimsCell, IsTakenCell, record_cells}
 use Rattle.cell_store.specs.Claims.{TakesChain, HasRecord, HasNoRecord}
-use Rattle.cell_store.specs.Marks.{is_marked}
+use Rattle.cell_store.specs.Marks.{is_marked, unmarked}
 use Rattle.cell_store.proofs.Among.{neither, not-true}
 use Rattle.cell_store.proofs.Linking.{chain-linked, linked-chain, linked-same, linked-one, IsPath, path-more, path-same, path-end, path-rest, path-inside}
-use Rattle.cell_store.proofs.Marking.{marked-here, with_marked-append, with_marked-stays, with_marked-all, marked-with}
+use Rattle.cell_store.proofs.Marking.{marked-all, marked-here, unmarked-one, with_marked-append, with_marked-stays, with_marked-all, marked-with}
 
 -- the cell that is marked isn't is_among those that are still free, and the others are free as they were
 free-apart : (marks : List Bool) (cell : ℕ) (cells : List ℕ) → cell < length marks → AllByRecursion (λ cell. is_marked marks cell ≡ false) cells → is_marked marks cell ≡ true → is_among cell cells ≡ false
@@ -62,6 +62,18 @@ free-join marks size [] cells count inside a b = b
 free-join marks size (cell ∷ chain) cells count inside a b =
     let first = free-first marks cell chain a in
     free-more marks cell (chain ++ cells) (omega (arith, inside.0)) first.0 (free-join (set marks cell true) size chain cells (length-set marks cell true ∙ count) inside.1 first.1 b)
+
+-- no more cells than are free
+pub free-few : (marks : List Bool) (size : ℕ) (chain : List ℕ) → length marks ≡ size → AllByRecursion (λ cell. cell < size) chain → AreFree marks chain → length chain ≤ unmarked marks
+free-few marks size [] count inside f = omega arith
+free-few marks size (cell ∷ chain) count inside f =
+    let first = free-first marks cell chain f in
+    let rest = free-few (set marks cell true) size chain (length-set marks cell true ∙ count) inside.1 first.1 in
+    omega (arith, rest, unmarked-one marks cell (omega (arith, inside.0)) first.0)
+
+-- nor than there are
+pub free-within : (marks : List Bool) (size : ℕ) (chain : List ℕ) → length marks ≡ size → AllByRecursion (λ cell. cell < size) chain → AreFree marks chain → length chain ≤ size
+free-within marks size chain count inside f = omega (arith, free-few marks size chain count inside f, marked-all marks)
 
 -- what is known of a claim after so many cells, which lead from the first cell to this one
 pub record Claiming (start now : Cells) (image : Option (List ℕ)) (first count cell : ℕ) : Type 0 where
@@ -158,7 +170,7 @@ record-count image n first [] r = absurd (omega (arith, r.some))
 record-count image n first (cell ∷ cells) r =
     let here : cell ≡ first = (chain-linked image n (2 * n) first (cell ∷ cells) r.of).0 in
     let size : ℕ = number_at (payload_of image n cell) 0 in
-    let tests = and_parts (nat_le 1 size && nat_le size 512) (length (cell ∷ cells) == cells_for size) r.is in
+    let tests = and_parts (nat_le 1 size && nat_le size longest_record) (length (cell ∷ cells) == cells_for size) r.is in
     let count : length (cell ∷ cells) ≡ cells_for size = eqb-true (length (cell ∷ cells)) (cells_for size) tests.1 in
     subst (λ (first : ℕ). record_cells (payload_of image n first) ≡ Some (length (cell ∷ cells))) here (rw (tests.0) (ap (λ (k : ℕ). Some k) (sym count)))
 
@@ -217,18 +229,19 @@ counted-record : (image : List ℕ) (n first : ℕ) (link : ℕ → ℕ) (path :
 counted-record image n first link [] cell path some is = refl
 counted-record image n first link (x ∷ rest) cell path some is =
     let size : ℕ = number_at (payload_of image n first) 0 in
-    let parts = counted-parts (nat_le 1 size && nat_le size 512) (cells_for size) (length (x ∷ rest)) is in
+    let parts = counted-parts (nat_le 1 size && nat_le size longest_record) (cells_for size) (length (x ∷ rest)) is in
     let same : (length (x ∷ rest) == cells_for size) ≡ true = grind (arith, nat_tests, parts.1) in
     rw (path.0, parts.0, same) refl
 
-pub Claiming-record : (start now : Cells) (image : Option (List ℕ)) (first count cell : ℕ) → start.cells ≤ 2048 → length now.links ≡ 2 * start.cells → cell ≡ 65535 → 1 ≤ count → count ≤ 18 → 16 ≤ start.cells
+pub Claiming-record : (start now : Cells) (image : Option (List ℕ)) (first count cell : ℕ) → start.cells ≤ 2048 → length now.links ≡ 2 * start.cells → length start.used ≡ 2 * start.cells → cell ≡ 65535 → 1 ≤ count
     → IfSome image (λ image. record_cells (payload_of image start.cells first) ≡ Some count) → Claiming start now image first count cell → IfSome image (HasRecord now first)
-Claiming-record start now None first count cell many links_size none some short few is c = tt
-Claiming-record start now (Some image) first count cell many links_size none some short few is c = λ chain linked.
+Claiming-record start now None first count cell many links_size used_size none some is c = tt
+Claiming-record start now (Some image) first count cell many links_size used_size none some is c = λ chain linked.
     let n = start.cells in
     let whole = path-end (link_in now.links) (2 * n) first c.path cell none c.is in
     let same : chain ≡ c.path = linked-one (link_in now.links) (2 * n) first chain c.path (omega arith) (subst (λ (k : ℕ). AreLinked (link_in now.links) k first chain) links_size linked) whole in
-    let of = linked-chain image n (2 * n) first c.path many (linked-same (link_in now.links) (link_of image n) (2 * n) first c.path c.told whole) (omega (arith, c.count_is)) in
+    let of = linked-chain image n (2 * n) first c.path many (linked-same (link_in now.links) (link_of image n) (2 * n) first c.path c.told whole)
+    (free-within start.used (2 * n) c.path used_size (path-inside (link_in now.links) (2 * n) first c.path cell c.is) c.free) in
     let there : IsRecordChain image n first c.path = record {
       of = of;
       is = counted-record image n first (link_in now.links) c.path cell c.is (omega (arith, c.count_is)) (is ∙ ap (λ (k : ℕ). Some k) (sym c.count_is));
@@ -236,7 +249,7 @@ Claiming-record start now (Some image) first count cell many links_size none som
     } in
     subst (λ (k : ℕ). IsRecordChain image k first chain) (sym c.cells) (subst (IsRecordChain image n first) (sym same) there)
 
-pub Claiming-takes : (start now : Cells) (image : Option (List ℕ)) (first count cell : ℕ) → length start.links ≡ 2 * start.cells → length now.links ≡ 2 * start.cells → cell ≡ 65535 → count ≤ 18 → Claiming start now image first count cell → TakesChain start now first count
+pub Claiming-takes : (start now : Cells) (image : Option (List ℕ)) (first count cell : ℕ) → length start.links ≡ 2 * start.cells → length now.links ≡ 2 * start.cells → cell ≡ 65535 → count ≤ longest_chain → Claiming start now image first count cell → TakesChain start now first count
 Claiming-takes start now image first count cell start_size links_size none short c = record {
   chain = c.path;
   linked = subst (λ (k : ℕ). AreLinked (link_in now.links) k first c.path) (sym links_size) (path-end (link_in now.links) (2 * start.cells) first c.path cell none c.is);

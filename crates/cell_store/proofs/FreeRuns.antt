@@ -18,6 +18,13 @@ one-free marks cell inside free = record {
   free = λ k from below. let is : k ≡ cell = omega arith in rw is free;
 }
 
+-- so a longest run has one
+pub some-longest : (marks : List Bool) (most found : ℕ) → 1 ≤ most → 1 ≤ unmarked marks → (found < most → (cell count : ℕ) → 0 ≤ cell → IsFreeRun marks cell count → count ≤ found) → 1 ≤ found
+some-longest marks most found asked some longest = elim (nat_lt found most) as (λ t. nat_lt found most ≡ t → 1 ≤ found) [
+  | true ↦ λ e. let free = some-free marks some in longest (ltb-true found most e) free.0 1 (omega arith) (one-free marks free.0 free.1 free.2)
+  | false ↦ λ e. grind (arith, nat_tests)
+] refl
+
 -- a cell that is marked is before a free run or behind it
 pub outside-run : (marks : List Bool) (at count cell : ℕ) → IsFreeRun marks at count → is_marked marks cell ≡ true → (cell < at) ⊎ (at + count ≤ cell)
 outside-run marks at count cell run is = elim (nat_lt cell at) as (λ t. nat_lt cell at ≡ t → (cell < at) ⊎ (at + count ≤ cell)) [
@@ -28,18 +35,35 @@ outside-run marks at count cell run is = elim (nat_lt cell at) as (λ t. nat_lt 
   ] refl
 ] refl
 
--- no run that begins before a cell is longer, and none that begins there
-pub longest-more : (marks : List Bool) (at best found now : ℕ) → best ≤ now → found ≤ now → ((cell count : ℕ) → cell < at → IsFreeRun marks cell count → count ≤ best) → ((count : ℕ) → IsFreeRun marks at count → count ≤ found)
-    → (cell count : ℕ) → cell < at + 1 → IsFreeRun marks cell count → count ≤ now
-longest-more marks at best found now more enough before here = λ cell count within run.
+-- where no run from a cell on is longer than this one, none is that begins in it or right behind it
+pub longest-here : (marks : List Bool) (at found : ℕ) → IsFreeRun marks at found → ((count : ℕ) → IsFreeRun marks at count → count ≤ found)
+    → (cell count : ℕ) → at ≤ cell → cell ≤ at + found → IsFreeRun marks cell count → count ≤ found
+longest-here marks at found here longest cell count from within run = elim (nat_lt found count) as (λ t. nat_lt found count ≡ t → count ≤ found) [
+  | true ↦ λ e.
+      let more : found < count = ltb-true found count e in
+      let whole : IsFreeRun marks at (found + 1) = record {
+        inside = omega (arith, run.inside);
+        free = λ k after below. elim (nat_lt k cell) as (λ t. nat_lt k cell ≡ t → is_marked marks k ≡ false) [
+          | true ↦ λ e. let before : k < cell = ltb-true k cell e in here.free k after (omega arith)
+          | false ↦ λ e. let behind : cell ≤ k = grind (arith, nat_tests) in run.free k behind (omega arith)
+        ] refl;
+      } in
+      absurd (omega (arith, longest (found + 1) whole))
+  | false ↦ λ e. grind (arith, nat_tests)
+] refl
+
+-- no run that begins before a cell is longer, and none that begins in the run there or right behind it
+pub longest-more : (marks : List Bool) (from at best found now : ℕ) → best ≤ now → found ≤ now → ((cell count : ℕ) → from ≤ cell → cell < at → IsFreeRun marks cell count → count ≤ best)
+    → IsFreeRun marks at found → ((count : ℕ) → IsFreeRun marks at count → count ≤ found) → (cell count : ℕ) → from ≤ cell → cell < at + (found + 1) → IsFreeRun marks cell count → count ≤ now
+longest-more marks from at best found now more enough before run here = λ cell count after within each.
     elim (nat_lt cell at) as (λ t. nat_lt cell at ≡ t → count ≤ now) [
-      | true ↦ λ e. omega (arith, before cell count (ltb-true cell at e) run)
+      | true ↦ λ e. omega (arith, before cell count after (ltb-true cell at e) each)
       | false ↦ λ e.
-          let is : cell ≡ at = grind (arith, nat_tests) in
-          omega (arith, here count (rw is at run))
+          let behind : at ≤ cell = grind (arith, nat_tests) in
+          omega (arith, longest-here marks at found run here cell count behind (omega arith) each)
     ] refl
 
 -- nor one that begins anywhere, where all cells were looked at
-pub longest-all : (marks : List Bool) (at best : ℕ) → length marks ≤ at → ((cell count : ℕ) → cell < at → IsFreeRun marks cell count → count ≤ best) → (cell count : ℕ) → IsFreeRun marks cell count → count ≤ best
-longest-all marks at best all before cell zero run = omega arith
-longest-all marks at best all before cell (suc count) run = before cell (suc count) (omega (arith, run.inside)) run
+pub longest-all : (marks : List Bool) (from at best : ℕ) → length marks ≤ at → ((cell count : ℕ) → from ≤ cell → cell < at → IsFreeRun marks cell count → count ≤ best) → (cell count : ℕ) → from ≤ cell → IsFreeRun marks cell count → count ≤ best
+longest-all marks from at best all before cell zero after run = omega arith
+longest-all marks from at best all before cell (suc count) after run = before cell (suc count) after (omega (arith, run.inside)) run

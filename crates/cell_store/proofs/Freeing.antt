@@ -1,11 +1,14 @@
 -- The cells of a used chain, freed one by one.
-use Rattle.std.proofs.Common.{◌≡◌, ℕ, zero, suc, ◌+◌, ◌<◌, ◌≤◌, ◌≢◌, ◌==◌, ◌&&◌, not, Bool, true, false, List, [], ◌∷◌, length, set, get_or, slice_index, sym, refl, ap, ◌∙◌, arith, subst, true≢false}
+use Rattle.std.proofs.Common.{◌≡◌, ℕ, zero, suc, ◌+◌, ◌<◌, ◌≤◌, ◌≢◌, ◌==◌, ◌&&◌, not, Bool, true, false, List, [], ◌∷◌, length, set, get_or, replicate, slice_index, sym, refl, ap, ◌∙◌, arith, subst, true≢false}
+use Rattle.eeprom.specs.StoreOf.{is_distinct, longest_chain}
 use Rattle.std.specs.List.{AllByRecursion}
 use Rattle.cell_store.specs.Cells.{Cells, kept, link_in, IsUsedChain, freed}
-use Rattle.cell_store.specs.Chains.{AreLinked, with_unmarked}
+use Rattle.cell_store.specs.Chains.{AreLinked, AreMarked, with_unmarked}
 use Rattle.cell_store.specs.Marks.{is_marked, StaysMarked}
-use Rattle.std.proofs.lemmas.List.{get_or-set_other}
-use Rattle.cell_store.proofs.Linking.{linked-one}
+use Rattle.std.proofs.lemmas.List.{get_or-set_other, length-replicate}
+use Rattle.cell_store.proofs.Cells.{none-of}
+use Rattle.cell_store.proofs.Claiming.{free-within}
+use Rattle.cell_store.proofs.Linking.{linked-inside, linked-one}
 use Rattle.cell_store.proofs.Marking.{unmarked-set}
 
 -- after so many steps the cells that are left of a used chain are still to be freed
@@ -16,13 +19,13 @@ pub record Left (links : List ℕ) (size : ℕ) (used : List Bool) (cell step : 
   pub done : with_unmarked used rest ≡ with_unmarked start chain
   pub steps : length rest + step ≡ length chain
 
-pub record Freeing (start : Cells) (used : List Bool) (first step cell : ℕ) : Type 0 where
-  pub left : (chain : List ℕ) → IsUsedChain start first chain → Left start.links (length start.links) used cell step start.used chain
-  pub fewer : StaysMarked used start.used
+pub record Freeing (links : List ℕ) (start used : List Bool) (first step cell : ℕ) : Type 0 where
+  pub left : (chain : List ℕ) → AreLinked (link_in links) (length links) first chain → AreMarked start chain → length chain ≤ longest_chain → Left links (length links) used cell step start chain
+  pub fewer : StaysMarked used start
 
-pub Freeing-start : (start : Cells) (first : ℕ) → Freeing start start.used first 0 first
-Freeing-start start first = record {
-  left = λ chain is. record { rest = chain; linked = is.linked; marked = is.used; done = refl; steps = omega arith };
+pub Freeing-start : (links : List ℕ) (start : List Bool) (first : ℕ) → Freeing links start start first 0 first
+Freeing-start links start first = record {
+  left = λ chain linked marked short. record { rest = chain; linked = linked; marked = marked; done = refl; steps = omega arith };
   fewer = λ cell is. is;
 }
 
@@ -37,6 +40,26 @@ apart-behind links size cell next whole (x ∷ rest) few first second short = (
       omega (arith, short, AreLinked-length links size cell whole (x ∷ rest) few first here),
   apart-behind links size cell (slice_index links next) whole rest few first second.2 (omega arith),
 )
+
+-- so the cells of a chain come once each, and there are no more of them than cells
+linked-distinct : (links : List ℕ) (size cell : ℕ) (chain : List ℕ) → size ≤ 65535 → AreLinked (link_in links) size cell chain → is_distinct chain ≡ true
+linked-distinct links size cell [] few linked = refl
+linked-distinct links size cell (x ∷ rest) few linked =
+    let apart = apart-behind links size cell (slice_index links cell) (x ∷ rest) rest few linked linked.2 (omega arith) in
+    rw (linked.0, none-of cell rest apart, linked-distinct links size (slice_index links cell) rest few linked.2) refl
+
+none-marked : (size cell : ℕ) → is_marked (replicate size false) cell ≡ false
+none-marked zero cell = refl
+none-marked (suc size) zero = refl
+none-marked (suc size) (suc cell) = none-marked size cell
+
+pub linked-within : (links : List ℕ) (size cell : ℕ) (chain : List ℕ) → size ≤ 65535 → AreLinked (link_in links) size cell chain → length chain ≤ size
+linked-within links size cell chain few linked =
+    free-within (replicate size false) size chain (length-replicate size false) (linked-inside (link_in links) size cell chain linked) (record { free = each chain; distinct = linked-distinct links size cell chain few linked })
+  where
+    each : (cells : List ℕ) → AllByRecursion (λ cell. is_marked (replicate size false) cell ≡ false) cells
+    each [] = tt
+    each (x ∷ xs) = (none-marked size x, each xs)
 
 still-marked : (used : List Bool) (cell : ℕ) (rest : List ℕ) → AllByRecursion (λ x. x ≢ cell) rest → AllByRecursion (λ x. is_marked used x ≡ true) rest → AllByRecursion (λ x. is_marked (set used cell false) x ≡ true) rest
 still-marked used cell [] apart are = tt
@@ -63,34 +86,41 @@ fewer-more used start cell fewer = λ x is. fewer x (and-left (is_marked used x)
     and-left true b h = refl
     and-left false b h = h
 
-pub Freeing-more : (start : Cells) (used : List Bool) (first step cell : ℕ) → length start.links ≤ 65535 → cell < length start.links → Freeing start used first step cell → Freeing start (set used cell false) first (step + 1) (slice_index start.links cell)
-Freeing-more start used first step cell few inside f = record {
-  left = λ chain is. left-more start.links (length start.links) used cell step start.used chain few inside (f.left chain is);
-  fewer = fewer-more used start.used cell f.fewer;
+pub Freeing-more : (links : List ℕ) (start used : List Bool) (first step cell : ℕ) → length links ≤ 65535 → cell < length links → Freeing links start used first step cell → Freeing links start (set used cell false) first (step + 1) (slice_index links cell)
+Freeing-more links start used first step cell few inside f = record {
+  left = λ chain linked marked short. left-more links (length links) used cell step start chain few inside (f.left chain linked marked short);
+  fewer = fewer-more used start cell f.fewer;
 }
 
 -- the walk ends where a cell isn't used or there is none, or after as many cells as a record has
-ended : (links : List ℕ) (size : ℕ) (used : List Bool) (cell step : ℕ) (start : List Bool) (chain : List ℕ) → (cell < size → is_marked used cell ≡ false) → Left links size used cell step start chain → used ≡ with_unmarked start chain
+ended : (links : List ℕ) (size : ℕ) (used : List Bool) (cell step : ℕ) (start : List Bool) (chain : List ℕ) → is_marked used cell ≡ false → Left links size used cell step start chain → used ≡ with_unmarked start chain
 ended links size used cell step start chain free l = none l.rest l.linked l.marked l.done
   where
     none : (rest : List ℕ) → AreLinked (link_in links) size cell rest → AllByRecursion (λ cell. is_marked used cell ≡ true) rest → with_unmarked used rest ≡ with_unmarked start chain → used ≡ with_unmarked start chain
     none [] linked marked done = done
-    none (x ∷ rest) linked marked done = absurd (true≢false (sym marked.0 ∙ subst (λ (at : ℕ). is_marked used at ≡ false) (sym linked.0) (free linked.1)))
+    none (x ∷ rest) linked marked done = absurd (true≢false (sym marked.0 ∙ subst (λ (at : ℕ). is_marked used at ≡ false) (sym linked.0) free))
 
-pub Freeing-end : (start : Cells) (used : List Bool) (first step cell : ℕ) → (cell < length start.links → is_marked used cell ≡ false) → Freeing start used first step cell
-    → (chain : List ℕ) → IsUsedChain start first chain → kept start.cells used start.links ≡ freed start chain
-Freeing-end start used first step cell free f chain is =
-    ap (λ (used : List Bool). kept start.cells used start.links) (ended start.links (length start.links) used cell step start.used chain free (f.left chain is))
+pub Freeing-end : (links : List ℕ) (start used : List Bool) (first step cell : ℕ) → is_marked used cell ≡ false → Freeing links start used first step cell
+    → (chain : List ℕ) → AreLinked (link_in links) (length links) first chain → AreMarked start chain → length chain ≤ longest_chain → used ≡ with_unmarked start chain
+Freeing-end links start used first step cell free f chain linked marked short = ended links (length links) used cell step start chain free (f.left chain linked marked short)
 
-pub Freeing-full : (start : Cells) (used : List Bool) (first step cell : ℕ) → 18 ≤ step → Freeing start used first step cell
-    → (chain : List ℕ) → IsUsedChain start first chain → kept start.cells used start.links ≡ freed start chain
-Freeing-full start used first step cell long f chain is =
-    let l = f.left chain is in
-    ap (λ (used : List Bool). kept start.cells used start.links) (none l.rest l.done (omega (arith, is.short, l.steps)))
+pub Freeing-full : (links : List ℕ) (start used : List Bool) (first step cell : ℕ) → longest_chain ≤ step → Freeing links start used first step cell
+    → (chain : List ℕ) → AreLinked (link_in links) (length links) first chain → AreMarked start chain → length chain ≤ longest_chain → used ≡ with_unmarked start chain
+Freeing-full links start used first step cell long f chain linked marked short =
+    let l = f.left chain linked marked short in
+    none l.rest l.done (omega (arith, short, l.steps))
   where
-    none : (rest : List ℕ) → with_unmarked used rest ≡ with_unmarked start.used chain → length rest ≡ 0 → used ≡ with_unmarked start.used chain
+    none : (rest : List ℕ) → with_unmarked used rest ≡ with_unmarked start chain → length rest ≡ 0 → used ≡ with_unmarked start chain
     none [] done e = done
     none (x ∷ rest) done e = absurd (omega arith)
+
+-- a store of which the cells of a used chain are marked no more
+pub Freeing-seen : (n : ℕ) (used later : List Bool) (links : List ℕ) (first : ℕ) (store : Cells) → kept n used links ≡ store
+    → ((chain : List ℕ) → AreLinked (link_in links) (length links) first chain → AreMarked used chain → length chain ≤ longest_chain → later ≡ with_unmarked used chain)
+    → (chain : List ℕ) → IsUsedChain store first chain → kept n later links ≡ freed store chain
+Freeing-seen n used later links first store seen unmarked =
+    subst (λ (store : Cells). (chain : List ℕ) → IsUsedChain store first chain → kept n later links ≡ freed store chain) seen
+    (λ chain is. ap (λ (used : List Bool). kept n used links) (unmarked chain is.linked is.used is.short))
 
 -- what is read of a store is what is seen of it
 pub length-links : (view store : Cells) → view ≡ store → length view.links ≡ length store.links
@@ -103,8 +133,3 @@ link-read items links cell link same inside is = is ∙ (get_or-any items cell l
     get_or-any [] k a b inside = absurd (omega arith)
     get_or-any (x ∷ xs) zero a b inside = refl
     get_or-any (x ∷ xs) (suc k) a b inside = get_or-any xs k a b (omega arith)
-
-pub mark-read : (marks : List Bool) (cell : ℕ) (mark : Bool) → cell < length marks → mark ≡ get_or marks cell mark → is_marked marks cell ≡ mark
-mark-read [] cell mark inside is = absurd (omega arith)
-mark-read (x ∷ marks) zero mark inside is = sym is
-mark-read (x ∷ marks) (suc cell) mark inside is = mark-read marks cell mark (omega arith) is

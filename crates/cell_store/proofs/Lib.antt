@@ -11,5 +11,6 @@ pub mod Placements
 pub mod Reading
 pub mod Runs
 pub mod SameChains
+pub mod Undoing
 pub mod Walking
 pub mod Writing

@@ -2,7 +2,7 @@
 use Rattle.std.proofs.Common.{◌≡◌, ℕ, zero, suc, ◌+◌, ◌*◌, ◌-◌, ◌<◌, ◌≤◌, ◌==◌, true, false, List, [], ◌∷◌, ◌++◌, length, slice_index, nat_lt, Some, sym, refl, ap, ◌∙◌, arith, subst, eqb-true, ltb-true, inl, inr}
 use Rattle.std.specs.List.{AllByRecursion}
 use Rattle.std.proofs.lemmas.Bool.Decides.{nat_tests}
-use Rattle.eeprom.specs.StoreOf.{chain_of, cell_place, number_at}
+use Rattle.eeprom.specs.StoreOf.{chain_of, cell_place, number_at, longest_chain}
 use Rattle.cell_store.specs.Cells.{Cells, IsInRange, IsUsedChain, link_in}
 use Rattle.cell_store.specs.Chains.{AreLinked, link_of, steps}
 use Rattle.cell_store.proofs.Chains.{if-some, chain-cases}
@@ -65,8 +65,8 @@ steps-linked links cell (suc limit) (first ∷ rest) few linked short =
     rw below (ap suc (steps-linked links (slice_index links cell) limit rest few linked.2 (omega arith)))
 
 -- and so of a used chain
-pub steps-used : (store : Cells) (first : ℕ) (chain : List ℕ) → IsInRange store → IsUsedChain store first chain → steps store.links 18 first ≡ length chain
-steps-used store first chain range is = steps-linked store.links first 18 chain (omega (arith, range.links_count, range.many)) is.linked is.short
+pub steps-used : (store : Cells) (first : ℕ) (chain : List ℕ) → IsInRange store → IsUsedChain store first chain → steps store.links longest_chain first ≡ length chain
+steps-used store first chain range is = steps-linked store.links first longest_chain chain (omega (arith, range.links_count, range.many)) is.linked is.short
 
 -- a walk ends where no cell comes
 pub steps-end : (links : List ℕ) (most cell : ℕ) → length links ≤ cell → steps links most cell ≡ 0
@@ -80,10 +80,10 @@ steps-more links most cell inside =
     let below : nat_lt cell (length links) ≡ true = grind (arith, nat_tests) in
     rw below refl
 
-pub steps-next : (links : List ℕ) (k cell : ℕ) → k < 18 → cell < length links → steps links (18 - k) cell ≡ suc (steps links (18 - (k + 1)) (slice_index links cell))
+pub steps-next : (links : List ℕ) (k cell : ℕ) → k < longest_chain → cell < length links → steps links (longest_chain - k) cell ≡ suc (steps links (longest_chain - (k + 1)) (slice_index links cell))
 steps-next links k cell few inside =
-    let left : 18 - k ≡ suc (18 - (k + 1)) = omega arith in
-    ap (λ (most : ℕ). steps links most cell) left ∙ steps-more links (18 - (k + 1)) cell inside
+    let left : longest_chain - k ≡ suc (longest_chain - (k + 1)) = omega arith in
+    ap (λ (most : ℕ). steps links most cell) left ∙ steps-more links (longest_chain - (k + 1)) cell inside
 
 -- from the first cell the links lead through these to another
 abbrev pub IsPath : (ℕ → ℕ) → ℕ → ℕ → List ℕ → ℕ → Type 0
@@ -118,8 +118,8 @@ path-rest link size first (x ∷ path) cell (y ∷ chain) few is linked =
     (from.0, ap (λ (rest : List ℕ). y ∷ rest) from.1 ∙ ap (λ (z : ℕ). z ∷ (path ++ from.0)) same, from.2)
 
 -- a count of cells along the links
-pub steps-counted : (links : List ℕ) (first count cell : ℕ) → count < 18 → cell < length links → count + steps links (18 - count) cell ≡ steps links 18 first → (count + 1) + steps links (18 - (count + 1)) (slice_index links cell) ≡ steps links 18 first
+pub steps-counted : (links : List ℕ) (first count cell : ℕ) → count < longest_chain → cell < length links → count + steps links (longest_chain - count) cell ≡ steps links longest_chain first → (count + 1) + steps links (longest_chain - (count + 1)) (slice_index links cell) ≡ steps links longest_chain first
 steps-counted links first count cell few inside so_far = omega (arith, so_far, steps-next links count cell few inside)
 
-pub steps-ended : (links : List ℕ) (first count cell : ℕ) → length links ≤ cell → count + steps links (18 - count) cell ≡ steps links 18 first → count ≡ steps links 18 first
-steps-ended links first count cell outside so_far = omega (arith, so_far, steps-end links (18 - count) cell outside)
+pub steps-ended : (links : List ℕ) (first count cell : ℕ) → length links ≤ cell → count + steps links (longest_chain - count) cell ≡ steps links longest_chain first → count ≡ steps links longest_chain first
+steps-ended links first count cell outside so_far = omega (arith, so_far, steps-end links (longest_chain - count) cell outside)

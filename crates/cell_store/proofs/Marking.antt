@@ -1,5 +1,5 @@
 -- Marks of cells: one that is set, those of whole chains, and how many there are.
-use Rattle.std.proofs.Common.{◌≡◌, ℕ, zero, suc, ◌+◌, ◌<◌, ◌≤◌, ◌≢◌, ◌==◌, ◌||◌, ◌&&◌, Bool, true, false, not, cond, List, [], ◌∷◌, ◌++◌, length, set, get_or, sym, refl, ap, ◌∙◌, arith, eqb-true}
+use Rattle.std.proofs.Common.{◌≡◌, ℕ, zero, suc, ◌+◌, ◌<◌, ◌≢◌, ◌==◌, ◌||◌, ◌&&◌, Bool, true, false, not, cond, List, [], ◌∷◌, ◌++◌, length, set, sym, refl, ap, ◌∙◌, arith, eqb-true, true≢false}
 use Rattle.std.specs.List.{AllByRecursion}
 use Rattle.std.proofs.lemmas.Bool.Decides.{nat_tests}
 use Rattle.std.proofs.lemmas.List.{length-set, get_or-set_other}
@@ -20,14 +20,17 @@ marks-stay (mark ∷ marks) zero (suc cell) e = e
 marks-stay (mark ∷ marks) (suc at) zero e = e
 marks-stay (mark ∷ marks) (suc at) (suc cell) e = marks-stay marks at cell e
 
-at-most-one : (mark : Bool) → (cond mark 1 0 ≤ 1) × (cond (not mark) 1 0 ≤ 1)
-at-most-one true = (omega arith, omega arith)
-at-most-one false = (omega arith, omega arith)
-
-pub unmarked-one-less : (marks : List Bool) (cell : ℕ) → cell < length marks → unmarked marks ≤ unmarked (set marks cell true) + 1
-unmarked-one-less marks cell inside =
+-- one less isn't marked where a free one is
+pub unmarked-one : (marks : List Bool) (cell : ℕ) → cell < length marks → is_marked marks cell ≡ false → unmarked marks ≡ unmarked (set marks cell true) + 1
+unmarked-one marks cell inside free =
     let e = sum_by-set (λ (mark : Bool). cond (not mark) 1 0) marks cell true false inside in
-    omega (arith, e, (at-most-one (get_or marks cell false)).1)
+    omega (arith, e, ap {B = ℕ} (λ mark. cond (not mark) 1 0) free)
+
+-- only cells that there are are marked
+pub marked-inside : (marks : List Bool) (cell : ℕ) → is_marked marks cell ≡ true → cell < length marks
+marked-inside [] cell is = absurd (true≢false (sym is))
+marked-inside (mark ∷ marks) zero is = omega arith
+marked-inside (mark ∷ marks) (suc cell) is = omega (arith, marked-inside marks cell is)
 
 pub marked-all : (marks : List Bool) → marked marks + unmarked marks ≡ length marks
 marked-all [] = refl

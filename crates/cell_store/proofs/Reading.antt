@@ -1,7 +1,7 @@
 -- How many octets are read of a chain and of a record.
 use Rattle.std.proofs.Common.{◌≡◌, ℕ, ◌+◌, ◌*◌, ◌≤◌, List, length, Option, Some, None, IsSome, IfSome, refl, ap, arith, subst}
 use Rattle.eeprom.specs.Chip.{Becomes, RisesBy}
-use Rattle.eeprom.specs.StoreOf.{chain_of, cells_of, slot_of}
+use Rattle.eeprom.specs.StoreOf.{chain_of, cells_of, slot_of, longest_chain}
 use Rattle.cell_store.specs.Reading.{ReadsAtMost, ReadsCells, ReadsRecord}
 use Rattle.cell_store.specs.Walk.{Walked}
 use Rattle.cell_store.proofs.Chains.{cells-chain}
@@ -59,7 +59,7 @@ reads-cells (Some octets) cells old new there are read = λ after e.
 
 pub reads-record : (n first : ℕ) (image : Option (List ℕ)) (size : ℕ) (out : List ℕ) (old new : Option ℕ) → 70 * n + 34 ≤ size → IfSome image (λ image. length image ≡ size)
     → IfSome image (λ image. (chain : List ℕ) → IsRecordChain image n first chain → slot_of image n chain ≡ Some out)
-    → IfSome image (λ image. (chain : List ℕ) → chain_of image n (2 * n) first ≡ Some chain → length chain ≤ 18 → Becomes (ReadsCells (length chain)) old new)
+    → IfSome image (λ image. (chain : List ℕ) → chain_of image n (2 * n) first ≡ Some chain → length chain ≤ longest_chain → Becomes (ReadsCells (length chain)) old new)
     → IfSome image (λ image. (chain : List ℕ) → IsRecordChain image n first chain → Becomes (ReadsRecord (Some out)) old new)
 reads-record n first None size out old new room sized got read = tt
 reads-record n first (Some image) size out old new room sized got read = λ chain r.

@@ -3,13 +3,14 @@ use Rattle.std.proofs.Common.{◌≡◌, ℕ, ◌+◌, ◌*◌, ◌-◌, ◌≤�
 use Rattle.std.specs.List.{AllByRecursion}
 use Rattle.std.proofs.lemmas.List.{get_or_append_left, drop-take}
 use Rattle.eeprom.specs.Chip.{Becomes}
-use Rattle.eeprom.specs.StoreOf.{chain_of, cell_place, cells_for, payload_of, number_at, record_in, is_record, slot_of}
+use Rattle.eeprom.specs.StoreOf.{chain_of, cell_place, cells_for, payload_of, number_at, record_in, is_record, slot_of, longest_record}
 use Rattle.cell_store.specs.Cells.{Cells, IsInRange, kept, link_in}
 use Rattle.cell_store.specs.Chains.{AreLinked, link_of, IsRecordChain}
 use Rattle.cell_store.specs.Marks.{is_marked}
 use Rattle.cell_store.specs.Placed.{IsPlaced, IsLaid, IsTaken}
 use Rattle.cell_store.specs.Writing.{IsWritten}
 use Rattle.cell_store.proofs.Chains.{length-payload}
+use Rattle.cell_store.proofs.Freeing.{linked-within}
 use Rattle.cell_store.proofs.Linking.{chain-linked, linked-same, linked-one}
 
 -- the record of a chain that was written
@@ -28,7 +29,7 @@ record-front payload m long =
     ∙ ap (λ (xs : List ℕ). drop 2 xs) (take-take (2 + k) m payload long)
     ∙ sym (cut payload 2 (2 + k) (omega arith))
 
-record-written : (image : List ℕ) (n : ℕ) (payload octets : List ℕ) (count : ℕ) (chain : List ℕ) (start marks : List Bool) → 70 * n + 34 ≤ length image → length chain ≡ count → count ≡ cells_for (length octets) → 1 ≤ length octets → length octets ≤ 512
+record-written : (image : List ℕ) (n : ℕ) (payload octets : List ℕ) (count : ℕ) (chain : List ℕ) (start marks : List Bool) → 70 * n + 34 ≤ length image → length chain ≡ count → count ≡ cells_for (length octets) → 1 ≤ length octets → length octets ≤ longest_record
     → number_at payload 0 ≡ length octets → record_in payload ≡ octets → flat_map (payload_of image n) chain ≡ slice_range payload 0 (30 * count) → AllByRecursion (IsTaken n start marks) chain
     → (is_record image n chain ≡ true) × (slot_of image n chain ≡ Some octets)
 record-written image n payload octets count [] start marks room size cells some most number record_is flat taken = absurd (omega arith)
@@ -42,7 +43,7 @@ record-written image n payload octets count (cell ∷ chain) start marks room si
       get_or_append_left (payload_of image n cell) (flat_map (payload_of image n) chain) 0 1 (omega arith),
     ) (ap (λ (xs : List ℕ). number_at xs 0) front ∙ number-front payload m (omega arith) ∙ number) in
     let low : nat_le 1 (length octets) ≡ true = le-leb 1 (length octets) some in
-    let high : nat_le (length octets) 512 ≡ true = le-leb (length octets) 512 most in
+    let high : nat_le (length octets) longest_record ≡ true = le-leb (length octets) longest_record most in
     let exact : (length (cell ∷ chain) == cells_for (length octets)) ≡ true = eq-eqb (length (cell ∷ chain)) (cells_for (length octets)) (size ∙ cells) in
     (rw (size_is, low, high, exact) refl, ap (λ (xs : List ℕ). Some (record_in xs)) front ∙ ap (λ (xs : List ℕ). Some xs) (record-front payload m (omega arith) ∙ record_is))
 
@@ -58,14 +59,14 @@ taken-agree : (n : ℕ) (start marks : List Bool) (links now : List ℕ) (chain 
 taken-agree n start marks links now [] new taken = tt
 taken-agree n start marks links now (cell ∷ chain) new taken = (new cell taken.0.now taken.0.free, taken-agree n start marks links now chain new taken.1)
 
-written : (store : Cells) (later : List Bool) (links payload octets : List ℕ) (count first : ℕ) (was now : List ℕ) → IsInRange store → 70 * store.cells + 34 ≤ length was → length links ≡ length store.links → 1 ≤ length octets → length octets ≤ 512
+written : (store : Cells) (later : List Bool) (links payload octets : List ℕ) (count first : ℕ) (was now : List ℕ) → IsInRange store → 70 * store.cells + 34 ≤ length was → length links ≡ length store.links → 1 ≤ length octets → length octets ≤ longest_record
     → number_at payload 0 ≡ length octets → record_in payload ≡ octets → count ≡ cells_for (length octets) → IsLaid store.cells store.used later 0 count first store.links links → IsPlaced store.cells store.used later payload 0 count first links was now
     → IsWritten store (kept store.cells later links) first octets was now
 written store later links payload octets count first was now range room links_size some most number record_is cells laid p =
     let n = store.cells in
     let chain : List ℕ = p.placed.chain in
     let size : length chain ≡ count = omega (arith, p.placed.cells) in
-    let few : length chain ≤ 2 * n = omega (arith, size, cells, range.few) in
+    let few : length chain ≤ 2 * n = omega (arith, size, laid.cells, linked-within links (2 * n) first laid.chain (omega (arith, range.many)) laid.linked) in
     let of : chain_of now n (2 * n) first ≡ Some chain = p.placed.of (2 * n) few in
     let there = record-written now n payload octets count chain store.used later (omega (arith, room, p.keeping.size)) size cells some most number record_is p.placed.octets p.placed.taken in
     let linked = linked-same (link_of now n) (link_in links) (2 * n) first chain (taken-agree n store.used later links now chain p.new_links p.placed.taken) (chain-linked now n (2 * n) first chain of) in
@@ -85,7 +86,7 @@ written store later links payload octets count first was now range room links_si
     }
 
 pub written-becomes : (store new : Cells) (marks later : List Bool) (links before payload octets : List ℕ) (n count first size : ℕ) (old now : Option (List ℕ)) → IsInRange store → 70 * store.cells + 34 ≤ size → IfSome old (λ image. length image ≡ size) → n ≡ store.cells → marks ≡ store.used → before ≡ store.links
-    → length links ≡ length before → 1 ≤ length octets → length octets ≤ 512 → number_at payload 0 ≡ length octets → record_in payload ≡ octets → count ≡ cells_for (length octets) → new ≡ kept store.cells later links
+    → length links ≡ length before → 1 ≤ length octets → length octets ≤ longest_record → number_at payload 0 ≡ length octets → record_in payload ≡ octets → count ≡ cells_for (length octets) → new ≡ kept store.cells later links
     → IsLaid n marks later 0 count first before links → Becomes (IsPlaced n marks later payload 0 count first links) old now → Becomes (IsWritten store new first octets) old now
 written-becomes store new marks later links before payload octets n count first size old now range room sized n_is marks_is before_is links_size some most number record_is cells new_is laid placed = λ image told.
     let from = placed image told in

@@ -31,6 +31,10 @@ pub record AreFree (marks : List Bool) (cells : List ℕ) : Type 0 where
   pub free : AllByRecursion (λ cell. is_marked marks cell ≡ false) cells
   pub distinct : is_distinct cells ≡ true
 
+-- each of these cells is marked
+abbrev pub AreMarked : List Bool → List ℕ → Type 0
+AreMarked marks cells = AllByRecursion (λ cell. is_marked marks cell ≡ true) cells
+
 -- these cells are marked too
 abbrev pub with_marked : List Bool → List ℕ → List Bool
 with_marked marks [] = marks

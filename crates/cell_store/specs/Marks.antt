@@ -23,3 +23,12 @@ pub record IsFreeRun (marks : List Bool) (cell count : ℕ) : Type 0 where
 -- no run of free cells is longer than this one, where it is shorter than was asked
 abbrev pub IsLongest : List Bool → ℕ → ℕ → Type 0
 IsLongest marks most found = found < most → (cell count : ℕ) → IsFreeRun marks cell count → count ≤ found
+
+-- nor is one longer that begins at a cell or behind it
+abbrev pub IsLongestFrom : List Bool → ℕ → ℕ → ℕ → Type 0
+IsLongestFrom marks from most found = found < most → (cell count : ℕ) → from ≤ cell → IsFreeRun marks cell count → count ≤ found
+
+-- this is the number of cells that aren't marked, and there are no more cells than the largest store has
+pub record IsCounted (marks : List Bool) (free : ℕ) : Type 0 where
+  pub few : length marks ≤ 4096
+  pub free_is : free ≡ unmarked marks

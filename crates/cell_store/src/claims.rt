@@ -14,6 +14,7 @@ ghost use Rattle.cell_store.specs.Faults.{is_claim_fault};
 use crate::ClaimRefusal;
 use crate::chain::{Payload, read_cell};
 use crate::layout::{LONGEST_RECORD, NO_CELL, number_of};
+use crate::marks::Marks;
 use crate::store::cells_for;
 use eeprom::Eeprom;
 
@@ -22,12 +23,11 @@ use eeprom::Eeprom;
 pub fn claim_cells<B: Eeprom>(
     bench: &mut B,
     cells: u16,
-    used: &mut [bool],
+    used: &mut Marks,
     links: &mut [u16],
     first: u16,
     payload: &mut Payload,
 ) -> Result<u16, ClaimRefusal>
-    requires few { 16 ≤ cells }
     requires many { cells ≤ 2048 }
     requires room { HasRoom cells (B.chip bench.old) }
     requires used { length used.old ≡ 2 * cells }
@@ -65,7 +65,7 @@ pub fn claim_cells<B: Eeprom>(
 fn claim_cell<B: Eeprom>(
     bench: &mut B,
     cells: u16,
-    used: &mut [bool],
+    used: &mut Marks,
     links: &mut [u16],
     cell: u16,
     payload: &mut Payload,
@@ -87,11 +87,11 @@ fn claim_cell<B: Eeprom>(
     ensures frame { Reads is_claim_fault B.chip B.faults bench.old bench.new result }
 {
     let place = cell as usize;
-    if place >= used.len() || used[place] {
+    if place >= used.len() || used.is_marked(cell) {
         return Err(ClaimRefusal::BadChain);
     }
     let next = read_cell(bench, cells, cell, payload)?;
-    used[place] = true;
+    used.mark(cell);
     links[place] = next;
     Ok(next)
 }

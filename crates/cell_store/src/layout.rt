@@ -14,16 +14,17 @@ pub const LINK: usize = 2;
 /// The octets of payload in a cell.
 pub const PIECE: usize = 30;
 
-/// How many octets a record has at most, and how many cells its chain.
-pub const LONGEST_RECORD: usize = 512;
+/// How many octets a record has at most.
+pub const LONGEST_RECORD: usize = 1029;
 
-pub const LONGEST: u16 = 18;
+/// How many cells the chain of such a record has.
+pub const LONGEST: u16 = ((LONGEST_RECORD + 31) / PIECE) as u16;
 
 /// The payload of the longest chain.
-pub const LARGEST: usize = 540;
+pub const LARGEST: usize = PIECE * LONGEST as usize;
 
-/// The cells of the largest store.
-pub const CELLS: usize = 4096;
+/// The octets of the cells of the longest chain.
+pub const LARGEST_RUN: usize = CELL * LONGEST as usize;
 
 pub fn cell_place(cells: u16, cell: u16) -> usize
     ensures { result ≡ image.cell_place cells cell }

@@ -1,23 +1,23 @@
 // A record's chain, written into cells that no other chain has.
-ghost use Rattle.std.specs.Prelude.{◌≡◌, ◌+◌, ◌*◌, ◌≤◌, ◌<◌, ◌++◌, length, IfOk, is_some, OnOk};
+ghost use Rattle.std.specs.Prelude.{◌≡◌, ◌+◌, ◌*◌, ◌≤◌, ◌<◌, ◌++◌, length, IfOk, is_some, OnOk, OnErr};
 ghost use Rattle.arrayvec.specs.ArrayVec.{array_vec_len};
 ghost use Rattle.eeprom.specs.Chip.{Becomes, RisesBy};
 ghost use Rattle.eeprom.specs.Fault.{Counts};
 ghost use Rattle.eeprom.specs.Frame.{HasRoom};
 ghost use Rattle.eeprom.specs.StoreOf.{number_at, record_in, two_octets, cell_size, piece_size, longest_record, longest_chain};
-ghost use Rattle.cell_store.specs.Marks.{unmarked};
+ghost use Rattle.cell_store.specs.Marks.{IsFreeRun, unmarked};
 ghost use Rattle.cell_store.specs.Placed.{IsLaid, IsPlaced, KeepsMarked};
 ghost use Rattle.cell_store.specs.Cells.{StayLinked};
 ghost use Rattle.cell_store.specs.Runs as runs;
 
 use crate::chain::{Payload, append};
-use crate::layout::{LARGEST, LONGEST, NO_CELL, PIECE, cell_place, octets_of};
-use crate::marks::{Run, find_run};
+use crate::layout::{LARGEST, LARGEST_RUN, NO_CELL, PIECE, cell_place, octets_of};
+use crate::marks::{Marks, Run, unmark_chain};
 use arrayvec::ArrayVec;
 use eeprom::{Eeprom, EepromFault};
 
 /// The octets of the cells of the longest chain.
-type RunOctets = ArrayVec<u8, 576>;
+type RunOctets = ArrayVec<u8, LARGEST_RUN>;
 
 /// The payload of a record, with what is left over empty.
 pub fn payload_of_record(octets: &[u8]) -> Payload
@@ -65,9 +65,9 @@ fn push_cell(octets: &mut RunOctets, next: u16, piece: &[u8])
 }
 
 /// Marks a run's cells, and links each to the next one, and the last to `after`.
-fn take_run(marks: &mut [bool], links: &mut [u16], run: Run, after: u16)
+fn take_run(marks: &mut Marks, links: &mut [u16], run: Run, after: u16)
     requires few { length marks.old ≤ 4096 }
-    requires marks { run.cell + run.count ≤ length marks.old }
+    requires free { IsFreeRun marks.old run.cell run.count }
     requires links { run.cell + run.count ≤ length links.old }
     ensures marks { marks.new ≡ runs.run_marked marks.old run.cell run.count }
     ensures links { links.new ≡ runs.run_linked links.old run.cell run.count after }
@@ -75,18 +75,18 @@ fn take_run(marks: &mut [bool], links: &mut [u16], run: Run, after: u16)
     let mut next = after;
     for step in 0..run.count {
         let cell = run.cell + (run.count - 1 - step);
-        marks[cell as usize] = true;
+        marks.mark(cell);
         links[cell as usize] = next;
         next = cell;
     }
 }
 
 /// Writes a payload of so many pieces into cells that aren't marked, and answers the chain's first cell.
-/// Each run of cells is one write, the last run first.
+/// Each run of cells is one write, the last run first. Where a write fails, the marks are as they were.
 pub fn write_cells<B: Eeprom>(
     bench: &mut B,
     cells: u16,
-    marks: &mut [bool],
+    marks: &mut Marks,
     links: &mut [u16],
     payload: &[u8],
     count: u16,
@@ -97,9 +97,12 @@ pub fn write_cells<B: Eeprom>(
     requires links { length links.old ≡ 2 * cells }
     requires payload { piece_size * count ≤ length payload.now }
     requires some { 1 ≤ count }
+    requires short { count ≤ longest_chain }
     requires free { count ≤ unmarked marks.old }
     ensures placed { IfOk result (λ first. Becomes (IsPlaced cells marks.old marks.new payload.now 0 count first links.new) (B.chip bench.old).image (B.chip bench.new).image) }
     ensures laid { IfOk result (λ first. IsLaid cells marks.old marks.new 0 count first links.old links.new) }
+    ensures marks { length marks.new ≡ length marks.old }
+    ensures undone { OnErr result (marks.new ≡ marks.old) }
     ensures stay { StayLinked marks.old links.old links.new }
     ensures there { IfOk result (λ first. first < 2 * cells) }
     ensures told { OnOk result (is_some (B.chip bench.new).image ≡ is_some (B.chip bench.old).image) }
@@ -111,10 +114,13 @@ pub fn write_cells<B: Eeprom>(
     let mut first = NO_CELL;
     let mut left = count;
     while left > 0 {
-        let run = find_run(marks, left.min(LONGEST));
+        let run = marks.find_run(left);
         left -= run.count;
         let octets = run_octets(run, first, payload, left);
-        bench.write(cell_place(cells, run.cell), octets.as_slice())?;
+        if let Err(fault) = bench.write(cell_place(cells, run.cell), octets.as_slice()) {
+            unmark_chain(marks, links, first);
+            return Err(fault);
+        }
         take_run(marks, links, run, first);
         first = run.cell;
     }

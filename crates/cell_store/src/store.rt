@@ -16,8 +16,8 @@ ghost use Rattle.cell_store.specs.Faults.{is_claim_fault, is_write_fault};
 
 use crate::chain::{Payload, RecordOctets, copy_record, read_record};
 use crate::claims::claim_cells;
-use crate::layout::{CELLS, LONGEST, NO_CELL, PIECE};
-use crate::marks::count_free;
+use crate::layout::{LONGEST, NO_CELL, PIECE};
+use crate::marks::{Marks, unmark_chain};
 use crate::placing::{payload_of_record, write_cells};
 use crate::{CellRefusal, ClaimRefusal};
 use eeprom::{Eeprom, EepromFault};
@@ -28,7 +28,7 @@ use std::marker::Model;
 #[derive(Drop)]
 pub struct CellStore {
     cells: u16,
-    used: Vec<bool>,
+    used: Marks,
     /// The number of the next cell, for each cell that is used.
     links: Vec<u16>,
 }
@@ -38,9 +38,9 @@ impl Model for CellStore {
 
     ghost Value = { Cells };
 
-    ghost view = { λ store. kept store.cells store.used.items store.links.items };
+    ghost view = { λ store. kept store.cells store.used store.links.items };
 
-    ghost invariant = { λ store. IsInRange (kept store.cells store.used.items store.links.items) };
+    ghost invariant = { λ store. IsInRange (kept store.cells store.used store.links.items) };
 }
 
 impl CellStore {
@@ -50,11 +50,11 @@ impl CellStore {
         requires many { cells ≤ 2048 }
         ensures { IfOk result (λ store. store ≡ all_free cells) }
     {
-        let count = 2 * cells as usize;
+        let count = 2 * cells;
         Ok(CellStore {
             cells,
-            used: vec![in alloc; false; count]?,
-            links: vec![in alloc; NO_CELL; count]?,
+            used: Marks::with_room(alloc, count)?,
+            links: vec![in alloc; NO_CELL; count as usize]?,
         })
     }
 
@@ -104,7 +104,7 @@ impl CellStore {
         ensures bad_chain { IsErrOf result ClaimRefusal.BadChain → IfSome (B.chip bench.old).image (HasNoRecord self.old first) }
         ensures frame { Reads is_claim_fault B.chip B.faults bench.old bench.new result }
     {
-        let used = self.used.as_mut_slice();
+        let used = &mut self.used;
         let links = self.links.as_mut_slice();
         let mut payload = Payload::new();
         let count = claim_cells(bench, self.cells, used, links, first, &mut payload)?;
@@ -133,22 +133,18 @@ impl CellStore {
         ensures cause { CountsFaults is_write_fault (B.faults bench.old) (B.faults bench.new) result }
     {
         let count = cells_for(octets.len());
-        if count as usize > count_free(self.used.as_slice()) {
+        if count > self.used.count_free() {
             return Err(CellRefusal::NoCell);
         }
-        let mut marks = [false; CELLS];
-        let marks = &mut marks[..2 * self.cells as usize];
-        marks.copy_from_slice(self.used.as_slice());
         let payload = payload_of_record(octets);
         let first = write_cells(
             bench,
             self.cells,
-            marks,
+            &mut self.used,
             self.links.as_mut_slice(),
             payload.as_slice(),
             count,
         )?;
-        self.used.copy_from_slice(marks);
         Ok(first)
     }
 
@@ -177,21 +173,14 @@ impl CellStore {
         ensures fewer { StaysMarked self.new.used self.old.used }
         ensures count { length self.new.used ≡ length self.old.used }
     {
-        let mut cell = first as usize;
-        for _step in 0..LONGEST {
-            if cell >= self.used.len() || !self.used[cell] {
-                return;
-            }
-            self.used[cell] = false;
-            cell = self.links[cell] as usize;
-        }
+        unmark_chain(&mut self.used, self.links.as_slice(), first);
     }
 
     /// How many cells are free.
     pub fn free_cells(&self) -> u16
         ensures { result ≡ unmarked self.now.used }
     {
-        count_free(self.used.as_slice()) as u16
+        self.used.count_free()
     }
 
     /// How many cells the used chain has that begins at a cell.

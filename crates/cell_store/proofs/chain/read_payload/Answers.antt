@@ -1,4 +1,5 @@
 use Rattle.std.proofs.Common.{refl, rules, arith, length-append}
+use Rattle.eeprom.specs.StoreOf.{longest_chain}
 use Rattle.cell_store.proofs.Reading.{reads-none, reads-more, reads-end, reads-full}
 use Rattle.cell_store.proofs.Walking.{Walked-start, Walked-more, Walked-end, Walked-full}
 use Rattle.cell_store.proofs.chain.read_payload.Goals as goal
@@ -27,18 +28,18 @@ loop-step-preserved g c =
 
 pub returns-after-loop-step-clause-payload : goal.returns-after-loop-step-clause-payload
 returns-after-loop-step-clause-payload g c =
-    Walked-full c.args.cells c.args.first c.loop-step.cell c.loop-step.payload.items c.loop-step._step 18 (g.B.Eeprom.chip c.args.bench.now).image (omega arith) c.loop-step.invariant.walked
+    Walked-full c.args.cells c.args.first c.loop-step.cell c.loop-step.payload.items c.loop-step._step longest_chain (g.B.Eeprom.chip c.args.bench.now).image (omega arith) c.loop-step.invariant.walked
 
 pub returns-then-cell-cells-clause-payload : goal.returns-then-cell-cells-clause-payload
 returns-then-cell-cells-clause-payload g c =
-    Walked-end c.args.cells c.args.first c.loop-step.cell c.loop-step.payload.items c.loop-step._step 18 (g.B.Eeprom.chip c.args.bench.now).image (omega arith) c.loop-step.invariant.walked
+    Walked-end c.args.cells c.args.first c.loop-step.cell c.loop-step.payload.items c.loop-step._step longest_chain (g.B.Eeprom.chip c.args.bench.now).image (omega arith) c.loop-step.invariant.walked
 
 pub returns-after-loop-step-clause-octets_read : goal.returns-after-loop-step-clause-octets_read
 returns-after-loop-step-clause-octets_read g c =
-    reads-full c.args.cells c.args.first c.loop-step.cell c.loop-step.payload.items c.loop-step._step 18 (g.B.Eeprom.chip c.args.bench.now).image (g.B.Eeprom.octets_read c.args.bench.now) (g.B.Eeprom.octets_read c.loop-step.bench) (omega arith)
+    reads-full c.args.cells c.args.first c.loop-step.cell c.loop-step.payload.items c.loop-step._step longest_chain (g.B.Eeprom.chip c.args.bench.now).image (g.B.Eeprom.octets_read c.args.bench.now) (g.B.Eeprom.octets_read c.loop-step.bench) (omega arith)
     c.loop-step.invariant.read c.loop-step.invariant.walked
 
 pub returns-then-cell-cells-clause-octets_read : goal.returns-then-cell-cells-clause-octets_read
 returns-then-cell-cells-clause-octets_read g c =
-    reads-end c.args.cells c.args.first c.loop-step.cell c.loop-step.payload.items c.loop-step._step 18 (g.B.Eeprom.chip c.args.bench.now).image (g.B.Eeprom.octets_read c.args.bench.now) (g.B.Eeprom.octets_read c.loop-step.bench) (omega arith)
+    reads-end c.args.cells c.args.first c.loop-step.cell c.loop-step.payload.items c.loop-step._step longest_chain (g.B.Eeprom.chip c.args.bench.now).image (g.B.Eeprom.octets_read c.args.bench.now) (g.B.Eeprom.octets_read c.loop-step.bench) (omega arith)
     c.loop-step.invariant.read c.loop-step.invariant.walked

@@ -1,5 +1,5 @@
 use Rattle.std.proofs.Common.{◌≡◌, ◌*◌, ℕ, Some, length, IfSome, refl, sym, ap, ◌∙◌, rules, arith, subst, length-append}
-use Rattle.eeprom.specs.StoreOf.{payload_of}
+use Rattle.eeprom.specs.StoreOf.{payload_of, longest_chain, cell_size}
 use Rattle.cell_store.specs.Cells.{Cells, kept}
 use Rattle.cell_store.specs.Claims.{TakesChain}
 use Rattle.cell_store.specs.Claiming.{record_cells}
@@ -107,12 +107,12 @@ returns-then-next-clause-record g c =
     let at = (goal.at.returns-then-next-clause-record g c).In-Some in
     let end = at-end g (goal.at.returns-then-next-clause-record g c).After-loop-cell in
     let short = count-short c.loop-cell.payload.items c.in-Some.count c.loop-cell.invariant.front in
-    Claiming-record start now image c.args.first c.in-Some.count c.loop-cell.next c.requires.many c.loop-cell.invariant.links c.if-next.true short.0 short.1 c.requires.few (told g at)
+    Claiming-record start now image c.args.first c.in-Some.count c.loop-cell.next c.requires.many c.loop-cell.invariant.links c.requires.used c.if-next.true short.0 (told g at)
     (subst (λ (count : ℕ). Claiming start now image c.args.first count c.loop-cell.next) end c.loop-cell.invariant.claiming)
 
 pub returns-then-next-clause-payload : goal.returns-then-next-clause-payload
 returns-then-next-clause-payload g c =
-    Walked-end c.args.cells c.args.first c.loop-cell.next c.loop-cell.payload.items c.loop-cell._cell 18 (g.B.Eeprom.chip c.args.bench.now).image (omega (arith, c.if-next.true)) c.loop-cell.invariant.walked
+    Walked-end c.args.cells c.args.first c.loop-cell.next c.loop-cell.payload.items c.loop-cell._cell longest_chain (g.B.Eeprom.chip c.args.bench.now).image (omega (arith, c.if-next.true)) c.loop-cell.invariant.walked
 
 pub returns-then-next-clause-octets_read : goal.returns-then-next-clause-octets_read
 returns-then-next-clause-octets_read g c = rw (at-end g (goal.at.returns-then-next-clause-octets_read g c).After-loop-cell) at c.loop-cell.invariant.read
@@ -131,23 +131,23 @@ returns-else-next-clause-bad_chain g c = λ _.
     (subst (λ (count : ℕ). Claiming start now image c.args.first count c.loop-cell.next) end c.loop-cell.invariant.claiming)
 
 pub returns-in_err-next-clause-most_read : goal.returns-in_err-next-clause-most_read
-returns-in_err-next-clause-most_read g c = reads-less 32 576 (g.B.Eeprom.octets_read c.args.bench.now) (g.B.Eeprom.octets_read c.claim_cell.new.bench) (omega arith) c.claim_cell.ensures.most_read
+returns-in_err-next-clause-most_read g c = reads-less 32 (cell_size * longest_chain) (g.B.Eeprom.octets_read c.args.bench.now) (g.B.Eeprom.octets_read c.claim_cell.new.bench) (omega arith) c.claim_cell.ensures.most_read
 
 pub returns-in_default-clause-most_read : goal.returns-in_default-clause-most_read
-returns-in_default-clause-most_read g c = reads-less 32 576 (g.B.Eeprom.octets_read c.args.bench.now) (g.B.Eeprom.octets_read c.claim_cell.new.bench) (omega arith) c.claim_cell.ensures.most_read
+returns-in_default-clause-most_read g c = reads-less 32 (cell_size * longest_chain) (g.B.Eeprom.octets_read c.args.bench.now) (g.B.Eeprom.octets_read c.claim_cell.new.bench) (omega arith) c.claim_cell.ensures.most_read
 
 pub returns-in_err-next-2-clause-most_read : goal.returns-in_err-next-2-clause-most_read
 returns-in_err-next-2-clause-most_read g c =
     let short = count-short c.loop-cell.payload.items c.in-Some.count c.loop-cell.invariant.front in
-    reads-then c.loop-cell._cell 32 576 (g.B.Eeprom.octets_read c.args.bench.now) (g.B.Eeprom.octets_read c.loop-cell.bench) (g.B.Eeprom.octets_read c.claim_cell-in-loop-cell.new.bench) (omega (arith, c.loop-cell-test.true, short.1))
+    reads-then c.loop-cell._cell 32 (cell_size * longest_chain) (g.B.Eeprom.octets_read c.args.bench.now) (g.B.Eeprom.octets_read c.loop-cell.bench) (g.B.Eeprom.octets_read c.claim_cell-in-loop-cell.new.bench) (omega (arith, c.loop-cell-test.true, short.1))
     c.loop-cell.invariant.read c.claim_cell-in-loop-cell.ensures.most_read
 
 pub returns-then-next-clause-most_read : goal.returns-then-next-clause-most_read
 returns-then-next-clause-most_read g c =
     let short = count-short c.loop-cell.payload.items c.in-Some.count c.loop-cell.invariant.front in
-    reads-whole c.loop-cell._cell 576 (g.B.Eeprom.octets_read c.args.bench.now) (g.B.Eeprom.octets_read c.loop-cell.bench) (omega (arith, at-end g (goal.at.returns-then-next-clause-most_read g c).After-loop-cell, short.1)) c.loop-cell.invariant.read
+    reads-whole c.loop-cell._cell (cell_size * longest_chain) (g.B.Eeprom.octets_read c.args.bench.now) (g.B.Eeprom.octets_read c.loop-cell.bench) (omega (arith, at-end g (goal.at.returns-then-next-clause-most_read g c).After-loop-cell, short.1)) c.loop-cell.invariant.read
 
 pub returns-else-next-clause-most_read : goal.returns-else-next-clause-most_read
 returns-else-next-clause-most_read g c =
     let short = count-short c.loop-cell.payload.items c.in-Some.count c.loop-cell.invariant.front in
-    reads-whole c.loop-cell._cell 576 (g.B.Eeprom.octets_read c.args.bench.now) (g.B.Eeprom.octets_read c.loop-cell.bench) (omega (arith, at-end g (goal.at.returns-else-next-clause-most_read g c).After-loop-cell, short.1)) c.loop-cell.invariant.read
+    reads-whole c.loop-cell._cell (cell_size * longest_chain) (g.B.Eeprom.octets_read c.args.bench.now) (g.B.Eeprom.octets_read c.loop-cell.bench) (omega (arith, at-end g (goal.at.returns-else-next-clause-most_read g c).After-loop-cell, short.1)) c.loop-cell.invariant.read

@@ -4,6 +4,7 @@ use Rattle.cell_store.specs.Placed.{IsPlaced, IsLaid, KeepsMarked}
 use Rattle.cell_store.specs.Runs.{run_marked, run_linked}
 use Rattle.cell_store.proofs.Placements.{is_some-map, written-none, written-more, placed-start, laid-start, keeps-start, keeps-run, becomes-run}
 use Rattle.cell_store.proofs.Runs.{laid-run, first-some, length-marked, length-linked, run-stays, unmarked-run}
+use Rattle.cell_store.proofs.Undoing.{undone}
 use Rattle.cell_store.proofs.placing.write_cells.Goals.{After-write}
 use Rattle.cell_store.proofs.placing.write_cells.Goals as goal
 
@@ -34,8 +35,13 @@ moments g c =
     (rw c.as_slice.ensures.value c.run_octets-octets.ensures.size) c.requires.room (g.met.B.Eeprom.sized c.args.bench.now) (g.met.B.Eeprom.clocked c.loop-left.bench)
     c.loop-left.invariant.placed c.loop-left.invariant.moments (rw c.cell_place.ensures at c.write.ensures.writes)
 
-pub returns-in_err-write-clause-moments : goal.returns-in_err-write-clause-moments
-returns-in_err-write-clause-moments g c = moments g (goal.at.returns-in_err-write-clause-moments g c).After-write
+pub returns-in-Err-clause-moments : goal.returns-in-Err-clause-moments
+returns-in-Err-clause-moments g c = moments g (goal.at.returns-in-Err-clause-moments g c).After-write
+
+pub returns-in-Err-clause-undone : goal.returns-in-Err-clause-undone
+returns-in-Err-clause-undone g c =
+    undone c.args.cells c.args.marks.now c.loop-left.marks c.unmark_chain.new.marks c.loop-left.left c.args.count c.loop-left.first c.args.links.now c.loop-left.links c.requires.marks c.loop-left.invariant.links c.requires.short
+    c.loop-left.invariant.laid (rw c.find_run-run.ensures.same at c.unmark_chain.ensures.unmarked)
 
 pub loop-left-preserved : goal.loop-left-preserved
 loop-left-preserved g c =
@@ -48,18 +54,18 @@ loop-left-preserved g c =
     let old = g.B.Eeprom.chip c.args.bench.now in
     let mid = g.B.Eeprom.chip c.loop-left.bench in
     let new = g.B.Eeprom.chip c.write.new.self in
-    rw (c.take_run.ensures.marks, c.take_run.ensures.links) (record {
+    rw (c.take_run.ensures.marks, c.take_run.ensures.links, c.find_run-run.ensures.same) (record {
       marks = length-marked c.loop-left.marks run.cell run.count ∙ c.loop-left.invariant.marks;
       links = length-linked c.loop-left.links run.cell run.count c.loop-left.first ∙ c.loop-left.invariant.links;
       within = omega (arith, c.loop-left.invariant.within);
-      free = omega (arith, pieces, c.loop-left.invariant.free, unmarked-run c.loop-left.marks run.cell run.count c.find_run-run.ensures.free.inside);
+      free = omega (arith, pieces, c.loop-left.invariant.free, unmarked-run c.loop-left.marks run.cell run.count c.find_run-run.ensures.free);
       first = inr (omega (arith, inside, c.find_run-run.ensures.some));
       stays = λ cell e. run-stays c.loop-left.marks run.cell run.count cell (c.loop-left.invariant.stays cell e);
       placed =
           let so_far = subst (λ (k : ℕ). Becomes (IsPlaced c.args.cells c.args.marks.now c.loop-left.marks c.args.payload.now k c.args.count c.loop-left.first c.loop-left.links) old.image mid.image) pieces c.loop-left.invariant.placed in
           let next = becomes-run c.args.marks.now c.loop-left.marks c.args.cells run.cell run.count c.as_slice.result.now old.image mid.image new.image old.still.size c.args.payload.now c.loop-left.links left c.args.count
           c.loop-left.first c.requires.many inside c.find_run-run.ensures.free c.loop-left.invariant.stays c.requires.room (g.met.B.Eeprom.sized c.args.bench.now) (omega (arith, c.loop-left.invariant.within, pieces)) c.requires.payload
-          c.loop-left.invariant.marks c.loop-left.invariant.links (c.as_slice.ensures.value ∙ c.run_octets-octets.ensures.octets) so_far (rw c.cell_place.ensures at c.in_ok-write.ensures.written) in
+          c.loop-left.invariant.marks c.loop-left.invariant.links (c.as_slice.ensures.value ∙ c.run_octets-octets.ensures.octets) so_far (rw c.cell_place.ensures at c.in_default.ensures.written) in
           subst (λ (first : ℕ). Becomes (IsPlaced c.args.cells c.args.marks.now (run_marked c.loop-left.marks run.cell run.count) c.args.payload.now left c.args.count first
           (run_linked c.loop-left.links run.cell run.count c.loop-left.first)) old.image new.image) (first-some run.cell run.count c.loop-left.first c.find_run-run.ensures.some) next;
       laid =
@@ -70,6 +76,6 @@ loop-left-preserved g c =
           (first-some run.cell run.count c.loop-left.first c.find_run-run.ensures.some) next;
       written = written-more old.written mid.written new.written (32 * (c.args.count - c.loop-left.left)) _ (32 * (c.args.count - left)) (omega (arith, size, pieces, c.loop-left.invariant.within)) c.loop-left.invariant.written c.write.ensures.writes.written;
       moments = moments g written;
-      told = ap (λ (image : Option (List ℕ)). is_some image) c.in_ok-write.ensures.written ∙ (is_some-map _ mid.image ∙ c.loop-left.invariant.told);
+      told = ap (λ (image : Option (List ℕ)). is_some image) c.in_default.ensures.written ∙ (is_some-map _ mid.image ∙ c.loop-left.invariant.told);
       faults = search rules;
     })

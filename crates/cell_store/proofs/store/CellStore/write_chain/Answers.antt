@@ -1,21 +1,21 @@
-use Rattle.std.proofs.Common.{◌≡◌, ℕ, List, Bool, length, drop, ap, ◌∙◌, refl, arith, rules, subst}
+use Rattle.std.proofs.Common.{◌≡◌, ℕ, List, Bool, length, drop, ap, refl, arith, rules, subst, ◌∙◌}
 use Rattle.cell_store.specs.Cells.{Cells, kept, IsInRange}
 use Rattle.cell_store.proofs.Cells.{take-whole}
 use Rattle.cell_store.proofs.Writing.{written-becomes}
 use Rattle.cell_store.proofs.store.CellStore.write_chain.Goals as goal
 
-kept-alike : (a b : ℕ) (used marks : List Bool) (links others : List ℕ) → a ≡ b → used ≡ marks → links ≡ others → kept a used links ≡ kept b marks others
-kept-alike a b used marks links others same marked linked = rw (same, marked, linked) refl
+kept-alike : (a b : ℕ) (used : List Bool) (links others : List ℕ) → a ≡ b → links ≡ others → kept a used links ≡ kept b used others
+kept-alike a b used links others same linked = rw (same, linked) refl
 
 pub returns-clause-written : goal.returns-clause-written
 returns-clause-written g c =
     let cells = ap (λ (store : Cells). store.cells) c.self.view_is in
     let links = ap (λ (store : Cells). store.links) c.self.view_is in
     let size : length c.write_cells.new.links ≡ c.self.inside.links.len = omega (arith, c.in_ok-first.ensures.links, ap (length {A = ℕ}) c.as_mut_slice.ensures.value, c.self.inside.links.ok.0) in
-    written-becomes c.args.self.now _ c.copy_from_slice.new.self c.write_cells.new.marks c.write_cells.new.links c.as_mut_slice.result.now c.as_slice-3.result.now c.args.octets.now c.self.inside.cells c.cells_for-count.result c.in_ok-first.first
+    written-becomes c.args.self.now _ c.self.inside.used c.write_cells.new.marks c.write_cells.new.links c.as_mut_slice.result.now c.as_slice.result.now c.args.octets.now c.self.inside.cells c.cells_for-count.result c.in_ok-first.first
     (g.B.Eeprom.chip c.args.bench.now).still.size (g.B.Eeprom.chip c.args.bench.now).image (g.B.Eeprom.chip c.write_cells.new.bench).image (subst IsInRange c.self.view_is c.self.invariant) c.requires.room
-    (g.met.B.Eeprom.sized c.args.bench.now) cells (c.copy_from_slice.ensures.after ∙ (c.as_slice-2.ensures.value ∙ ap (λ (store : Cells). store.used) c.self.view_is)) (c.as_mut_slice.ensures.value ∙ links) c.in_ok-first.ensures.links
-    c.requires.some c.requires.most (rw c.as_slice-3.ensures.value c.payload_of_record-payload.ensures.number) (rw c.as_slice-3.ensures.value c.payload_of_record-payload.ensures.record) (search rules)
-    (kept-alike c.self.inside.cells c.args.self.now.cells _ c.write_cells.new.marks _ c.write_cells.new.links cells c.copy_from_slice-2.ensures.items
+    (g.met.B.Eeprom.sized c.args.bench.now) cells (ap (λ (store : Cells). store.used) c.self.view_is) (c.as_mut_slice.ensures.value ∙ links) c.in_ok-first.ensures.links
+    c.requires.some c.requires.most (rw c.as_slice.ensures.value c.payload_of_record-payload.ensures.number) (rw c.as_slice.ensures.value c.payload_of_record-payload.ensures.record) (search rules)
+    (kept-alike c.self.inside.cells c.args.self.now.cells c.write_cells.new.marks _ c.write_cells.new.links cells
     (take-whole c.write_cells.new.links (drop (length c.write_cells.new.links) c.self.inside.links.items) c.self.inside.links.len size))
     c.in_ok-first.ensures.laid c.in_ok-first.ensures.placed
