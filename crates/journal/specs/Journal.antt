@@ -1,0 +1,37 @@
+-- What a commit and a replay make of an image, and what a power loss may leave of it.
+use Rattle.std.specs.Prelude.{◌≡◌, ◌⊎◌, ℕ, ◌+◌, ◌≤◌, false, List, length, take, drop, slice_range, Some}
+use Rattle.eeprom.specs.StoreOf.{front_size, written_directory, directory, with_entries, is_gate_open}
+use Rattle.eeprom.specs.declared.entry.Entry.{Entry}
+
+-- all octets but those of the gate, the directory and the journal are as they were
+pub record KeepsRest (n : ℕ) (was left : List ℕ) : Type 0 where
+  pub size : length left ≡ length was
+  pub front : take 8 left ≡ take 8 was
+  pub behind_gate : slice_range left 9 32 ≡ slice_range was 9 32
+  pub cells : drop (front_size n) left ≡ drop (front_size n) was
+
+-- after a commit the gate is closed, and the directory has the entries
+pub record TakesEntries (n : ℕ) (entries : List Entry) (was now : List ℕ) : Type 0 where
+  pub rest : KeepsRest n was now
+  pub closed : is_gate_open now ≡ false
+  pub written : written_directory now n ≡ with_entries entries (written_directory was n)
+
+-- during a commit the directory in force is the one from before, or the one with all entries
+pub record IsBetween (n : ℕ) (entries : List Entry) (was left : List ℕ) : Type 0 where
+  pub rest : KeepsRest n was left
+  pub one : (directory left n ≡ Some (written_directory was n)) ⊎ (directory left n ≡ Some (with_entries entries (written_directory was n)))
+
+-- after a replay the gate is closed, and the directory that was in force is written
+pub record IsReplayed (n : ℕ) (was now : List ℕ) : Type 0 where
+  pub rest : KeepsRest n was now
+  pub closed : is_gate_open now ≡ false
+  pub written : directory was n ≡ Some (written_directory now n)
+
+-- during a replay the directory in force stays
+pub record KeepsDirectory (n : ℕ) (was left : List ℕ) : Type 0 where
+  pub rest : KeepsRest n was left
+  pub same : directory left n ≡ directory was n
+
+-- a count rises by at most so many
+abbrev pub RisesAtMost : ℕ → ℕ → ℕ → Type 0
+RisesAtMost most before after = after ≤ before + most

@@ -1,0 +1,39 @@
+-- What the entries behind an open gate make of a directory, in one write after another.
+use Rattle.std.specs.Prelude.{◌≡◌, ℕ, ◌+◌, ◌*◌, ◌<◌, ◌≤◌, ◌==◌, Bool, true, false, List, length, take, drop, get_or}
+use Rattle.std.specs.List.{list_any}
+use Rattle.eeprom.specs.Image.{overwrite}
+use Rattle.eeprom.specs.StoreOf.{header_size, journal_place, written_directory, journal, is_in_range, is_gate_open}
+use Rattle.eeprom.specs.declared.entry.Entry.{Entry}
+use Rattle.journal.specs.declared.run.Run.{Run}
+
+-- an entry names this slot
+abbrev pub names : List Entry → ℕ → Bool
+names entries slot = list_any (λ entry. entry.slot == slot) entries
+
+-- the gate is open, and behind it stands a journal with these entries
+pub record IsOpenWith (n : ℕ) (entries : List Entry) (image : List ℕ) : Type 0 where
+  pub gate : is_gate_open image ≡ true
+  pub range : is_in_range image n ≡ true
+  pub listed : journal image n ≡ entries
+
+-- all octets but those of the directory are as they were, and so are its numbers in the slots that no entry names
+pub record IsRewritten (n : ℕ) (entries : List Entry) (was left : List ℕ) : Type 0 where
+  pub size : length left ≡ length was
+  pub before : take header_size left ≡ take header_size was
+  pub behind : drop (journal_place n) left ≡ drop (journal_place n) was
+  pub others : (slot : ℕ) → slot < n → names entries slot ≡ false → get_or (written_directory left n) slot 0 ≡ get_or (written_directory was n) slot 0
+
+-- where the octets of a run go
+abbrev pub place_of : Run → ℕ
+place_of run = header_size + 2 * run.slot
+
+-- the image once the octets of a run are written
+abbrev pub promised : Run → List ℕ → List ℕ
+promised run image = overwrite image (place_of run) run.octets.items
+
+-- the slots of a run are those of a directory, and entries name them
+pub record IsRun (n : ℕ) (entries : List Entry) (run : Run) : Type 0 where
+  pub count : ℕ
+  pub size : length run.octets.items ≡ 2 * count
+  pub within : run.slot + count ≤ n
+  pub named : (slot : ℕ) → run.slot ≤ slot → slot < run.slot + count → names entries slot ≡ true

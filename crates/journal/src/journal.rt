@@ -1,0 +1,154 @@
+// The journal: commits of entries, and replays after a power loss.
+ghost use Rattle.std.specs.Prelude.{◌≡◌, ◌+◌, ◌*◌, ◌≤◌, ◌<◌, ℕ, List, Some, None, true, false, IsTrue, length, is_some, IfSome, IfOk, OnOk, IsErrOf};
+ghost use Rattle.std.specs.List.{list_all};
+ghost use Rattle.eeprom.specs.Chip.{Becomes, RisesBy, LeavesOf};
+ghost use Rattle.eeprom.specs.Fault.{Counts, CountsFaults, each_error};
+ghost use Rattle.eeprom.specs.Frame.{HasRoom, Reads};
+ghost use Rattle.eeprom.specs.StoreOf.{most_cells, is_entry, is_gate_open, directory, number_at, entries_at, journal_place};
+ghost use Rattle.journal.specs.Faults.{is_replay_fault};
+ghost use Rattle.journal.specs.Journal.{TakesEntries, IsBetween, IsReplayed, KeepsDirectory, RisesAtMost};
+
+use crate::ReplayRefusal;
+use crate::layout::{EMPTY, GATE, LARGEST_ENTRIES, MOST_CELLS, OPEN, journal_place};
+use crate::octets::{are_entries, journal_octets, take_entries};
+use crate::redo::redo;
+use eeprom::{Eeprom, EepromFault, Entry};
+
+/// The redo journal of an image in format 2, with its gate and its directory.
+pub struct Journal;
+
+impl Journal {
+    /// Makes the entries those of the directory, one after another, all of them or none whenever power is lost.
+    /// The octets written are 4, and 6 for each entry.
+    pub fn commit<B: Eeprom>(
+        bench: &mut B,
+        cells: u16,
+        entries: &[Entry],
+    ) -> Result<(), EepromFault>
+        requires many { cells ≤ most_cells }
+        requires few { length entries.now ≤ cells }
+        requires entries { IsTrue (list_all (is_entry cells) entries.now) }
+        requires closed { IfSome (B.chip bench.old).image (λ image. is_gate_open image ≡ false) }
+        requires room { HasRoom cells (B.chip bench.old) }
+        ensures done { OnOk result (Becomes (TakesEntries cells entries.now) (B.chip bench.old).image (B.chip bench.new).image) }
+        ensures told { OnOk result (is_some (B.chip bench.new).image ≡ is_some (B.chip bench.old).image) }
+        ensures still { (B.chip bench.new).still ≡ (B.chip bench.old).still }
+        ensures moments { LeavesOf (IsBetween cells entries.now) (B.chip bench.old) (B.chip bench.new) }
+        ensures octets_written { OnOk result (Becomes (RisesBy (4 + 6 * length entries.now)) (B.chip bench.old).written (B.chip bench.new).written) }
+        ensures octets_read { B.octets_read bench.new ≡ B.octets_read bench.old }
+        ensures cause { Counts (B.faults bench.old) (B.faults bench.new) result }
+    {
+        let journal = journal_octets(entries);
+        let octets = journal.as_slice();
+        bench.write(journal_place(cells), octets)?;
+        bench.write(GATE, &OPEN)?;
+        redo(bench, cells, entries)
+    }
+
+    /// Makes the entries of the journal those of the directory, where the gate is open, and closes the gate.
+    /// Where it is closed nothing is written.
+    pub fn replay<B: Eeprom>(bench: &mut B, cells: u16) -> Result<(), ReplayRefusal>
+        requires many { cells ≤ most_cells }
+        requires room { HasRoom cells (B.chip bench.old) }
+        ensures done { OnOk result (Becomes (IsReplayed cells) (B.chip bench.old).image (B.chip bench.new).image) }
+        ensures told { OnOk result (is_some (B.chip bench.new).image ≡ is_some (B.chip bench.old).image) }
+        ensures still { (B.chip bench.new).still ≡ (B.chip bench.old).still }
+        ensures moments { LeavesOf (KeepsDirectory cells) (B.chip bench.old) (B.chip bench.new) }
+        ensures bad_journal { IsErrOf result ReplayRefusal.BadJournal
+            → (B.chip bench.new ≡ B.chip bench.old) × IfSome (B.chip bench.old).image (λ image. directory image cells ≡ None) }
+        ensures closed_gate { (image : List ℕ) → (B.chip bench.old).image ≡ Some image → is_gate_open image ≡ false → B.chip bench.new ≡ B.chip bench.old }
+        ensures octets_read { Becomes (RisesAtMost (3 + 4 * cells)) (B.octets_read bench.old) (B.octets_read bench.new) }
+        ensures octets_written { OnOk result (Becomes (RisesAtMost (1 + 2 * cells)) (B.chip bench.old).written (B.chip bench.new).written) }
+        ensures cause { CountsFaults is_replay_fault (B.faults bench.old) (B.faults bench.new) result }
+    {
+        if !is_open(bench)? {
+            return Ok(());
+        }
+        let count = read_count(bench, cells)?;
+        let mut entries = [EMPTY; MOST_CELLS];
+        redo_journal(bench, cells, &mut entries[..count as usize])
+    }
+}
+
+/// Whether the gate is open.
+fn is_open<B: Eeprom>(bench: &mut B) -> Result<bool, EepromFault>
+    requires room { 9 ≤ (B.chip bench.old).still.size }
+    ensures gate { IfOk result (λ is_open. IfSome (B.chip bench.old).image (λ image. is_open ≡ is_gate_open image)) }
+    ensures octets_read { Becomes (RisesBy 1) (B.octets_read bench.old) (B.octets_read bench.new) }
+    ensures frame { Reads each_error B.chip B.faults bench.old bench.new result }
+{
+    let mut gate = [0; 1];
+    bench.read(GATE, &mut gate)?;
+    Ok(gate[0] % 2 == 1)
+}
+
+/// Reads how many entries the journal has, where they are at most as many as there are slots.
+fn read_count<B: Eeprom>(bench: &mut B, cells: u16) -> Result<u16, ReplayRefusal>
+    requires room { HasRoom cells (B.chip bench.old) }
+    ensures count { IfOk result (λ count. IfSome (B.chip bench.old).image (λ image. count ≡ number_at image (journal_place cells))) }
+    ensures few { IfOk result (λ count. count ≤ cells) }
+    ensures bad_journal { IsErrOf result ReplayRefusal.BadJournal
+        → IfSome (B.chip bench.old).image (λ image. cells < number_at image (journal_place cells)) }
+    ensures octets_read { Becomes (RisesBy 2) (B.octets_read bench.old) (B.octets_read bench.new) }
+    ensures frame { Reads is_replay_fault B.chip B.faults bench.old bench.new result }
+{
+    let mut number = [0; 2];
+    bench.read(journal_place(cells), &mut number)?;
+    let count = u16::from_be_bytes(number);
+    if count > cells {
+        return Err(ReplayRefusal::BadJournal);
+    }
+    Ok(count)
+}
+
+/// Reads so many entries of the journal, where each is in range, and does what the open gate asks for.
+fn redo_journal<B: Eeprom>(
+    bench: &mut B,
+    cells: u16,
+    entries: &mut [Entry],
+) -> Result<(), ReplayRefusal>
+    requires many { cells ≤ 2048 }
+    requires few { length entries.old ≤ cells }
+    requires gate { IfSome (B.chip bench.old).image (λ image. is_gate_open image ≡ true) }
+    requires count { IfSome (B.chip bench.old).image (λ image. length entries.old ≡ number_at image (journal_place cells)) }
+    requires room { HasRoom cells (B.chip bench.old) }
+    ensures done { OnOk result (Becomes (IsReplayed cells) (B.chip bench.old).image (B.chip bench.new).image) }
+    ensures told { OnOk result (is_some (B.chip bench.new).image ≡ is_some (B.chip bench.old).image) }
+    ensures still { (B.chip bench.new).still ≡ (B.chip bench.old).still }
+    ensures moments { LeavesOf (KeepsDirectory cells) (B.chip bench.old) (B.chip bench.new) }
+    ensures bad_journal { IsErrOf result ReplayRefusal.BadJournal
+        → (B.chip bench.new ≡ B.chip bench.old) × IfSome (B.chip bench.old).image (λ image. directory image cells ≡ None) }
+    ensures octets_read { Becomes (RisesBy (4 * length entries.old)) (B.octets_read bench.old) (B.octets_read bench.new) }
+    ensures octets_written { OnOk result (Becomes (RisesBy (1 + 2 * length entries.old)) (B.chip bench.old).written (B.chip bench.new).written) }
+    ensures cause { CountsFaults is_replay_fault (B.faults bench.old) (B.faults bench.new) result }
+{
+    read_entries(bench, cells, entries)?;
+    redo(bench, cells, entries)?;
+    Ok(())
+}
+
+/// Reads so many entries of the journal, where each is in range.
+fn read_entries<B: Eeprom>(
+    bench: &mut B,
+    cells: u16,
+    entries: &mut [Entry],
+) -> Result<(), ReplayRefusal>
+    requires many { cells ≤ 2048 }
+    requires few { length entries.old ≤ cells }
+    requires room { HasRoom cells (B.chip bench.old) }
+    ensures entries { OnOk result (IfSome (B.chip bench.old).image (λ image. entries.new ≡ entries_at image (journal_place cells + 2) (length entries.old))) }
+    ensures range { OnOk result (list_all (is_entry cells) entries.new ≡ true) }
+    ensures bad_journal { IsErrOf result ReplayRefusal.BadJournal
+        → IfSome (B.chip bench.old).image (λ image. list_all (is_entry cells) (entries_at image (journal_place cells + 2) (length entries.old)) ≡ false) }
+    ensures octets_read { Becomes (RisesBy (4 * length entries.old)) (B.octets_read bench.old) (B.octets_read bench.new) }
+    ensures frame { Reads is_replay_fault B.chip B.faults bench.old bench.new result }
+{
+    let mut octets = [0; LARGEST_ENTRIES];
+    let octets = &mut octets[..4 * entries.len()];
+    bench.read(journal_place(cells) + 2, octets)?;
+    take_entries(octets, entries);
+    if !are_entries(entries, cells) {
+        return Err(ReplayRefusal::BadJournal);
+    }
+    Ok(())
+}

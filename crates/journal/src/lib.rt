@@ -1,0 +1,13 @@
+//! A redo journal behind a gate: a directory takes all entries of a commit or none of them, whenever power is lost.
+#![tactic(auto)]
+
+mod journal;
+mod layout;
+mod octets;
+mod redo;
+mod refusal;
+mod run;
+
+pub use eeprom::Entry;
+pub use journal::Journal;
+pub use refusal::ReplayRefusal;

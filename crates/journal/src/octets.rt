@@ -1,0 +1,75 @@
+// The octets of a journal: the number of its entries in two octets, and each entry in four.
+ghost use Rattle.std.specs.Prelude.{◌≡◌, ◌+◌, ◌*◌, ◌≤◌, ◌++◌, true, false, length, IfSome, IfNone, MatchOption};
+ghost use Rattle.std.specs.List.{list_all};
+ghost use Rattle.eeprom.specs.StoreOf.{number_at, entries_at, two_octets};
+ghost use Rattle.eeprom.specs.StoreOf as image;
+
+use crate::layout::{LARGEST_JOURNAL, NO_CELL};
+use arrayvec::ArrayVec;
+use eeprom::Entry;
+
+pub type JournalOctets = ArrayVec<u8, LARGEST_JOURNAL>;
+
+/// The octets of a journal with these entries.
+pub fn journal_octets(entries: &[Entry]) -> JournalOctets
+    requires few { length entries.now ≤ 2048 }
+    ensures number { number_at result.items 0 ≡ length entries.now }
+    ensures entries { entries_at result.items 2 (length entries.now) ≡ entries.now }
+    ensures count { length result.items ≡ 2 + 4 * length entries.now }
+{
+    let mut octets = JournalOctets::new();
+    push_number(&mut octets, entries.len() as u16);
+    for entry in entries {
+        push_number(&mut octets, entry.slot);
+        push_number(&mut octets, entry.first);
+    }
+    octets
+}
+
+/// Takes the entries of these octets.
+pub fn take_entries(octets: &[u8], entries: &mut [Entry])
+    requires size { length octets.now ≡ 4 * length entries.old }
+    ensures entries { entries.new ≡ entries_at octets.now 0 (length entries.old) }
+{
+    for index in 0..entries.len() {
+        entries[index] = entry_at(octets, 4 * index);
+    }
+}
+
+/// Whether each of these entries is in range.
+pub fn are_entries(entries: &[Entry], cells: u16) -> bool
+    requires few { cells ≤ 2048 }
+    ensures { result ≡ list_all (image.is_entry cells) entries.now }
+{
+    entries.iter().all(|entry| is_entry(*entry, cells))
+}
+
+/// The entry in the four octets at a place.
+fn entry_at(octets: &[u8], place: usize) -> Entry
+    requires within { place + 4 ≤ length octets.now }
+    ensures slot { result.slot ≡ number_at octets.now place }
+    ensures first { result.first ≡ number_at octets.now (place + 2) }
+{
+    Entry {
+        slot: u16::from_be_bytes([octets[place], octets[place + 1]]),
+        first: u16::from_be_bytes([octets[place + 2], octets[place + 3]]),
+    }
+}
+
+/// Whether an entry names a slot, and a cell or none.
+fn is_entry(entry: Entry, cells: u16) -> bool
+    requires few { cells ≤ 2048 }
+    ensures { result ≡ image.is_entry cells entry }
+{
+    entry.slot < cells && (entry.first < 2 * cells || entry.first == NO_CELL)
+}
+
+/// Pushes the two octets of a number.
+pub fn push_number<const CAP: usize>(octets: &mut ArrayVec<u8, CAP>, number: u16)
+    requires free { length octets.old.items + 2 ≤ CAP }
+    ensures pushed { octets.new.items ≡ octets.old.items ++ two_octets number }
+{
+    let [high, low] = number.to_be_bytes();
+    octets.push(high);
+    octets.push(low);
+}
