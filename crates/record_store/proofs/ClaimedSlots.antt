@@ -6,7 +6,7 @@ use Rattle.std.proofs.lemmas.Bool.Decides.{nat_tests}
 use Rattle.std.proofs.lemmas.Grind.{flat_map-append}
 use Rattle.std.proofs.lemmas.List.{get_or_default, same_lists, drop_more, take_more, length-replicate, take-append-drop}
 use Rattle.std.proofs.lemmas.Option.{same_Some}
-use Rattle.eeprom.specs.StoreOf.{chain_of, chains_of, is_record, slots_at, is_distinct}
+use Rattle.eeprom.specs.StoreOf.{longest_chain, chain_of, chains_of, is_record, slots_at, is_distinct}
 use Rattle.cell_store.specs.Cells.{Cells, IsInRange, all_free, link_in, AreLinkedIn}
 use Rattle.cell_store.specs.Chains.{AreLinked, AreFree, link_of, is_among, with_marked}
 use Rattle.cell_store.specs.Marks.{is_marked}
@@ -170,7 +170,7 @@ claimed-start n firsts = record { slots = record { chains = []; has = record { a
 pub cells-more : (chains : List (List ℕ)) (chain : List ℕ) → cells_in (chains ++ chain ∷ []) ≡ cells_in chains ++ chain
 cells-more chains chain = flat_map-append (λ (chain : List ℕ). chain) chains (chain ∷ []) ∙ ap (λ (cells : List ℕ). cells_in chains ++ cells) (append-nil chain)
 
-chains-more : (links firsts : List ℕ) (chains : List (List ℕ)) (first : ℕ) (chain : List ℕ) → AreChains links firsts chains → AreLinked (link_in links) (length links) first chain → length chain ≤ 18 → AreChains links (firsts ++ first ∷ []) (chains ++ chain ∷ [])
+chains-more : (links firsts : List ℕ) (chains : List (List ℕ)) (first : ℕ) (chain : List ℕ) → AreChains links firsts chains → AreLinked (link_in links) (length links) first chain → length chain ≤ longest_chain → AreChains links (firsts ++ first ∷ []) (chains ++ chain ∷ [])
 chains-more links [] [] first chain are linked short = (linked, short, tt)
 chains-more links [] (x ∷ chains) first chain are linked short = absurd are
 chains-more links (x ∷ firsts) [] first chain are linked short = absurd are

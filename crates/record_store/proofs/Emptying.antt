@@ -1,5 +1,5 @@
 -- Slots with no record.
-use Rattle.std.proofs.Common.{◌≡◌, ℕ, ◌+◌, ◌<◌, ◌≤◌, ◌≢◌, true, List, [], ◌∷◌, length, get_or, slice_index, slice_index_or, All, Option, Some, None, IfSome, option_and_then, sym, refl, ap, ◌∙◌, arith, subst, length-append}
+use Rattle.std.proofs.Common.{◌≡◌, Bool, ℕ, ◌+◌, ◌<◌, ◌≤◌, ◌≢◌, true, List, [], ◌∷◌, length, get_or, slice_index, slice_index_or, All, Option, Some, None, IfSome, option_and_then, sym, refl, ap, ◌∙◌, arith, subst, length-append}
 use Rattle.std.specs.List.{AllByRecursion}
 use Rattle.std.proofs.lemmas.List.{length-map}
 use Rattle.std.proofs.lemmas.Option.{same_Some}
@@ -7,9 +7,11 @@ use Rattle.std.proofs.lemmas.List.Elements.{recursion_from_All}
 use Rattle.std.proofs.lemmas.List.Sums.{sum_by-set}
 use Rattle.eeprom.specs.StoreOf.{Slots, cells_for, slot_of, cells_of, weight_of}
 use Rattle.record_store.specs.Held.{Held, StandsFor, firsts, contents, record_at}
-use Rattle.record_store.specs.Put.{weight_with, IsFull}
+use Rattle.record_store.specs.Put.{weight_with, IsFull, IsRemoved, emptied}
 use Rattle.record_store.specs.Sound.{AreChains, IsSound, cells_in}
 use Rattle.record_store.specs.declared.side.Side.TheVariants.{Working}
+use Rattle.cell_store.specs.Marks.{StaysMarked}
+use Rattle.record_store.proofs.Putting.{stands-emptied}
 use Rattle.record_store.proofs.Records.{record-nowhere}
 use Rattle.record_store.proofs.Sides.{length-chains, count-firsts}
 use Rattle.record_store.proofs.Weights.{side-chains, told-chains}
@@ -67,3 +69,9 @@ full-found held None slot (Some image) octets sound begun stands inside is empty
 
 pub working-of : (view held : Held) (slice : List ℕ) → view ≡ held → slice ≡ view.working → slice ≡ held.working
 working-of view held slice same is = is ∙ ap (λ (held : Held). held.working) same
+
+-- the store stands for the image once a working slot was emptied
+pub removed-stands : (held new : Held) (slot : ℕ) (used : List Bool) (image : List ℕ) → IsSound held → IsSound new → held.begun ≡ true → slot < held.chains.cells → StaysMarked used held.chains.used → new ≡ emptied held slot used → StandsFor held image → IsRemoved held new slot image
+removed-stands held new slot used image sound new_sound begun inside fewer is stands =
+    let e = stands-emptied held slot used image sound (subst IsSound is new_sound) begun inside fewer stands in
+    subst (λ (new : Held). IsRemoved held new slot image) (sym is) (record { stands = e.stands; committed = e.committed; working = e.working })

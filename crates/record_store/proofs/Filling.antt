@@ -1,5 +1,5 @@
 -- A slot of a store in memory that is emptied and filled again, and a transaction that ends.
-use Rattle.std.proofs.Common.{◌≡◌, ◌≢◌, inl, inr, ℕ, ◌+◌, ◌-◌, ◌<◌, ◌≤◌, ◌&&◌, not, Bool, true, false, List, [], length, set, get_or, slice_index, Option, Some, None, IfSome, sym, refl, ap, ◌∙◌, arith, subst, true≢false}
+use Rattle.std.proofs.Common.{◌≡◌, ◌≢◌, inl, inr, ℕ, ◌+◌, ◌<◌, ◌≤◌, ◌&&◌, not, Bool, true, false, List, [], length, set, get_or, slice_index, Option, Some, None, IfSome, sym, refl, ap, ◌∙◌, arith, subst, true≢false}
 use Rattle.std.proofs.lemmas.List.{get_or-set_same}
 use Rattle.eeprom.specs.Chip.{Chip, Becomes, Keeps}
 use Rattle.eeprom.specs.StoreOf.{store_of}
@@ -106,7 +106,7 @@ failed-sound held new sound keeps =
     let at : IsSound (with_cells held (kept held.chains.cells held.chains.used new.links)) =
     record {
       range = record { few = sound.range.few; many = sound.range.many; used_count = sound.range.used_count; links_count = keeps.links_count ∙ sound.range.links_count };
-      selector = sound.selector;
+      rows = sound.rows;
       committed_count = sound.committed_count;
       working_count = sound.working_count;
       sides = record {
@@ -168,19 +168,18 @@ rollback-sound held new replaced others sound begun first second cells links fre
     (sound-rolled_back held new.used sound begun at)
 
 -- it is committed, and what was committed before is freed
-pub commit-sound : (held : Held) (new : Cells) (selector : ℕ) (working : List ℕ) (replaced kept : List ℕ) → IsSound held → held.begun ≡ true → replaced ≡ held.committed → kept ≡ held.working → new.cells ≡ held.chains.cells → new.links ≡ held.chains.links → selector ≡ 1 - held.selector → working ≡ held.working
+pub commit-sound : (held : Held) (new : Cells) (working : List ℕ) (replaced kept : List ℕ) → IsSound held → held.begun ≡ true → replaced ≡ held.committed → kept ≡ held.working → new.cells ≡ held.chains.cells → new.links ≡ held.chains.links → working ≡ held.working
     → ((chains : List (List ℕ)) → AreUsedChains held.chains replaced chains → (cell : ℕ) → is_marked new.used cell ≡ true → AreReplaced replaced kept chains (length replaced) cell → ⊥)
     → ((chains : List (List ℕ)) → AreUsedChains held.chains replaced chains → (cell : ℕ) → is_marked held.chains.used cell ≡ true → ¬ (AreReplaced replaced kept chains (length replaced) cell) → is_marked new.used cell ≡ true)
     → StaysMarked new.used held.chains.used → length new.used ≡ length held.chains.used
-    → IsSound (record { chains = new; selector = selector; committed = working; working = held.working; begun = false })
-commit-sound held new selector working replaced others sound begun first second cells links selector_is working_is freed rest fewer size =
+    → IsSound (record { chains = new; row_limit = held.row_limit; committed = working; working = held.working; begun = false })
+commit-sound held new working replaced others sound begun first second cells links working_is freed rest fewer size =
     let frees : Frees held replaced others new.used = record { freed = freed; others = rest; fewer = fewer; count_is = size } in
     let at = subst (λ (others : List ℕ). Frees held held.committed others new.used) second (subst (λ (replaced : List ℕ). Frees held replaced others new.used) first frees) in
-    let done = same-cells (λ (h : Held). IsSound (record { chains = h.chains; selector = 1 - h.selector; committed = h.working; working = h.working; begun = false })) held new cells links
+    let done = same-cells (λ (h : Held). IsSound (record { chains = h.chains; row_limit = h.row_limit; committed = h.working; working = h.working; begun = false })) held new cells links
     (sound-committed held new.used sound begun at) in
-    subst (λ (selector : ℕ). IsSound (record { chains = new; selector = selector; committed = working; working = held.working; begun = false })) (sym selector_is)
-    (subst (λ (working : List ℕ). IsSound (record { chains = new; selector = 1 - held.selector; committed = working; working = held.working; begun = false })) (sym working_is) done)
+    subst (λ (working : List ℕ). IsSound (record { chains = new; row_limit = held.row_limit; committed = working; working = held.working; begun = false })) (sym working_is) done
 
-pub commit-view : (held : Held) (new : Cells) (selector : ℕ) (committed working : List ℕ) → new.cells ≡ held.chains.cells → new.links ≡ held.chains.links → selector ≡ 1 - held.selector → committed ≡ held.working → working ≡ held.working
-    → record { chains = new; selector = selector; committed = committed; working = working; begun = false } ≡ after_commit held new.used
-commit-view held new selector committed working cells links selects committed_is working_is = rw (cells, links, selects, committed_is, working_is) refl
+pub commit-view : (held : Held) (new : Cells) (limit : ℕ) (committed working : List ℕ) → new.cells ≡ held.chains.cells → new.links ≡ held.chains.links → limit ≡ held.row_limit → committed ≡ held.working → working ≡ held.working
+    → record { chains = new; row_limit = limit; committed = committed; working = working; begun = false } ≡ after_commit held new.used
+commit-view held new limit committed working cells links limit_is committed_is working_is = rw (cells, links, limit_is, committed_is, working_is) refl

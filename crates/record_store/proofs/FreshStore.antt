@@ -5,8 +5,9 @@ use Rattle.std.proofs.lemmas.Bool.Decides.{nat_tests}
 use Rattle.std.specs.List.{list_all}
 use Rattle.std.proofs.lemmas.List.{length-replicate}
 use borrow.Author.Tests.{le-leb}
-use Rattle.eeprom.specs.StoreOf.{number_at, numbers_at, cell_place, payload_of, chain_of, chains_of, cells_for, record_in, slot_of, is_record, are_apart, slots_at, store_of, fresh_slots, Slots}
-use Rattle.record_store.specs.FreshImage.{fresh_image, fresh_header, fresh_directories, fresh_cell, magic}
+use Rattle.eeprom.specs.StoreOf.{number_at, numbers_at, cell_place, payload_of, chain_of, chains_of, cells_for, record_in, slot_of, is_record, are_apart, slots_at, store_of, fresh_slots, fresh_store, longest_record, Slots}
+use Rattle.record_store.specs.Held.{with_limit}
+use Rattle.record_store.specs.FreshImage.{fresh_image, fresh_header, fresh_directory, fresh_cell, magic}
 use Rattle.eeprom.proofs.Places.{number_at-behind, numbers_at-behind, payload_of-behind, numbers_at-full}
 
 chain-none : (image : List ℕ) (n most : ℕ) → chain_of image n most 65535 ≡ Some []
@@ -51,7 +52,7 @@ is-record : (image : List ℕ) (n cell : ℕ) (octets : List ℕ) → payload_of
 is-record image n cell octets e some short =
     rw e (let size : number_at (payload_with octets) 0 ≡ length octets = omega arith in rw size
     (let low : nat_le 1 (length octets) ≡ true = grind (arith, nat_tests) in
-    let high : nat_le (length octets) 512 ≡ true = grind (arith, nat_tests) in
+    let high : nat_le (length octets) longest_record ≡ true = grind (arith, nat_tests) in
     let one : cells_for (length octets) ≡ 1 = omega arith in
     rw (low, high, one) refl))
 
@@ -70,23 +71,23 @@ slots-fresh image n first second few many f f' s s' last last' p p' =
 abbrev head : ℕ → List ℕ
 head n = magic ++ fresh_header n
 
-store-head : (n : ℕ) (rest : List ℕ) → 16 ≤ n → n ≤ 2048 → 70 * n + 34 ≤ 32 + length rest → store_of (head n ++ rest) ≡ slots_at (head n ++ rest) n (numbers_at rest 0 n)
+store-head : (n : ℕ) (rest : List ℕ) → 16 ≤ n → n ≤ 2048 → 70 * n + 34 ≤ 32 + length rest → store_of (head n ++ rest) ≡ with_limit 240 (slots_at (head n ++ rest) n (numbers_at rest 0 n))
 store-head n rest few many fits =
     let cells : number_at (head n ++ rest) 6 ≡ n = omega arith in
     let low : nat_le 16 n ≡ true = le-leb 16 n few in
     let high : nat_le n 2048 ≡ true = le-leb n 2048 many in
     let room : nat_le (70 * n + 34) (length (head n ++ rest)) ≡ true = le-leb (70 * n + 34) (length (head n ++ rest)) (omega arith) in
-    rw (cells, low, high, room) (ap (λ (firsts : List ℕ). slots_at (head n ++ rest) n firsts) (numbers_at-behind (head n) rest (32 + 2 * n * 0) 0 n (omega arith)))
+    rw (cells, low, high, room) (ap (λ (firsts : List ℕ). with_limit 240 (slots_at (head n ++ rest) n firsts)) (numbers_at-behind (head n) rest 32 0 n (omega arith)))
 
 directory-of : (k : ℕ) (rest : List ℕ) → numbers_at (0 ∷ 0 ∷ 0 ∷ 1 ∷ (replicate (2 * k) 255 ++ rest)) 0 (suc (suc k)) ≡ 0 ∷ 1 ∷ replicate k 65535
 directory-of k rest =
     ap (λ (numbers : List ℕ). 0 ∷ 1 ∷ numbers) (numbers_at-behind (0 ∷ 0 ∷ 0 ∷ 1 ∷ []) (replicate (2 * k) 255 ++ rest) 4 0 k refl ∙ numbers_at-full k rest)
 
-directory-fresh : (n : ℕ) (rest : List ℕ) → 2 ≤ n → numbers_at (fresh_directories n ++ rest) 0 n ≡ 0 ∷ 1 ∷ replicate (n - 2) 65535
+directory-fresh : (n : ℕ) (rest : List ℕ) → 2 ≤ n → numbers_at (fresh_directory n ++ rest) 0 n ≡ 0 ∷ 1 ∷ replicate (n - 2) 65535
 directory-fresh n rest few =
     let count : n ≡ suc (suc (n - 2)) = omega arith in
     let twice : 2 * n - 4 ≡ 2 * (n - 2) = omega arith in
-    let octets : fresh_directories n ++ rest ≡ 0 ∷ 0 ∷ 0 ∷ 1 ∷ (replicate (2 * (n - 2)) 255 ++ (replicate (4 * n + 2) 0 ++ rest)) =
+    let octets : fresh_directory n ++ rest ≡ 0 ∷ 0 ∷ 0 ∷ 1 ∷ (replicate (2 * (n - 2)) 255 ++ (replicate (4 * n + 2) 0 ++ rest)) =
     ap (λ (xs : List ℕ). 0 ∷ 0 ∷ 0 ∷ 1 ∷ xs) (append_assoc (replicate (2 * n - 4) 255) (replicate (4 * n + 2) 0) rest
     ∙ ap (λ (m : ℕ). replicate m 255 ++ (replicate (4 * n + 2) 0 ++ rest)) twice) in
     ap₂ (λ (xs : List ℕ) (m : ℕ). numbers_at xs 0 m) octets count ∙ directory-of (n - 2) (replicate (4 * n + 2) 0 ++ rest)
@@ -107,48 +108,48 @@ shape : (h d a b t rest : List ℕ) → (h ++ (d ++ (a ++ (b ++ t)))) ++ rest �
 shape h d a b t rest = simp append_assoc
 
 pub store-fresh : (n : ℕ) (first second rest : List ℕ) → 16 ≤ n → n ≤ 2048 → 1 ≤ length first → length first ≤ 28 → 1 ≤ length second → length second ≤ 28
-    → store_of (fresh_image n first second ++ rest) ≡ Some (fresh_slots n first second)
+    → store_of (fresh_image n first second ++ rest) ≡ Some (fresh_store n first second)
 store-fresh n first second rest few many f f' s s' =
-    let directories : length (fresh_directories n) ≡ 6 * n + 2 =
+    let directories : length (fresh_directory n) ≡ 6 * n + 2 =
     omega (arith, length-append {A = ℕ} (replicate (2 * n - 4) 255) (replicate (4 * n + 2) 0), length-replicate {A = ℕ} (2 * n - 4) 255, length-replicate {A = ℕ} (4 * n + 2) 0) in
     let one : length (fresh_cell first) ≡ 32 = length-cell first f' in
     let two : length (fresh_cell second) ≡ 32 = length-cell second s' in
     let zeros = replicate (64 * n - 64) 0 ++ rest in
     let tail = fresh_cell first ++ (fresh_cell second ++ zeros) in
-    let image = head n ++ (fresh_directories n ++ tail) in
-    let size : length (fresh_directories n ++ tail) ≡ (6 * n + 2) + (64 + ((64 * n - 64) + length rest)) =
+    let image = head n ++ (fresh_directory n ++ tail) in
+    let size : length (fresh_directory n ++ tail) ≡ (6 * n + 2) + (64 + ((64 * n - 64) + length rest)) =
     omega (
       arith,
       directories,
       one,
       two,
-      length-append (fresh_directories n) tail,
+      length-append (fresh_directory n) tail,
       length-append (fresh_cell first) (fresh_cell second ++ zeros),
       length-append (fresh_cell second) zeros,
       length-append {A = ℕ} (replicate (64 * n - 64) 0) rest,
       length-replicate {A = ℕ} (64 * n - 64) 0,
     ) in
-    let before : length (head n ++ fresh_directories n) ≡ 34 + 6 * n = omega (arith, directories) in
-    let between : length ((head n ++ fresh_directories n) ++ fresh_cell first) ≡ 66 + 6 * n =
-    omega (arith, before, one, length-append (head n ++ fresh_directories n) (fresh_cell first)) in
-    let at_one : image ≡ (head n ++ fresh_directories n) ++ tail = sym (append_assoc (head n) (fresh_directories n) tail) in
-    let at_two : image ≡ ((head n ++ fresh_directories n) ++ fresh_cell first) ++ (fresh_cell second ++ zeros) =
-    at_one ∙ sym (append_assoc (head n ++ fresh_directories n) (fresh_cell first) (fresh_cell second ++ zeros)) in
-    ap store_of (shape (head n) (fresh_directories n) (fresh_cell first) (fresh_cell second) (replicate (64 * n - 64) 0) rest)
-    ∙ (store-head n (fresh_directories n ++ tail) few many (omega (arith, size))
-    ∙ (ap (λ (firsts : List ℕ). slots_at image n firsts) (directory-fresh n tail (omega arith))
-    ∙ slots-fresh image n first second few many f f' s s'
-    (ap (λ (i : List ℕ). number_at i (cell_place n 0)) at_one ∙ next-fresh (head n ++ fresh_directories n) first (fresh_cell second ++ zeros) n 0 (omega (arith, before)))
+    let before : length (head n ++ fresh_directory n) ≡ 34 + 6 * n = omega (arith, directories) in
+    let between : length ((head n ++ fresh_directory n) ++ fresh_cell first) ≡ 66 + 6 * n =
+    omega (arith, before, one, length-append (head n ++ fresh_directory n) (fresh_cell first)) in
+    let at_one : image ≡ (head n ++ fresh_directory n) ++ tail = sym (append_assoc (head n) (fresh_directory n) tail) in
+    let at_two : image ≡ ((head n ++ fresh_directory n) ++ fresh_cell first) ++ (fresh_cell second ++ zeros) =
+    at_one ∙ sym (append_assoc (head n ++ fresh_directory n) (fresh_cell first) (fresh_cell second ++ zeros)) in
+    ap store_of (shape (head n) (fresh_directory n) (fresh_cell first) (fresh_cell second) (replicate (64 * n - 64) 0) rest)
+    ∙ (store-head n (fresh_directory n ++ tail) few many (omega (arith, size))
+    ∙ (ap (λ (firsts : List ℕ). with_limit 240 (slots_at image n firsts)) (directory-fresh n tail (omega arith))
+    ∙ ap (with_limit 240) (slots-fresh image n first second few many f f' s s'
+    (ap (λ (i : List ℕ). number_at i (cell_place n 0)) at_one ∙ next-fresh (head n ++ fresh_directory n) first (fresh_cell second ++ zeros) n 0 (omega (arith, before)))
     (ap (λ (i : List ℕ). number_at i (cell_place n 1)) at_two
-    ∙ next-fresh ((head n ++ fresh_directories n) ++ fresh_cell first) second zeros n 1 (omega (arith, between)))
+    ∙ next-fresh ((head n ++ fresh_directory n) ++ fresh_cell first) second zeros n 1 (omega (arith, between)))
     (ap (λ (i : List ℕ). payload_of i n 0) at_one
-    ∙ payload-fresh (head n ++ fresh_directories n) first (fresh_cell second ++ zeros) n 0 (omega (arith, before)) f')
+    ∙ payload-fresh (head n ++ fresh_directory n) first (fresh_cell second ++ zeros) n 0 (omega (arith, before)) f')
     (ap (λ (i : List ℕ). payload_of i n 1) at_two
-    ∙ payload-fresh ((head n ++ fresh_directories n) ++ fresh_cell first) second zeros n 1 (omega (arith, between)) s')))
+    ∙ payload-fresh ((head n ++ fresh_directory n) ++ fresh_cell first) second zeros n 1 (omega (arith, between)) s'))))
 
 -- a new image, written over any other, where that is told
 pub store-formatted : (n : ℕ) (first second : List ℕ) (old new : Option (List ℕ)) → 16 ≤ n → n ≤ 2048 → 1 ≤ length first → length first ≤ 28 → 1 ≤ length second → length second ≤ 28
-    → new ≡ option_map (λ image. overwrite image 0 (fresh_image n first second)) old → IfSome new (λ image. store_of image ≡ Some (fresh_slots n first second))
+    → new ≡ option_map (λ image. overwrite image 0 (fresh_image n first second)) old → IfSome new (λ image. store_of image ≡ Some (fresh_store n first second))
 store-formatted n first second None new few many f f' s s' e = rw e tt
 store-formatted n first second (Some image) new few many f f' s s' e =
     rw e (store-fresh n first second (drop (0 + length (fresh_image n first second)) image) few many f f' s s')

@@ -4,7 +4,7 @@ use Rattle.std.proofs.lemmas.Bool.{and_parts, eqb-true, cases_Bool}
 use Rattle.std.proofs.lemmas.List.{take-append-le, take-take, length-take-le, take-append-drop}
 use Rattle.eeprom.specs.Chip.{Chip, Writes, Keeps}
 use Rattle.eeprom.specs.Image.{overwrite, IsTorn}
-use Rattle.eeprom.specs.StoreOf.{starts_with_magic, store_of, fresh_slots}
+use Rattle.eeprom.specs.StoreOf.{starts_with_magic, store_of, fresh_store}
 use Rattle.record_store.specs.FreshImage.{magic, HasOldStore, LeavesCleared, LeavesFormatted}
 use Rattle.eeprom.proofs.Moments.{write-throughout, throughout-then, throughout-weaker}
 
@@ -100,15 +100,15 @@ cleared_moments n first second old new cleared = throughout-weaker old new _ _ c
 ))
 
 -- the front of an image without a store is written, behind which all is there
-pub front_moments : (n : ℕ) (first second octets : List ℕ) (old mid new : Chip) → length octets ≡ 4 → mid.still ≡ old.still → IfSome mid.image (λ image. store_of (overwrite image 0 magic) ≡ Some (fresh_slots n first second))
+pub front_moments : (n : ℕ) (first second octets : List ℕ) (old mid new : Chip) → length octets ≡ 4 → mid.still ≡ old.still → IfSome mid.image (λ image. store_of (overwrite image 0 magic) ≡ Some (fresh_store n first second))
     → IfSome mid.past (λ past. length past ≡ mid.clock) → Writes 0 octets mid new → LeavesFormatted n first second old mid → LeavesFormatted n first second old new
 front_moments n first second octets old mid new four still there clocked w before =
-    throughout-then old mid new _ before (write-throughout 0 octets mid new (λ g left. (g ≡ old.still.mark) × (HasOldStore old left ⊎ ((store_of left ≡ None) ⊎ (store_of left ≡ Some (fresh_slots n first second))))) clocked w
+    throughout-then old mid new _ before (write-throughout 0 octets mid new (λ g left. (g ≡ old.still.mark) × (HasOldStore old left ⊎ ((store_of left ≡ None) ⊎ (store_of left ≡ Some (fresh_store n first second))))) clocked w
     (λ image left told torn. (
       ap (λ still. still.mark) still,
       elim (torn_front image left (subst (λ (k : ℕ). IsTorn image 0 k left) four torn)) [
         | inl none ↦ inr (inl none)
-        | inr is ↦ inr (inr (ap store_of is ∙ subst (λ (o : Option (List ℕ)). IfSome o (λ image. store_of (overwrite image 0 magic) ≡ Some (fresh_slots n first second))) told there))
+        | inr is ↦ inr (inr (ap store_of is ∙ subst (λ (o : Option (List ℕ)). IfSome o (λ image. store_of (overwrite image 0 magic) ≡ Some (fresh_store n first second))) told there))
       ],
     )))
 

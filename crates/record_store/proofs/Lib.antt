@@ -1,4 +1,5 @@
 pub mod Appending
+pub mod ChangedSlots
 pub mod ClaimedSlots
 pub mod Commit
 pub mod DirectoryRead
@@ -6,11 +7,14 @@ pub mod Emptying
 pub mod Filling
 pub mod FreshStore
 pub mod Fronts
+pub mod HeaderRead
 pub mod OpeningSlots
 pub mod Putting
 pub mod Records
 pub mod Replaced
 pub mod Replacing
+pub mod Replaying
 pub mod SameSlots
 pub mod Sides
+pub mod Weighing
 pub mod Weights

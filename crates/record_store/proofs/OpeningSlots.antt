@@ -6,7 +6,7 @@ use Rattle.std.proofs.lemmas.List.{map-append, take-map, take_all, take_more}
 use Rattle.std.proofs.lemmas.List.Folds.{list_all-append}
 use Rattle.std.proofs.lemmas.Option.{same_Some}
 use Rattle.eeprom.specs.Chip.{Chip, Becomes, RisesBy}
-use Rattle.eeprom.specs.StoreOf.{Slots, numbers_at, chain_of, chains_of, is_record, slot_of, slots_at, store_of, directory, are_apart, cells_for, cells_of, weight_of}
+use Rattle.eeprom.specs.StoreOf.{Slots, Stored, chain_of, chains_of, is_record, slot_of, slots_at, store_of, is_gate_open, written_directory, are_apart, cells_for, cells_of, weight_of}
 use Rattle.cell_store.specs.Cells.{Cells, AreLinkedIn, all_free}
 use Rattle.cell_store.specs.Chains.{AreFree, IsRecordChain, is_among}
 use Rattle.cell_store.specs.Claims.{TakesChain, HasRecord, HasNoRecord}
@@ -14,18 +14,18 @@ use Rattle.cell_store.proofs.Chains.{chain-empty, chains-push, chains-take}
 use Rattle.cell_store.proofs.Placements.{nowhere}
 use Rattle.record_store.specs.Header.{IsHeaderOf}
 use Rattle.record_store.specs.declared.header.Header.{Header}
-use Rattle.record_store.specs.Held.{Held, IsOver, contents, StandsFor}
+use Rattle.record_store.specs.Held.{Held, IsOver, IsRowLimit, contents, stored, with_limit, StandsFor}
 use Rattle.record_store.specs.Opening.{HeldSoFar, IsOverSoFar, StandsSoFar, IsSoundSoFar, TakesSlot, IsSlot, ReadsStore, front_octets, slots_so_far, slot_with}
 use Rattle.record_store.specs.Sound.{Claimed, IsSound, cells_in}
 use Rattle.record_store.specs.declared.side.Side.TheVariants.{Committed}
 use Rattle.record_store.proofs.ClaimedSlots.{all_free-range, claimed-start, linked-start, Claims, cells-more, claims-so_far, claims-record, claims-refused, claims-over, claimed-more, distinct-more, marked-claimed, takes-range}
-use Rattle.record_store.proofs.Weights.{store-begins, slots-chains, some-slots, header-room, cells-chains, chains-told}
+use Rattle.record_store.proofs.Weights.{limited, store-begins, slots-chains, some-slots, header-room, cells-chains, chains-told}
 
 -- so many octets were read until then
 abbrev pub ReadsSoFar : HeldSoFar → ℕ → ℕ → Type 0
-ReadsSoFar held = RisesBy (front_octets held.chains.cells + 32 * held.weight)
+ReadsSoFar held = RisesBy (32 * held.weight)
 
--- What holds before each slot is claimed, of so many cells over this EEPROM, where so many octets had been read before and now.
+-- What holds before each slot is claimed, of so many cells over this EEPROM, where so many octets had been read before the first and now.
 pub record IsOpening (held : HeldSoFar) (slot cells : ℕ) (chip : Chip) (before now : Option ℕ) : Type 0 where
   pub claimed : held.claimed ≡ slot
   pub cells_are : held.chains.cells ≡ cells
@@ -33,13 +33,13 @@ pub record IsOpening (held : HeldSoFar) (slot cells : ℕ) (chip : Chip) (before
   pub few : held.weight ≤ held.chains.cells
   pub read : Becomes (ReadsSoFar held) before now
 
--- these cells, selector and first cells, with so many slots claimed and so many cells in their chains
+-- these cells, row limit and first cells, with so many slots claimed and so many cells in their chains
 abbrev pub held_of : Cells → ℕ → List ℕ → ℕ → ℕ → HeldSoFar
-held_of store selector firsts claimed weight = record { chains = store; selector = selector; firsts = firsts; claimed = claimed; weight = weight }
+held_of store limit firsts claimed weight = record { chains = store; row_limit = limit; firsts = firsts; claimed = claimed; weight = weight }
 
 -- one slot more is claimed, whose chain has so many cells
 abbrev pub with_slot : HeldSoFar → Cells → ℕ → HeldSoFar
-with_slot held new count = held_of new held.selector held.firsts (held.claimed + 1) (held.weight + count)
+with_slot held new count = held_of new held.row_limit held.firsts (held.claimed + 1) (held.weight + count)
 
 slots-push : (image : List ℕ) (n : ℕ) (xs : List ℕ) (first : ℕ) (chains : List (List ℕ)) (chain : List ℕ) (slots : Slots) (entry : Option (List ℕ)) → chains_of image n xs ≡ Some chains → list_all (is_record image n) chains ≡ true → slots ≡ map (slot_of image n) chains
     → chain_of image n (2 * n) first ≡ Some chain → is_record image n chain ≡ true → slot_of image n chain ≡ entry → are_apart n (chains ++ chain ∷ []) ≡ true → slots_at image n (xs ++ first ∷ []) ≡ Some (slots ++ entry ∷ [])
@@ -48,22 +48,22 @@ slots-push image n xs first chains chain slots entry of records are there is ent
     (ap (λ (slots : Slots). Some slots) (map-append (slot_of image n) chains (chain ∷ []) ∙ (ap (λ (before : Slots). before ++ slot_of image n chain ∷ []) (sym are) ∙ ap (λ (entry : Option (List ℕ)). slots ++ entry ∷ []) entry_is)))
 
 -- before the first slot
-pub sound-begun : (n selector : ℕ) (firsts : List ℕ) (store : Cells) → store ≡ all_free n → 16 ≤ n → n ≤ 2048 → selector < 2 → length firsts ≡ n → IsSoundSoFar (held_of store selector firsts 0 0)
-sound-begun n selector firsts store is few many select count = subst (λ (store : Cells). IsSoundSoFar (held_of store selector firsts 0 0)) (sym is) (record {
+pub sound-begun : (n limit : ℕ) (firsts : List ℕ) (store : Cells) → store ≡ all_free n → 16 ≤ n → n ≤ 2048 → IsRowLimit limit → length firsts ≡ n → IsSoundSoFar (held_of store limit firsts 0 0)
+sound-begun n limit firsts store is few many rows count = subst (λ (store : Cells). IsSoundSoFar (held_of store limit firsts 0 0)) (sym is) (record {
   range = all_free-range n few many;
-  selector = select;
+  rows = rows;
   count = count;
   claimed = omega arith;
   chains = claimed-start n firsts;
 })
 
-pub stands-begun : (header : Header) (firsts : List ℕ) (store : Cells) (image : Option (List ℕ)) → store ≡ all_free header.cells → IfSome image (λ image. IsHeaderOf image header) → IfSome image (λ image. firsts ≡ numbers_at image (32 + 2 * header.cells * header.selector) header.cells)
-    → IfSome image (StandsSoFar (held_of store header.selector firsts 0 0))
-stands-begun header firsts store None is begins selected = tt
-stands-begun header firsts store (Some image) is begins selected =
+pub stands-begun : (header : Header) (firsts : List ℕ) (store : Cells) (image : Option (List ℕ)) → store ≡ all_free header.cells → IfSome image (λ image. IsHeaderOf image (record header { is_open = false })) → IfSome image (λ image. firsts ≡ written_directory image header.cells)
+    → IfSome image (StandsSoFar (held_of store header.row_limit firsts 0 0))
+stands-begun header firsts store None is begins there = tt
+stands-begun header firsts store (Some image) is begins there =
     let none : nat_le 0 header.cells ≡ true = grind (arith, nat_tests) in
-    subst (λ (store : Cells). StandsSoFar (held_of store header.selector firsts 0 0) image) (sym is) (record {
-      begins = record { front = begins.front; header = begins.fields; cells = begins.cells; selector = begins.selector; selected = rw (begins.selector) (sym selected) };
+    subst (λ (store : Cells). StandsSoFar (held_of store header.row_limit firsts 0 0) image) (sym is) (record {
+      begins = record { front = begins.front; header = begins.fields; cells = begins.cells; rows = begins.limit; closed = begins.gate; directory = sym there };
       links = linked-start header.cells image;
       claimed = rw none refl;
     })
@@ -80,7 +80,7 @@ told-so_far held image slots sound stands there =
     let firsts = take held.claimed held.firsts in
     let c = sound.chains in
     let marked = marked-claimed held.chains firsts c.slots in
-    let of : chains_of image n firsts ≡ Some sound.chains.slots.chains = chains-told image n held.chains.used held.chains.links firsts c.slots.chains sound.range.few sound.range.many sound.range.links_count stands.links marked c.slots.has.are in
+    let of : chains_of image n firsts ≡ Some sound.chains.slots.chains = chains-told image n held.chains.used held.chains.links firsts c.slots.chains sound.range.few sound.range.many sound.range.links_count stands.links marked c.slots.has.few c.slots.has.are in
     let t = slots-chains image n firsts slots there in
     let same : t.chains ≡ c.slots.chains = same_Some _ _ (sym t.of ∙ of) in
     record { of = of; records = subst (λ (chains : List (List ℕ)). list_all (is_record image n) chains ≡ true) same t.records; is = t.is ∙ ap (λ (chains : List (List ℕ)). map (slot_of image n) chains) same }
@@ -124,8 +124,9 @@ stands-next held new count octets (Some image) sound left takes links fits stand
         front = stands.begins.front;
         header = stands.begins.header;
         cells = stands.begins.cells ∙ sym takes.chain.cells;
-        selector = stands.begins.selector;
-        selected = ap (directory image) takes.chain.cells ∙ stands.begins.selected;
+        rows = stands.begins.rows;
+        closed = stands.begins.closed;
+        directory = ap (written_directory image) takes.chain.cells ∙ stands.begins.directory;
       };
       links = links stands.links;
       claimed = rw (next-slots held new count octets image slots.0 sound left takes fits stands slots.1) refl;
@@ -134,7 +135,7 @@ stands-next held new count octets (Some image) sound left takes links fits stand
 pub sound-next : (held : HeldSoFar) (new : Cells) (count : ℕ) → IsSoundSoFar held → held.claimed < held.chains.cells → TakesChain held.chains new (get_or held.firsts held.claimed 0) count → held.weight + count ≤ held.chains.cells → IsSoundSoFar (with_slot held new count)
 sound-next held new count sound left takes fits = record {
   range = takes-range held.chains new (get_or held.firsts held.claimed 0) count takes sound.range;
-  selector = sound.selector;
+  rows = sound.rows;
   count = sound.count ∙ sym takes.cells;
   claimed = rw (takes.cells) (omega (arith, left));
   chains = claimed-more held.chains new held.firsts held.weight count held.claimed sound.range (omega (arith, left, sound.count)) takes fits sound.chains;
@@ -157,16 +158,16 @@ pub store-refused : (held : HeldSoFar) (image : Option (List ℕ)) → IsSoundSo
 store-refused held None sound left there none stands = tt
 store-refused held (Some image) sound left there none stands =
     let first : ℕ = get_or held.firsts held.claimed 0 in
-    store-begins held.chains.cells held.selector held.firsts image stands.begins ∙ claims-refused held.chains.cells held.firsts held.chains.used held.weight held.claimed image sound.range.used_count (omega (arith, left, sound.count))
-    (λ chain of is free. none chain (record { of = of; is = is; some = some-cells image held.chains.cells first chain there of }) free) (claims-held held image sound stands)
+    store-begins held.chains.cells held.row_limit held.firsts image stands.begins ∙ ap (with_limit held.row_limit) (claims-refused held.chains.cells held.firsts held.chains.used held.weight held.claimed image sound.range.used_count (omega (arith, left, sound.count))
+    (λ chain of is free. none chain (record { of = of; is = is; some = some-cells image held.chains.cells first chain there of }) free) (claims-held held image sound stands))
 
 pub store-over : (held : HeldSoFar) (new : Cells) (count : ℕ) (octets : List ℕ) (image : Option (List ℕ)) → IsSoundSoFar held → held.claimed < held.chains.cells → TakesSlot image held.chains new (get_or held.firsts held.claimed 0) octets count
     → held.chains.cells < held.weight + count → IfSome image (StandsSoFar held) → IfSome image (λ image. store_of image ≡ None)
 store-over held new count octets None sound left takes over stands = tt
 store-over held new count octets (Some image) sound left takes over stands =
     let first : ℕ = get_or held.firsts held.claimed 0 in
-    store-begins held.chains.cells held.selector held.firsts image stands.begins ∙ claims-over held.chains.cells held.firsts held.chains.used new.used held.weight count held.claimed image sound.range.used_count (omega (arith, left, sound.count)) over
-    (claims-record held.chains new first count octets image takes) (claims-held held image sound stands)
+    store-begins held.chains.cells held.row_limit held.firsts image stands.begins ∙ ap (with_limit held.row_limit) (claims-over held.chains.cells held.firsts held.chains.used new.used held.weight count held.claimed image sound.range.used_count (omega (arith, left, sound.count)) over
+    (claims-record held.chains new first count octets image takes) (claims-held held image sound stands))
 
 -- once all slots were claimed
 weight-held : (held : HeldSoFar) (image : List ℕ) (slots : Slots) → IsSoundSoFar held → StandsSoFar held image → slots_so_far held image ≡ Some slots → held.weight ≡ weight_of slots
@@ -182,12 +183,12 @@ weight-finished held image slots sound all stands there =
     weight-held held image slots sound stands (ap (slots_at image held.chains.cells) whole ∙ there)
 
 pub sound-finished : (held : HeldSoFar) (working : List ℕ) → IsSoundSoFar held → held.claimed ≡ held.chains.cells → length working ≡ held.chains.cells
-    → IsSound (record { chains = held.chains; selector = held.selector; committed = held.firsts; working = working; begun = false })
+    → IsSound (record { chains = held.chains; row_limit = held.row_limit; committed = held.firsts; working = working; begun = false })
 sound-finished held working sound all count =
     let c : Claimed held.chains held.firsts = subst (Claimed held.chains) (take_all held.claimed held.firsts (omega (arith, all, sound.count))) sound.chains.slots in
     record {
       range = sound.range;
-      selector = sound.selector;
+      rows = sound.rows;
       committed_count = sound.count;
       working_count = count;
       sides = record { committed = c.chains; working = c.chains; committed_has = c.has; working_has = c.has; beside = λ slot. inl refl; used = λ cell. c.used cell ∙ sym (both (is_among cell (cells_in c.chains))) };
@@ -243,23 +244,41 @@ finished-stands held store (Some image) finished stands = finished image stands
 pub finished-over : (held : HeldSoFar) (store : Held) (chip : Chip) → ((image : List ℕ) → StandsSoFar held image → StandsFor store image) → store.chains.cells ≡ held.chains.cells → IsOverSoFar held chip → IsOver store chip
 finished-over held store chip finished cells over = record { room = rw cells over.room; stands = finished-stands held store chip.image finished over.stands }
 
-pub finished-opened : (held : HeldSoFar) (store : Held) (image : Option (List ℕ)) → ((image : List ℕ) → StandsSoFar held image → store_of image ≡ contents store Committed image) → IfSome image (StandsSoFar held) → IfSome image (λ image. store_of image ≡ contents store Committed image)
+pub finished-opened : (held : HeldSoFar) (store : Held) (image : Option (List ℕ)) → ((image : List ℕ) → StandsSoFar held image → store_of image ≡ stored store Committed image) → IfSome image (StandsSoFar held) → IfSome image (λ image. store_of image ≡ stored store Committed image)
 finished-opened held store None opened stands = tt
 finished-opened held store (Some image) opened stands = opened image stands
 
-pub finished-read : (held : HeldSoFar) (store : Held) (image : Option (List ℕ)) (old new : Option ℕ) → ((image : List ℕ) → StandsSoFar held image → store_of image ≡ contents store Committed image)
+pub finished-read : (held : HeldSoFar) (store : Held) (image : Option (List ℕ)) (old mid new : Option ℕ) → ((image : List ℕ) → StandsSoFar held image → store_of image ≡ stored store Committed image)
     → ((image : List ℕ) (slots : Slots) → StandsSoFar held image → contents store Committed image ≡ Some slots → held.weight ≡ weight_of slots) → store.chains.cells ≡ held.chains.cells → IfSome image (StandsSoFar held)
-    → Becomes (ReadsSoFar held) old new → IfSome image (λ image. (slots : Slots) → store_of image ≡ Some slots → Becomes (ReadsStore store.chains.cells slots) old new)
-finished-read held store None old new opened weight cells stands read = tt
-finished-read held store (Some image) old new opened weight cells stands read = λ slots there.
-    let weighs : held.weight ≡ weight_of slots = weight image slots stands (sym (opened image stands) ∙ there) in
-    rw (cells, sym weighs) read
+    → Becomes (RisesBy (front_octets held.chains.cells)) old mid → Becomes (ReadsSoFar held) mid new → IfSome image (λ image. (was : Stored) → store_of image ≡ Some was → Becomes (ReadsStore store.chains.cells was.slots) old new)
+finished-read held store None old mid new opened weight cells stands front read = tt
+finished-read held store (Some image) old mid new opened weight cells stands front read = λ was there.
+    let weighs : held.weight ≡ weight_of was.slots = weight image was.slots stands (limited store.row_limit (contents store Committed image) was (sym (opened image stands) ∙ there)).0 in
+    λ after told.
+    let second = read after told in
+    let first = front second.0 second.1 in
+    (first.0, first.1, omega (arith, cells, weighs, first.2, second.2))
+
+-- where its gate was closed all along
+pub read-told : (held : HeldSoFar) (store : Held) (old new : Chip) (a b c : Option ℕ) → IfSome old.image (λ image. is_gate_open image ≡ false → new ≡ old) → ((image : List ℕ) → StandsSoFar held image → store_of image ≡ stored store Committed image)
+    → ((image : List ℕ) (slots : Slots) → StandsSoFar held image → contents store Committed image ≡ Some slots → held.weight ≡ weight_of slots) → store.chains.cells ≡ held.chains.cells → IfSome new.image (StandsSoFar held)
+    → IfSome old.image (λ image. is_gate_open image ≡ false → Becomes (RisesBy (front_octets held.chains.cells)) a b) → Becomes (ReadsSoFar held) b c
+    → IfSome old.image (λ image. (was : Stored) → store_of image ≡ Some was → is_gate_open image ≡ false → Becomes (ReadsStore store.chains.cells was.slots) a c)
+read-told held store old new a b c closed opened weight cells stands front read = cases old.image refl closed front
+  where
+    cases : (image : Option (List ℕ)) → old.image ≡ image → IfSome image (λ image. is_gate_open image ≡ false → new ≡ old) → IfSome image (λ image. is_gate_open image ≡ false → Becomes (RisesBy (front_octets held.chains.cells)) a b)
+        → IfSome image (λ image. (was : Stored) → store_of image ≡ Some was → is_gate_open image ≡ false → Becomes (ReadsStore store.chains.cells was.slots) a c)
+    cases None is closed front = tt
+    cases (Some image) is closed front = λ was there shut.
+        let same : new.image ≡ Some image = ap (λ (chip : Chip). chip.image) (closed shut) ∙ is in
+        finished-read held store (Some image) a b c opened weight cells (subst (λ (o : Option (List ℕ)). IfSome o (StandsSoFar held)) same stands) (front shut) read was there
 
 -- the slots that were claimed are the first ones of the image's store
-pub so_far-first : (held : HeldSoFar) (image : List ℕ) (slots : Slots) → StandsSoFar held image → store_of image ≡ Some slots → slots_so_far held image ≡ Some (take held.claimed slots)
-so_far-first held image slots stands stored =
+pub so_far-first : (held : HeldSoFar) (image : List ℕ) (was : Stored) → StandsSoFar held image → store_of image ≡ Some was → slots_so_far held image ≡ Some (take held.claimed was.slots)
+so_far-first held image was stands there =
     let n = held.chains.cells in
-    let whole = slots-chains image n held.firsts slots (sym (store-begins held.chains.cells held.selector held.firsts image stands.begins) ∙ stored) in
+    let slots = was.slots in
+    let whole = slots-chains image n held.firsts slots (limited held.row_limit (slots_at image n held.firsts) was (sym (store-begins held.chains.cells held.row_limit held.firsts image stands.begins) ∙ there)).0 in
     let some = some-slots (slots_so_far held image) stands.claimed in
     let part = slots-chains image n (take held.claimed held.firsts) some.0 some.1 in
     let same : part.chains ≡ take held.claimed whole.chains = same_Some _ _ (sym part.of ∙ chains-take image n held.firsts whole.chains held.claimed whole.of) in

@@ -1,12 +1,12 @@
 -- A record put into a slot: the store of the image stays, and the slot has the record.
-use Rattle.std.proofs.Common.{◌≡◌, inl, inr, ℕ, zero, suc, ◌+◌, ◌*◌, ◌%◌, ◌<◌, ◌≤◌, ◌==◌, ◌&&◌, ◌||◌, not, Bool, true, false, cond, List, [], ◌∷◌, ◌++◌, length, take, set, get_or, map, slice_index, sum_by, nat_le, Option, Some, None, IsSome, IfSome, option_map, sym, refl, ap, ◌∙◌, arith, subst, le-leb, get_or-take, take-take, length-append}
+use Rattle.std.proofs.Common.{◌≡◌, inl, inr, ℕ, zero, suc, ◌+◌, ◌*◌, ◌<◌, ◌≤◌, ◌==◌, ◌&&◌, ◌||◌, not, Bool, true, false, cond, List, [], ◌∷◌, ◌++◌, length, take, drop, set, get_or, map, slice_index, slice_range, sum_by, nat_le, Option, Some, None, IsSome, IfSome, option_map, sym, refl, ap, ◌∙◌, arith, subst, le-leb, get_or-take, take-take, length-append}
 use Rattle.std.specs.List.{list_all}
 use Rattle.std.proofs.lemmas.Bool.{and_parts}
-use Rattle.std.proofs.lemmas.List.{length-map}
+use Rattle.std.proofs.lemmas.List.{drop-take, length-map}
 use Rattle.std.proofs.lemmas.Option.{same_Some}
 use Rattle.std.proofs.lemmas.List.Sums.{sum_by-cons, sum_by-set}
 use Rattle.eeprom.specs.Chip.{Chip, Keeps}
-use Rattle.eeprom.specs.StoreOf.{Slots, chain_of, chains_of, cells_for, cells_of, is_record, slot_of, slots_at, are_apart, directory, starts_with_magic, has_header, number_at, store_of}
+use Rattle.eeprom.specs.StoreOf.{longest_chain, Slots, chain_of, chains_of, cells_for, cells_of, is_record, slot_of, slots_at, are_apart, is_gate_open, written_directory, store_of}
 use Rattle.cell_store.specs.Cells.{kept, AreLinkedIn}
 use Rattle.cell_store.specs.Chains.{is_among, steps}
 use Rattle.cell_store.specs.Claims.{TakesChain}
@@ -19,8 +19,8 @@ use Rattle.cell_store.proofs.Chains.{cells-chain, chains-parts}
 use Rattle.cell_store.proofs.Linking.{steps-end}
 use Rattle.cell_store.proofs.Marking.{marked-all, unmarked-set}
 use Rattle.cell_store.proofs.Placements.{nowhere}
-use Rattle.eeprom.proofs.Regions.{SameFront, same-magic, same-cells, same-header, numbers-agree}
-use Rattle.record_store.specs.Held.{Held, StandsFor, firsts, contents}
+use Rattle.eeprom.proofs.Regions.{SameFront, same-magic, same-cells, same-header, same-limit, numbers-agree}
+use Rattle.record_store.specs.Held.{Held, BeginsAs, StandsFor, firsts, contents, with_limit}
 use Rattle.record_store.specs.Put.{IsPut, emptied, weight_with, IsFull, IsWithin}
 use Rattle.record_store.specs.Slots.{steps_without}
 use Rattle.record_store.specs.Sound.{IsSound, AreChains, cells_in}
@@ -33,28 +33,35 @@ use Rattle.record_store.proofs.Weights.{store-begins, side-chains, told-chains, 
 
 -- the front of an image that keeps all before the cells
 front-same : (marks : List Bool) (n : ℕ) (left was : List ℕ) → Keeping marks n left was → SameFront left was
-front-same marks n left was keeping = record { size = keeping.size; front = shorter 8 (omega arith) }
+front-same marks n left was keeping = record { size = keeping.size; front = shorter 8 (omega arith); behind_gate = between left ∙ (ap (drop 9) (shorter 32 (omega arith)) ∙ sym (between was)) }
   where
     shorter : (k : ℕ) → k ≤ 34 + 6 * n → take k left ≡ take k was
     shorter k within = sym (take-take k (34 + 6 * n) left within) ∙ ap (λ (xs : List ℕ). take k xs) keeping.front ∙ take-take k (34 + 6 * n) was within
 
+    between : (image : List ℕ) → slice_range image 9 32 ≡ drop 9 (take 32 image)
+    between image = sym (drop-take 9 23 image)
+
 octet-same : (marks : List Bool) (n : ℕ) (left was : List ℕ) (k : ℕ) → Keeping marks n left was → k < 34 + 6 * n → slice_index left k ≡ slice_index was k
 octet-same marks n left was k keeping inside = sym (get_or-take (34 + 6 * n) left k 0 inside) ∙ ap (λ (xs : List ℕ). get_or xs k 0) keeping.front ∙ get_or-take (34 + 6 * n) was k 0 inside
 
-parts-two : (x : ℕ) → x % 2 < 2
-parts-two x = omega arith
+gate-same : (marks : List Bool) (n : ℕ) (left was : List ℕ) → Keeping marks n left was → is_gate_open left ≡ is_gate_open was
+gate-same marks n left was keeping = rw (octet-same marks n left was 8 keeping (omega arith)) refl
 
-directory-end : (n s : ℕ) → s < 2 → (32 + 2 * n * s) + 2 * n ≤ 34 + 6 * n
-directory-end n zero small = omega arith
-directory-end n (suc zero) small = omega arith
-directory-end n (suc (suc s)) small = absurd (omega arith)
+directory-same : (marks : List Bool) (n : ℕ) (left was : List ℕ) → Keeping marks n left was → written_directory left n ≡ written_directory was n
+directory-same marks n left was keeping = numbers-agree left was 32 n (λ k from below. octet-same marks n left was k keeping (omega arith))
 
-directory-same : (marks : List Bool) (n : ℕ) (left was : List ℕ) → Keeping marks n left was → directory left n ≡ directory was n
-directory-same marks n left was keeping =
-    let selector : slice_index left 8 ≡ slice_index was 8 = octet-same marks n left was 8 keeping (omega arith) in
-    let s = slice_index was 8 % 2 in
-    let end = directory-end n s (parts-two (slice_index was 8)) in
-    rw selector (numbers-agree left was (32 + 2 * n * s) n (λ k from below. octet-same marks n left was k keeping (omega arith)))
+-- so it begins as it did
+begins-same : (marks : List Bool) (n limit : ℕ) (first_cells left was : List ℕ) → Keeping marks n left was → BeginsAs n limit first_cells was → BeginsAs n limit first_cells left
+begins-same marks n limit first_cells left was keeping begins =
+    let front = front-same marks n left was keeping in
+    record {
+      front = same-magic left was front ∙ begins.front;
+      header = same-header left was front ∙ begins.header;
+      cells = same-cells left was front ∙ begins.cells;
+      rows = same-limit left was front ∙ begins.rows;
+      closed = gate-same marks n left was keeping ∙ begins.closed;
+      directory = directory-same marks n left was keeping ∙ begins.directory;
+    }
 
 -- an image that keeps the used cells has the same records on each side
 side-kept : (held : Held) (side : Side) (left was : List ℕ) → IsSound held → StandsFor held was → IsSome (contents held side was) → Keeping held.chains.used held.chains.cells left was → contents held side left ≡ contents held side was
@@ -69,14 +76,8 @@ side-kept held side left was sound stands there keeping =
 pub store-kept : (held : Held) (left was : List ℕ) → IsSound held → StandsFor held was → Keeping held.chains.used held.chains.cells left was → store_of left ≡ store_of was
 store-kept held left was sound stands keeping =
     let n = held.chains.cells in
-    let front = front-same held.chains.used n left was keeping in
-    let magic : starts_with_magic left ≡ true = same-magic left was front ∙ stands.begins.front in
-    let header : has_header left ≡ true = same-header left was front ∙ stands.begins.header in
-    let number : number_at left 6 ≡ n = same-cells left was front ∙ stands.begins.cells in
-    let selected : directory left n ≡ held.committed = directory-same held.chains.used n left was keeping ∙ stands.begins.selected in
-    let now : store_of left ≡ slots_at left n held.committed = rw (magic, header, number, selected) refl in
-    let before : store_of was ≡ slots_at was n held.committed = store-begins n held.selector held.committed was stands.begins in
-    now ∙ (side-kept held Committed left was sound stands stands.committed keeping ∙ sym before)
+    store-begins n held.row_limit held.committed left (begins-same held.chains.used n held.row_limit held.committed left was keeping stands.begins)
+    ∙ (ap (with_limit held.row_limit) (side-kept held Committed left was sound stands stands.committed keeping) ∙ sym (store-begins n held.row_limit held.committed was stands.begins))
 
 pub keeps-store : (held : Held) (marks : List Bool) (n : ℕ) (old new : Chip) → n ≡ held.chains.cells → marks ≡ held.chains.used → IsSound held → IfSome old.image (StandsFor held) → KeepsMarked marks n old new → Keeps store_of old new
 keeps-store held marks n old new cells used sound stands keeps =
@@ -104,7 +105,7 @@ refilled held next slot first chain was now slots sound next_sound same_cells sa
     let told = told-chains held was (firsts held Working) s.chains slots sound stands s.has s.marked there in
     let r = replaced held.chains.used now was n (firsts held Working) s.chains slot first chain sound.range.many keeping inside told.of told.records (marked-chains held.chains.used s.chains s.marked) of is in
     let t = side-chains next Working next_sound in
-    let next_of = chains-told now next.chains.cells next.chains.used next.chains.links (firsts next Working) t.chains next_sound.range.few next_sound.range.many next_sound.range.links_count links t.marked t.has.are in
+    let next_of = chains-told now next.chains.cells next.chains.used next.chains.links (firsts next Working) t.chains next_sound.range.few next_sound.range.many next_sound.range.links_count links t.marked t.has.few t.has.are in
     let same : t.chains ≡ set s.chains slot chain = same_Some _ _ (sym next_of ∙ (ap (λ (n : ℕ). chains_of now n (firsts next Working)) same_cells ∙ (ap (λ (firsts : List ℕ). chains_of now n firsts) same_firsts ∙ r.of))) in
     let few : nat_le (length (cells_in t.chains)) n ≡ true = le-leb (length (cells_in t.chains)) n (subst (λ (n : ℕ). length (cells_in t.chains) ≤ n) same_cells t.has.few) in
     let apart : are_apart n t.chains ≡ true = rw (t.has.distinct, few) refl in
@@ -159,17 +160,9 @@ put-done held slot first count used links octets was now sound next_sound begun 
     let there = refilled held next slot first takes.chain was now slots.0 sound next_sound refl next_is stands linked w.keeping within reads.0.of reads.0.is slots.1 in
     let working : contents next Working now ≡ Some (set slots.0 slot (Some octets)) = there ∙ ap (λ (entry : Option (List ℕ)). Some (set slots.0 slot entry)) reads.1 in
     let committed = side-kept held Committed now was sound stands stands.committed w.keeping in
-    let front = front-same held.chains.used n now was w.keeping in
-    let octet = octet-same held.chains.used n now was 8 w.keeping (omega arith) in
     record {
       stands = record {
-        begins = record {
-          front = same-magic now was front ∙ stands.begins.front;
-          header = same-header now was front ∙ stands.begins.header;
-          cells = same-cells now was front ∙ stands.begins.cells;
-          selector = rw octet (stands.begins.selector);
-          selected = directory-same held.chains.used n now was w.keeping ∙ stands.begins.selected;
-        };
+        begins = begins-same held.chains.used n held.row_limit held.committed now was w.keeping stands.begins;
         links = linked;
         committed = subst (λ (o : Option Slots). IsSome o) (sym committed) stands.committed;
         working = subst (λ (o : Option Slots). IsSome o) (sym working) refl;
@@ -277,12 +270,12 @@ count-marked (cell ∷ cells) marks among =
     one-less (mark ∷ marks) zero = omega (arith, sum_by-cons (λ (mark : Bool). cond mark 1 0) mark marks, sum_by-cons (λ (mark : Bool). cond mark 1 0) false marks, at-most mark)
     one-less (mark ∷ marks) (suc cell) = omega (arith, one-less marks cell, sum_by-cons (λ (mark : Bool). cond mark 1 0) mark marks, sum_by-cons (λ (mark : Bool). cond mark 1 0) mark (set marks cell false))
 
-walk-emptied : (links firsts : List ℕ) (slot : ℕ) → length links ≤ 65535 → slot < length firsts → sum_by (steps links 18) (set firsts slot 65535) ≡ steps_without links firsts slot
+pub walk-emptied : (links firsts : List ℕ) (slot : ℕ) → length links ≤ 65535 → slot < length firsts → sum_by (steps links longest_chain) (set firsts slot 65535) ≡ steps_without links firsts slot
 walk-emptied links [] slot few inside = absurd (omega arith)
-walk-emptied links (first ∷ firsts) zero few inside = omega (arith, sum_by-cons (steps links 18) 65535 firsts, steps-end links 18 65535 few)
+walk-emptied links (first ∷ firsts) zero few inside = omega (arith, sum_by-cons (steps links longest_chain) 65535 firsts, steps-end links longest_chain 65535 few)
 walk-emptied links (first ∷ firsts) (suc slot) few inside =
     let next : suc slot + 1 ≡ suc (slot + 1) = omega arith in
-    rw next (omega (arith, sum_by-cons (steps links 18) first (set firsts slot 65535), sum_by-cons (steps links 18) first (take slot firsts), walk-emptied links firsts slot few (omega arith)))
+    rw next (omega (arith, sum_by-cons (steps links longest_chain) first (set firsts slot 65535), sum_by-cons (steps links longest_chain) first (take slot firsts), walk-emptied links firsts slot few (omega arith)))
 
 pub record HasRoom (held : Held) (mid : Held) (slot weight : ℕ) (sound : IsSound mid) : Type 0 where
   pub cells : length (cells_in sound.sides.working) ≡ weight

@@ -1,9 +1,9 @@
 -- The chains of both sides of a store in memory, as slots are emptied and filled, and as a transaction ends.
-use Rattle.std.proofs.Common.{◌≡◌, ◌≢◌, ◌⊎◌, inl, inr, ℕ, zero, suc, ◌+◌, ◌-◌, ◌*◌, ◌<◌, ◌≤◌, ◌==◌, ◌||◌, if◌then◌else◌, Bool, true, false, List, [], ◌∷◌, ◌++◌, length, set, get_or, slice_index, slice_set, sym, refl, ap, ◌∙◌, arith, subst, true≢false, length-append, eqb-true, eq-eqb}
+use Rattle.std.proofs.Common.{◌≡◌, ◌≢◌, ◌⊎◌, inl, inr, ℕ, zero, suc, ◌+◌, ◌*◌, ◌<◌, ◌≤◌, ◌==◌, ◌||◌, if◌then◌else◌, Bool, true, false, List, [], ◌∷◌, ◌++◌, length, set, get_or, slice_index, slice_set, sym, refl, ap, ◌∙◌, arith, subst, true≢false, length-append, eqb-true, eq-eqb}
 use Rattle.std.specs.List.{AllByRecursion}
 use Rattle.std.proofs.lemmas.Bool.{false_from_ne_true, or_cases, or_left, or_right}
 use Rattle.std.proofs.lemmas.List.{length-set, get_or-set_same, get_or-set_other}
-use Rattle.eeprom.specs.StoreOf.{is_distinct}
+use Rattle.eeprom.specs.StoreOf.{longest_chain, is_distinct}
 use Rattle.cell_store.specs.Cells.{Cells, link_in, StayLinked}
 use Rattle.cell_store.specs.Chains.{AreLinked, AreFree, AreNotAmong, is_among, with_marked}
 use Rattle.cell_store.specs.Claims.{TakesChain}
@@ -88,13 +88,13 @@ length-chains links [] (chain ∷ chains) are = absurd are
 length-chains links (first ∷ firsts) [] are = absurd are
 length-chains links (first ∷ firsts) (chain ∷ chains) are = ap suc (length-chains links firsts chains are.2)
 
-pub chain-at : (links firsts : List ℕ) (chains : List (List ℕ)) (slot : ℕ) → AreChains links firsts chains → slot < length firsts → AreLinked (link_in links) (length links) (slice_index firsts slot) (get_or chains slot []) × (length (get_or chains slot []) ≤ 18)
+pub chain-at : (links firsts : List ℕ) (chains : List (List ℕ)) (slot : ℕ) → AreChains links firsts chains → slot < length firsts → AreLinked (link_in links) (length links) (slice_index firsts slot) (get_or chains slot []) × (length (get_or chains slot []) ≤ longest_chain)
 chain-at links [] chains slot are inside = absurd (omega arith)
 chain-at links (first ∷ firsts) [] slot are inside = absurd are
 chain-at links (first ∷ firsts) (chain ∷ chains) zero are inside = (are.0, are.1)
 chain-at links (first ∷ firsts) (chain ∷ chains) (suc slot) are inside = chain-at links firsts chains slot are.2 (omega arith)
 
-pub chains-set : (links firsts : List ℕ) (chains : List (List ℕ)) (slot first : ℕ) (chain : List ℕ) → AreLinked (link_in links) (length links) first chain → length chain ≤ 18 → AreChains links firsts chains → AreChains links (set firsts slot first) (set chains slot chain)
+pub chains-set : (links firsts : List ℕ) (chains : List (List ℕ)) (slot first : ℕ) (chain : List ℕ) → AreLinked (link_in links) (length links) first chain → length chain ≤ longest_chain → AreChains links firsts chains → AreChains links (set firsts slot first) (set chains slot chain)
 chains-set links [] [] slot first chain linked short are = are
 chains-set links [] (old ∷ chains) slot first chain linked short are = absurd are
 chains-set links (x ∷ firsts) [] slot first chain linked short are = absurd are
@@ -253,7 +253,7 @@ few-put n chains slot inside few = omega (arith, length-put chains slot [] insid
 pub sound-emptied : (held : Held) (slot : ℕ) (used : List Bool) (sound : IsSound held) → held.begun ≡ true → slot < held.chains.cells → length used ≡ length held.chains.used → Empties held slot (get_or sound.sides.working slot []) used → IsSound (emptied held slot used)
 sound-emptied held slot used sound begun inside size e = record {
   range = record { few = sound.range.few; many = sound.range.many; used_count = size ∙ sound.range.used_count; links_count = sound.range.links_count };
-  selector = sound.selector;
+  rows = sound.rows;
   committed_count = sound.committed_count;
   working_count = length-set held.working slot 65535 ∙ sound.working_count;
   sides = record {
@@ -297,7 +297,7 @@ pub record PutIn (old : Held) (marks : List Bool) (links : List ℕ) (first coun
   pub linked : AreLinked (link_in links) (length links) first chain
   pub free : AreFree old.chains.used chain
   pub count_is : length chain ≡ count
-  pub short : count ≤ 18
+  pub short : count ≤ longest_chain
   pub used : marks ≡ with_marked old.chains.used chain
   pub stay : StayLinked old.chains.used old.chains.links links
   pub size : length links ≡ length old.chains.links
@@ -316,7 +316,7 @@ pub sound-put : (held : Held) (slot first count : ℕ) (used : List Bool) (links
     → length (cells_in sound.sides.working) + count ≤ held.chains.cells → IsSound (put_into held slot first used links)
 sound-put held slot first count used links sound begun inside empty p fits = record {
   range = record { few = sound.range.few; many = sound.range.many; used_count = ap (length {A = Bool}) p.used ∙ (length-with_marked held.chains.used p.chain ∙ sound.range.used_count); links_count = p.size ∙ sound.range.links_count };
-  selector = sound.selector;
+  rows = sound.rows;
   committed_count = sound.committed_count;
   working_count = length-set held.working slot first ∙ sound.working_count;
   sides = record {
@@ -410,14 +410,14 @@ twice false = refl
 abbrev pub rolled_back : Held → List Bool → Held
 rolled_back held used = record held { chains = record held.chains { used = used }; begun = false }
 
--- it was committed: the working records are now those that are committed, and the other directory is selected
+-- it was committed: the working records are now those that are committed, and the gate is closed
 abbrev pub after_commit : Held → List Bool → Held
-after_commit held used = record { chains = record held.chains { used = used }; selector = 1 - held.selector; committed = held.working; working = held.working; begun = false }
+after_commit held used = record { chains = record held.chains { used = used }; row_limit = held.row_limit; committed = held.working; working = held.working; begun = false }
 
 pub sound-committed : (held : Held) (used : List Bool) (sound : IsSound held) → held.begun ≡ true → Frees held held.committed held.working used → IsSound (after_commit held used)
 sound-committed held used sound begun f = record {
   range = record { few = sound.range.few; many = sound.range.many; used_count = f.count_is ∙ sound.range.used_count; links_count = sound.range.links_count };
-  selector = omega arith;
+  rows = sound.rows;
   committed_count = sound.working_count;
   working_count = sound.working_count;
   sides = record {
@@ -465,7 +465,7 @@ sound-committed held used sound begun f = record {
 pub sound-rolled_back : (held : Held) (used : List Bool) (sound : IsSound held) → held.begun ≡ true → Frees held held.working held.committed used → IsSound (rolled_back held used)
 sound-rolled_back held used sound begun f = record {
   range = record { few = sound.range.few; many = sound.range.many; used_count = f.count_is ∙ sound.range.used_count; links_count = sound.range.links_count };
-  selector = sound.selector;
+  rows = sound.rows;
   committed_count = sound.committed_count;
   working_count = sound.working_count;
   sides = record {

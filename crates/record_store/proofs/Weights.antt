@@ -1,16 +1,16 @@
 -- The chains of slots: those in memory are the image's, and weigh what their records do.
-use Rattle.std.proofs.Common.{◌≡◌, ℕ, zero, suc, ◌+◌, ◌*◌, ◌<◌, ◌≤◌, ◌==◌, ◌&&◌, Bool, true, false, List, [], ◌∷◌, ◌++◌, length, map, set, take, slice_index, nat_le, Option, Some, None, IsSome, ◌%◌, option_and_then, if◌then◌else◌, sum_by, sym, refl, ap, ◌∙◌, arith, subst, length-append, leb-true}
+use Rattle.std.proofs.Common.{◌≡◌, ℕ, zero, suc, ◌+◌, ◌*◌, ◌<◌, ◌≤◌, ◌==◌, ◌&&◌, Bool, true, false, List, [], ◌∷◌, ◌++◌, length, map, set, take, slice_index, nat_le, Option, Some, None, IsSome, option_and_then, if◌then◌else◌, sum_by, sym, refl, ap, ◌∙◌, arith, subst, length-append, leb-true}
 use Rattle.std.specs.List.{list_all, AllByRecursion}
 use Rattle.std.proofs.lemmas.Bool.{and_parts}
 use Rattle.std.proofs.lemmas.Option.{same_Some, none-some}
 use Rattle.std.proofs.lemmas.List.Sums.{sum_by-cons}
-use Rattle.eeprom.specs.StoreOf.{Slots, store_of, chain_of, chains_of, cell_place, number_at, is_record, slot_of, slots_at, are_apart, has_header, cells_of, weight_of}
+use Rattle.eeprom.specs.StoreOf.{longest_chain, Slots, Stored, store_of, has_version, chain_of, chains_of, cell_place, number_at, is_record, slot_of, slots_at, are_apart, has_header, cells_of, weight_of}
 use Rattle.cell_store.specs.Cells.{kept, link_in, AreLinkedIn}
 use Rattle.cell_store.specs.Chains.{AreLinked, link_of, steps}
 use Rattle.cell_store.specs.Marks.{is_marked}
 use Rattle.cell_store.proofs.Chains.{cells-chain, chains-parts}
 use Rattle.cell_store.proofs.Linking.{linked-chain, linked-same, steps-linked}
-use Rattle.record_store.specs.Held.{Held, BeginsAs, StandsFor, firsts, contents}
+use Rattle.record_store.specs.Held.{Held, BeginsAs, StandsFor, firsts, contents, stored, with_limit}
 use Rattle.record_store.specs.Slots.{steps_without}
 use Rattle.record_store.specs.Sound.{AreChains, HasChains, IsSound, cells_in}
 use Rattle.record_store.specs.declared.side.Side.{Side}
@@ -39,18 +39,25 @@ slots-of image n firsts slots (Some chains) of h = slots-if image n firsts slots
 pub slots-chains : (image : List ℕ) (n : ℕ) (firsts : List ℕ) (slots : Slots) → slots_at image n firsts ≡ Some slots → Chains image n firsts slots
 slots-chains image n firsts slots h = slots-of image n firsts slots (chains_of image n firsts) refl h
 
--- the store of an image that begins as one does
-pub store-begins : (n selects : ℕ) (first_cells image : List ℕ) → BeginsAs n selects first_cells image → store_of image ≡ slots_at image n first_cells
-store-begins n selects first_cells image begins = rw (begins.front, begins.header, begins.cells, begins.selected) refl
+-- the slots of a store with a limit
+pub limited : (limit : ℕ) (slots : Option Slots) (was : Stored) → with_limit limit slots ≡ Some was → (slots ≡ Some was.slots) × (limit ≡ was.row_limit)
+limited limit None was there = absurd (none-some was there)
+limited limit (Some slots) was there =
+    let is = same_Some _ _ there in
+    (ap (λ (was : Stored). Some was.slots) is, ap (λ (was : Stored). was.row_limit) is)
 
-pub store_of-stands : (held : Held) (image : List ℕ) → StandsFor held image → store_of image ≡ contents held Committed image
-store_of-stands held image stands = store-begins held.chains.cells held.selector held.committed image stands.begins
+-- the store of an image that begins as one does
+pub store-begins : (n limit : ℕ) (first_cells image : List ℕ) → BeginsAs n limit first_cells image → store_of image ≡ with_limit limit (slots_at image n first_cells)
+store-begins n limit first_cells image begins = rw (begins.front, begins.header, begins.cells, begins.rows, begins.closed, begins.directory) refl
+
+pub store_of-stands : (held : Held) (image : List ℕ) → StandsFor held image → store_of image ≡ stored held Committed image
+store_of-stands held image stands = store-begins held.chains.cells held.row_limit held.committed image stands.begins
 
 -- the room of an image with a header
 pub header-room : (image : List ℕ) (n : ℕ) → has_header image ≡ true → number_at image 6 ≡ n → 70 * n + 34 ≤ length image
 header-room image n header number =
     let m = number_at image 6 in
-    let tests = and_parts ((slice_index image 4 == 1) && (slice_index image 5 % 2 == 0) && nat_le 16 m && nat_le m 2048) (nat_le (70 * m + 34) (length image)) header in
+    let tests = and_parts ((slice_index image 4 == 2) && has_version image && nat_le 16 m && nat_le m 2048) (nat_le (70 * m + 34) (length image)) header in
     rw number at (leb-true (70 * m + 34) (length image) tests.1)
 
 -- the records of chains weigh as many cells as the chains have
@@ -66,12 +73,12 @@ cells-chains image n (first ∷ rest) chains room h records =
     rw (parts.4) (omega (arith, cells.1, more, weights, lengths))
 
 -- so many cells are counted along the links
-pub walk-chains : (links firsts : List ℕ) (chains : List (List ℕ)) → length links ≤ 65535 → AreChains links firsts chains → sum_by (steps links 18) firsts ≡ length (cells_in chains)
+pub walk-chains : (links firsts : List ℕ) (chains : List (List ℕ)) → length links ≤ 65535 → AreChains links firsts chains → sum_by (steps links longest_chain) firsts ≡ length (cells_in chains)
 walk-chains links [] [] few are = refl
 walk-chains links [] (chain ∷ chains) few are = absurd are
 walk-chains links (first ∷ firsts) [] few are = absurd are
 walk-chains links (first ∷ firsts) (chain ∷ chains) few are =
-    omega (arith, sum_by-cons (steps links 18) first firsts, steps-linked links first 18 chain few are.0 are.1, walk-chains links firsts chains few are.2, length-append chain (cells_in chains))
+    omega (arith, sum_by-cons (steps links longest_chain) first firsts, steps-linked links first longest_chain chain few are.0 are.1, walk-chains links firsts chains few are.2, length-append chain (cells_in chains))
 
 pub walk-without : (links firsts : List ℕ) (chains : List (List ℕ)) (slot : ℕ) → length links ≤ 65535 → slot < length firsts → AreChains links firsts chains → steps_without links firsts slot ≡ length (cells_in (set chains slot []))
 walk-without links [] chains slot few inside are = absurd (omega arith)
@@ -79,19 +86,20 @@ walk-without links (first ∷ firsts) [] slot few inside are = absurd are
 walk-without links (first ∷ firsts) (chain ∷ chains) zero few inside are = omega (arith, walk-chains links firsts chains few are.2)
 walk-without links (first ∷ firsts) (chain ∷ chains) (suc slot) few inside are =
     let next : suc slot + 1 ≡ suc (slot + 1) = omega arith in
-    rw next (omega (arith, sum_by-cons (steps links 18) first (take slot firsts), steps-linked links first 18 chain few are.0 are.1, walk-without links firsts chains slot few (omega arith) are.2, length-append chain (cells_in (set chains slot []))))
+    rw next (omega (arith, sum_by-cons (steps links longest_chain) first (take slot firsts), steps-linked links first longest_chain chain few are.0 are.1, walk-without links firsts chains slot few (omega arith) are.2, length-append chain (cells_in (set chains slot []))))
 
 -- chains in memory are the image's
-pub chains-told : (image : List ℕ) (n : ℕ) (used : List Bool) (links firsts : List ℕ) (chains : List (List ℕ)) → 16 ≤ n → n ≤ 2048 → length links ≡ 2 * n → AreLinkedIn (kept n used links) image → AllByRecursion (λ cell. is_marked used cell ≡ true) (cells_in chains) → AreChains links firsts chains
+pub chains-told : (image : List ℕ) (n : ℕ) (used : List Bool) (links firsts : List ℕ) (chains : List (List ℕ)) → 16 ≤ n → n ≤ 2048 → length links ≡ 2 * n → AreLinkedIn (kept n used links) image → AllByRecursion (λ cell. is_marked used cell ≡ true) (cells_in chains) → length (cells_in chains) ≤ n → AreChains links firsts chains
     → chains_of image n firsts ≡ Some chains
-chains-told image n used links [] [] few many size all marked are = refl
-chains-told image n used links [] (chain ∷ chains) few many size all marked are = absurd are
-chains-told image n used links (first ∷ firsts) [] few many size all marked are = absurd are
-chains-told image n used links (first ∷ firsts) (chain ∷ chains) few many size all marked are =
+chains-told image n used links [] [] few many size all marked short are = refl
+chains-told image n used links [] (chain ∷ chains) few many size all marked short are = absurd are
+chains-told image n used links (first ∷ firsts) [] few many size all marked short are = absurd are
+chains-told image n used links (first ∷ firsts) (chain ∷ chains) few many size all marked short are =
     let parts = marked-parts chain (cells_in chains) marked in
+    let total = length-append chain (cells_in chains) in
     let linked = linked-same (link_in links) (link_of image n) (2 * n) first chain (agree chain parts.0) (subst (λ (k : ℕ). AreLinked (link_in links) k first chain) size are.0) in
-    let one : chain_of image n (2 * n) first ≡ Some chain = linked-chain image n (2 * n) first chain many linked (omega (arith, are.1)) in
-    let rest = chains-told image n used links firsts chains few many size all parts.1 are.2 in
+    let one : chain_of image n (2 * n) first ≡ Some chain = linked-chain image n (2 * n) first chain many linked (omega (arith, short, total)) in
+    let rest = chains-told image n used links firsts chains few many size all parts.1 (omega (arith, short, total)) are.2 in
     rw (one, rest) refl
   where
     marked-parts : (xs ys : List ℕ) → AllByRecursion (λ cell. is_marked used cell ≡ true) (xs ++ ys) → AllByRecursion (λ cell. is_marked used cell ≡ true) xs × AllByRecursion (λ cell. is_marked used cell ≡ true) ys
@@ -125,7 +133,7 @@ pub told-chains : (held : Held) (image firsts : List ℕ) (chains : List (List �
 told-chains held image firsts chains slots sound stands has marked there =
     let n = held.chains.cells in
     let c = slots-chains image n firsts slots there in
-    let of = chains-told image n held.chains.used held.chains.links firsts chains sound.range.few sound.range.many sound.range.links_count stands.links marked has.are in
+    let of = chains-told image n held.chains.used held.chains.links firsts chains sound.range.few sound.range.many sound.range.links_count stands.links marked has.few has.are in
     let same : c.chains ≡ chains = same_Some _ _ (sym c.of ∙ of) in
     let records : list_all (is_record image n) chains ≡ true = rw same at c.records in
     record {
@@ -141,21 +149,21 @@ some-slots None h = absurd (cc)
 some-slots (Some x) h = (x, refl)
 
 pub steps-firsts : (held : Held) (side : Side) (image : List ℕ) (slots : Slots) → IsSound held → StandsFor held image → contents held side image ≡ Some slots
-    → (sum_by (steps held.chains.links 18) (firsts held side) ≡ weight_of slots) × (sum_by (steps held.chains.links 18) (firsts held side) ≤ held.chains.cells)
+    → (sum_by (steps held.chains.links longest_chain) (firsts held side) ≡ weight_of slots) × (sum_by (steps held.chains.links longest_chain) (firsts held side) ≤ held.chains.cells)
 steps-firsts held side image slots sound stands h =
     let s = side-chains held side sound in
     let told = told-chains held image (firsts held side) s.chains slots sound stands s.has s.marked h in
     let walk = walk-chains held.chains.links (firsts held side) s.chains (small-links held sound) s.has.are in
     (walk ∙ sym told.weight, omega (arith, walk, s.has.few))
 
-pub weight-is : (held : Held) (side : Side) (links first_cells : List ℕ) (result : ℕ) → IsSound held → links ≡ held.chains.links → first_cells ≡ firsts held side → result ≡ sum_by (steps links 18) first_cells
+pub weight-is : (held : Held) (side : Side) (links first_cells : List ℕ) (result : ℕ) → IsSound held → links ≡ held.chains.links → first_cells ≡ firsts held side → result ≡ sum_by (steps links longest_chain) first_cells
     → (image : List ℕ) → (slots : Slots) → StandsFor held image → contents held side image ≡ Some slots → result ≡ weight_of slots
 weight-is held side links first_cells result sound links_are firsts_are is = λ image slots stands h.
     is ∙ rw (links_are, firsts_are) ((steps-firsts held side image slots sound stands h).0)
 
-pub weight-most : (held : Held) (side : Side) (links first_cells : List ℕ) (result : ℕ) → IsSound held → links ≡ held.chains.links → first_cells ≡ firsts held side → result ≡ sum_by (steps links 18) first_cells → result ≤ held.chains.cells
+pub weight-most : (held : Held) (side : Side) (links first_cells : List ℕ) (result : ℕ) → IsSound held → links ≡ held.chains.links → first_cells ≡ firsts held side → result ≡ sum_by (steps links longest_chain) first_cells → result ≤ held.chains.cells
 weight-most held side links first_cells result sound links_are firsts_are is =
     let s = side-chains held side sound in
     let walk = walk-chains held.chains.links (firsts held side) s.chains (small-links held sound) s.has.are in
-    let sum : result ≡ sum_by (steps held.chains.links 18) (firsts held side) = is ∙ rw (links_are, firsts_are) refl in
+    let sum : result ≡ sum_by (steps held.chains.links longest_chain) (firsts held side) = is ∙ rw (links_are, firsts_are) refl in
     omega (arith, sum, walk, s.has.few)

@@ -1,17 +1,17 @@
 -- What a store holds in memory, and of which images it speaks.
-use Rattle.std.specs.Prelude.{◌≡◌, ℕ, ◌%◌, Bool, true, if◌then◌else◌, List, Option, None, IsSome, IfSome, option_and_then, slice_index, slice_index_or}
+use Rattle.std.specs.Prelude.{◌≡◌, ℕ, ◌==◌, ◌||◌, Bool, true, false, if◌then◌else◌, List, Option, None, IsSome, IfSome, option_map, option_and_then, slice_index_or}
 use Rattle.eeprom.specs.Chip.{Chip}
 use Rattle.eeprom.specs.Frame.{HasRoom}
-use Rattle.eeprom.specs.StoreOf.{Slots, slots_at, starts_with_magic, has_header, number_at, directory}
+use Rattle.eeprom.specs.StoreOf.{Slots, Stored, slots_at, starts_with_magic, has_header, number_at, row_limit, is_gate_open, written_directory}
 use Rattle.cell_store.specs.Cells.{Cells, AreLinkedIn}
 use Rattle.record_store.specs.declared.side.Side.{Side}
 use Rattle.record_store.specs.declared.side.Side.TheVariants.{Committed, Working}
 
--- the cells and the chains of them; the octet that selects the directory; for each slot the first cell of its chain as it was
--- committed and, where a transaction was begun, as it is in it
+-- the cells and the chains of them; how many octets a row may have; for each slot the first cell of its chain as it was committed
+-- and, where a transaction was begun, as it is in it
 pub record Held : Type 0 where
   pub chains : Cells
-  pub selector : ℕ
+  pub row_limit : ℕ
   pub committed : List ℕ
   pub working : List ℕ
   pub begun : Bool
@@ -20,25 +20,38 @@ abbrev pub firsts : Held → Side → List ℕ
 firsts held Committed = held.committed
 firsts held Working = if held.begun then held.working else held.committed
 
+-- how many octets a row may have: 240, or 1,020 on a card that was migrated
+abbrev pub IsRowLimit : ℕ → Type 0
+IsRowLimit limit = (limit == 240 || limit == 1020) ≡ true
+
 -- the records of a side
 abbrev pub contents : Held → Side → List ℕ → Option Slots
 contents held side image = slots_at image held.chains.cells (firsts held side)
+
+-- a store with these slots and this row limit
+abbrev pub with_limit : ℕ → Option Slots → Option Stored
+with_limit limit slots = option_map (λ slots. record { row_limit = limit; slots = slots }) slots
+
+-- the store with the records of a side
+abbrev pub stored : Held → Side → List ℕ → Option Stored
+stored held side image = with_limit held.row_limit (contents held side image)
 
 -- the record of a slot
 abbrev pub record_at : Held → Side → ℕ → List ℕ → Option (List ℕ)
 record_at held side slot image = option_and_then (λ slots. slice_index_or slots slot None) (contents held side image)
 
--- the image begins as that of a store of so many cells does, and selects a directory with these first cells
-pub record BeginsAs (n selects : ℕ) (first_cells image : List ℕ) : Type 0 where
+-- the image begins as that of a store of so many cells does, with this row limit, a closed gate, and these first cells in its directory
+pub record BeginsAs (n limit : ℕ) (first_cells image : List ℕ) : Type 0 where
   pub front : starts_with_magic image ≡ true
   pub header : has_header image ≡ true
   pub cells : number_at image 6 ≡ n
-  pub selector : slice_index image 8 % 2 ≡ selects
-  pub selected : directory image n ≡ first_cells
+  pub rows : row_limit image ≡ limit
+  pub closed : is_gate_open image ≡ false
+  pub directory : written_directory image n ≡ first_cells
 
 -- the image has the store that is held, and each side has its records
 pub record StandsFor (held : Held) (image : List ℕ) : Type 0 where
-  pub begins : BeginsAs held.chains.cells held.selector held.committed image
+  pub begins : BeginsAs held.chains.cells held.row_limit held.committed image
   pub links : AreLinkedIn held.chains image
   pub committed : IsSome (contents held Committed image)
   pub working : IsSome (contents held Working image)

@@ -5,6 +5,8 @@ pub mod Header
 pub mod Held
 pub mod Opening
 pub mod Put
+pub mod Recovery
 pub mod Slots
 pub mod Sound
 pub mod Transaction
+pub mod Weighed

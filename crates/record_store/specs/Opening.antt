@@ -1,18 +1,18 @@
 -- A store that is being opened: its slots are claimed one after another.
-use Rattle.std.specs.Prelude.{◌≡◌, ℕ, ◌+◌, ◌*◌, ◌<◌, ◌≤◌, true, List, [], ◌∷◌, length, take, Option, Some, None, IsSome, IfSome}
+use Rattle.std.specs.Prelude.{◌≡◌, ℕ, ◌+◌, ◌*◌, ◌≤◌, true, List, [], ◌∷◌, length, take, Option, Some, None, IsSome, IfSome}
 use Rattle.eeprom.specs.Chip.{Chip, RisesBy}
 use Rattle.eeprom.specs.Frame.{HasRoom}
-use Rattle.eeprom.specs.StoreOf.{Slots, slots_at, chain_of, is_record, slot_of, weight_of, cell_size, longest_chain}
+use Rattle.eeprom.specs.StoreOf.{Slots, slots_at, chain_of, is_record, slot_of, weight_of, cell_size, longest_chain, most_cells}
 use Rattle.cell_store.specs.Cells.{Cells, IsInRange, AreLinkedIn}
 use Rattle.cell_store.specs.Claims.{TakesChain}
-use Rattle.record_store.specs.Held.{BeginsAs}
+use Rattle.record_store.specs.Held.{BeginsAs, IsRowLimit}
 use Rattle.record_store.specs.Sound.{Claimed, cells_in}
 
--- the cells and the chains of them; the octet that selects the directory; for each slot the first cell of its chain; how many
+-- the cells and the chains of them; how many octets a row may have; for each slot the first cell of its chain; how many
 -- slots were claimed, and how many cells their chains have
 pub record HeldSoFar : Type 0 where
   pub chains : Cells
-  pub selector : ℕ
+  pub row_limit : ℕ
   pub firsts : List ℕ
   pub claimed : ℕ
   pub weight : ℕ
@@ -28,7 +28,7 @@ slots_so_far held image = slots_at image held.chains.cells (take held.claimed he
 
 -- the image begins as that of a store with these first cells, and the slots that were claimed have their records
 pub record StandsSoFar (held : HeldSoFar) (image : List ℕ) : Type 0 where
-  pub begins : BeginsAs held.chains.cells held.selector held.firsts image
+  pub begins : BeginsAs held.chains.cells held.row_limit held.firsts image
   pub links : AreLinkedIn held.chains image
   pub claimed : IsSome (slots_so_far held image)
 
@@ -56,19 +56,23 @@ pub record TakesSlot (image : Option (List ℕ)) (old new : Cells) (first : ℕ)
 -- what holds of it in memory, whatever an EEPROM tells
 pub record IsSoundSoFar (held : HeldSoFar) : Type 0 where
   pub range : IsInRange held.chains
-  pub selector : held.selector < 2
+  pub rows : IsRowLimit held.row_limit
   pub count : length held.firsts ≡ held.chains.cells
   pub claimed : held.claimed ≤ held.chains.cells
   pub chains : ClaimedSoFar held.chains (take held.claimed held.firsts) held.weight
 
--- how many octets begin an image of so many cells, as far as it is looked at: 9, and a directory
+-- how many octets of an image of so many cells are looked at before its cells: 11, and the directory
 abbrev pub front_octets : ℕ → ℕ
-front_octets n = 9 + 2 * n
+front_octets n = 11 + 2 * n
 
--- these are read where a store is opened, and as many as the cells of its records have
+-- so many more are read at the most where the gate is open: its octet, and a journal
+abbrev pub journal_octets : ℕ → ℕ
+journal_octets n = 3 + 4 * n
+
+-- these are read where a store with a closed gate is opened, and as many as the cells of its records have
 abbrev pub ReadsStore : ℕ → Slots → ℕ → ℕ → Type 0
 ReadsStore n slots = RisesBy (front_octets n + cell_size * weight_of slots)
 
 -- so many are read at the most of any image: a store is refused as soon as the chains have more cells than it may have
 abbrev pub most_octets : ℕ
-most_octets = front_octets 2048 + cell_size * (2048 + longest_chain)
+most_octets = front_octets most_cells + journal_octets most_cells + cell_size * (most_cells + longest_chain)

@@ -1,4 +1,4 @@
--- What putting a record makes of a store.
+-- What putting a record makes of a store, and taking one out of it.
 use Rattle.std.specs.Prelude.{◌≡◌, ℕ, ◌+◌, ◌<◌, ◌≤◌, Bool, List, length, Option, None, Some, IfSome, option_map, slice_set}
 use Rattle.eeprom.specs.StoreOf.{Slots, cells_for}
 use Rattle.record_store.specs.Held.{Held, contents, StandsFor}
@@ -10,6 +10,12 @@ pub record IsPut (old new : Held) (slot : ℕ) (octets : List ℕ) (was now : Li
   pub stands : StandsFor new now
   pub committed : contents new Committed now ≡ contents old Committed was
   pub working : contents new Working now ≡ option_map (λ slots. slice_set slots slot (Some octets)) (contents old Working was)
+
+-- the working slot is empty, and all else is as it was
+pub record IsRemoved (old new : Held) (slot : ℕ) (image : List ℕ) : Type 0 where
+  pub stands : StandsFor new image
+  pub committed : contents new Committed image ≡ contents old Committed image
+  pub working : contents new Working image ≡ option_map (λ slots. slice_set slots slot None) (contents old Working image)
 
 -- the cells that the working records would have with these octets in a slot
 abbrev pub weight_with : ℕ → List ℕ → Slots → ℕ

@@ -1,11 +1,11 @@
 -- What holds of each store in memory, whatever an EEPROM tells: which chains its slots have, and that no other cells are used.
-use Rattle.std.specs.Prelude.{◌≡◌, ◌⊎◌, ℕ, ◌<◌, ◌≤◌, ◌||◌, true, false, List, [], ◌∷◌, length, get_or, slice_index}
+use Rattle.std.specs.Prelude.{◌≡◌, ◌⊎◌, ℕ, ◌≤◌, ◌||◌, true, false, List, [], ◌∷◌, length, get_or, slice_index}
 use Rattle.std.specs.List.{flat_map}
 use Rattle.eeprom.specs.StoreOf.{is_distinct, longest_chain}
 use Rattle.cell_store.specs.Cells.{Cells, IsInRange, link_in}
 use Rattle.cell_store.specs.Chains.{AreLinked, is_among}
 use Rattle.cell_store.specs.Marks.{is_marked}
-use Rattle.record_store.specs.Held.{Held, firsts}
+use Rattle.record_store.specs.Held.{Held, firsts, IsRowLimit}
 use Rattle.record_store.specs.declared.side.Side.TheVariants.{Working}
 
 -- the chains along the links that begin at these cells, each of at most as many cells as a record has
@@ -40,7 +40,7 @@ pub record KeepsSides (held : Held) : Type 0 where
 
 pub record IsSound (held : Held) : Type 0 where
   pub range : IsInRange held.chains
-  pub selector : held.selector < 2
+  pub rows : IsRowLimit held.row_limit
   pub committed_count : length held.committed ≡ held.chains.cells
   pub working_count : length held.working ≡ held.chains.cells
   pub sides : KeepsSides held

@@ -2,7 +2,7 @@
 use Rattle.std.specs.Prelude.{◌≡◌, ◌⊎◌, ℕ, true, List}
 use Rattle.eeprom.specs.Chip.{Chip, LeavesOf}
 use Rattle.eeprom.specs.StoreOf.{store_of}
-use Rattle.record_store.specs.Held.{Held, contents, StandsFor}
+use Rattle.record_store.specs.Held.{Held, stored, StandsFor}
 use Rattle.record_store.specs.declared.side.Side.TheVariants.{Committed, Working}
 
 -- a transaction is begun: the working records are those that were committed
@@ -11,10 +11,10 @@ begun_from held = record held { working = held.committed; begun = true }
 
 -- the image has the working records as its store
 pub record IsCommitted (old new : Held) (was now : List ℕ) : Type 0 where
-  pub store : store_of now ≡ contents old Working was
+  pub store : store_of now ≡ stored old Working was
   pub stands : StandsFor new now
 
 -- at each moment the store of the image is the committed one or the working one, and nothing is given
 pub record Commits (held : Held) (old new : Chip) : Type 0 where
   pub still : new.still ≡ old.still
-  pub moments : LeavesOf (λ was left. (store_of left ≡ contents held Committed was) ⊎ (store_of left ≡ contents held Working was)) old new
+  pub moments : LeavesOf (λ was left. (store_of left ≡ stored held Committed was) ⊎ (store_of left ≡ stored held Working was)) old new

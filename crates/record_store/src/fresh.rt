@@ -4,10 +4,10 @@ ghost use Rattle.eeprom.specs.Chip.{Keeps};
 ghost use Rattle.eeprom.specs.Fault.{Counts, CountsFaults};
 ghost use Rattle.eeprom.specs.Frame.{HasRoom};
 ghost use Rattle.eeprom.specs.Image.{overwrite};
-ghost use Rattle.eeprom.specs.StoreOf.{starts_with_magic, store_of, fresh_slots, image_size};
+ghost use Rattle.eeprom.specs.StoreOf.{starts_with_magic, store_of, fresh_store, image_size};
 ghost use Rattle.record_store.specs.Appends.{Appends, end_of};
 ghost use Rattle.record_store.specs.Faults.{is_format_fault};
-ghost use Rattle.record_store.specs.FreshImage.{LeavesFormatted, LeavesCleared, fresh_image, fresh_body, fresh_header, fresh_directories, fresh_cell};
+ghost use Rattle.record_store.specs.FreshImage.{LeavesFormatted, LeavesCleared, fresh_image, fresh_body, fresh_header, fresh_directory, fresh_cell};
 
 use crate::layout::{FORMAT, MAGIC, image_size};
 use crate::writer::Writer;
@@ -30,7 +30,7 @@ impl Store {
         requires second { (1 ≤ length second.now) × (length second.now ≤ 28) }
         ensures image { OnOk result
             ((B.chip bench.new).image ≡ option_map (λ image. overwrite image 0 (fresh_image cells first.now second.now)) (B.chip bench.old).image) }
-        ensures formatted { OnOk result (IfSome (B.chip bench.new).image (λ image. store_of image ≡ Some (fresh_slots cells first.now second.now))) }
+        ensures formatted { OnOk result (IfSome (B.chip bench.new).image (λ image. store_of image ≡ Some (fresh_store cells first.now second.now))) }
         ensures still { (B.chip bench.new).still ≡ (B.chip bench.old).still }
         ensures moments { LeavesFormatted cells first.now second.now (B.chip bench.old) (B.chip bench.new) }
         ensures too_small { IsErrOf result FormatRefusal.TooSmall ↔ ((B.chip bench.old).still.size < image_size cells) }
@@ -83,7 +83,7 @@ fn write_body<B: Eeprom>(
 {
     let mut writer = Writer::new(4);
     write_header(&mut writer, bench, cells)?;
-    write_directories(&mut writer, bench, cells)?;
+    write_directory(&mut writer, bench, cells)?;
     write_cell(&mut writer, bench, first)?;
     write_cell(&mut writer, bench, second)?;
     writer.fill(bench, 0, 64 * cells as usize - 64)?;
@@ -107,7 +107,7 @@ fn write_header<B: Eeprom>(
     writer.fill(bench, 0, 24)
 }
 
-fn write_directories<B: Eeprom>(
+fn write_directory<B: Eeprom>(
     writer: &mut Writer,
     bench: &mut B,
     cells: u16,
@@ -115,7 +115,7 @@ fn write_directories<B: Eeprom>(
     requires few { 2 ≤ cells }
     requires behind { 4 ≤ writer.old.at }
     requires room { end_of writer.old + (6 * cells + 2) ≤ (B.chip bench.old).still.size }
-    ensures appends { OnOk result (Appends (fresh_directories cells) writer.old writer.new (B.chip bench.old) (B.chip bench.new)) }
+    ensures appends { OnOk result (Appends (fresh_directory cells) writer.old writer.new (B.chip bench.old) (B.chip bench.new)) }
     ensures behind { OnOk result (4 ≤ writer.new.at) }
     ensures front { Keeps (take 4) (B.chip bench.old) (B.chip bench.new) }
     ensures cause { Counts (B.faults bench.old) (B.faults bench.new) result }

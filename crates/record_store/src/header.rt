@@ -1,27 +1,31 @@
-// What an image says of its store: its header, and the directory that is selected.
-ghost use Rattle.std.specs.Prelude.{◌≡◌, ◌+◌, ◌*◌, ◌%◌, ◌<◌, None, length, is_some, slice_index, IfSome, IfOk, OnOk, IsErrOf};
+// What an image says of its store: its header and its directory.
+ghost use Rattle.std.specs.Prelude.{◌≡◌, ◌+◌, ◌*◌, ◌%◌, ◌<◌, ◌==◌, ◌&&◌, if◌then◌else◌, Some, None, length, is_some, slice_index, IfSome, IfOk, OnOk, IsErrOf};
 ghost use Rattle.eeprom.specs.Chip.{Becomes, RisesBy};
 ghost use Rattle.eeprom.specs.Frame.{Reads};
-ghost use Rattle.eeprom.specs.StoreOf.{store_of, number_at, numbers_at};
+ghost use Rattle.eeprom.specs.StoreOf.{store_of, number_at, numbers_at, row_limit, is_gate_open, written_directory};
 ghost use Rattle.cell_store.specs.Reading.{ReadsAtMost};
 ghost use Rattle.record_store.specs.Header.{begins_store, IsHeader, IsHeaderOf};
 ghost use Rattle.record_store.specs.Faults.{is_open_fault};
 
 use crate::OpenRefusal;
-use crate::layout::{FORMAT, LARGEST_DIRECTORY, directory_place, image_size};
-use cell_store::number_of;
+use crate::layout::{
+    DIRECTORY, FORMAT, LARGEST_DIRECTORY, MIGRATED_ROW_LIMIT, ROW_LIMIT, image_size,
+};
+use cell_store::{number_of, octets_of};
 use eeprom::Eeprom;
 use std::alloc::{AllocError, Global};
 
-/// How many octets of an image say whether it has a store, and of which size.
-const FRONT: usize = 9;
+/// How many octets of an image say whether it has a store, of which size and with which rows.
+const FRONT: usize = 11;
 
-/// What the first octets of an image say: how many cells it has, and which directory is selected.
+/// What the first octets of an image say.
 #[derive(Clone, Copy)]
 pub struct Header {
     pub cells: u16,
-    /// 0 or 1, for the directory that is selected.
-    pub selector: u8,
+    /// How many octets a row may have.
+    pub row_limit: u16,
+    /// Whether the gate is open, so that the journal is to be replayed.
+    pub is_open: bool,
 }
 
 /// Reads what an image begins with, where it begins as a store does.
@@ -29,8 +33,8 @@ pub fn read_header<B: Eeprom>(bench: &mut B) -> Result<Header, OpenRefusal>
     ensures range { IfOk result (λ header. IsHeader (B.chip bench.old).still.size header) }
     ensures header { IfOk result (λ header. IfSome (B.chip bench.old).image (λ image. IsHeaderOf image header)) }
     ensures not_a_card { IsErrOf result OpenRefusal.NotACard → IfSome (B.chip bench.old).image (λ image. store_of image ≡ None) }
-    ensures octets_read { OnOk result (Becomes (RisesBy 9) (B.octets_read bench.old) (B.octets_read bench.new)) }
-    ensures most_read { Becomes (ReadsAtMost 9) (B.octets_read bench.old) (B.octets_read bench.new) }
+    ensures octets_read { OnOk result (Becomes (RisesBy 11) (B.octets_read bench.old) (B.octets_read bench.new)) }
+    ensures most_read { Becomes (ReadsAtMost 11) (B.octets_read bench.old) (B.octets_read bench.new) }
     ensures no_memory_taken { ¬ (IsErrOf result OpenRefusal.NoMemory) }
     ensures frame { Reads is_open_fault B.chip B.faults bench.old bench.new result }
 {
@@ -47,22 +51,50 @@ fn header_of(octets: &[u8; FRONT], size: usize) -> Option<Header>
     ensures there { is_some result ≡ begins_store octets.now size }
     ensures range { IfSome result (λ header. IsHeader size header) }
     ensures cells { IfSome result (λ header. header.cells ≡ number_at octets.now 6) }
-    ensures selector { IfSome result (λ header. header.selector ≡ slice_index octets.now 8 % 2) }
+    ensures limit { IfSome result (λ header. header.row_limit ≡ row_limit octets.now) }
+    ensures gate { IfSome result (λ header. header.is_open ≡ is_gate_open octets.now) }
 {
-    let [b'S', b'C', b'Q', b'L', FORMAT, version, high, low, selector] = octets else {
+    let [
+        b'S',
+        b'C',
+        b'Q',
+        b'L',
+        FORMAT,
+        version,
+        high,
+        low,
+        gate,
+        limit_high,
+        limit_low,
+    ] = octets
+    else {
         return None;
     };
     let cells = number_of(*high, *low);
-    if *version % 2 != 0 || cells < 16 || cells > 2048 || size < image_size(cells) {
+    if cells < 16 || cells > 2048 || size < image_size(cells) {
         return None;
     }
     Some(Header {
         cells,
-        selector: *selector % 2,
+        row_limit: row_limit_of(*version, [*limit_high, *limit_low])?,
+        is_open: *gate % 2 == 1,
     })
 }
 
-/// Reads the directory that a header selects.
+/// How many octets a row may have, by the version and the two octets that repeat the limit on a card that was migrated.
+fn row_limit_of(version: u8, limit: [u8; 2]) -> Option<u16>
+    ensures { result ≡ (if version % 2 == 0 then Some 240 else (if (slice_index limit 0 == 0x03) && (slice_index limit 1 == 0xFC) then Some 1020 else None)) }
+{
+    if version % 2 == 0 {
+        Some(ROW_LIMIT)
+    } else if limit == octets_of(MIGRATED_ROW_LIMIT) {
+        Some(MIGRATED_ROW_LIMIT)
+    } else {
+        None
+    }
+}
+
+/// Reads the directory of an image.
 pub fn read_directory<B: Eeprom>(
     alloc: Global,
     bench: &mut B,
@@ -70,7 +102,7 @@ pub fn read_directory<B: Eeprom>(
 ) -> Result<Vec<u16>, OpenRefusal>
     requires header { IsHeader (B.chip bench.old).still.size header }
     ensures directory { IfOk result (λ firsts. IfSome (B.chip bench.old).image
-        (λ image. firsts.items ≡ numbers_at image (32 + 2 * header.cells * header.selector) header.cells)) }
+        (λ image. firsts.items ≡ written_directory image header.cells)) }
     ensures count { IfOk result (λ firsts. length firsts.items ≡ header.cells) }
     ensures a_card { ¬ (IsErrOf result OpenRefusal.NotACard) }
     ensures octets_read { OnOk result (Becomes (RisesBy (2 * header.cells)) (B.octets_read bench.old) (B.octets_read bench.new)) }
@@ -79,7 +111,7 @@ pub fn read_directory<B: Eeprom>(
 {
     let mut octets = [0; LARGEST_DIRECTORY];
     let directory = &mut octets[..2 * header.cells as usize];
-    bench.read(directory_place(header.cells, header.selector), directory)?;
+    bench.read(DIRECTORY, directory)?;
     Ok(numbers_of(alloc, directory, header.cells)?)
 }
 

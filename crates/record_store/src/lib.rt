@@ -1,7 +1,7 @@
 //! Records in numbered slots of a card's EEPROM, kept in chains of cells.
 #![tactic(auto)]
 
-mod directory;
+mod entries;
 mod fresh;
 mod header;
 mod layout;

@@ -1,20 +1,23 @@
 // A store that is being opened: its slots are claimed one after another, so that it is opened only where each has the chain of a
 // record or none, and no cell is in two chains.
-ghost use Rattle.std.specs.Prelude.{◌≡◌, ◌≢◌, ◌+◌, ◌*◌, ◌≤◌, ◌<◌, ◌++◌, [], ◌∷◌, None, length, option_map, IfSome, IfOk, IsErrOf, OnOk};
+ghost use Rattle.std.specs.Prelude.{◌≡◌, ◌≢◌, ◌+◌, ◌*◌, ◌≤◌, ◌<◌, ◌++◌, false, [], ◌∷◌, None, length, is_some, option_map, IfSome, IfOk, IsErrOf, OnOk};
 ghost use Rattle.eeprom.specs.Chip.{Becomes, RisesBy};
 ghost use Rattle.eeprom.specs.Frame.{HasRoom, Reads};
-ghost use Rattle.eeprom.specs.StoreOf.{store_of, cells_of, cell_size, longest_chain};
+ghost use Rattle.eeprom.specs.StoreOf.{store_of, is_gate_open, cells_of, cell_size, longest_chain, most_cells};
 ghost use Rattle.cell_store.specs.Reading.{ReadsAtMost, ReadsCells};
 ghost use Rattle.cell_store.specs.Claims.{HasNoRecord};
 ghost use Rattle.cell_store.specs.Cells.{AreLinkedIn};
 ghost use Rattle.cell_store.specs.Faults.{is_claim_fault};
-ghost use Rattle.record_store.specs.Opening.{IsOverSoFar, TakesSlot, front_octets, slots_so_far, slot_with};
+ghost use Rattle.record_store.specs.Opening.{IsOverSoFar, TakesSlot, front_octets, journal_octets, slots_so_far, slot_with};
 ghost use Rattle.record_store.specs.Faults.{is_open_fault};
+ghost use Rattle.record_store.specs.Header.{IsHeader, IsHeaderOf};
+ghost use Rattle.record_store.specs.Recovery.{Recovers};
 
 use crate::OpenRefusal;
-use crate::header::{read_directory, read_header};
+use crate::header::{Header, read_directory, read_header};
 use cell_store::{CellStore, ClaimRefusal, NO_CELL, RecordOctets};
 use eeprom::Eeprom;
+use journal::Journal;
 use std::alloc::Global;
 use std::marker::Model;
 
@@ -22,7 +25,8 @@ use std::marker::Model;
 #[derive(Drop)]
 pub struct Opening {
     pub(crate) chains: CellStore,
-    pub(crate) selector: u8,
+    /// How many octets a row may have.
+    pub(crate) row_limit: u16,
     pub(crate) committed: Vec<u16>,
     pub(crate) working: Vec<u16>,
     /// How many slots were claimed, and how many cells their chains have.
@@ -36,29 +40,33 @@ impl Model for Opening {
 
     ghost Value = { HeldSoFar };
 
-    ghost view = { λ opening. record { chains = opening.chains; selector = opening.selector; firsts = opening.committed.items; claimed = opening.claimed; weight = opening.weight } };
+    ghost view = { λ opening. record { chains = opening.chains; row_limit = opening.row_limit; firsts = opening.committed.items; claimed = opening.claimed; weight = opening.weight } };
 
-    ghost invariant = { λ opening. (length opening.working.items ≡ opening.chains.cells) × IsSoundSoFar (record { chains = opening.chains; selector = opening.selector; firsts = opening.committed.items; claimed = opening.claimed; weight = opening.weight }) };
+    ghost invariant = { λ opening. (length opening.working.items ≡ opening.chains.cells) × IsSoundSoFar (record { chains = opening.chains; row_limit = opening.row_limit; firsts = opening.committed.items; claimed = opening.claimed; weight = opening.weight }) };
 }
 
 impl Opening {
-    /// Begins to open the store of an image. The memory of both directories and of the cells is taken here.
+    /// Begins to open the store of an image. A journal behind an open gate is replayed. The memory of both directories and of the
+    /// cells is taken here.
     pub fn new<B: Eeprom>(alloc: Global, bench: &mut B) -> Result<Opening, OpenRefusal>
         ensures begins { IfOk result (λ opening. opening.claimed ≡ 0) }
         ensures weight { IfOk result (λ opening. opening.weight ≡ 0) }
-        ensures over { IfOk result (λ opening. IsOverSoFar opening (B.chip bench.old)) }
-        ensures octets_read { IfOk result (λ opening. Becomes (RisesBy (front_octets opening.chains.cells)) (B.octets_read bench.old) (B.octets_read bench.new)) }
-        ensures most_read { Becomes (ReadsAtMost (front_octets 2048)) (B.octets_read bench.old) (B.octets_read bench.new) }
+        ensures over { IfOk result (λ opening. IsOverSoFar opening (B.chip bench.new)) }
+        ensures told { OnOk result (is_some (B.chip bench.new).image ≡ is_some (B.chip bench.old).image) }
+        ensures octets_read { IfOk result (λ opening. IfSome (B.chip bench.old).image (λ image. is_gate_open image ≡ false
+            → Becomes (RisesBy (front_octets opening.chains.cells)) (B.octets_read bench.old) (B.octets_read bench.new))) }
+        ensures most_read { Becomes (ReadsAtMost (front_octets most_cells + journal_octets most_cells)) (B.octets_read bench.old) (B.octets_read bench.new) }
         ensures not_a_card { IsErrOf result OpenRefusal.NotACard → IfSome (B.chip bench.old).image (λ image. store_of image ≡ None) }
-        ensures frame { Reads is_open_fault B.chip B.faults bench.old bench.new result }
+        ensures frame { Recovers is_open_fault B.chip B.faults bench.old bench.new result }
     {
         let header = read_header(bench)?;
+        close_gate(bench, header)?;
         let committed = read_directory(alloc, bench, header)?;
         let working = Vec::from_slice(alloc, committed.as_slice())?;
         let chains = CellStore::with_room(alloc, header.cells)?;
         Ok(Opening {
             chains,
-            selector: header.selector,
+            row_limit: header.row_limit,
             committed,
             working,
             claimed: 0,
@@ -106,7 +114,7 @@ impl Opening {
     {
         let Opening {
             mut chains,
-            selector,
+            row_limit,
             committed,
             working,
             claimed,
@@ -119,13 +127,30 @@ impl Opening {
         }
         Ok(Opening {
             chains,
-            selector,
+            row_limit,
             committed,
             working,
             claimed: claimed + 1,
             weight,
         })
     }
+}
+
+/// Replays the journal behind an open gate.
+fn close_gate<B: Eeprom>(bench: &mut B, header: Header) -> Result<(), OpenRefusal>
+    requires range { IsHeader (B.chip bench.old).still.size header }
+    requires header { IfSome (B.chip bench.old).image (λ image. IsHeaderOf image header) }
+    ensures header { OnOk result (IfSome (B.chip bench.new).image (λ image. IsHeaderOf image (record header { is_open = false }))) }
+    ensures told { OnOk result (is_some (B.chip bench.new).image ≡ is_some (B.chip bench.old).image) }
+    ensures octets_read { OnOk result (header.is_open ≡ false → B.octets_read bench.new ≡ B.octets_read bench.old) }
+    ensures most_read { Becomes (ReadsAtMost (journal_octets header.cells)) (B.octets_read bench.old) (B.octets_read bench.new) }
+    ensures not_a_card { IsErrOf result OpenRefusal.NotACard → IfSome (B.chip bench.old).image (λ image. store_of image ≡ None) }
+    ensures frame { Recovers is_open_fault B.chip B.faults bench.old bench.new result }
+{
+    if header.is_open {
+        Journal::replay(bench, header.cells)?;
+    }
+    Ok(())
 }
 
 /// Claims the chain of a slot that begins at this cell, and answers how many cells it has: none where the slot is empty.

@@ -3,10 +3,12 @@ ghost use Rattle.std.specs.Prelude.{◌≡◌};
 ghost use Rattle.record_store.specs.declared.refusal.FormatRefusal.TheVariants.{Fault};
 ghost use Rattle.record_store.specs.declared.refusal.OpenRefusal.TheVariants.{NoMemory, NotACard, Fault as OpenFault};
 ghost use Rattle.cell_store.specs.declared.refusal.ClaimRefusal.TheVariants.{BadChain, Fault as ClaimFault};
+ghost use Rattle.journal.specs.declared.refusal.ReplayRefusal.TheVariants.{BadJournal, Fault as ReplayFault};
 ghost use Rattle.record_store.specs.declared.refusal.StoreRefusal.TheVariants.{Fault as StoreFault};
 
 use cell_store::ClaimRefusal;
 use eeprom::EepromFault;
+use journal::ReplayRefusal;
 use std::alloc::{AllocError, AllocFailed};
 
 #[derive(Clone, Copy, PartialEq, Eq, Debug)]
@@ -50,6 +52,17 @@ impl From<ClaimRefusal> for OpenRefusal {
         match refusal {
             ClaimRefusal::BadChain => OpenRefusal::NotACard,
             ClaimRefusal::Fault => OpenRefusal::Fault,
+        }
+    }
+}
+
+impl From<ReplayRefusal> for OpenRefusal {
+    ghost from_gives = { λ replay refusal. (replay ≡ BadJournal → refusal ≡ NotACard) × (replay ≡ ReplayFault → refusal ≡ OpenFault) };
+
+    fn from(refusal: ReplayRefusal) -> OpenRefusal {
+        match refusal {
+            ReplayRefusal::BadJournal => OpenRefusal::NotACard,
+            ReplayRefusal::Fault => OpenRefusal::Fault,
         }
     }
 }

@@ -3,46 +3,54 @@ ghost use Rattle.std.specs.Prelude.{◌≡◌, ◌+◌, ◌*◌, ◌≤◌, ◌<
 ghost use Rattle.eeprom.specs.Chip.{Becomes, RisesBy, Keeps};
 ghost use Rattle.eeprom.specs.Fault.{Counts, CountsFaults, each_error};
 ghost use Rattle.eeprom.specs.Frame.{Reads};
-ghost use Rattle.eeprom.specs.StoreOf.{Slots, store_of, cell_size, longest_record};
+ghost use Rattle.eeprom.specs.StoreOf.{Slots, Stored, store_of, is_gate_open, cell_size, longest_record};
 ghost use Rattle.eeprom.specs.StoreOf as image;
-ghost use Rattle.record_store.specs.Held.{firsts, contents, record_at, StandsFor, IsOver};
+ghost use Rattle.record_store.specs.Held.{firsts, contents, stored, record_at, StandsFor, IsOver, IsRowLimit};
 ghost use Rattle.record_store.specs.Opening.{StandsSoFar, ReadsStore, most_octets, slots_so_far};
 ghost use Rattle.record_store.specs.Faults.{is_open_fault, is_put_fault};
+ghost use Rattle.record_store.specs.Recovery.{Recovers};
 ghost use Rattle.eeprom.specs.StoreOf.{weight_of};
-ghost use Rattle.record_store.specs.Put.{IsPut, IsFull, IsWithin, emptied};
+ghost use Rattle.record_store.specs.Put.{IsPut, IsRemoved, IsFull, IsWithin, emptied};
+ghost use Rattle.record_store.specs.Slots.{changed, steps_without};
 ghost use Rattle.cell_store.specs.Marks.{StaysMarked};
 ghost use Rattle.cell_store.specs.Reading.{ReadsAtMost, ReadsRecord};
 ghost use Rattle.record_store.specs.Transaction.{begun_from, IsCommitted, Commits};
 ghost use Rattle.record_store.specs.declared.side.Side.TheVariants.{Committed, Working};
 
-use crate::directory::directory_octets;
-use crate::layout::{SELECTOR, directory_place};
+use crate::entries::entries_of;
 use crate::opening::Opening;
-use crate::slots::{free_replaced, length_of_chains, length_without, named_or_empty};
+use crate::slots::{free_replaced, named_or_empty, search_from};
 use crate::{OpenRefusal, Side, StoreRefusal};
 use cell_store::{CellRefusal, CellStore, NO_CELL, RecordOctets, cells_for};
 use eeprom::{Eeprom, EepromFault};
+use journal::Journal;
 use std::alloc::Global;
 use std::marker::Model;
 
 #[derive(Drop)]
 pub struct Store {
     chains: CellStore,
-    selector: u8,
+    /// How many octets a row may have.
+    row_limit: u16,
     committed: Vec<u16>,
     working: Vec<u16>,
     begun: bool,
+    /// How many cells the records of each side have.
+    committed_weight: u16,
+    working_weight: u16,
+    /// From where an empty slot is searched.
+    next_slot: u16,
 }
 
 impl Model for Store {
     ghost use Rattle.record_store.specs.Held.{Held};
-    ghost use Rattle.record_store.specs.Sound.{IsSound};
+    ghost use Rattle.record_store.specs.Weighed.{IsWeighed};
 
     ghost Value = { Held };
 
-    ghost view = { λ store. record { chains = store.chains; selector = store.selector; committed = store.committed.items; working = store.working.items; begun = store.begun } };
+    ghost view = { λ store. record { chains = store.chains; row_limit = store.row_limit; committed = store.committed.items; working = store.working.items; begun = store.begun } };
 
-    ghost invariant = { λ store. IsSound (record { chains = store.chains; selector = store.selector; committed = store.committed.items; working = store.working.items; begun = store.begun }) };
+    ghost invariant = { λ store. IsWeighed (record { chains = store.chains; row_limit = store.row_limit; committed = store.committed.items; working = store.working.items; begun = store.begun }) store.committed_weight store.working_weight };
 }
 
 impl Opening {
@@ -50,7 +58,7 @@ impl Opening {
     pub fn finish(self) -> Store
         requires all { self.claimed ≡ self.chains.cells }
         ensures stands { (image : List ℕ) → StandsSoFar self image → StandsFor result image }
-        ensures opened { (image : List ℕ) → StandsSoFar self image → store_of image ≡ contents result Committed image }
+        ensures opened { (image : List ℕ) → StandsSoFar self image → store_of image ≡ stored result Committed image }
         ensures slots { (image : List ℕ) → StandsSoFar self image → contents result Committed image ≡ slots_so_far self image }
         ensures weight { (image : List ℕ) (slots : Slots) → StandsSoFar self image → contents result Committed image ≡ Some slots → self.weight ≡ weight_of slots }
         ensures idle { result.begun ≡ false }
@@ -58,27 +66,30 @@ impl Opening {
     {
         Store {
             chains: self.chains,
-            selector: self.selector,
+            row_limit: self.row_limit,
             committed: self.committed,
             working: self.working,
             begun: false,
+            committed_weight: self.weight,
+            working_weight: self.weight,
+            next_slot: 0,
         }
     }
 }
 
 impl Store {
-    /// Opens the store of an image, where it has one. As many octets are read as begin the image, and as the cells of the records
-    /// have.
+    /// Opens the store of an image, where it has one. A journal behind an open gate is replayed first. As many octets are read as
+    /// begin the image, and as the cells of the records have.
     pub fn open<B: Eeprom>(alloc: Global, bench: &mut B) -> Result<Store, OpenRefusal>
-        ensures stored { OnOk result (IfSome (B.chip bench.old).image (λ image. IsSome (store_of image))) }
-        ensures over { IfOk result (λ store. IsOver store (B.chip bench.old)) }
-        ensures opened { IfOk result (λ store. IfSome (B.chip bench.old).image (λ image. store_of image ≡ contents store Committed image)) }
+        ensures over { IfOk result (λ store. IsOver store (B.chip bench.new)) }
+        ensures opened { IfOk result (λ store. IfSome (B.chip bench.new).image (λ image. store_of image ≡ stored store Committed image)) }
+        ensures told { OnOk result (is_some (B.chip bench.new).image ≡ is_some (B.chip bench.old).image) }
         ensures idle { IfOk result (λ store. store.begun ≡ false) }
-        ensures octets_read { IfOk result (λ store. IfSome (B.chip bench.old).image (λ image. (slots : Slots) → store_of image ≡ Some slots
-            → Becomes (ReadsStore store.chains.cells slots) (B.octets_read bench.old) (B.octets_read bench.new))) }
+        ensures octets_read { IfOk result (λ store. IfSome (B.chip bench.old).image (λ image. (was : Stored) → store_of image ≡ Some was → is_gate_open image ≡ false
+            → Becomes (ReadsStore store.chains.cells was.slots) (B.octets_read bench.old) (B.octets_read bench.new))) }
         ensures most_read { Becomes (ReadsAtMost most_octets) (B.octets_read bench.old) (B.octets_read bench.new) }
         ensures not_a_card { IsErrOf result OpenRefusal.NotACard → IfSome (B.chip bench.old).image (λ image. store_of image ≡ None) }
-        ensures frame { Reads is_open_fault B.chip B.faults bench.old bench.new result }
+        ensures frame { Recovers is_open_fault B.chip B.faults bench.old bench.new result }
     {
         let mut opening = Opening::new(alloc, bench)?;
         let mut octets = RecordOctets::new();
@@ -97,6 +108,15 @@ impl Store {
         self.chains.cells()
     }
 
+    /// How many octets a row may have: 240, or 1,020 on a card that was migrated.
+    pub fn row_limit(&self) -> u16
+        ensures limit { result ≡ self.now.row_limit }
+        ensures one { IsRowLimit result }
+        ensures most { result ≤ 1020 }
+    {
+        self.row_limit
+    }
+
     /// Whether a transaction was begun.
     pub fn begun(&self) -> bool
         ensures { result ≡ self.now.begun }
@@ -109,7 +129,10 @@ impl Store {
         ensures weight { (image : List ℕ) → (slots : Slots) → StandsFor self.now image → contents self.now side image ≡ Some slots → result ≡ weight_of slots }
         ensures most { result ≤ self.now.chains.cells }
     {
-        length_of_chains(&self.chains, self.first_cells(side))
+        match side {
+            Side::Committed => self.committed_weight,
+            Side::Working => self.working_weight,
+        }
     }
 
     /// Reads the record of a slot, and answers whether there is one.
@@ -172,21 +195,27 @@ impl Store {
         ensures told { OnOk result (is_some (B.chip bench.new).image ≡ is_some (B.chip bench.old).image) }
         ensures begun { OnOk result (self.new.begun ≡ self.old.begun) }
         ensures cells { OnOk result (self.new.chains.cells ≡ self.old.chains.cells) }
+        ensures rows { OnOk result (self.new.row_limit ≡ self.old.row_limit) }
         ensures octets_written { OnOk result (Becomes (RisesBy (cell_size * image.cells_for (length octets.now))) (B.chip bench.old).written (B.chip bench.new).written) }
         ensures moments { Keeps store_of (B.chip bench.old) (B.chip bench.new) }
         ensures cause { CountsFaults is_put_fault (B.faults bench.old) (B.faults bench.new) result }
     {
-        let Some(slot) = named_or_empty(slot, self.working.as_slice()) else {
+        let next = self.next_slot;
+        let named = slot;
+        let Some(slot) = named_or_empty(named, self.working.as_slice(), next) else {
             return Err(StoreRefusal::Full);
         };
-        let weight = length_without(&self.chains, self.working.as_slice(), slot);
-        if weight + cells_for(octets.len()) > self.chains.cells() {
+        let weight = self.weight_without(slot);
+        let count = cells_for(octets.len());
+        if weight + count > self.chains.cells() {
             return Err(StoreRefusal::Full);
         }
-        self.empty(slot);
+        self.remove(slot);
         match self.chains.write_chain(bench, octets) {
             Ok(first) => {
                 self.working[slot as usize] = first;
+                self.working_weight = weight + count;
+                self.next_slot = search_from(named, slot, next);
                 Ok(slot)
             }
             Err(CellRefusal::Fault) => Err(StoreRefusal::Fault),
@@ -194,47 +223,63 @@ impl Store {
         }
     }
 
-    /// Empties a working slot. Its chain is freed, unless it is the one that was committed.
-    fn empty(&mut self, slot: u16)
+    /// Takes the record out of a slot of the working side, where there is one. Its chain is freed, unless it is the one that was
+    /// committed. What is committed stays.
+    pub fn remove(&mut self, slot: u16)
         requires begun { IsTrue self.old.begun }
         requires slot { slot < self.old.chains.cells }
+        ensures removed { (image : List ℕ) → StandsFor self.old image → IsRemoved self.old self.new slot image }
+        ensures begun { self.new.begun ≡ self.old.begun }
+        ensures cells { self.new.chains.cells ≡ self.old.chains.cells }
+        ensures rows { self.new.row_limit ≡ self.old.row_limit }
         ensures emptied { self.new ≡ emptied self.old slot self.new.chains.used }
         ensures fewer { StaysMarked self.new.chains.used self.old.chains.used }
     {
+        let weight = self.weight_without(slot);
         let first = self.working[slot as usize];
         if first != self.committed[slot as usize] {
             self.chains.free_chain(first);
         }
         self.working[slot as usize] = NO_CELL;
+        self.working_weight = weight;
     }
 
-    /// Commits the transaction: its records are written down as the store's, in one step.
-    /// The directory that isn't selected gets the working records, and is then selected.
+    /// How many cells the working records have without that of a slot.
+    fn weight_without(&self, slot: u16) -> u16
+        requires begun { IsTrue self.now.begun }
+        requires slot { slot < self.now.chains.cells }
+        ensures weight { result ≡ steps_without self.now.chains.links self.now.working slot }
+        ensures few { result ≤ self.now.chains.cells }
+        ensures many { self.now.chains.cells ≤ 2048 }
+    {
+        self.working_weight - self.chains.length_of_chain(self.working[slot as usize])
+    }
+
+    /// Commits the transaction: its records are written down as the store's, in one step. The journal gets an entry for each slot
+    /// that has another chain now; as many octets are written as 4, and 6 for each of these.
     /// After a fault the store in memory is unchanged, and the image has its committed or its working records.
     pub fn commit<B: Eeprom>(&mut self, bench: &mut B) -> Result<(), EepromFault>
         requires begun { IsTrue self.old.begun }
         requires over { IsOver self.old (B.chip bench.old) }
         ensures ended { OnOk result (self.new.begun ≡ false) }
         ensures cells { OnOk result (self.new.chains.cells ≡ self.old.chains.cells) }
+        ensures rows { OnOk result (self.new.row_limit ≡ self.old.row_limit) }
         ensures told { OnOk result (is_some (B.chip bench.new).image ≡ is_some (B.chip bench.old).image) }
         ensures done { OnOk result (Becomes (IsCommitted self.old self.new) (B.chip bench.old).image (B.chip bench.new).image) }
         ensures moments { Commits self.old (B.chip bench.old) (B.chip bench.new) }
+        ensures octets_written { OnOk result (Becomes (RisesBy (4 + 6 * changed self.old.committed self.old.working)) (B.chip bench.old).written (B.chip bench.new).written) }
         ensures unchanged { OnErr result (self.new ≡ self.old) }
         ensures cause { Counts (B.faults bench.old) (B.faults bench.new) result }
     {
-        let selector = 1 - self.selector;
-        let place = directory_place(self.chains.cells(), selector);
-        let directory = directory_octets(self.working.as_slice());
-        let octets = directory.as_slice();
-        bench.write(place, octets)?;
-        bench.write(SELECTOR, &[selector])?;
+        let entries = entries_of(self.committed.as_slice(), self.working.as_slice());
+        Journal::commit(bench, self.chains.cells(), entries.as_slice())?;
         free_replaced(
             &mut self.chains,
             self.committed.as_slice(),
             self.working.as_slice(),
         );
-        self.selector = selector;
         self.committed.copy_from_slice(self.working.as_slice());
+        self.committed_weight = self.working_weight;
         self.begun = false;
         Ok(())
     }
@@ -244,11 +289,13 @@ impl Store {
         requires begun { IsTrue self.old.begun }
         ensures ended { self.new.begun ≡ false }
         ensures cells { self.new.chains.cells ≡ self.old.chains.cells }
+        ensures rows { self.new.row_limit ≡ self.old.row_limit }
         ensures stands { (image : List ℕ) → StandsFor self.old image → StandsFor self.new image }
         ensures committed { (image : List ℕ) → contents self.new Committed image ≡ contents self.old Committed image }
     {
         let replaced = self.working.as_slice();
         free_replaced(&mut self.chains, replaced, self.committed.as_slice());
+        self.working_weight = self.committed_weight;
         self.begun = false;
     }
 

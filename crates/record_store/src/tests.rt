@@ -27,7 +27,7 @@ fn a_made_store_opens(rt: HostRuntime) -> Result<(), Fail> {
         assert_eq!(rt; octets.as_slice(), b"second".as_slice());
         let third = store.get(&mut bench, Side::Committed, 2, &mut octets);
         assert!(rt; third == Ok(false));
-        assert_eq!(rt; bench.octets_read(), 4 + 9 + 32 + 64 + 64);
+        assert_eq!(rt; bench.octets_read(), 4 + 11 + 32 + 64 + 64);
     }
     Ok(())
 }

@@ -10,7 +10,7 @@ use Rattle.record_store.proofs.opening.Opening.claim_next.Goals as goal
 
 -- what was held before
 abbrev mine : (g : _) → After-claim_slot g → HeldSoFar
-mine g c = held_of c.self.inside.chains c.self.inside.selector c.self.inside.committed.items c.self.inside.claimed c.self.inside.weight
+mine g c = held_of c.self.inside.chains c.self.inside.row_limit c.self.inside.committed.items c.self.inside.claimed c.self.inside.weight
 
 left : (g : _) (c : After-claim_slot g) → (mine g c).claimed < (mine g c).chains.cells
 left g c = subst (λ (held : HeldSoFar). held.claimed < held.chains.cells) (sym c.self.view_is) c.requires.left

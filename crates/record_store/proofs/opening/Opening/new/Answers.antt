@@ -1,7 +1,9 @@
 -- Before the first slot nothing is claimed, and the image begins as a store's.
-use Rattle.std.proofs.Common.{◌≡◌, ap, sym, ◌∙◌, rules}
+use Rattle.std.proofs.Common.{◌≡◌, ap, sym, ◌∙◌, arith, rules}
 use Rattle.cell_store.specs.Cells.{Cells}
 use Rattle.record_store.proofs.OpeningSlots.{sound-begun, stands-begun}
+use Rattle.record_store.proofs.Replaying.{front-read}
+use Rattle.record_store.proofs.opening.Opening.new.Goals.{In_ok-chains}
 use Rattle.record_store.proofs.opening.Opening.new.Goals as goal
 
 pub invariant_of-result : goal.invariant_of-result
@@ -11,12 +13,23 @@ invariant_of-result g c =
     let cells = ap (λ (store : Cells). store.cells) c.in_ok-chains.ensures in
     let copied : c.in_ok-working.working.items ≡ c.in_ok-committed.committed.items = search rules in (
       rw copied (c.in_ok-committed.ensures.count ∙ sym cells),
-      sound-begun header.cells header.selector c.in_ok-committed.committed.items c.in_ok-chains.chains c.in_ok-chains.ensures range.few range.many range.selector c.in_ok-committed.ensures.count,
+      sound-begun header.cells header.row_limit c.in_ok-committed.committed.items c.in_ok-chains.chains c.in_ok-chains.ensures range.few range.many range.rows c.in_ok-committed.ensures.count,
     )
 
+cells : (g : _) (c : In_ok-chains g) → c.in_ok-chains.chains.cells ≡ c.in_ok-header.header.cells
+cells g c = ap (λ (store : Cells). store.cells) c.in_ok-chains.ensures
+
 pub returns-clause-over : goal.returns-clause-over
-returns-clause-over g c = record {
-  room = rw c.in_ok-chains.ensures c.in_ok-header.ensures.range.room;
-  stands = stands-begun c.in_ok-header.header c.in_ok-committed.committed.items c.in_ok-chains.chains (g.B.Eeprom.chip c.args.bench.now).image c.in_ok-chains.ensures c.in_ok-header.ensures.header
-      (rw c.in_ok-header.ensures.frame.same at c.in_ok-committed.ensures.directory);
-}
+returns-clause-over g c =
+    let size : (g.B.Eeprom.chip c.read_directory.new.bench).still.size ≡ (g.B.Eeprom.chip c.args.bench.now).still.size =
+    ap (λ chip. chip.still.size) c.read_directory.ensures.frame.same ∙ (ap (λ still. still.size) c.close_gate.ensures.frame.store.keeps.still ∙ ap (λ chip. chip.still.size) c.read_header.ensures.frame.same) in record {
+      room = omega (arith, cells g c, c.in_ok-header.ensures.range.room, size);
+      stands = rw (c.read_directory.ensures.frame.same) (stands-begun c.in_ok-header.header c.in_ok-committed.committed.items c.in_ok-chains.chains (g.B.Eeprom.chip c.close_gate.new.bench).image c.in_ok-chains.ensures
+          c.in_ok-close_gate.ensures.header c.in_ok-committed.ensures.directory);
+    }
+
+pub returns-clause-octets_read : goal.returns-clause-octets_read
+returns-clause-octets_read g c =
+    front-read c.in_ok-header.header c.in_ok-chains.chains.cells (g.B.Eeprom.chip c.args.bench.now).image (g.B.Eeprom.octets_read c.args.bench.now) (g.B.Eeprom.octets_read c.read_header.new.bench)
+    (g.B.Eeprom.octets_read c.close_gate.new.bench) (g.B.Eeprom.octets_read c.read_directory.new.bench) (cells g c) c.in_ok-header.ensures.header c.in_ok-header.ensures.octets_read c.in_ok-close_gate.ensures.octets_read
+    c.in_ok-committed.ensures.octets_read

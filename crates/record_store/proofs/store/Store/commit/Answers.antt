@@ -1,35 +1,43 @@
-use Rattle.std.proofs.Common.{◌≡◌, ◌-◌, List, Bool, ap, ◌∙◌, refl, subst}
+use Rattle.std.proofs.Common.{◌≡◌, List, Bool, ap, ◌∙◌, subst, arith}
 use Rattle.cell_store.specs.Marks.{StaysMarked}
 use Rattle.record_store.specs.Held.{Held}
 use Rattle.record_store.specs.Transaction.{Commits}
-use Rattle.record_store.proofs.Commit.{Ready, ready-from, commits-first, commits-second, commit-done}
+use Rattle.record_store.proofs.Commit.{Ready, ready-from, changed-few, commits-from, commit-done}
 use Rattle.record_store.proofs.Filling.{commit-sound, commit-view}
-use Rattle.record_store.proofs.store.Store.commit.Goals.{After-write, After-write-2}
+use Rattle.record_store.proofs.Weighing.{weighed-committed}
+use Rattle.record_store.proofs.store.Store.commit.Goals.{After-entries_of-entries, After-commit}
 use Rattle.record_store.proofs.store.Store.commit.Goals as goal
 
-ready : (g : _) (c : After-write g) → Ready c.args.self.now c.directory_place-place.result c.as_slice-octets.result.now (1 - c.self.inside.selector)
+ready : (g : _) (c : After-entries_of-entries g) → Ready c.args.self.now c.entries_of-entries.result.items
 ready g c =
-    ready-from _ c.args.self.now c.as_slice.result.now c.as_slice-octets.result.now c.directory_place-place.result _ c.self.view_is c.self.invariant c.as_slice.ensures.value
-    (rw c.as_slice-octets.ensures.value c.directory_octets-directory.ensures.numbers) (rw c.as_slice-octets.ensures.value c.directory_octets-directory.ensures.count) (rw c.cells.ensures.number at c.directory_place-place.ensures) refl
+    ready-from _ c.args.self.now c.as_slice.result.now c.as_slice-2.result.now c.entries_of-entries.result.items c.self.view_is c.self.invariant.sound c.requires.begun c.as_slice.ensures.value c.as_slice-2.ensures.value
+    c.entries_of-entries.ensures.entries c.entries_of-entries.ensures.range c.entries_of-entries.ensures.count
 
-pub returns-in_err-write-clause-moments : goal.returns-in_err-write-clause-moments
-returns-in_err-write-clause-moments g c =
-    commits-first c.args.self.now c.directory_place-place.result c.as_slice-octets.result.now _ (g.B.Eeprom.chip c.args.bench.now) (g.B.Eeprom.chip c.write.new.self) (ready g (goal.at.returns-in_err-write-clause-moments g c).After-write)
-    (g.met.B.Eeprom.clocked c.args.bench.now) c.requires.over.stands c.write.ensures.writes
+pub commit-requires-clause-few : goal.commit-requires-clause-few
+commit-requires-clause-few g c =
+    let r = ready g (goal.at.commit-requires-clause-few g c).After-entries_of-entries in
+    let cells = ap (λ (held : Held). held.chains.cells) c.self.view_is in
+    rw (c.as_slice-3.ensures.value) (omega (arith, changed-few c.args.self.now c.entries_of-entries.result.items r, c.cells.ensures.number, cells))
 
-moments : (g : _) (c : After-write-2 g) → Commits c.args.self.now (g.B.Eeprom.chip c.args.bench.now) (g.B.Eeprom.chip c.write-2.new.self)
+pub commit-requires-clause-entries : goal.commit-requires-clause-entries
+commit-requires-clause-entries g c =
+    let r = ready g (goal.at.commit-requires-clause-entries g c).After-entries_of-entries in
+    rw (c.as_slice-3.ensures.value, c.cells.ensures.number, ap (λ (held : Held). held.chains.cells) c.self.view_is) (r.range)
+
+moments : (g : _) (c : After-commit g) → Commits c.args.self.now (g.B.Eeprom.chip c.args.bench.now) (g.B.Eeprom.chip c.commit.new.bench)
 moments g c =
-    commits-second c.args.self.now c.directory_place-place.result c.as_slice-octets.result.now _ (g.B.Eeprom.chip c.args.bench.now) (g.B.Eeprom.chip c.write.new.self) (g.B.Eeprom.chip c.write-2.new.self)
-    (ready g (goal.at.After-write-2 g c).After-write) c.requires.begun (g.met.B.Eeprom.clocked c.args.bench.now) (g.met.B.Eeprom.clocked c.write.new.self) c.requires.over.stands c.write.ensures.writes c.in_ok-write.ensures.written
-    c.write-2.ensures.writes
+    commits-from c.args.self.now c.entries_of-entries.result.items (g.B.Eeprom.chip c.args.bench.now) (g.B.Eeprom.chip c.commit.new.bench) (ready g (goal.at.After-commit g c).After-entries_of-entries) c.requires.over.stands
+    c.commit.ensures.still (rw (c.as_slice-3.ensures.value, c.cells.ensures.number, ap (λ (held : Held). held.chains.cells) c.self.view_is) at c.commit.ensures.moments)
 
-pub returns-in_err-write-2-clause-moments : goal.returns-in_err-write-2-clause-moments
-returns-in_err-write-2-clause-moments g c = moments g (goal.at.returns-in_err-write-2-clause-moments g c).After-write-2
+pub returns-in_err-commit-clause-moments : goal.returns-in_err-commit-clause-moments
+returns-in_err-commit-clause-moments g c = moments g (goal.at.returns-in_err-commit-clause-moments g c).After-commit
 
 pub invariant_of-self : goal.invariant_of-self
 invariant_of-self g c =
-    commit-sound _ c.free_replaced.new.cells _ _ c.as_slice-2.result.now c.as_slice-3.result.now c.self.invariant (ap (λ (held : Held). held.begun) c.self.view_is ∙ c.requires.begun) c.as_slice-2.ensures.value c.as_slice-3.ensures.value
-    c.free_replaced.ensures.cells c.free_replaced.ensures.links refl (c.copy_from_slice.ensures.items ∙ c.as_slice-4.ensures.value) c.free_replaced.ensures.freed c.free_replaced.ensures.others c.free_replaced.ensures.fewer c.free_replaced.ensures.count
+    let begun = ap (λ (held : Held). held.begun) c.self.view_is ∙ c.requires.begun in
+    weighed-committed _ c.free_replaced.new.cells _ c.self.inside.committed_weight c.self.inside.working_weight c.self.invariant begun c.free_replaced.ensures.links (c.copy_from_slice.ensures.items ∙ c.as_slice-6.ensures.value)
+    (commit-sound _ c.free_replaced.new.cells _ c.as_slice-4.result.now c.as_slice-5.result.now c.self.invariant.sound (ap (λ (held : Held). held.begun) c.self.view_is ∙ c.requires.begun) c.as_slice-4.ensures.value c.as_slice-5.ensures.value
+    c.free_replaced.ensures.cells c.free_replaced.ensures.links (c.copy_from_slice.ensures.items ∙ c.as_slice-6.ensures.value) c.free_replaced.ensures.freed c.free_replaced.ensures.others c.free_replaced.ensures.fewer c.free_replaced.ensures.count)
 
 pub returns-clause-done : goal.returns-clause-done
 returns-clause-done g c =
@@ -37,10 +45,10 @@ returns-clause-done g c =
     let links = c.free_replaced.ensures.links ∙ ap (λ (held : Held). held.chains.links) c.self.view_is in
     let working = ap (λ (held : Held). held.working) c.self.view_is in
     let used : c.self.inside.chains.used ≡ c.args.self.now.chains.used = ap (λ (held : Held). held.chains.used) c.self.view_is in
-    commit-done c.args.self.now _ c.free_replaced.new.cells.used c.directory_place-place.result c.as_slice-octets.result.now _ (g.B.Eeprom.chip c.args.bench.now).image (g.B.Eeprom.chip c.write.new.self).image (g.B.Eeprom.chip c.write-2.new.self).image
-    (ready g (goal.at.returns-clause-done g c).After-write) c.requires.begun (subst (λ (used : List Bool). StaysMarked c.free_replaced.new.cells.used used) used c.free_replaced.ensures.fewer)
-    (commit-view c.args.self.now c.free_replaced.new.cells _ _ _ cells links (ap (λ (held : Held). 1 - held.selector) c.self.view_is) (c.copy_from_slice.ensures.items ∙ (c.as_slice-4.ensures.value ∙ working)) working)
-    c.requires.over.stands c.in_ok-write.ensures.written c.in_ok-write-2.ensures.written
+    commit-done c.args.self.now _ c.entries_of-entries.result.items c.free_replaced.new.cells.used (g.B.Eeprom.chip c.args.bench.now).image (g.B.Eeprom.chip c.commit.new.bench).image
+    (ready g (goal.at.returns-clause-done g c).After-entries_of-entries) (subst (λ (used : List Bool). StaysMarked c.free_replaced.new.cells.used used) used c.free_replaced.ensures.fewer)
+    (commit-view c.args.self.now c.free_replaced.new.cells _ _ _ cells links (ap (λ (held : Held). held.row_limit) c.self.view_is) (c.copy_from_slice.ensures.items ∙ (c.as_slice-6.ensures.value ∙ working)) working)
+    c.requires.over.stands (rw (c.as_slice-3.ensures.value, c.cells.ensures.number, ap (λ (held : Held). held.chains.cells) c.self.view_is) at c.in_ok-commit.ensures.done)
 
 pub returns-clause-moments : goal.returns-clause-moments
-returns-clause-moments g c = moments g (goal.at.returns-clause-moments g c).After-write-2
+returns-clause-moments g c = moments g (goal.at.returns-clause-moments g c).After-commit

@@ -1,6 +1,6 @@
 use Rattle.std.proofs.Common.{◌≡◌, ℕ, List, Option, Some, None, option_map, refl, ◌∙◌, arith}
 use Rattle.std.specs.Prelude.{IfSome}
-use Rattle.eeprom.specs.StoreOf.{store_of, fresh_slots}
+use Rattle.eeprom.specs.StoreOf.{store_of, fresh_store}
 use Rattle.eeprom.specs.Image.{overwrite}
 use Rattle.record_store.specs.FreshImage.{magic, fresh_body, fresh_image, LeavesFormatted}
 use Rattle.record_store.proofs.FreshStore.{store-formatted}
@@ -42,7 +42,7 @@ moments g c =
     let stored = store-formatted c.args.cells c.args.first.now c.args.second.now old.image written
     c.requires.few c.requires.many c.requires.first.0 c.requires.first.1 c.requires.second.0 c.requires.second.1 whole in
     front_moments c.args.cells c.args.first.now c.args.second.now _ old mid (g.B.Eeprom.chip c.write.new.self) refl (c.write_body.ensures.front.still ∙ c.clear_front.ensures.still)
-    (of_map (λ image. overwrite image 0 magic) (λ image. store_of image ≡ Some (fresh_slots c.args.cells c.args.first.now c.args.second.now)) mid.image stored)
+    (of_map (λ image. overwrite image 0 magic) (λ image. store_of image ≡ Some (fresh_store c.args.cells c.args.first.now c.args.second.now)) mid.image stored)
     (g.met.B.Eeprom.clocked c.write_body.new.bench) c.write.ensures.writes
     (body_moments c.args.cells c.args.first.now c.args.second.now old cleared mid c.clear_front.ensures.still c.in_ok-clear_front.ensures.cleared c.clear_front.ensures.moments c.write_body.ensures.front)
 

@@ -1,17 +1,18 @@
-use Rattle.std.proofs.Common.{◌≡◌, ◌<◌, ℕ, List, None, length, slice_index, ap, ap₂, ◌∙◌, refl, arith, rules, subst}
+use Rattle.std.proofs.Common.{◌≡◌, ◌<◌, None, length, slice_index, ap, ◌∙◌, refl, arith, rules, subst}
 use Rattle.eeprom.specs.Chip.{Keeps}
 use Rattle.eeprom.specs.StoreOf.{store_of, cells_for}
 use Rattle.record_store.specs.Held.{Held}
 use Rattle.record_store.specs.Slots.{steps_without}
 use Rattle.record_store.specs.Sound.{IsSound}
 use Rattle.record_store.proofs.Emptying.{empty-record, full-found, full-none, working-of}
-use Rattle.record_store.proofs.Filling.{Emptied, room-enough, filled-sound, failed-sound, filled-becomes, filled-keeps}
+use Rattle.record_store.proofs.Filling.{Emptied, room-enough, filled-becomes, filled-keeps}
 use Rattle.record_store.proofs.Putting.{put-over, put-within}
-use Rattle.record_store.proofs.store.Store.put.Goals.{In-Some, After-as_slice, After-length_without-weight, After-write_chain}
+use Rattle.record_store.proofs.Weighing.{weighed-filled, weighed-failed}
+use Rattle.record_store.proofs.store.Store.put.Goals.{In-Some, After-as_slice, After-weight_without-weight, After-write_chain}
 use Rattle.record_store.proofs.store.Store.put.Goals as goal
 
 sound : (g : _) (c : After-as_slice g) → IsSound c.args.self.now
-sound g c = subst IsSound c.self.view_is c.self.invariant
+sound g c = subst IsSound c.self.view_is c.self.invariant.sound
 
 working : (g : _) (c : After-as_slice g) → c.as_slice.result.now ≡ c.args.self.now.working
 working g c = working-of _ c.args.self.now c.as_slice.result.now c.self.view_is c.as_slice.ensures.value
@@ -26,11 +27,8 @@ empty : (g : _) (c : In-Some g) → c.args.slot ≡ None → slice_index c.args.
 empty g c = λ none. rw (working g (goal.at.In-Some g c).After-as_slice) at (c.in-Some.ensures.empty none)
 
 -- what the other records weigh
-weight : (g : _) (c : After-length_without-weight g) → c.length_without-weight.result ≡ steps_without c.args.self.now.chains.links c.args.self.now.working c.in-Some.slot
-weight g c =
-    let links : c.self.inside.chains.links ≡ c.args.self.now.chains.links = ap (λ (held : Held). held.chains.links) c.self.view_is in
-    let slots : c.as_slice-2.result.now ≡ c.args.self.now.working = working-of _ c.args.self.now c.as_slice-2.result.now c.self.view_is c.as_slice-2.ensures.value in
-    c.length_without-weight.ensures.sum ∙ ap₂ (λ (links firsts : List ℕ). steps_without links firsts c.in-Some.slot) links slots
+weight : (g : _) (c : After-weight_without-weight g) → c.weight_without-weight.result ≡ steps_without c.args.self.now.chains.links c.args.self.now.working c.in-Some.slot
+weight g c = c.weight_without-weight.ensures.weight
 
 pub returns-in_default-clause-full : goal.returns-in_default-clause-full
 returns-in_default-clause-full g c = λ _.
@@ -38,61 +36,62 @@ returns-in_default-clause-full g c = λ _.
     let none = c.in_default.ensures.none in
     rw (none.0) (full-none c.args.self.now (g.B.Eeprom.chip c.args.bench.now).image c.args.octets.now (sound g here) c.requires.begun c.requires.over.stands c.requires.some (rw (working g here) at none.1))
 
-pub returns-then-weight-cells_for-clause-full : goal.returns-then-weight-cells_for-clause-full
-returns-then-weight-cells_for-clause-full g c = λ _.
-    let at = goal.at.returns-then-weight-cells_for-clause-full g c in
+pub returns-then-weight-count-clause-full : goal.returns-then-weight-count-clause-full
+returns-then-weight-count-clause-full g c = λ _.
+    let at = goal.at.returns-then-weight-count-clause-full g c in
     let cells : c.self.inside.chains.cells ≡ c.args.self.now.chains.cells = ap (λ (held : Held). held.chains.cells) c.self.view_is in
     let image = (g.B.Eeprom.chip c.args.bench.now).image in
     let sound = sound g at.After-as_slice in
     let inside = inside g at.In-Some in
     full-found c.args.self.now c.args.slot c.in-Some.slot image c.args.octets.now sound c.requires.begun c.requires.over.stands inside c.in-Some.ensures.named (empty g at.In-Some)
-    (put-over c.args.self.now c.in-Some.slot c.length_without-weight.result c.args.octets.now image sound c.requires.begun c.requires.over.stands inside (weight g at.After-length_without-weight)
-    (omega (arith, c.if-weight-cells_for.true, c.cells.ensures.number, cells, c.cells_for.ensures)))
+    (put-over c.args.self.now c.in-Some.slot c.weight_without-weight.result c.args.octets.now image sound c.requires.begun c.requires.over.stands inside (weight g at.After-weight_without-weight)
+    (omega (arith, c.if-weight-count.true, c.cells.ensures.number, cells, c.cells_for-count.ensures)))
 
 -- the store once the slot was emptied
 abbrev mid : (g : _) (c : After-write_chain g) → Held
-mid g c = record { chains = c.self-2.inside.chains; selector = c.self-2.inside.selector; committed = c.self-2.inside.committed.items; working = c.self-2.inside.working.items; begun = c.self-2.inside.begun }
+mid g c = record { chains = c.self-2.inside.chains; row_limit = c.self-2.inside.row_limit; committed = c.self-2.inside.committed.items; working = c.self-2.inside.working.items; begun = c.self-2.inside.begun }
 
 -- there is room in it for the record
-emptied : (g : _) (c : After-write_chain g) → Emptied c.args.self.now (mid g c) c.empty.new.self.chains.used c.in-Some.slot c.length_without-weight.result (cells_for (length c.args.octets.now))
+emptied : (g : _) (c : After-write_chain g) → Emptied c.args.self.now (mid g c) c.remove.new.self.chains.used c.in-Some.slot c.weight_without-weight.result (cells_for (length c.args.octets.now))
 emptied g c =
     let at = goal.at.After-write_chain g c in
     let cells : c.self.inside.chains.cells ≡ c.args.self.now.chains.cells = ap (λ (held : Held). held.chains.cells) c.self.view_is in
     record {
       sound = sound g at.After-as_slice;
-      mid_sound = c.self-2.invariant;
-      is = c.self-2.view_is ∙ c.empty.ensures.emptied;
-      fewer = c.empty.ensures.fewer;
+      mid_sound = c.self-2.invariant.sound;
+      is = c.self-2.view_is ∙ c.remove.ensures.emptied;
+      fewer = c.remove.ensures.fewer;
       begun = c.requires.begun;
       inside = inside g at.In-Some;
-      weight_is = weight g at.After-length_without-weight;
-      fits = omega (arith, c.if-weight-cells_for.false, c.cells.ensures.number, cells, c.cells_for.ensures);
+      weight_is = weight g at.After-weight_without-weight;
+      fits = omega (arith, c.if-weight-count.false, c.cells.ensures.number, cells, c.cells_for-count.ensures);
     }
 
 pub invariant_of-self : goal.invariant_of-self
 invariant_of-self g c =
     let at = (goal.at.invariant_of-self g c).After-write_chain in
-    filled-sound c.args.self.now (mid g at) c.empty.new.self.chains.used c.in-Some.slot c.length_without-weight.result (cells_for (length c.args.octets.now)) c.in-Ok.first c.write_chain.new.self (emptied g at) c.in-Ok.ensures.takes
+    rw (c.cells_for-count.ensures) (weighed-filled c.args.self.now (mid g at) c.remove.new.self.chains.used c.in-Some.slot c.weight_without-weight.result (cells_for (length c.args.octets.now)) c.in-Ok.first c.self-2.inside.committed_weight c.self-2.inside.working_weight c.write_chain.new.self
+    (emptied g at) c.in-Ok.ensures.takes c.self-2.invariant)
 
 pub invariant_of-self-in-Err-Fault : goal.invariant_of-self-in-Err-Fault
-invariant_of-self-in-Err-Fault g c = failed-sound _ c.write_chain.new.self c.self-2.invariant (c.in-Err-Fault.ensures.fault (search rules))
+invariant_of-self-in-Err-Fault g c = weighed-failed _ c.write_chain.new.self c.self-2.inside.committed_weight c.self-2.inside.working_weight c.self-2.invariant (c.in-Err-Fault.ensures.fault (search rules))
 
 pub unreachable-requires : goal.unreachable-requires
 unreachable-requires g c =
     let at = (goal.at.unreachable-requires g c).After-write_chain in
     let few = c.in-Err-NoCell.ensures.no_cell.0 (search rules) in
-    absurd (omega (arith, few, room-enough c.args.self.now (mid g at) c.empty.new.self.chains.used c.in-Some.slot c.length_without-weight.result (cells_for (length c.args.octets.now)) (emptied g at)))
+    absurd (omega (arith, few, room-enough c.args.self.now (mid g at) c.remove.new.self.chains.used c.in-Some.slot c.weight_without-weight.result (cells_for (length c.args.octets.now)) (emptied g at)))
 
 pub returns-in-Ok-clause-put : goal.returns-in-Ok-clause-put
 returns-in-Ok-clause-put g c =
     let at = (goal.at.returns-in-Ok-clause-put g c).After-write_chain in
-    filled-becomes c.args.self.now (mid g at) c.empty.new.self.chains.used c.in-Some.slot c.length_without-weight.result (cells_for (length c.args.octets.now)) c.in-Ok.first c.write_chain.new.self c.args.octets.now
+    filled-becomes c.args.self.now (mid g at) c.remove.new.self.chains.used c.in-Some.slot c.weight_without-weight.result (cells_for (length c.args.octets.now)) c.in-Ok.first c.write_chain.new.self c.args.octets.now
     (g.B.Eeprom.chip c.args.bench.now).image (g.B.Eeprom.chip c.write_chain.new.bench).image (emptied g at) c.requires.over.stands c.in-Ok.ensures.takes c.in-Ok.ensures.written
 
 -- at each moment, also where the write failed
 moments : (g : _) (c : After-write_chain g) → Keeps store_of (g.B.Eeprom.chip c.args.bench.now) (g.B.Eeprom.chip c.write_chain.new.bench)
 moments g c =
-    filled-keeps c.args.self.now (mid g c) c.empty.new.self.chains.used c.self-2.inside.chains.used c.in-Some.slot c.length_without-weight.result (cells_for (length c.args.octets.now)) c.self-2.inside.chains.cells
+    filled-keeps c.args.self.now (mid g c) c.remove.new.self.chains.used c.self-2.inside.chains.used c.in-Some.slot c.weight_without-weight.result (cells_for (length c.args.octets.now)) c.self-2.inside.chains.cells
     (g.B.Eeprom.chip c.args.bench.now) (g.B.Eeprom.chip c.write_chain.new.bench) (emptied g c) c.requires.over.stands refl refl c.write_chain.ensures.moments
 
 pub returns-in-Ok-clause-moments : goal.returns-in-Ok-clause-moments
@@ -110,5 +109,5 @@ pub returns-in-Ok-clause-within : goal.returns-in-Ok-clause-within
 returns-in-Ok-clause-within g c =
     let at = goal.at.returns-in-Ok-clause-within g c in
     let cells : c.self.inside.chains.cells ≡ c.args.self.now.chains.cells = ap (λ (held : Held). held.chains.cells) c.self.view_is in
-    put-within c.args.self.now c.in-Some.slot c.length_without-weight.result c.args.octets.now (g.B.Eeprom.chip c.args.bench.now).image (sound g at.After-as_slice) c.requires.begun c.requires.over.stands (inside g at.In-Some)
-    (weight g at.After-length_without-weight) (omega (arith, c.if-weight-cells_for.false, c.cells.ensures.number, cells, c.cells_for.ensures))
+    put-within c.args.self.now c.in-Some.slot c.weight_without-weight.result c.args.octets.now (g.B.Eeprom.chip c.args.bench.now).image (sound g at.After-as_slice) c.requires.begun c.requires.over.stands (inside g at.In-Some)
+    (weight g at.After-weight_without-weight) (omega (arith, c.if-weight-count.false, c.cells.ensures.number, cells, c.cells_for-count.ensures))

@@ -1,15 +1,30 @@
-use Rattle.std.proofs.Common.{ap, subst}
-use Rattle.record_store.specs.Held.{Held}
-use Rattle.record_store.specs.Sound.{IsSound}
-use Rattle.record_store.proofs.Weights.{weight-is, weight-most}
+-- The number that is kept for a side is that of its records' cells.
+use Rattle.std.proofs.Common.{◌≡◌, Some, subst}
+use Rattle.record_store.specs.Held.{Held, contents}
+use Rattle.record_store.specs.Weighed.{IsWeighed}
+use Rattle.record_store.specs.declared.side.Side.{Side}
+use Rattle.record_store.specs.declared.side.Side.TheVariants.{Committed, Working}
+use Rattle.record_store.specs.declared.store.Store.TheInside.{Inside}
+use Rattle.record_store.proofs.Weighing.{weighed-is, weighed-most}
 use Rattle.record_store.proofs.store.Store.weight.Goals as goal
 
-pub returns-clause-weight : goal.returns-clause-weight
-returns-clause-weight c =
-    weight-is c.args.self.now c.args.side c.self.inside.chains.links c.first_cells.result.now c.length_of_chains.result (subst IsSound c.self.view_is c.self.invariant)
-    (ap (λ (held : Held). held.chains.links) c.self.view_is) c.first_cells.ensures.firsts c.length_of_chains.ensures.sum
+abbrev weighed : Inside → Held → Type 0
+weighed inside held = IsWeighed held inside.committed_weight inside.working_weight
 
-pub returns-clause-most : goal.returns-clause-most
-returns-clause-most c =
-    weight-most c.args.self.now c.args.side c.self.inside.chains.links c.first_cells.result.now c.length_of_chains.result (subst IsSound c.self.view_is c.self.invariant)
-    (ap (λ (held : Held). held.chains.links) c.self.view_is) c.first_cells.ensures.firsts c.length_of_chains.ensures.sum
+pub returns-in-Committed-clause-weight : goal.returns-in-Committed-clause-weight
+returns-in-Committed-clause-weight c = λ image slots stands there.
+    let is : c.args.side ≡ Committed = cc in
+    weighed-is c.args.self.now c.self.inside.committed_weight c.self.inside.working_weight Committed (subst (weighed c.self.inside) c.self.view_is c.self.invariant) image slots stands
+    (subst (λ (side : Side). contents c.args.self.now side image ≡ Some slots) is there)
+
+pub returns-in-Working-clause-weight : goal.returns-in-Working-clause-weight
+returns-in-Working-clause-weight c = λ image slots stands there.
+    let is : c.args.side ≡ Working = cc in
+    weighed-is c.args.self.now c.self.inside.committed_weight c.self.inside.working_weight Working (subst (weighed c.self.inside) c.self.view_is c.self.invariant) image slots stands
+    (subst (λ (side : Side). contents c.args.self.now side image ≡ Some slots) is there)
+
+pub returns-in-Committed-clause-most : goal.returns-in-Committed-clause-most
+returns-in-Committed-clause-most c = weighed-most c.args.self.now c.self.inside.committed_weight c.self.inside.working_weight Committed (subst (weighed c.self.inside) c.self.view_is c.self.invariant)
+
+pub returns-in-Working-clause-most : goal.returns-in-Working-clause-most
+returns-in-Working-clause-most c = weighed-most c.args.self.now c.self.inside.committed_weight c.self.inside.working_weight Working (subst (weighed c.self.inside) c.self.view_is c.self.invariant)

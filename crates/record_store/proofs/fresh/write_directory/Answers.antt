@@ -1,6 +1,6 @@
 use Rattle.std.proofs.Common.{◌*◌, ◌+◌, replicate}
 use Rattle.record_store.proofs.Appending.{Appends-then, Appends-last}
-use Rattle.record_store.proofs.fresh.write_directories.Goals as goal
+use Rattle.record_store.proofs.fresh.write_directory.Goals as goal
 
 pub returns-clause-appends : goal.returns-clause-appends
 returns-clause-appends g c =
