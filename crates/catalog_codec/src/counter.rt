@@ -1,0 +1,18 @@
+// The counter of stamps.
+use std::marker::Model;
+
+/// The stamp that the next record takes.
+#[derive(Clone, Copy, Debug, PartialEq, Eq)]
+pub struct Counter {
+    pub next: u32,
+}
+
+impl Model for Counter {
+    ghost use Rattle.std.specs.Prelude.{ℕ};
+
+    ghost Value = { ℕ };
+
+    ghost view = { λ c. c.next };
+
+    ghost inverse = { λ next. record { next = next } };
+}

@@ -1,0 +1,41 @@
+// The counter in octets.
+ghost use Rattle.std.specs.Prelude.{◌≡◌};
+
+use crate::{Counter, Record};
+use cell_store::RecordOctets;
+use row_codec::{number_at, put_number};
+
+const MARK: u8 = 0x00;
+
+impl Record for Counter {
+    ghost use Rattle.catalog_codec.specs.Catalog.{counter_kind};
+    ghost use Rattle.catalog_codec.specs.CatalogLaws.{IsKind-counter};
+
+    ghost kind = { counter_kind };
+
+    ghost can_encode = { λ _. Unit {0} };
+
+    fn read(octets: &[u8]) -> Option<Counter> {
+        let [MARK, octets @ ..] = octets else {
+            return None;
+        };
+        let (next, rest) = number_at(octets)?;
+        if rest.is_empty() {
+            Some(Counter { next })
+        } else {
+            None
+        }
+    }
+
+    fn encode(&self, out: &mut RecordOctets) {
+        out.clear();
+        out.push(MARK);
+        put_number(out, self.next);
+    }
+
+    fn stamp(&self) -> u32 {
+        self.next
+    }
+
+    ghost lawful = { IsKind-counter };
+}

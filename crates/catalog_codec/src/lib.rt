@@ -1,0 +1,17 @@
+//! Records of a card in octets and back, of each kind: the counter of stamps, users, objects, grants and rows.
+#![tactic(auto)]
+
+mod codes;
+mod counter;
+mod counter_record;
+mod fields;
+mod grant;
+mod lists;
+mod object;
+mod record;
+mod row;
+mod user;
+mod writing;
+
+pub use counter::Counter;
+pub use record::Record;

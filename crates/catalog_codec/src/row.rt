@@ -1,0 +1,30 @@
+// Rows in octets.
+ghost use Rattle.std.specs.Prelude.{◌≡◌};
+
+use crate::Record;
+use cell_store::RecordOctets;
+use scql_base::RowRecord;
+
+impl Record for RowRecord {
+    ghost use Rattle.catalog_codec.specs.Kinds.{HasRoom};
+    ghost use Rattle.catalog_codec.specs.Catalog.{row_kind};
+    ghost use Rattle.catalog_codec.specs.CatalogLaws.{IsKind-row};
+
+    ghost kind = { row_kind };
+
+    ghost can_encode = { HasRoom row_kind };
+
+    fn read(octets: &[u8]) -> Option<RowRecord> {
+        row_codec::decode(octets)
+    }
+
+    fn encode(&self, out: &mut RecordOctets) {
+        row_codec::encode(self, out);
+    }
+
+    fn stamp(&self) -> u32 {
+        self.stamp
+    }
+
+    ghost lawful = { IsKind-row };
+}

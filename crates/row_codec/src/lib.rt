@@ -1,0 +1,8 @@
+//! Rows of tables in octets and back, and the parts that records of all kinds have.
+#![tactic(auto)]
+
+mod parts;
+mod row;
+
+pub use parts::{number_at, put, put_number};
+pub use row::{decode, encode};

@@ -1,0 +1,61 @@
+// Rows in octets.
+ghost use Rattle.std.specs.Prelude.{◌≡◌, ◌≤◌, Some, true, IfSome, length};
+ghost use Rattle.eeprom.specs.StoreOf.{longest_record};
+ghost use Rattle.scql_base.specs.declared.records.RowRecord.{RowRecord};
+ghost use Rattle.scql_model.specs.Records.{row_record};
+ghost use Rattle.row_codec.specs.Rows as rows;
+
+use crate::{number_at, put, put_number};
+use cell_store::RecordOctets;
+use scql_base::{Params, Row, RowRecord};
+
+const MARK: u8 = 0x06;
+
+/// Fills `out` with the record of a row: its stamp, its table's and its values as they stand in the row.
+pub fn encode(row: &RowRecord, out: &mut RecordOctets)
+    requires { length (row_record.spell row.now) ≤ longest_record }
+    ensures { out.new.items ≡ row_record.spell row.now }
+{
+    out.clear();
+    out.push(MARK);
+    put_number(out, row.stamp);
+    put_number(out, row.table);
+    put(out, row.row.octets());
+}
+
+/// The row whose record these octets are, within the limits.
+pub fn decode(octets: &[u8]) -> Option<RowRecord>
+    ensures found { IfSome result (λ row. (row_record.fits row ≡ true) × (octets.now ≡ row_record.spell row)) }
+    ensures only { (row : RowRecord) → row_record.fits row ≡ true → octets.now ≡ row_record.spell row → result ≡ Some row }
+    ensures exact { result ≡ rows.row_in octets.now }
+{
+    row_in(octets)
+}
+
+fn row_in(octets: &[u8]) -> Option<RowRecord>
+    ensures { result ≡ rows.row_in octets.now }
+{
+    let [MARK, octets @ ..] = octets else {
+        return None;
+    };
+    let (stamp, rest) = number_at(octets)?;
+    let (table, rest) = number_at(rest)?;
+    let values = Params::read(rest)?;
+    let row = row_of(values)?;
+    Some(RowRecord { stamp, table, row })
+}
+
+// The row of these values.
+fn row_of(values: Params<'_>) -> Option<Row>
+    ensures { result ≡ rows.row_of values.entry }
+{
+    let mut row = Row::new();
+    let mut rest = values;
+    while let Some((value, after)) = rest.split_first() {
+        let Ok(()) = row.push(value) else {
+            return None;
+        };
+        rest = after;
+    }
+    if row.len() == 0 { None } else { Some(row) }
+}
