@@ -1,0 +1,5 @@
+pub mod BuiltLines
+pub mod FieldsRead
+pub mod FormsRead
+pub mod ListsRead
+pub mod NamesRead

@@ -1,0 +1,263 @@
+-- Conditions, changes and values, read one after the other.
+use Rattle.std.proofs.Common.{◌≡◌, ◌≤◌, ◌+◌, ℕ, suc, nat_le, ◌&&◌, Bool, true, false, List, [], ◌∷◌, ◌++◌, length, map, Option, Some, None, refl, ap, subst, sym, ◌∙◌, arith, rules, length-append, append_assoc, if◌then◌else◌}
+use Rattle.std.specs.Prelude.{option_map}
+use Rattle.std.specs.List.{list_all}
+use Rattle.std.proofs.lemmas.Bool.{false≢true, leb-true, le-leb}
+use Rattle.std.proofs.lemmas.Option.{none-some, same_Some}
+use Rattle.std.proofs.lemmas.List.{length-map, map-append}
+use Rattle.std.proofs.lemmas.List.Folds.{list_all-append, list_all-map}
+use Rattle.scql_base.specs.declared.condition.Condition.{Condition}
+use Rattle.scql_base.specs.declared.words.Comparison.{Comparison}
+use Rattle.scql_base.specs.Name.{is_name, name_of}
+use Rattle.scql_base.specs.Octets.{within}
+use Rattle.scql_base.specs.Row.{is_narrow}
+use Rattle.scql_base.specs.Lists.{AreChanges}
+use Rattle.scql_model.specs.Database.{are_different}
+use Rattle.scql_model.specs.Records.{comparison_of, is_count_of_conditions, is_count_of_columns}
+use Rattle.scql_model.specs.Parameters as parameters
+use Rattle.scql_model.specs.Parameters.{only_where, are_conditions, are_columns, are_different_names, are_changes}
+use Rattle.apdu.specs.Fields.{condition_in}
+use Rattle.apdu.proofs.NamesRead.{not_taken, both_of, passed, found}
+
+-- some, and those behind them
+abbrev pub behind : {A : Type 0} → List A → Option (List A) → Option (List A)
+behind {A} xs o = option_map (λ (more : List A). xs ++ more) o
+
+behind-assoc : {A : Type 0} (xs : List A) (x : A) (o : Option (List A)) → behind (xs ++ x ∷ []) o ≡ behind xs (behind (x ∷ []) o)
+behind-assoc xs x None = refl
+behind-assoc xs x (Some ys) = ap Some (append_assoc xs (x ∷ []) ys)
+
+-- one element more was read
+pub behind-next : {A : Type 0} (xs : List A) (x : A) (here rest whole : Option (List A)) → behind xs here ≡ whole → here ≡ behind (x ∷ []) rest → behind (xs ++ x ∷ []) rest ≡ whole
+behind-next xs x here rest whole is at = behind-assoc xs x rest ∙ (ap (behind xs) (sym at) ∙ is)
+
+-- all were read
+pub behind-end : {A : Type 0} (xs : List A) (whole : Option (List A)) → behind xs (Some []) ≡ whole → Some xs ≡ whole
+behind-end xs whole is = search rules ∙ is
+
+-- Conditions.
+abbrev pub is_condition : Condition → Bool
+is_condition c = is_name c.column && is_narrow c.value
+
+abbrev pub tested : Option (List Condition) → Option (List Condition)
+tested o = parameters.◌>>=◌ o (λ (conditions : List Condition). only_where (are_conditions conditions) conditions)
+
+pub record IsNext (column : List ℕ) (strings : List (List ℕ)) (c : Condition) (rest : List (List ℕ)) : Type 0 where
+  pub told : parameters.conditions_in (column ∷ strings) ≡ behind (c ∷ []) (parameters.conditions_in rest)
+  pub each : is_condition c ≡ true
+
+pub condition_in-some : (column : List ℕ) (strings rest : List (List ℕ)) (c : Condition) → condition_in column strings ≡ Some (c, rest) → IsNext column strings c rest
+condition_in-some column [] rest c is = absurd (none-some _ is)
+condition_in-some column ([] ∷ []) rest c is = absurd (none-some _ is)
+condition_in-some column ((a ∷ []) ∷ []) rest c is = absurd (none-some _ is)
+condition_in-some column ((a ∷ b ∷ string) ∷ []) rest c is = absurd (none-some _ is)
+condition_in-some column ([] ∷ value ∷ strings) rest c is = absurd (none-some _ is)
+condition_in-some column ((a ∷ b ∷ string) ∷ value ∷ strings) rest c is = absurd (none-some _ is)
+condition_in-some column ((code ∷ []) ∷ value ∷ strings) rest c is =
+    found (comparison_of code) _ (c, rest) is (λ comparison at is.
+    let read : Condition = record { column = column; comparison = comparison; value = value } in
+    passed (is_name column && is_narrow value) (read, strings) (c, rest) is (λ test same.
+    subst (λ (x : Condition × List (List ℕ)). IsNext column ((code ∷ []) ∷ value ∷ strings) x.0 x.1) same
+    (record { told = rw at refl; each = test })))
+
+-- too many, or one that isn't a condition
+record AreAll (conditions : List Condition) : Type 0 where
+  few : length conditions ≤ 8
+  each : list_all is_condition conditions ≡ true
+
+are_all : (conditions : List Condition) → are_conditions conditions ≡ true → AreAll conditions
+are_all conditions is = let t = both_of (is_count_of_conditions (length conditions)) _ is in record { few = leb-true (length conditions) 8 t.0; each = t.1 }
+
+tested-wrong : (xs more : List Condition) (c : Condition) → is_condition c ≡ false → None ≡ tested (Some (xs ++ c ∷ more))
+tested-wrong xs more c wrong = not_taken (are_conditions (xs ++ c ∷ more)) (xs ++ c ∷ more) (λ is.
+    let each : list_all is_condition xs && (is_condition c && list_all is_condition more) ≡ true = sym (list_all-append is_condition xs (c ∷ more)) ∙ (are_all (xs ++ c ∷ more) is).each in
+    false≢true (sym wrong ∙ (both_of (is_condition c) _ (both_of (list_all is_condition xs) _ each).1).0))
+
+tested-many : (xs more : List Condition) (c : Condition) → 8 ≤ length xs → None ≡ tested (Some (xs ++ c ∷ more))
+tested-many xs more c many = not_taken (are_conditions (xs ++ c ∷ more)) (xs ++ c ∷ more) (λ is.
+    let few : length (xs ++ c ∷ more) ≤ 8 = (are_all (xs ++ c ∷ more) is).few in
+    let size : length (xs ++ c ∷ more) ≡ length xs + suc (length more) = length-append xs (c ∷ more) in
+    absurd (omega (arith, few, size, many)))
+
+pub conditions_in-many : (xs : List Condition) (c : Condition) (here rest whole : Option (List Condition)) → 8 ≤ length xs → behind xs here ≡ whole → here ≡ behind (c ∷ []) rest → None ≡ tested whole
+conditions_in-many xs c here None whole many is at = ap tested (ap (behind xs) (sym at) ∙ is)
+conditions_in-many xs c here (Some more) whole many is at = tested-many xs more c many ∙ ap tested (ap (behind xs) (sym at) ∙ is)
+
+pub conditions_in-stuck : (xs : List Condition) (column : List ℕ) (strings : List (List ℕ)) (whole : Option (List Condition))
+    → behind xs (parameters.conditions_in (column ∷ strings)) ≡ whole → condition_in column strings ≡ None → None ≡ tested whole
+conditions_in-stuck xs column [] whole is none = ap tested is
+conditions_in-stuck xs column (string ∷ []) whole is none = ap tested (go string is)
+  where
+    go : (string : List ℕ) → behind xs (parameters.conditions_in (column ∷ string ∷ [])) ≡ whole → None ≡ whole
+    go [] is = is
+    go (a ∷ []) is = is
+    go (a ∷ b ∷ rest) is = is
+conditions_in-stuck xs column ([] ∷ value ∷ strings) whole is none = ap tested is
+conditions_in-stuck xs column ((a ∷ b ∷ string) ∷ value ∷ strings) whole is none = ap tested is
+conditions_in-stuck xs column ((code ∷ []) ∷ value ∷ strings) whole is none = of_code (comparison_of code) refl
+  where
+    wrong : (comparison : Comparison) (test : Bool) (rest : List (List ℕ)) → (is_name column && is_narrow value) ≡ test
+        → only_where {A = Condition × List (List ℕ)} test (record { column = column; comparison = comparison; value = value }, rest) ≡ None → (is_name column && is_narrow value) ≡ false
+    wrong comparison true rest at is = absurd (none-some _ (sym is))
+    wrong comparison false rest at is = at
+
+    of_rest : (c : Condition) (rest : Option (List Condition)) → is_condition c ≡ false → None ≡ tested (behind xs (behind (c ∷ []) rest))
+    of_rest c None never = refl
+    of_rest c (Some more) never = tested-wrong xs more c never
+
+    of_code : (o : Option Comparison) → comparison_of code ≡ o → None ≡ tested whole
+    of_code None at = ap tested (rw at at is)
+    of_code (Some comparison) at =
+        let never : (is_name column && is_narrow value) ≡ false = wrong comparison (is_name column && is_narrow value) strings refl (rw at at none) in
+        of_rest (record { column = column; comparison = comparison; value = value }) (parameters.conditions_in strings) never ∙ ap tested (rw at at is)
+
+pub are-next : (xs : List Condition) (c : Condition) → list_all is_condition xs ≡ true → is_condition c ≡ true → list_all is_condition (xs ++ c ∷ []) ≡ true
+are-next xs c all one = list_all-append is_condition xs (c ∷ []) ∙ rw (all, one) refl
+
+pub tested-end : (xs : List Condition) (whole : Option (List Condition)) → behind xs (Some []) ≡ whole → length xs ≤ 8 → list_all is_condition xs ≡ true → Some xs ≡ tested whole
+tested-end xs whole is few each =
+    let test : are_conditions xs ≡ true = rw (le-leb (length xs) 8 few, each) refl in
+    let here : Some xs ≡ tested (Some xs) = rw test refl in
+    here ∙ ap tested (behind-end xs whole is)
+
+-- Changes.
+abbrev pub Assigned : Type 0
+Assigned = List ℕ × List ℕ
+
+abbrev pub tested_changes : Option (List Assigned) → Option (List Assigned)
+tested_changes o = parameters.◌>>=◌ o (λ (changes : List Assigned). only_where (are_changes changes) changes)
+
+record AreFormed (changes : List Assigned) : Type 0 where
+  few : length changes ≤ 15
+  some : 1 ≤ length changes
+  columns : list_all (λ (change : Assigned). is_name change.0) changes ≡ true
+  values : list_all (λ (change : Assigned). is_narrow change.1) changes ≡ true
+
+abbrev pub names_of : List Assigned → List (List ℕ)
+names_of changes = map (λ (change : Assigned). change.0) changes
+
+are_formed : (changes : List Assigned) → are_changes changes ≡ true → AreFormed changes
+are_formed changes is =
+    let t = both_of (are_columns (names_of changes)) _ is in
+    let u = both_of (is_count_of_columns (length (names_of changes))) (are_different_names (names_of changes)) t.0 in
+    let v = both_of (nat_le 1 (length (names_of changes))) _ u.0 in
+    let size : length (names_of changes) ≡ length changes = length-map changes (λ (change : Assigned). change.0) in
+    let least : 1 ≤ length (names_of changes) = leb-true 1 (length (names_of changes)) v.0 in
+    let most : length (names_of changes) ≤ 15 = leb-true (length (names_of changes)) 15 v.1 in
+    record {
+      few = omega (arith, size, most);
+      some = omega (arith, size, least);
+      columns = sym (list_all-map is_name (λ (change : Assigned). change.0) changes) ∙ (both_of (list_all is_name (names_of changes)) (are_different (names_of changes)) u.1).0;
+      values = t.1;
+    }
+
+changes-wrong : (test : Assigned → Bool) (xs more : List Assigned) (x : Assigned) → ((all : List Assigned) → AreFormed all → list_all test all ≡ true) → test x ≡ false
+    → None ≡ tested_changes (Some (xs ++ x ∷ more))
+changes-wrong test xs more x held wrong = not_taken (are_changes (xs ++ x ∷ more)) (xs ++ x ∷ more) (λ is.
+    let each : list_all test xs && (test x && list_all test more) ≡ true = sym (list_all-append test xs (x ∷ more)) ∙ held (xs ++ x ∷ more) (are_formed (xs ++ x ∷ more) is) in
+    false≢true (sym wrong ∙ (both_of (test x) _ (both_of (list_all test xs) _ each).1).0))
+
+changes-many : (xs more : List Assigned) (x : Assigned) → 15 ≤ length xs → None ≡ tested_changes (Some (xs ++ x ∷ more))
+changes-many xs more x many = not_taken (are_changes (xs ++ x ∷ more)) (xs ++ x ∷ more) (λ is.
+    let few : length (xs ++ x ∷ more) ≤ 15 = (are_formed (xs ++ x ∷ more) is).few in
+    let size : length (xs ++ x ∷ more) ≡ length xs + suc (length more) = length-append xs (x ∷ more) in
+    absurd (omega (arith, few, size, many)))
+
+-- what stands against a change, whatever is behind it
+refused : (xs : List Assigned) (column value : List ℕ) (rest : List (List ℕ)) (whole : Option (List Assigned))
+    → behind xs (parameters.changes_in (column ∷ value ∷ rest)) ≡ whole → ((more : List Assigned) → None ≡ tested_changes (Some (xs ++ (column, value) ∷ more))) → None ≡ tested_changes whole
+refused xs column value rest whole is never = go (parameters.changes_in rest) refl
+  where
+    go : (o : Option (List Assigned)) → parameters.changes_in rest ≡ o → None ≡ tested_changes whole
+    go None at = ap tested_changes (rw at at is)
+    go (Some more) at = never more ∙ ap tested_changes (rw at at is)
+
+pub changes_in-unnamed : (xs : List Assigned) (column value : List ℕ) (rest : List (List ℕ)) (whole : Option (List Assigned))
+    → behind xs (parameters.changes_in (column ∷ value ∷ rest)) ≡ whole → is_name column ≡ false → None ≡ tested_changes whole
+changes_in-unnamed xs column value rest whole is none =
+    refused xs column value rest whole is (λ more. changes-wrong (λ (change : Assigned). is_name change.0) xs more (column, value) (λ all are. are.columns) none)
+
+pub changes_in-wide : (xs : List Assigned) (column value : List ℕ) (rest : List (List ℕ)) (whole : Option (List Assigned))
+    → behind xs (parameters.changes_in (column ∷ value ∷ rest)) ≡ whole → is_narrow value ≡ false → None ≡ tested_changes whole
+changes_in-wide xs column value rest whole is none =
+    refused xs column value rest whole is (λ more. changes-wrong (λ (change : Assigned). is_narrow change.1) xs more (column, value) (λ all are. are.values) none)
+
+pub changes_in-many : (xs : List Assigned) (column value : List ℕ) (rest : List (List ℕ)) (whole : Option (List Assigned))
+    → behind xs (parameters.changes_in (column ∷ value ∷ rest)) ≡ whole → 15 ≤ length xs → None ≡ tested_changes whole
+changes_in-many xs column value rest whole is many = refused xs column value rest whole is (λ more. changes-many xs more (column, value) many)
+
+pub changes-next : (column value : List ℕ) (rest : List (List ℕ)) → parameters.changes_in (column ∷ value ∷ rest) ≡ behind ((column, value) ∷ []) (parameters.changes_in rest)
+changes-next column value rest = refl
+
+pub changes_in-half : (xs : List Assigned) (column : List ℕ) (whole : Option (List Assigned)) → behind xs (parameters.changes_in (column ∷ [])) ≡ whole → None ≡ tested_changes whole
+changes_in-half xs column whole is = ap tested_changes is
+
+-- all changes were read
+pub changes-read : (xs : List Assigned) → AreChanges xs → are_changes xs ≡ (nat_le 1 (length xs) && are_different (names_of xs))
+changes-read xs are =
+    let size : length (names_of xs) ≡ length xs = length-map xs (λ (change : Assigned). change.0) in
+    let columns : list_all is_name (names_of xs) ≡ true = list_all-map is_name (λ (change : Assigned). change.0) xs ∙ are.columns in
+    let few : nat_le (length xs) 15 ≡ true = le-leb (length xs) 15 are.count in
+    rw (size, few, columns, are.values) (go (nat_le 1 (length xs)) (are_different (names_of xs)))
+  where
+    go : (a b : Bool) → (a && true && b) && true ≡ (a && b)
+    go true true = refl
+    go true false = refl
+    go false b = refl
+
+pub changes-done : (xs : List Assigned) (whole : Option (List Assigned)) → behind xs (Some []) ≡ whole → AreChanges xs → 1 ≤ length xs → are_different (names_of xs) ≡ true → Some xs ≡ tested_changes whole
+changes-done xs whole is are some different =
+    let test : are_changes xs ≡ true = changes-read xs are ∙ rw (le-leb 1 (length xs) some, different) refl in
+    let here : Some xs ≡ tested_changes (Some xs) = rw test refl in
+    here ∙ ap tested_changes (behind-end xs whole is)
+
+pub changes-none : (xs : List Assigned) (whole : Option (List Assigned)) → behind xs (Some []) ≡ whole → AreChanges xs → (1 ≤ length xs → are_different (names_of xs) ≡ true → ⊥) → None ≡ tested_changes whole
+changes-none xs whole is are never =
+    not_taken (are_changes xs) xs (λ test.
+    let t = both_of (nat_le 1 (length xs)) (are_different (names_of xs)) (sym (changes-read xs are) ∙ test) in
+    never (leb-true 1 (length xs) t.0) t.1)
+    ∙ ap tested_changes (behind-end xs whole is)
+
+-- one change more was read
+pub changes-one_more : (xs xs' : List Assigned) (strings : List (List ℕ)) (column value name octets : List ℕ) (rest : List (List ℕ)) (whole : Option (List Assigned))
+    → behind xs (parameters.changes_in strings) ≡ whole → strings ≡ column ∷ value ∷ rest → name ≡ column → octets ≡ value → xs' ≡ xs ++ (name, octets) ∷ []
+    → behind xs' (parameters.changes_in rest) ≡ whole
+changes-one_more xs xs' strings column value name octets rest whole told is at_column at_value more =
+    rw (more, at_column, at_value) (behind-next xs (column, value) (parameters.changes_in strings) (parameters.changes_in rest) whole told (ap parameters.changes_in is))
+
+pub columns-length : (names : List (List ℕ)) (xs : List Assigned) → names ≡ names_of xs → length names ≡ length xs
+columns-length names xs is = ap length is ∙ length-map xs (λ (change : Assigned). change.0)
+
+pub columns-one_more : (names names' : List (List ℕ)) (xs xs' : List Assigned) (name column : List ℕ) (value : List ℕ) → names ≡ names_of xs → names' ≡ names ++ name ∷ [] → name ≡ column → xs' ≡ xs ++ (column, value) ∷ []
+    → names' ≡ names_of xs'
+columns-one_more names names' xs xs' name column value are more same added =
+    rw (more, added, are, same) (sym (map-append (λ (change : Assigned). change.0) xs ((column, value) ∷ [])))
+
+-- a name, and a short string, that were read are the strings themselves
+pub name-is : (octets name : List ℕ) → Some name ≡ name_of octets → name ≡ octets
+name-is octets name is = go (is_name octets) is
+  where
+    go : (test : Bool) → Some name ≡ (if test then Some octets else None) → name ≡ octets
+    go true is = same_Some name octets is
+    go false is = absurd (none-some name (sym is))
+
+pub name-none : (octets : List ℕ) → None ≡ name_of octets → is_name octets ≡ false
+name-none octets is = go (is_name octets) refl is
+  where
+    go : (test : Bool) → is_name octets ≡ test → None ≡ (if test then Some octets else None) → is_name octets ≡ false
+    go true at is = absurd (none-some octets is)
+    go false at is = at
+
+pub within-is : (octets value : List ℕ) → Some value ≡ within 200 octets → value ≡ octets
+within-is octets value is = go (is_narrow octets) is
+  where
+    go : (test : Bool) → Some value ≡ (if test then Some octets else None) → value ≡ octets
+    go true is = same_Some value octets is
+    go false is = absurd (none-some value (sym is))
+
+pub within-none : (octets : List ℕ) → None ≡ within 200 octets → is_narrow octets ≡ false
+within-none octets is = go (is_narrow octets) refl is
+  where
+    go : (test : Bool) → is_narrow octets ≡ test → None ≡ (if test then Some octets else None) → is_narrow octets ≡ false
+    go true at is = absurd (none-some octets is)
+    go false at is = at

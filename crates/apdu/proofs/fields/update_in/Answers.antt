@@ -1,0 +1,11 @@
+use Rattle.std.proofs.Common.{ap, ◌∙◌}
+use Rattle.std.specs.Prelude.{option_map}
+use Rattle.scql_base.specs.declared.operation.Operation.TheVariants.{Update}
+use Rattle.apdu.proofs.FieldsRead.{update-steps}
+use Rattle.apdu.proofs.fields.update_in.Goals as goal
+
+pub returns-in_err-changes : goal.returns-in_err-changes
+returns-in_err-changes c = c.from_residual.ensures ∙ (ap (option_map Update) c.in_err-changes.ensures ∙ update-steps c.args.params)
+
+pub returns : goal.returns
+returns c = ap (option_map Update) c.in_ok-changes.ensures ∙ update-steps c.args.params

@@ -1,0 +1,14 @@
+//! Commands and replies, to octets and back (ISO/IEC 7816-4).
+#![tactic(auto)]
+
+mod command;
+mod fields;
+mod lists;
+mod reading;
+mod reply;
+mod table;
+mod tail;
+
+pub use command::CommandApdu;
+pub use reading::{Apdu, Refusal};
+pub use reply::Reply;

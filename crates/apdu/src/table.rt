@@ -1,0 +1,92 @@
+// The table of operations: which INS, P1 and P2 ask for which (ISO/IEC 7816-7 for those of SCQL, ISO/IEC 7816-4 for the others).
+ghost use Rattle.std.specs.Prelude.{◌≡◌, ◌==◌, ◌&&◌};
+ghost use Rattle.std.specs.List.{find, list_any};
+ghost use Rattle.scql_model.specs.Operations as table;
+
+use scql_base::{Line, OperationKind, Takes};
+
+macro_rules! operation {
+    (built $($cells:tt)*) => { operation!(true, $($cells)*) };
+    (planned $($cells:tt)*) => { operation!(false, $($cells)*) };
+    ($is_built:literal, $ins:literal $p1:literal $p2:literal $kind:ident $({ number: $number:literal })?, $takes:ident) => {
+        Line {
+            ins: $ins,
+            p1: $p1,
+            p2: $p2,
+            kind: OperationKind::$kind $({ number: $number })?,
+            takes: Takes::$takes,
+            is_built: $is_built,
+        }
+    };
+}
+
+// All operations. The number of a channel to open or to close is P2.
+static OPERATIONS: [Line; 31] = [
+    operation!(planned 0x10 0x00 0x80 CreateTable, DataField),
+    operation!(planned 0x10 0x00 0x81 CreateView, DataField),
+    operation!(planned 0x10 0x00 0x82 CreateDictionary, DataField),
+    operation!(planned 0x10 0x00 0x83 DropTable, DataField),
+    operation!(planned 0x10 0x00 0x84 DropView, DataField),
+    operation!(planned 0x10 0x00 0x85 Grant, DataField),
+    operation!(planned 0x10 0x00 0x86 Revoke, DataField),
+    operation!(planned 0x10 0x00 0x87 DeclareCursor, DataField),
+    operation!(planned 0x10 0x00 0x88 OpenCursor, Nothing),
+    operation!(planned 0x10 0x00 0x89 Next, Nothing),
+    operation!(planned 0x10 0x00 0x8A Fetch, LeAlone),
+    operation!(planned 0x10 0x00 0x8B FetchNext, LeAlone),
+    operation!(planned 0x10 0x00 0x8C Insert, DataField),
+    operation!(planned 0x10 0x00 0x8D Update, DataField),
+    operation!(planned 0x10 0x00 0x8E Delete, Nothing),
+    operation!(planned 0x12 0x00 0x80 Begin, Nothing),
+    operation!(planned 0x12 0x00 0x81 Commit, Nothing),
+    operation!(planned 0x12 0x00 0x82 Rollback, Nothing),
+    operation!(built 0x14 0x00 0x80 PresentUser, DataField),
+    operation!(built 0x14 0x00 0x81 CreateUser, DataField),
+    operation!(planned 0x14 0x00 0x82 DeleteUser, DataField),
+    operation!(planned 0x20 0x00 0x00 Verify, DataField),
+    operation!(planned 0x70 0x00 0x00 OpenChannel { number: 0 }, LeAlone),
+    operation!(planned 0x70 0x00 0x01 OpenChannel { number: 1 }, Nothing),
+    operation!(planned 0x70 0x00 0x02 OpenChannel { number: 2 }, Nothing),
+    operation!(planned 0x70 0x00 0x03 OpenChannel { number: 3 }, Nothing),
+    operation!(planned 0x70 0x80 0x00 CloseChannel { number: 0 }, Nothing),
+    operation!(planned 0x70 0x80 0x01 CloseChannel { number: 1 }, Nothing),
+    operation!(planned 0x70 0x80 0x02 CloseChannel { number: 2 }, Nothing),
+    operation!(planned 0x70 0x80 0x03 CloseChannel { number: 3 }, Nothing),
+    operation!(planned 0xC0 0x00 0x00 GetResponse, LeAlone),
+];
+
+// The table, line beside line.
+fn operations() -> &'static [Line]
+    ensures { result.now ≡ table.operations }
+{
+    &OPERATIONS
+}
+
+// Some operation that is built has this instruction.
+pub(crate) fn has_instruction(ins: u8) -> bool
+    ensures { result ≡ table.has_instruction table.built_operations ins }
+{
+    is_among(operations(), ins)
+}
+
+fn is_among(lines: &[Line], ins: u8) -> bool
+    ensures { result ≡ list_any (λ line. line.is_built && line.ins == ins) lines.now }
+{
+    lines.iter().any(|line| line.is_built && line.ins == ins)
+}
+
+// The line of the operation that is built for INS, P1 and P2.
+pub(crate) fn line_of(ins: u8, p1: u8, p2: u8) -> Option<Line>
+    ensures { result ≡ table.line_of table.built_operations ins p1 p2 }
+{
+    find_line(operations(), ins, p1, p2)
+}
+
+fn find_line(lines: &[Line], ins: u8, p1: u8, p2: u8) -> Option<Line>
+    ensures { result ≡ find (λ line. line.is_built && line.ins == ins && line.p1 == p1 && line.p2 == p2) lines.now }
+{
+    lines.iter().copied().find(|line| line.is_built
+        && line.ins == ins
+        && line.p1 == p1
+        && line.p2 == p2)
+}

@@ -1,0 +1,2 @@
+pub mod ChainsSet
+pub mod PartsJoined

@@ -1,0 +1,165 @@
+// Commands that come in parts: a chain for each channel (ISO/IEC 7816-4, command chaining).
+ghost use Rattle.std.specs.Prelude.{◌≡◌, ◌≤◌, ◌<◌, ◌++◌, ℕ, [], ◌∷◌, Some, None, true, false, length, min, slice_set};
+ghost use Rattle.std.specs.List.{concat};
+ghost use Rattle.scql_model.specs.Form as form;
+ghost use Rattle.scql_model.specs.Form.{parts_of};
+ghost use Rattle.scql_model.specs.Operations as table;
+ghost use Rattle.scql_model.specs.WellFormed.{IsWellFormed};
+ghost use Rattle.apdu.specs.Reading.{command_of};
+ghost use Rattle.apdu_chain.specs.Chaining.{IfWhole, chain_on, chains_after, going_on, on_channel, taken_of};
+
+use crate::chain::Chain;
+use apdu::{Apdu, Refusal};
+use scql_base::{Command, OperationKind, StatusWord};
+use std::marker::Model;
+
+/// The parts so far of each channel's command.
+#[derive(Drop)]
+pub struct Chains {
+    chains: [Option<Chain>; 4],
+}
+
+impl Model for Chains {
+    ghost use Rattle.std.specs.Prelude.{◌≡◌, List, Option, length};
+    ghost use Rattle.scql_model.specs.Machine as machine;
+
+    ghost Value = { List (Option machine.Chain) };
+
+    ghost view = { λ c. c.chains };
+
+    ghost invariant = { λ c. length c.chains ≡ 4 };
+}
+
+/// What octets are, with the parts before them: refused, a part that is kept, or what makes a command whole.
+#[derive(Drop)]
+pub enum Taken {
+    Refused { word: StatusWord },
+    Kept,
+    Whole { command: Command },
+}
+
+impl Chains {
+    /// No channel has a part of a command.
+    pub fn new() -> Chains
+        ensures { result ≡ None ∷ None ∷ None ∷ None ∷ [] }
+    {
+        Chains {
+            chains: [None, None, None, None],
+        }
+    }
+
+    /// Takes octets, where these channels are open and a row has at most so many octets, and never more than 1,020. Only the
+    /// chain of the command's own channel changes.
+    pub fn take(&mut self, octets: &[u8], channels: [bool; 4], limit: u16) -> Taken
+        ensures taken { result ≡ taken_of (form.form_of table.built_operations octets.now channels (chain_on self.old) (min limit 1020)) }
+        ensures chains { self.new ≡ chains_after self.old (form.form_of table.built_operations octets.now channels (chain_on self.old) (min limit 1020)) }
+        ensures formed { IfWhole result IsWellFormed }
+    {
+        match Apdu::read(octets, channels) {
+            Err(Refusal::Nowhere { word }) => Taken::Refused { word },
+            Err(Refusal::On { channel, word }) => {
+                self.forget(channel);
+                Taken::Refused { word }
+            }
+            Ok(apdu) => self.taken(&apdu, limit),
+        }
+    }
+
+    /// Drops the parts of a channel's command.
+    pub fn forget(&mut self, channel: u8)
+        requires { channel < 4 }
+        ensures { self.new ≡ slice_set self.old channel None }
+    {
+        self.chains[usize::from(channel)] = None;
+    }
+
+    /// Drops the parts of all channels' commands.
+    pub fn clear(&mut self)
+        ensures { self.new ≡ None ∷ None ∷ None ∷ None ∷ [] }
+    {
+        *self = Chains::new();
+    }
+
+    fn taken(&mut self, apdu: &Apdu<'_>, limit: u16) -> Taken
+        requires channel { apdu.now.channel < 4 }
+        requires short { length apdu.now.body.now ≤ 255 }
+        ensures taken { result ≡ taken_of (on_channel self.old apdu.now (min limit 1020)) }
+        ensures chains { self.new ≡ chains_after self.old (on_channel self.old apdu.now (min limit 1020)) }
+    {
+        if apdu.is_part {
+            self.keep(apdu)
+        } else {
+            self.complete(apdu, limit)
+        }
+    }
+
+    // A part goes on with the chain of its channel, or begins a new one.
+    fn keep(&mut self, apdu: &Apdu<'_>) -> Taken
+        requires part { apdu.now.is_part ≡ true }
+        requires channel { apdu.now.channel < 4 }
+        requires short { length apdu.now.body.now ≤ 255 }
+        ensures taken { (limit : ℕ) → result ≡ taken_of (on_channel self.old apdu.now limit) }
+        ensures chains { (limit : ℕ) → self.new ≡ chains_after self.old (on_channel self.old apdu.now limit) }
+    {
+        let begun = self.end(apdu.channel, apdu.kind);
+        if !comes_in_parts(apdu.kind) {
+            return Taken::Refused {
+                word: StatusWord::CHAINING_NOT_SUPPORTED,
+            };
+        }
+        let mut chain = begun.unwrap_or(Chain::new(apdu.kind));
+        if chain.len() == 4 {
+            return Taken::Refused {
+                word: StatusWord::WRONG_LENGTH,
+            };
+        }
+        chain.push(apdu.body);
+        self.chains[usize::from(apdu.channel)] = Some(chain);
+        Taken::Kept
+    }
+
+    // What isn't a part makes a command whole, with the parts before it.
+    fn complete(&mut self, apdu: &Apdu<'_>, limit: u16) -> Taken
+        requires whole { apdu.now.is_part ≡ false }
+        requires channel { apdu.now.channel < 4 }
+        requires short { length apdu.now.body.now ≤ 255 }
+        ensures taken { result ≡ taken_of (on_channel self.old apdu.now (min limit 1020)) }
+        ensures chains { self.new ≡ chains_after self.old (on_channel self.old apdu.now (min limit 1020)) }
+    {
+        match self.command(apdu, limit) {
+            Ok(command) => Taken::Whole { command },
+            Err(word) => Taken::Refused { word },
+        }
+    }
+
+    // The command of the parts before an APDU and its own data field. The chain of its channel ends.
+    fn command(&mut self, apdu: &Apdu<'_>, limit: u16) -> Result<Command, StatusWord>
+        requires channel { apdu.now.channel < 4 }
+        requires short { length apdu.now.body.now ≤ 255 }
+        ensures command { result ≡ command_of apdu.now (min limit 1020) (concat (parts_of apdu.now.kind (chain_on self.old apdu.now.channel)) ++ apdu.now.body.now) }
+        ensures ended { self.new ≡ slice_set self.old apdu.now.channel None }
+    {
+        match self.end(apdu.channel, apdu.kind) {
+            Some(chain) => apdu.command(chain.joined(apdu.body).as_slice(), limit),
+            None => apdu.command(apdu.body, limit),
+        }
+    }
+
+    // Ends the chain of a channel. It is given where a command of this operation goes on with it.
+    fn end(&mut self, channel: u8, kind: OperationKind) -> Option<Chain>
+        requires { channel < 4 }
+        ensures chain { result ≡ going_on kind (chain_on self.old channel) }
+        ensures ended { self.new ≡ slice_set self.old channel None }
+    {
+        match self.chains[usize::from(channel)].take() {
+            Some(chain) if chain.goes_on_with(kind) => Some(chain),
+            _ => None,
+        }
+    }
+}
+
+fn comes_in_parts(kind: OperationKind) -> bool
+    ensures { result ≡ table.comes_in_parts kind }
+{
+    matches!(kind, OperationKind::Insert | OperationKind::Update)
+}
