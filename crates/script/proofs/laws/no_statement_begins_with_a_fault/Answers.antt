@@ -1,0 +1,5 @@
+use Rattle.script.proofs.Locality.{first_fault}
+use Rattle.script.proofs.laws.no_statement_begins_with_a_fault.Goals as goal
+
+pub returns : goal.returns
+returns c = first_fault

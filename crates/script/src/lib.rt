@@ -1,0 +1,19 @@
+//! The statements that a terminal reads: each line is held against their grammar.
+#![tactic(auto)]
+
+mod fault;
+pub mod laws;
+mod lists;
+mod literal;
+mod parsed;
+mod reader;
+mod reading;
+mod rules;
+mod size;
+mod statement;
+mod token;
+mod values;
+mod words;
+
+pub use fault::ScriptFault;
+pub use statement::Statement;

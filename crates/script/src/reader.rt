@@ -1,0 +1,94 @@
+// Reads the tokens of a line one by one.
+ghost use Rattle.std.specs.Prelude.{◌≡◌, ◌≤◌, ◌↔◌, IsSome, IsTrue, length, if◌then◌else◌};
+ghost use Rattle.script.specs.Reading.{behind, is_end, is_next, left_of, octets_of, the};
+ghost use Rattle.script.specs.Tokens as tokens;
+
+use crate::token::{is_blank, token_len};
+use std::marker::Model;
+
+/// The tokens of a line that aren't read yet. Where a rule answers None, the next token is the one at fault.
+#[derive(Drop)]
+pub(crate) struct Reader<'a> {
+    rest: &'a [u8],
+}
+
+impl<'a> Model for Reader<'a> {
+    ghost use Rattle.std.specs.Prelude.{List};
+    ghost use Rattle.script.specs.Tokens.{Token, tokens_of};
+
+    ghost Value = { List Token };
+
+    ghost view = { λ r. tokens_of r.rest.now };
+}
+
+impl<'a> Reader<'a> {
+    pub fn new(line: &'a [u8]) -> Reader<'a>
+        ensures { result ≡ tokens.tokens_of line.now }
+    {
+        Reader { rest: line }
+    }
+
+    /// The octets of the next token, none at the line's end.
+    pub fn next(&self) -> &'a [u8]
+        ensures { result.now ≡ octets_of self.now }
+    {
+        let line = after_blanks(self.rest);
+        &line[..token_len(line)]
+    }
+
+    /// Goes past the next token.
+    pub fn skip(&mut self)
+        ensures { self.new ≡ behind self.old }
+    {
+        let line = after_blanks(self.rest);
+        let (_, rest) = line.split_at(token_len(line));
+        self.rest = rest;
+    }
+
+    /// How many octets of the line there are from the next token on.
+    pub fn left(&self) -> usize
+        ensures { result ≡ left_of self.now }
+    {
+        after_blanks(self.rest).len()
+    }
+
+    /// Are all tokens read?
+    pub fn is_at_end(&self) -> bool
+        ensures { result ≡ is_end self.now }
+    {
+        after_blanks(self.rest).is_empty()
+    }
+
+    /// Goes past the next token where it is this one.
+    pub fn takes(&mut self, text: &[u8]) -> bool
+        ensures value { result ≡ is_next text.now self.old }
+        ensures rest { self.new ≡ (if result then behind self.old else self.old) }
+    {
+        let found = self.next() == text;
+        if found {
+            self.skip();
+        }
+        found
+    }
+
+    /// Goes past the next token, which has to be this one.
+    #[tactic(auto, unfolding(crate::specs::Reading::the))]
+    pub fn expect(&mut self, text: &[u8]) -> Option<()>
+        ensures { the text.now self.old ≡ (result, self.new) }
+    {
+        if self.takes(text) { Some(()) } else { None }
+    }
+}
+
+pub(crate) fn after_blanks(line: &[u8]) -> &[u8]
+    ensures { result.now ≡ tokens.after_blanks line.now }
+{
+    &line[blanks_len(line)..]
+}
+
+fn blanks_len(line: &[u8]) -> usize
+    ensures value { result ≡ tokens.blanks_len line.now }
+    ensures within { result ≤ length line.now }
+{
+    line.iter().take_while(|octet| is_blank(**octet)).count()
+}
