@@ -1,0 +1,28 @@
+-- What a migration makes of an image, and what a power loss may leave of it.
+use Rattle.std.specs.Prelude.{◌≡◌, ◌⊎◌, ℕ, ◌%◌, ◌==◌, Bool, List, length, take, drop, slice_index, slice_range, option_map}
+use Rattle.eeprom.specs.StoreOf.{Stored, store_of}
+
+-- an even version says that the card wasn't migrated
+abbrev pub has_even_version : List ℕ → Bool
+has_even_version image = slice_index image 5 % 2 == 0
+
+-- all octets but the version and the two that repeat the row limit are as they were
+pub record KeepsRest (was left : List ℕ) : Type 0 where
+  pub size : length left ≡ length was
+  pub before_version : take 5 left ≡ take 5 was
+  pub between : slice_range left 6 9 ≡ slice_range was 6 9
+  pub behind_limit : drop 11 left ≡ drop 11 was
+
+-- the same slots, with rows of at most so many octets
+abbrev pub with_limit : ℕ → Stored → Stored
+with_limit limit stored = record stored { row_limit = limit }
+
+-- after a migration the store is the one from before, with the longer rows
+pub record IsMigrated (was now : List ℕ) : Type 0 where
+  pub rest : KeepsRest was now
+  pub store : store_of now ≡ option_map (with_limit 1020) (store_of was)
+
+-- during a migration the store is the one from before, or the one with the longer rows
+pub record IsBetween (was left : List ℕ) : Type 0 where
+  pub rest : KeepsRest was left
+  pub one : (store_of left ≡ store_of was) ⊎ (store_of left ≡ option_map (with_limit 1020) (store_of was))
