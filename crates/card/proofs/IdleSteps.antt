@@ -1,7 +1,6 @@
 -- The step of a machine of a card, whose sessions keep nothing but their users, and which has no transaction.
-use Rattle.std.proofs.Common.{◌≡◌, ℕ, Bool, true, List, [], ◌∷◌, Option, Some, None, is_some, Result, Ok, Err, refl, sym, ap, subst, ◌∙◌, lit≤, inl, inr}
-use Rattle.std.specs.Prelude.{IfOk, IfSome, map, option_and_then}
-use Rattle.std.proofs.lemmas.Bool.{false≢true}
+use Rattle.std.proofs.Common.{◌≡◌, ℕ, Bool, List, [], ◌∷◌, Option, Some, None, is_some, Result, Ok, Err, refl, sym, ap, subst, ◌∙◌, ◌≤◌, inl, inr}
+use Rattle.std.specs.Prelude.{◌⊎◌, IfOk, IfSome, map, option_and_then}
 use Rattle.eeprom.specs.Chip.{Chip}
 use Rattle.scql_base.specs.declared.words.StatusWord.{StatusWord}
 use Rattle.scql_base.specs.declared.words.Actor.{Actor}
@@ -10,25 +9,26 @@ use Rattle.scql_base.specs.declared.operation.Command.{Command}
 use Rattle.scql_base.specs.declared.operation.Operation.{Operation}
 use Rattle.scql_base.specs.declared.operation.Operation.TheVariants.{PresentUser, CreateUser}
 use Rattle.scql_base.specs.declared.operation.OperationKind.{OperationKind}
+use Rattle.scql_base.specs.declared.operation.OperationKind.TheVariants as kind
 use Rattle.scql_base.specs.Words.{done}
 use Rattle.scql_model.specs.Refusals.{◌>>=◌}
 use Rattle.scql_model.specs.Database.{Database}
 use Rattle.scql_model.specs.Machine.{Machine, Session, Chain, Transaction, session_of, open_channels, base_of, base, actor}
 use Rattle.scql_model.specs.Sessions.{IsIdle, AreIdle, changing_session, command_chain, without_chain, without_pending, cursor_of}
 use Rattle.scql_model.specs.Transactions.{own_transaction}
-use Rattle.scql_model.specs.Operations.{built_operations, kind_of}
+use Rattle.scql_model.specs.Operations.{IsBuilt, built_operations, kind_of}
 use Rattle.scql_model.specs.Form.{Form, refused, refused_on, part_on, a_command, form_of, no_chain, as_command}
 use Rattle.scql_model.specs.Edits.{Edit}
 use Rattle.scql_model.specs.Changing.{edits_of, with_edits, change_of}
 use Rattle.scql_model.specs.Creating.{created}
-use Rattle.scql_model.specs.Commands.{said}
+use Rattle.scql_model.specs.Replies.{said}
 use Rattle.scql_model.specs.Step.{Answer, answered, done_with, changed_to, changed, session_named, user_presented, carried_out, stepped, step_by, step}
 use Rattle.scql_model.proofs.ChangingSessions.{idle-at, changing_session-idle}
 use Rattle.scql_model.proofs.ChangeLaws.{change_of-CreateUser}
 use Rattle.scql_model.proofs.FormedCommands.{kind-form_of, no_part-form_of, sound-built_operations}
 use Rattle.scql_model.proofs.LastCommits.{of_outcome}
 use Rattle.card.specs.Card.{Kept, IsAt}
-use Rattle.card.specs.Commands.{is_built}
+use Rattle.card.proofs.BuiltLines.{IsBuilt-one}
 use Rattle.card.specs.Answering.{committed_at_once, IsDoneOrStays}
 
 -- no channel has a part of a command
@@ -45,11 +45,11 @@ idle-chains m are = λ i channel. idle-chain m channel are i
 -- What the machine reads is what is read with the card's open channels, and no part of a command.
 form-card : (card : Kept) (chip : Chip) (m : Machine) (octets : List ℕ) (channels : List Bool) → IsAt card chip m
     → channels ≡ map (λ (s : Option Session). is_some s) card.sessions → AreIdle m.sessions
-    → form_of built_operations octets (open_channels m) (command_chain m) m.committed.limit ≡ form_of built_operations octets channels no_chain 240
+    → form_of built_operations octets (open_channels m) (command_chain m) m.committed.limit ≡ form_of built_operations octets channels no_chain card.store.row_limit
 form-card card chip m octets channels at are_open are =
-    ap (form_of built_operations octets (open_channels m) (command_chain m)) at.holds.limit
-    ∙ (ap (λ (chain : ℕ → Option Chain). form_of built_operations octets (open_channels m) chain 240) (idle-chains m are)
-    ∙ ap (λ (channels : List Bool). form_of built_operations octets channels no_chain 240) (ap (map (λ (s : Option Session). is_some s)) at.sessions ∙ sym are_open))
+    ap (form_of built_operations octets (open_channels m) (command_chain m)) at.limit
+    ∙ (ap (λ (chain : ℕ → Option Chain). form_of built_operations octets (open_channels m) chain card.store.row_limit) (idle-chains m are)
+    ∙ ap (λ (channels : List Bool). form_of built_operations octets channels no_chain card.store.row_limit) (ap (map (λ (s : Option Session). is_some s)) at.sessions ∙ sym are_open))
 
 -- the sessions of a card at a machine are the machine's
 pub idle-at_card : (card : Kept) (chip : Chip) (m : Machine) → IsAt card chip m → AreIdle card.sessions → AreIdle m.sessions
@@ -75,13 +75,13 @@ stepped-refused m (part_on channel kind part) word are no_part is = absurd (no_p
 stepped-refused m (a_command c) word are no_part is = absurd cc
 
 pub step-refused : (card : Kept) (chip : Chip) (m : Machine) (octets : List ℕ) (channels : List Bool) (word : StatusWord) → IsAt card chip m
-    → channels ≡ map (λ (s : Option Session). is_some s) card.sessions → AreIdle card.sessions → Err word ≡ as_command (form_of built_operations octets channels no_chain 240)
+    → channels ≡ map (λ (s : Option Session). is_some s) card.sessions → AreIdle card.sessions → Err word ≡ as_command (form_of built_operations octets channels no_chain card.store.row_limit)
     → step m octets ≡ answered m (Err word)
 unfolding step step_by
 step-refused card chip m octets channels word at are_open are read =
     let idle = idle-at_card card chip m at are in
     ap (stepped m) (form-card card chip m octets channels at are_open idle)
-    ∙ stepped-refused m (form_of built_operations octets channels no_chain 240) word idle (λ channel kind part. no_part-form_of built_operations octets channels no_chain 240 channel kind part refl) read
+    ∙ stepped-refused m (form_of built_operations octets channels no_chain card.store.row_limit) word idle (λ channel kind part. no_part-form_of built_operations octets channels no_chain card.store.row_limit channel kind part refl) read
 
 -- The step of a command.
 command-form : (form : Form) (c : Command) → Ok c ≡ as_command form → form ≡ a_command c
@@ -91,18 +91,18 @@ command-form (refused_on channel word) c is = absurd cc
 command-form (part_on channel kind part) c is = absurd cc
 
 pub step-carried_out : (card : Kept) (chip : Chip) (m : Machine) (octets : List ℕ) (channels : List Bool) (c : Command) → IsAt card chip m
-    → channels ≡ map (λ (s : Option Session). is_some s) card.sessions → AreIdle card.sessions → Ok c ≡ as_command (form_of built_operations octets channels no_chain 240)
+    → channels ≡ map (λ (s : Option Session). is_some s) card.sessions → AreIdle card.sessions → Ok c ≡ as_command (form_of built_operations octets channels no_chain card.store.row_limit)
     → step m octets ≡ answered m (carried_out m c)
 unfolding step step_by
 step-carried_out card chip m octets channels c at are_open are read =
     let idle = idle-at_card card chip m at are in
-    ap (stepped m) (form-card card chip m octets channels at are_open idle ∙ command-form (form_of built_operations octets channels no_chain 240) c read)
+    ap (stepped m) (form-card card chip m octets channels at are_open idle ∙ command-form (form_of built_operations octets channels no_chain card.store.row_limit) c read)
     ∙ ap (λ (next : Machine). answered next (carried_out next c)) (ended-idle m c.channel idle)
 
 -- it is of an operation that is built
-pub built-read : (octets : List ℕ) (channels : List Bool) (c : Command) → Ok c ≡ as_command (form_of built_operations octets channels no_chain 240) → is_built (kind_of c.operation) ≡ true
-built-read octets channels c read =
-    kind-form_of is_built built_operations octets channels no_chain 240 c refl sound-built_operations (lit≤ tt) (command-form (form_of built_operations octets channels no_chain 240) c read)
+pub built-read : (octets : List ℕ) (channels : List Bool) (limit : ℕ) (c : Command) → limit ≤ 1020 → Ok c ≡ as_command (form_of built_operations octets channels no_chain limit) → IsBuilt (kind_of c.operation)
+built-read octets channels limit c most read =
+    kind-form_of built_operations octets channels no_chain limit c sound-built_operations most (command-form (form_of built_operations octets channels no_chain limit) c read)
 
 -- PRESENT USER and CREATE USER outside of a transaction.
 pub carried_out-presents : (m : Machine) (channel : ℕ) (name : List ℕ) (le : Option ℕ) → m.transaction ≡ None
@@ -161,13 +161,17 @@ done-changed m channel operation =
     made edits db None = refl
     made edits db (Some t) = refl
 
-done-carried_out : (m : Machine) (channel : ℕ) (operation : Operation) (le : Option ℕ) → m.transaction ≡ None → is_built (kind_of operation) ≡ true
+done-carried_out : (m : Machine) (channel : ℕ) (operation : Operation) (le : Option ℕ) → m.transaction ≡ None → IsBuilt (kind_of operation)
     → IfOk (carried_out m (record { channel = channel; operation = operation; le = le })) SaysDone
 done-carried_out m channel (PresentUser name) le none built =
     subst (λ (o : Result Answer StatusWord). IfOk o SaysDone) (sym (carried_out-presents m channel name le none)) (of_outcome SaysDone (session_named (base m channel) name) _ (λ session. refl))
 done-carried_out m channel (CreateUser name profile secret) le none built =
     subst (λ (o : Result Answer StatusWord). IfOk o SaysDone) (sym (carried_out-creates m channel name profile secret le none)) (done-changed m channel (CreateUser name profile secret))
-done-carried_out m channel operation le none built = absurd (false≢true built)
+done-carried_out m channel operation le none built = absurd (not_other (IsBuilt-one (kind_of operation) built))
+  where
+    not_other : (kind_of operation ≡ kind.PresentUser) ⊎ (kind_of operation ≡ kind.CreateUser) → ⊥
+    not_other (inl is) = absurd cc
+    not_other (inr is) = absurd cc
 
-pub carried_out-done : (m : Machine) (c : Command) → m.transaction ≡ None → is_built (kind_of c.operation) ≡ true → IsDoneOrStays m (answered m (carried_out m c))
+pub carried_out-done : (m : Machine) (c : Command) → m.transaction ≡ None → IsBuilt (kind_of c.operation) → IsDoneOrStays m (answered m (carried_out m c))
 carried_out-done m c none built = done-answered m (carried_out m c) (done-carried_out m c.channel c.operation c.le none built)

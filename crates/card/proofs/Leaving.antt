@@ -1,8 +1,8 @@
 -- What a power loss may leave of a card.
-use Rattle.std.proofs.Common.{◌≡◌, ℕ, List, ◌∷◌, Option, Some, refl, sym, subst, ◌∙◌, inl, arith}
+use Rattle.std.proofs.Common.{◌≡◌, ℕ, List, ◌∷◌, Option, Some, refl, sym, ap, subst, ◌∙◌, inl, arith}
 use Rattle.std.specs.Prelude.{IfSome}
 use Rattle.eeprom.specs.Chip.{Chip}
-use Rattle.record_store.specs.Held.{contents, StandsFor}
+use Rattle.record_store.specs.Held.{contents, with_limit, StandsFor}
 use Rattle.record_store.proofs.Weights.{store_of-stands}
 use Rattle.record_store.specs.declared.side.Side.TheVariants.{Committed}
 use Rattle.scql_model.specs.Database.{Database}
@@ -17,7 +17,7 @@ unfolding committed_slots
 Opens-at card chip m ready at image told =
     let stands : StandsFor card.store image = subst (λ (o : Option (List ℕ)). IfSome o (StandsFor card.store)) told ready.over.stands in
     let stored : contents card.store Committed image ≡ Some at.slots = subst (λ (o : Option (List ℕ)). committed_slots card.store o ≡ Some at.slots) told at.committed in
-    record { slots = at.slots; stored = store_of-stands card.store image stands ∙ stored; holds = at.holds; valid = at.valid }
+    record { store = record { row_limit = card.store.row_limit; slots = at.slots }; stored = store_of-stands card.store image stands ∙ ap (with_limit card.store.row_limit) stored; limit = at.limit; holds = at.holds; valid = at.valid }
 
 -- where nothing is written, the database stays
 pub unwritten_leaves : (card : Kept) (old new : Chip) (m : Machine) (more : List Database) → IsReady card old → IsAt card old m → new ≡ old → LeavesOneOf (m.committed ∷ more) old new

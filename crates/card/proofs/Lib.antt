@@ -14,6 +14,6 @@ mod Presenting
 mod SessionSet
 mod SlotCount
 mod SlotSearch
-mod Starting
+pub mod Starting
 pub mod Told
 mod TwoRecords

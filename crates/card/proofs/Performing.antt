@@ -7,12 +7,12 @@ use Rattle.std.proofs.lemmas.Bool.{false≢true}
 use Rattle.std.proofs.lemmas.Option.{none-some}
 use Rattle.eeprom.specs.declared.EepromFault.{EepromFault}
 use Rattle.eeprom.specs.Chip.{Chip, Becomes}
-use Rattle.eeprom.specs.StoreOf.{Slots, store_of}
+use Rattle.eeprom.specs.StoreOf.{Slots}
 use Rattle.eeprom.specs.Slots.{in_slot}
 use Rattle.record_store.specs.declared.refusal.StoreRefusal.{StoreRefusal}
 use Rattle.record_store.specs.declared.refusal.StoreRefusal.TheVariants.{Full, Fault}
 use Rattle.record_store.specs.declared.side.Side.TheVariants.{Committed}
-use Rattle.record_store.specs.Held.{Held, contents, StandsFor}
+use Rattle.record_store.specs.Held.{Held, contents, with_limit, StandsFor}
 use Rattle.scql_base.specs.declared.words.StatusWord.{StatusWord}
 use Rattle.scql_base.specs.declared.words.Actor.{Actor}
 use Rattle.scql_base.specs.declared.words.Actor.TheVariants.{Public, User as a_user}
@@ -26,7 +26,7 @@ use Rattle.scql_base.specs.declared.operation.Operation.TheVariants.{CreateUser}
 use Rattle.scql_model.specs.Machine.{Machine, Session, actor, actor_of, base, session_of}
 use Rattle.scql_model.specs.Opens.{OpensToOneOf}
 use Rattle.scql_model.specs.Creating.{IsAsked, IsActorOf, created, new_user, with_user}
-use Rattle.scql_model.specs.Commands.{said}
+use Rattle.scql_model.specs.Replies.{said}
 use Rattle.scql_model.specs.Step.{Answer, answered}
 use Rattle.scql_model.specs.WellFormed.{HasForm}
 use Rattle.scql_model.proofs.Acting.{IsActorOf-actor}
@@ -61,6 +61,7 @@ abbrev pub IsAt-unwritten : (card : Kept) (old new : Chip) (m : Machine) → IsA
 IsAt-unwritten card old new m at same = record {
   slots = at.slots;
   committed = subst (λ (chip : Chip). committed_slots card.store chip.image ≡ Some at.slots) (sym same) at.committed;
+  limit = at.limit;
   holds = at.holds;
   valid = at.valid;
   transaction = at.transaction;
@@ -177,18 +178,18 @@ module _ (card : Kept) (old : Chip) (m : Machine) (at : IsAt card old m) (ready 
   leaves new moments = throughout-weaker old new _ _ moments (λ g left now. (
     now.0,
     elim now.3 [
-      | inl same ↦ inl (record { slots = at.slots; stored = same ∙ slots_told now.1 now.2; holds = at.holds; valid = at.valid })
-      | inr added ↦ (let after = is_now now.1 now.2 (store_of left) added in
+      | inl same ↦ inl (record { store = record { row_limit = card.store.row_limit; slots = at.slots }; stored = same ∙ ap (with_limit card.store.row_limit) (slots_told now.1 now.2); limit = at.limit; holds = at.holds; valid = at.valid })
+      | inr added ↦ (let after = is_now now.1 now.2 added.0 added.2 in
           inr (subst (λ (o : Result Database StatusWord). OpensToOneOf (answered m (committed_at_once m o)).commits left) (sym after.2.ok)
-          (inl (record { slots = after.0; stored = after.1; holds = after.2.holds; valid = after.2.valid }))))
+          (inl (record { store = record { row_limit = card.store.row_limit; slots = after.0 }; stored = added.1 ∙ ap (with_limit card.store.row_limit) after.1; limit = at.limit; holds = after.2.holds; valid = after.2.valid }))))
     ],
   ))
 
   -- the answer, where it was committed
-  done_now : (store : Held) (new : Chip) → is_some new.image ≡ is_some old.image → Becomes (HasBothRecords card.store store user_octets addition.counter_slot counter_octets) old.image new.image
+  done_now : (store : Held) (new : Chip) → store.row_limit ≡ card.store.row_limit → is_some new.image ≡ is_some old.image → Becomes (HasBothRecords card.store store user_octets addition.counter_slot counter_octets) old.image new.image
       → Answers (answered m (committed_at_once m outcome)) (said done) (record card { store = store }) new
   unfolding committed_slots
-  done_now store new told written = go new.image refl
+  done_now store new rows told written = go new.image refl
     where
       go : (image : Option (List ℕ)) → new.image ≡ image → Answers (answered m (committed_at_once m outcome)) (said done) (record card { store = store }) new
       go None is_none = absurd (false≢true (sym (ap (λ (o : Option (List ℕ)). is_some o) is_none) ∙ (told ∙ is_told)))
@@ -200,6 +201,7 @@ module _ (card : Kept) (old : Chip) (m : Machine) (at : IsAt card old m) (ready 
             at = record {
               slots = after.0;
               committed = subst (λ (o : Option (List ℕ)). committed_slots store o ≡ Some after.0) (sym is_now') after.1;
+              limit = at.limit ∙ sym rows;
               holds = after.2.holds;
               valid = after.2.valid;
               transaction = at.transaction;
@@ -232,11 +234,11 @@ module _ (card : Kept) (old : Chip) (m : Machine) (at : IsAt card old m) (ready 
       go (Some was) told holds = subst (λ (o : Option Slots). IfSome o P) (slots_told was told) holds
 
   -- there was no room
-  full_now : (store : Held) (new : Chip) → IfCommitted card.store old.image (HasNoRoom card.store.chains.cells user_octets)
+  full_now : (store : Held) (new : Chip) → store.row_limit ≡ card.store.row_limit → IfCommitted card.store old.image (HasNoRoom card.store.chains.cells user_octets)
       → IfCommitted card.store old.image (λ slots. (new ≡ old) × ((image : List ℕ) → contents store Committed image ≡ contents card.store Committed image))
       → Performs m (answered m (committed_at_once m outcome)) (Ok no_space) (record card { store = store }) old new
   unfolding committed_slots
-  full_now store new full unchanged =
+  full_now store new rows full unchanged =
       let same = of_slots (λ slots. (new ≡ old) × ((image : List ℕ) → contents store Committed image ≡ contents card.store Committed image)) unchanged in
       let refused : outcome ≡ Err no_space = go old.image refl in
       Performs-unwritten card (record card { store = store }) old new m (answered m (committed_at_once m outcome)) (Ok no_space) ready at same.0
@@ -245,6 +247,7 @@ module _ (card : Kept) (old : Chip) (m : Machine) (at : IsAt card old m) (ready 
         at = record {
           slots = at.slots;
           committed = subst (λ (chip : Chip). committed_slots store chip.image ≡ Some at.slots) (sym same.0) (alike old.image same.1 ∙ at.committed);
+          limit = at.limit ∙ sym rows;
           holds = at.holds;
           valid = at.valid;
           transaction = at.transaction;
@@ -267,20 +270,21 @@ module _ (card : Kept) (old : Chip) (m : Machine) (at : IsAt card old m) (ready 
 -- What the addition of a user does, by its outcome.
 pub Performs-added : (card : Kept) (store : Held) (old new : Chip) (m : Machine) (at : IsAt card old m) (who : Actor) (name : List ℕ) (profile : Profile) (secret : List ℕ) (addition : Addition) (result : Result (Unit {0}) StoreRefusal)
     → IsReady card old → IsAddition m.committed who name profile secret at.slots addition → addition.counter_slot < card.store.chains.cells
+    → (¬ IsErrOf result Fault → store.row_limit ≡ card.store.row_limit)
     → OnOk result (is_some new.image ≡ is_some old.image)
     → OnOk result (Becomes (HasBothRecords card.store store (user_record.spell addition.user) addition.counter_slot (counter_record.spell (addition.user.stamp + 1))) old.image new.image)
     → (IsErrOf result Full → IfCommitted card.store old.image (HasNoRoom card.store.chains.cells (user_record.spell addition.user)))
     → (IsErrOf result Full → IfCommitted card.store old.image (λ slots. (new ≡ old) × ((image : List ℕ) → contents store Committed image ≡ contents card.store Committed image)))
     → LeavesAdded card.store (user_record.spell addition.user) addition.counter_slot (counter_record.spell (addition.user.stamp + 1)) old new
     → Performs m (answered m (committed_at_once m (created m.committed who name profile secret))) (answer_to result) (record card { store = store }) old new
-Performs-added card store old new m at who name profile secret addition (Ok x) ready is there told written full unchanged moments = record {
-  step = done_now card old m at ready who name profile secret addition is there store new told written;
+Performs-added card store old new m at who name profile secret addition (Ok x) ready is there rows told written full unchanged moments = record {
+  step = done_now card old m at ready who name profile secret addition is there store new (rows (λ fault. cc)) told written;
   moments = leaves card old m at ready who name profile secret addition is there new moments;
   unwritten = λ idle. absurd (not_idle card old m at ready who name profile secret addition is there store new told written idle);
 }
-Performs-added card store old new m at who name profile secret addition (Err Full) ready is there told written full unchanged moments =
-    full_now card old m at ready who name profile secret addition is there store new (full refl) (unchanged refl)
-Performs-added card store old new m at who name profile secret addition (Err Fault) ready is there told written full unchanged moments = record {
+Performs-added card store old new m at who name profile secret addition (Err Full) ready is there rows told written full unchanged moments =
+    full_now card old m at ready who name profile secret addition is there store new (rows (λ fault. cc)) (full refl) (unchanged refl)
+Performs-added card store old new m at who name profile secret addition (Err Fault) ready is there rows told written full unchanged moments = record {
   step = tt;
   moments = leaves card old m at ready who name profile secret addition is there new moments;
   unwritten = tt;

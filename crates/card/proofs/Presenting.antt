@@ -16,7 +16,7 @@ use Rattle.scql_model.specs.Machine.{Machine, Session, session_for}
 use Rattle.scql_base.specs.declared.cursor.Presented.{Presented}
 use Rattle.scql_model.specs.Sessions as sessions
 use Rattle.scql_model.specs.Sessions.{presented}
-use Rattle.scql_model.specs.Commands.{said}
+use Rattle.scql_model.specs.Replies.{said}
 use Rattle.scql_model.specs.Step.{Answer, answered, done_with, user_presented}
 use Rattle.scql_model.proofs.ChangingSessions.{changing_session-set}
 use Rattle.scql_model.proofs.Naming.{user_named-slots}
@@ -33,6 +33,7 @@ moved : (card : Kept) (chip : Chip) (m : Machine) (channel : ℕ) (session : Ses
 moved card chip m channel session at = record {
   slots = at.slots;
   committed = at.committed;
+  limit = at.limit;
   holds = at.holds;
   valid = at.valid;
   transaction = at.transaction;

@@ -1,7 +1,7 @@
 -- A store has as many slots as cells.
-use Rattle.std.proofs.Common.{◌≡◌, ℕ, ◌+◌, ◌*◌, ◌%◌, List, length, Option, Some, None, sym, ap, subst, ◌∙◌}
+use Rattle.std.proofs.Common.{◌≡◌, ℕ, List, length, Option, Some, None, sym, ap, subst, ◌∙◌}
 use Rattle.record_store.specs.declared.side.Side.TheVariants.{Committed}
-use Rattle.std.specs.Prelude.{IfSome, slice_index}
+use Rattle.std.specs.Prelude.{IfSome}
 use Rattle.cell_store.proofs.Chains.{length-slots_at}
 use Rattle.eeprom.proofs.Places.{length-numbers_at}
 use Rattle.record_store.specs.Held.{Held, StandsFor, contents}
@@ -9,7 +9,7 @@ use Rattle.card.specs.Card.{committed_slots}
 
 pub length-committed : (store : Held) (image : List ℕ) → StandsFor store image → IfSome (contents store Committed image) (λ slots. length slots ≡ store.chains.cells)
 length-committed store image stands =
-    let firsts : length store.committed ≡ store.chains.cells = ap length (sym stands.begins.selected) ∙ length-numbers_at image (32 + 2 * store.chains.cells * (slice_index image 8 % 2)) store.chains.cells in
+    let firsts : length store.committed ≡ store.chains.cells = ap length (sym stands.begins.directory) ∙ length-numbers_at image 32 store.chains.cells in
     subst (λ (n : ℕ). IfSome (contents store Committed image) (λ slots. length slots ≡ n)) firsts (length-slots_at image store.chains.cells store.committed)
 
 pub length-committed_slots : (store : Held) (image : Option (List ℕ)) → IfSome image (StandsFor store) → IfSome (committed_slots store image) (λ slots. length slots ≡ store.chains.cells)

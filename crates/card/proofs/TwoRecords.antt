@@ -5,15 +5,15 @@ use Rattle.std.proofs.lemmas.Bool.{false≢true}
 use Rattle.std.proofs.lemmas.Option.{none-some, same_Some}
 use Rattle.std.proofs.lemmas.List.{get_or-set_other, length-set}
 use Rattle.std.proofs.lemmas.List.Sums.{sum_by-set}
-use Rattle.eeprom.specs.Chip.{Chip, Becomes}
-use Rattle.eeprom.specs.StoreOf.{Slots, store_of, cells_for}
-use Rattle.record_store.specs.Held.{Held, contents, record_at, StandsFor}
+use Rattle.eeprom.specs.Chip.{Chip, Becomes, Keeps}
+use Rattle.eeprom.specs.StoreOf.{Slots, Stored, store_of, cells_for}
+use Rattle.record_store.specs.Held.{Held, contents, stored, with_limit, record_at, StandsFor}
 use Rattle.eeprom.specs.StoreOf.{weight_of, cells_of}
 use Rattle.record_store.specs.Put.{IsPut, IsWithin, IsFull, weight_with}
 use Rattle.record_store.specs.Transaction.{Commits, IsCommitted}
 use Rattle.record_store.specs.declared.side.Side.TheVariants.{Committed, Working}
 use Rattle.eeprom.proofs.Moments.{throughout-then}
-use Rattle.card.specs.Adding.{IsAdded, AddedTo, LeavesAdded, HasBothRecords, IsAsLong, IfCommitted}
+use Rattle.card.specs.Adding.{IsAdded, AddedTo, IsStoreWith, LeavesAdded, HasBothRecords, IsAsLong, IfCommitted}
 use Rattle.record_store.proofs.Weights.{store_of-stands}
 use Rattle.card.proofs.SlotCount.{length-committed}
 
@@ -92,11 +92,25 @@ second_has_room s0 s1 added slot found changed (Some was) (Some now) P stands in
         let over = subst (λ (o : Option Slots). IfSome o (λ slots. s1.chains.cells < weight_with slot changed slots)) working full in
         absurd (omega (arith, room, over, cells))
 
+-- what puts leave, which keep the store of the image
+pub put_leaves : (store : Held) (added : List ℕ) (slot : ℕ) (changed : List ℕ) (old new : Chip) → IfSome old.image (StandsFor store) → Keeps store_of old new → LeavesAdded store added slot changed old new
+put_leaves store added slot changed old new stands keeps = record {
+  later = keeps.later;
+  only = λ t g left since there. elim (keeps.only t g left since there) [
+    | inl before ↦ inl before
+    | inr at ↦ inr (at.0, at.1, at.2, inl (at.3 ∙ store_of-stands store at.1 (stood at.1 at.2)))
+  ];
+  now = λ image told. (let at = keeps.image image told in (ap (λ still. still.mark) keeps.still, at.0, at.1, inl (at.2 ∙ store_of-stands store at.0 (stood at.0 at.1))));
+}
+  where
+    stood : (was : List ℕ) → old.image ≡ Some was → StandsFor store was
+    stood was told = subst (λ (o : Option (List ℕ)). IfSome o (StandsFor store)) told stands
+
 -- What a commit leaves, where the store so far has the committed records of its start, and both records are put.
-pub commit_leaves : (start store : Held) (added : List ℕ) (slot : ℕ) (changed : List ℕ) (old mid new : Chip) → mid.still ≡ old.still
+pub commit_leaves : (start store : Held) (added : List ℕ) (slot : ℕ) (changed : List ℕ) (old mid new : Chip) → mid.still ≡ old.still → store.row_limit ≡ start.row_limit
     → Becomes (λ was now. (contents store Committed now ≡ contents start Committed was) × AddedTo start.chains.cells added slot changed (contents start Committed was) (contents store Working now)) old.image mid.image
     → LeavesAdded start added slot changed old mid → Commits store mid new → LeavesAdded start added slot changed old new
-commit_leaves start store added slot changed old mid new still put before commits =
+commit_leaves start store added slot changed old mid new still rows put before commits =
     throughout-then old mid new _ before (record {
       later = commits.moments.later;
       only = λ t g left since there. elim (commits.moments.only t g left since there) [
@@ -106,18 +120,28 @@ commit_leaves start store added slot changed old mid new still put before commit
       now = λ image told. moment new.still.mark image (commits.moments.now image told);
     })
   where
-    moment : (g : ℕ) (left : List ℕ) → (g ≡ mid.still.mark) × (was : List ℕ) × (mid.image ≡ Some was) × ((store_of left ≡ contents store Committed was) ⊎ (store_of left ≡ contents store Working was))
-        → (g ≡ old.still.mark) × (was : List ℕ) × (old.image ≡ Some was) × ((store_of left ≡ contents start Committed was) ⊎ AddedTo start.chains.cells added slot changed (contents start Committed was) (store_of left))
+    limit_of : (a b : Option Slots) → a ≡ b → with_limit store.row_limit a ≡ with_limit start.row_limit b
+    limit_of a b same = rw (rows, same) refl
+
+    moment : (g : ℕ) (left : List ℕ) → (g ≡ mid.still.mark) × (was : List ℕ) × (mid.image ≡ Some was) × ((store_of left ≡ stored store Committed was) ⊎ (store_of left ≡ stored store Working was))
+        → (g ≡ old.still.mark) × (was : List ℕ) × (old.image ≡ Some was) × ((store_of left ≡ stored start Committed was) ⊎ IsStoreWith start added slot changed was left)
     moment g left (mark, was, told, either_way) =
         let from = put was told in (
           mark ∙ ap (λ still. still.mark) still,
           from.0,
           from.1,
           elim either_way [
-            | inl committed ↦ inl (committed ∙ from.2.0)
-            | inr working ↦ inr (subst (λ (o : Option Slots). AddedTo start.chains.cells added slot changed (contents start Committed from.0) o) (sym working) from.2.1)
+            | inl committed ↦ inl (committed ∙ limit_of (contents store Committed was) (contents start Committed from.0) from.2.0)
+            | inr working ↦ inr (contents store Working was, working ∙ ap (λ (limit : ℕ). with_limit limit (contents store Working was)) rows, from.2.1)
           ],
         )
+
+-- slots are the same where stores with them are
+unlimited : (m n : ℕ) (a b : Option Slots) → with_limit m a ≡ with_limit n b → a ≡ b
+unlimited m n None None same = refl
+unlimited m n None (Some b) same = absurd (cc)
+unlimited m n (Some a) None same = absurd (cc)
+unlimited m n (Some a) (Some b) same = ap (λ (was : Stored). Some was.slots) (same_Some _ _ same)
 
 -- what is committed then
 pub both_written : (s0 s2 s3 : Held) (added : List ℕ) (slot : ℕ) (changed : List ℕ) (i0 i2 i3 : Option (List ℕ))
@@ -126,8 +150,8 @@ pub both_written : (s0 s2 s3 : Held) (added : List ℕ) (slot : ℕ) (changed : 
 both_written s0 s2 s3 added slot changed i0 i2 i3 put committed = λ now told.
     let c = committed now told in
     let b = put c.0 c.1 in
-    let stored : contents s3 Committed now ≡ contents s2 Working c.0 = sym (store_of-stands s3 now c.2.stands) ∙ c.2.store in (
+    let there : contents s3 Committed now ≡ contents s2 Working c.0 = unlimited s3.row_limit s2.row_limit (contents s3 Committed now) (contents s2 Working c.0) (sym (store_of-stands s3 now c.2.stands) ∙ c.2.store) in (
       b.0,
       b.1,
-      (c.2.stands, subst (λ (o : Option Slots). AddedTo s0.chains.cells added slot changed (contents s0 Committed b.0) o) (sym stored) b.2.1),
+      (c.2.stands, subst (λ (o : Option Slots). AddedTo s0.chains.cells added slot changed (contents s0 Committed b.0) o) (sym there) b.2.1),
     )

@@ -4,7 +4,7 @@ use Rattle.eeprom.specs.Chip.{Chip, Becomes, LeavesOf}
 use Rattle.record_store.specs.declared.refusal.StoreRefusal.{StoreRefusal}
 use Rattle.record_store.specs.declared.refusal.StoreRefusal.TheVariants.{Full, Fault}
 use Rattle.eeprom.specs.StoreOf.{Slots, store_of, cells_for, longest_record}
-use Rattle.record_store.specs.Held.{Held, contents, StandsFor, IsOver}
+use Rattle.record_store.specs.Held.{Held, contents, stored, with_limit, StandsFor, IsOver}
 use Rattle.eeprom.specs.StoreOf.{weight_of}
 use Rattle.record_store.specs.declared.side.Side.TheVariants.{Committed}
 
@@ -21,10 +21,15 @@ abbrev pub AddedTo : ℕ → List ℕ → ℕ → List ℕ → Option Slots → 
 AddedTo cells added slot changed old new =
     (slots : Slots) → old ≡ Some slots → (after : Slots) × (new ≡ Some after) × IsAdded cells added slot changed slots after
 
+-- the store of an image has both records besides those that are committed in another
+abbrev pub IsStoreWith : Held → List ℕ → ℕ → List ℕ → List ℕ → List ℕ → Type 0
+IsStoreWith store added slot changed was left =
+    (after : Option Slots) × (store_of left ≡ with_limit store.row_limit after) × AddedTo store.chains.cells added slot changed (contents store Committed was) after
+
 -- at each moment the store of the image is the committed one, or that with both records, and nothing is given
 abbrev pub LeavesAdded : Held → List ℕ → ℕ → List ℕ → Chip → Chip → Type 0
 LeavesAdded store added slot changed old new =
-    LeavesOf (λ was left. (store_of left ≡ contents store Committed was) ⊎ AddedTo store.chains.cells added slot changed (contents store Committed was) (store_of left)) old new
+    LeavesOf (λ was left. (store_of left ≡ stored store Committed was) ⊎ IsStoreWith store added slot changed was left) old new
 
 -- the store stands for the image, which has now both records
 abbrev pub HasBothRecords : Held → Held → List ℕ → ℕ → List ℕ → List ℕ → List ℕ → Type 0
@@ -58,5 +63,6 @@ pub record Adds (added : List ℕ) (slot : ℕ) (changed : List ℕ) (result : R
   pub full : IsErrOf result Full → IfCommitted old before.image (HasNoRoom old.chains.cells added)
   pub stands : ¬ IsErrOf result Fault → IfSome after.image (StandsFor new)
   pub cells : ¬ IsErrOf result Fault → new.chains.cells ≡ old.chains.cells
+  pub rows : ¬ IsErrOf result Fault → new.row_limit ≡ old.row_limit
   pub still : after.still ≡ before.still
   pub moments : LeavesAdded old added slot changed before after

@@ -8,13 +8,12 @@ use Rattle.scql_base.specs.declared.words.StatusWord.{StatusWord}
 use Rattle.record_store.specs.declared.refusal.StoreRefusal.{StoreRefusal}
 use Rattle.record_store.specs.declared.refusal.StoreRefusal.TheVariants.{Full, Fault}
 use Rattle.scql_base.specs.Words.{done, no_space}
-use Rattle.scql_model.specs.Commands as model
+use Rattle.scql_model.specs.Replies as model
 use Rattle.scql_model.specs.Machine.{Machine, session_for}
-use Rattle.scql_model.specs.Commands.{said}
+use Rattle.scql_model.specs.Replies.{said}
 use Rattle.scql_model.specs.Step.{Answer}
 use Rattle.card.specs.Card.{Kept, IsAt}
 use Rattle.scql_base.specs.declared.cursor.Presented.{Presented}
-use Rattle.card.specs.declared.reply.Reply.{Reply}
 
 -- the machine's answer is this reply, and card and EEPROM are at its machine
 pub record Answers (answer : Answer) (sent : model.Reply) (card : Kept) (chip : Chip) : Type 0 where
@@ -36,10 +35,6 @@ abbrev pub answer_to : Result (Unit {0}) StoreRefusal → Result StatusWord Eepr
 answer_to (Ok x) = Ok done
 answer_to (Err Full) = Ok no_space
 answer_to (Err Fault) = Err (record {})
-
--- a reply, as the model's
-abbrev pub reply_of : Reply → model.Reply
-reply_of reply = record { body = reply.body.items; word = reply.word }
 
 -- a new session of a channel, for this user
 abbrev pub with_session_for : Kept → ℕ → Option Presented → Kept

@@ -30,6 +30,7 @@ pub record IsReady (card : Kept) (chip : Chip) : Type 0 where
 pub record IsAt (card : Kept) (chip : Chip) (m : Machine) : Type 0 where
   pub slots : Slots
   pub committed : committed_slots card.store chip.image ≡ Some slots
+  pub limit : m.committed.limit ≡ card.store.row_limit
   pub holds : Holds slots m.committed
   pub valid : IsValid m.committed
   pub transaction : m.transaction ≡ None

@@ -1,7 +1,6 @@
 pub mod Adding
 pub mod Answering
 pub mod Card
-pub mod Commands
 pub mod Creating
 pub mod Making
 pub mod Opening

@@ -2,11 +2,13 @@
 ghost use Rattle.std.specs.Prelude.{◌≡◌, ◌≢◌, ◌↔◌, ℕ, List, slice_get, ◌<◌, ◌≤◌, ◌+◌, ◌*◌, [], ◌∷◌, Some, None, true, false, map, is_some, length, option_map, IfSome, IfOk, OnOk, IsTrue, IsErrOf};
 ghost use Rattle.eeprom.specs.Chip.{Chip, Becomes};
 ghost use Rattle.eeprom.specs.Fault.{Counts, Rose};
-ghost use Rattle.eeprom.specs.StoreOf.{image_size};
+ghost use Rattle.eeprom.specs.StoreOf.{image_size, is_gate_open};
 ghost use Rattle.cell_store.specs.Reading.{ReadsAtMost};
 ghost use Rattle.record_store.specs.Held.{StandsFor};
+ghost use Rattle.record_store.specs.Faults.{is_open_fault};
 ghost use Rattle.record_store.specs.Opening.{most_octets};
-ghost use Rattle.scql_model.specs.Commands as model;
+ghost use Rattle.record_store.specs.Recovery.{Recovers};
+ghost use Rattle.scql_model.specs.Replies as model;
 ghost use Rattle.scql_model.specs.Machine as machine;
 ghost use Rattle.scql_model.specs.Step as stepping;
 ghost use Rattle.scql_model.specs.Opens.{Opens};
@@ -14,8 +16,7 @@ ghost use Rattle.scql_base.specs.Words.{done, memory_failure};
 ghost use Rattle.scql_model.specs.Database.{Database, fresh};
 ghost use Rattle.eeprom.specs.Image.{overwrite};
 ghost use Rattle.card.specs.Card.{Kept, IsReady, IsAt, committed_slots, fresh_card};
-ghost use Rattle.card.specs.Answering.{Answers, IsDoneOrStays, LeavesOneOf, Performs, answer_to, committed_at_once, reply_of, with_session_for};
-ghost use Rattle.card.specs.Commands.{is_built};
+ghost use Rattle.card.specs.Answering.{Answers, IsDoneOrStays, LeavesOneOf, Performs, answer_to, committed_at_once, with_session_for};
 ghost use Rattle.card.specs.Creating.{IsAddition, IsCounter};
 ghost use Rattle.card.specs.Making.{LeavesMade};
 ghost use Rattle.card.specs.Opening.{ReadsCard};
@@ -23,7 +24,7 @@ ghost use Rattle.card.specs.Sessions.{proved_user, sessions_of};
 ghost use Rattle.scql_base.specs.declared.operation.Operation.TheVariants as operation;
 ghost use Rattle.scql_model.specs.Creating.{created};
 ghost use Rattle.scql_model.specs.Sessions.{AreIdle};
-ghost use Rattle.scql_model.specs.Operations.{kind_of};
+ghost use Rattle.scql_model.specs.Operations.{IsBuilt, kind_of};
 ghost use Rattle.scql_model.specs.WellFormed.{HasForm, IsWellFormed};
 ghost use Rattle.scql_base.specs.declared.words.Actor.{Actor};
 ghost use Rattle.scql_base.specs.declared.words.Profile.{Profile};
@@ -31,21 +32,18 @@ ghost use Rattle.std.specs.Option.{option_flatten};
 
 use crate::adding::add_and_change;
 use crate::coding::{Counter, encode_user, owner};
-use crate::command::CommandApdu;
 use crate::creating::{Addition, Prepared, prepare_user};
 use crate::opening::{Opened, open_records};
-use crate::reply::{Outcome, Reply};
+use crate::outcome::Outcome;
 use crate::session::Session;
 use crate::users::{Wanted, find_user};
 use crate::validity::are_valid;
+use apdu::{CommandApdu, Reply};
 use eeprom::{Eeprom, EepromFault};
 use record_store::{FormatRefusal, OpenRefusal, RecordOctets, Store, StoreRefusal};
 use scql_base::{Actor, Command, Name, Octets, Operation, Presented, Profile, StatusWord};
 use std::alloc::Global;
 use std::marker::Model;
-
-// The octets that a row may have. Cards with longer rows aren't opened yet.
-const ROW_LIMIT: u16 = 240;
 
 /// A card, which answers commands over the EEPROM that it was opened on.
 #[derive(Drop)]
@@ -89,18 +87,20 @@ impl Card {
         Store::format(bench, n, &counter, &user)
     }
 
-    /// Opens the card of an EEPROM, where its image opens to a database. Channel 0 is open, without a user.
-    /// As many octets are read as begin the image, and as the cells of the records have. The records are let go at the end.
+    /// Opens the card of an EEPROM, where its image opens to a database. Channel 0 is open, without a user. A commit that was cut
+    /// short behind an open gate is redone first. The records are let go at the end.
     pub fn open<B: Eeprom>(alloc: Global, bench: &mut B) -> Result<Card, OpenRefusal>
         ensures opens { IfOk result (λ card. IfSome (B.chip bench.old).image (λ image. (db : Database) × Opens image db)) }
         ensures starts { IfOk result (λ card. IfSome (B.chip bench.old).image (λ image.
             (db : Database) → Opens image db → IsAt card (B.chip bench.new) (machine.start db))) }
         ensures ready { IfOk result (λ card. IsReady card (B.chip bench.new)) }
-        ensures octets_read { OnOk result (IfSome (B.chip bench.old).image (λ image. (db : Database) → Opens image db
+        // Where the gate is closed as many octets are read as begin the image, and as the cells of the records have.
+        ensures octets_read { OnOk result (IfSome (B.chip bench.old).image (λ image. (db : Database) → Opens image db → is_gate_open image ≡ false
             → Becomes (ReadsCard db) (B.octets_read bench.old) (B.octets_read bench.new))) }
         ensures most_read { Becomes (ReadsAtMost most_octets) (B.octets_read bench.old) (B.octets_read bench.new) }
         ensures not_a_card { IsErrOf result OpenRefusal.NotACard → IfSome (B.chip bench.old).image (λ image. (db : Database) → Opens image db → ⊥) }
-        ensures same { B.chip bench.new ≡ B.chip bench.old }
+        // A power loss leaves an image that opens as before, also where it is refused; and where the gate is closed nothing is written.
+        ensures recovers { Recovers is_open_fault B.chip B.faults bench.old bench.new result }
         ensures fault { IsErrOf result OpenRefusal.Fault → Rose (B.faults bench.old) (B.faults bench.new) }
         ensures quiet { ¬ IsErrOf result OpenRefusal.Fault → B.faults bench.new ≡ B.faults bench.old }
         ensures never_falls { B.faults bench.old ≤ B.faults bench.new }
@@ -120,11 +120,11 @@ impl Card {
     pub fn answer<B: Eeprom>(&mut self, bench: &mut B, command: &[u8], reply: &mut Reply) -> Outcome
         requires ready { IsReady self.old (B.chip bench.old) }
         ensures step { (m : machine.Machine) → IsAt self.old (B.chip bench.old) m → result ≡ Outcome.Replied
-            → Answers (stepping.step m command.now) (reply_of reply.new) self.new (B.chip bench.new) }
+            → Answers (stepping.step m command.now) reply.new self.new (B.chip bench.new) }
         ensures ready { result ≡ Outcome.Replied → IsReady self.new (B.chip bench.new) }
         ensures quiet { result ≡ Outcome.Replied → B.faults bench.new ≡ B.faults bench.old }
         // A mute card says so, and answers no more.
-        ensures mute { result ≡ Outcome.Mute → (reply.new.body.items ≡ []) × (reply.new.word ≡ memory_failure) × (self.new.live ≡ false) }
+        ensures mute { result ≡ Outcome.Mute → (reply.new.body ≡ []) × (reply.new.word ≡ memory_failure) × (self.new.live ≡ false) }
         ensures cause { result ≡ Outcome.Mute → Rose (B.faults bench.old) (B.faults bench.new) }
         ensures never_falls { B.faults bench.old ≤ B.faults bench.new }
         ensures still { (B.chip bench.new).still ≡ (B.chip bench.old).still }
@@ -182,7 +182,7 @@ impl Card {
         // None of the operations that are built answers another word than done where it changes the machine.
         ensures done_or_stays { (m : machine.Machine) → IsAt self.old (B.chip bench.old) m → IsDoneOrStays m (stepping.step m command.now) }
     {
-        match Command::read(command, self.open_channels(), ROW_LIMIT) {
+        match Command::read(command, self.open_channels(), self.store.row_limit()) {
             Err(word) => Ok(word),
             Ok(command) => self.carry_out(bench, command),
         }
@@ -195,7 +195,7 @@ impl Card {
     ) -> Result<StatusWord, EepromFault>
         requires ready { IsReady self.old (B.chip bench.old) }
         requires formed { IsWellFormed command }
-        requires built { is_built (kind_of command.operation) ≡ true }
+        requires built { IsBuilt (kind_of command.operation) }
         requires idle { AreIdle self.old.sessions }
         ensures performs { (m : machine.Machine) → IsAt self.old (B.chip bench.old) m
             → Performs m (stepping.answered m (stepping.carried_out m command)) result self.new (B.chip bench.old) (B.chip bench.new) }

@@ -1,12 +1,12 @@
 // The records of a store, gathered as it is opened: one counter, and users of different stamps.
-ghost use Rattle.std.specs.Prelude.{◌≡◌, ◌≢◌, OnErr, ◌+◌, ◌*◌, ◌≤◌, [], ◌∷◌, ◌++◌, Some, None, false, IfSome, IfOk, OnOk, IsErrOf, count_by};
+ghost use Rattle.std.specs.Prelude.{◌≡◌, ◌≢◌, OnErr, ◌+◌, ◌*◌, ◌≤◌, [], ◌∷◌, ◌++◌, Some, None, false, is_some, IfSome, IfOk, OnOk, IsErrOf, count_by};
 ghost use Rattle.eeprom.specs.Chip.{Becomes};
-ghost use Rattle.eeprom.specs.Frame.{Reads};
-ghost use Rattle.eeprom.specs.StoreOf.{Slots, store_of};
+ghost use Rattle.eeprom.specs.StoreOf.{Slots, Stored, store_of, is_gate_open};
 ghost use Rattle.eeprom.specs.Slots.{has, place};
 ghost use Rattle.cell_store.specs.Reading.{ReadsAtMost};
 ghost use Rattle.record_store.specs.Faults.{is_open_fault};
-ghost use Rattle.record_store.specs.Held.{IsOver, contents};
+ghost use Rattle.record_store.specs.Held.{IsOver, stored};
+ghost use Rattle.record_store.specs.Recovery.{Recovers};
 ghost use Rattle.record_store.specs.Opening.{ReadsStore, most_octets, slot_with};
 ghost use Rattle.record_store.specs.declared.side.Side.TheVariants.{Committed};
 ghost use Rattle.scql_base.specs.declared.records.User.{User};
@@ -41,19 +41,20 @@ struct Found {
     users: BTreeMap<u32, User>,
 }
 
-/// Opens a store, and gathers the record of each slot as it is claimed. There is one counter, and no two users have one stamp.
+/// Opens a store, and gathers the record of each slot as it is claimed. A journal behind an open gate is replayed first. There is one counter, and no two users have one stamp.
 pub(crate) fn open_records<B: Eeprom>(alloc: Global, bench: &mut B) -> Result<Opened, OpenRefusal>
-    ensures over { IfOk result (λ opened. IsOver opened.store (B.chip bench.old)) }
-    ensures stored { IfOk result (λ opened. IfSome (B.chip bench.old).image (λ image. store_of image ≡ contents opened.store Committed image)) }
+    ensures over { IfOk result (λ opened. IsOver opened.store (B.chip bench.new)) }
+    ensures told { OnOk result (is_some (B.chip bench.new).image ≡ is_some (B.chip bench.old).image) }
+    ensures stored { IfOk result (λ opened. IfSome (B.chip bench.new).image (λ image. store_of image ≡ stored opened.store Committed image)) }
     ensures idle { IfOk result (λ opened. opened.store.begun ≡ false) }
-    ensures gathers { IfOk result (λ opened. IfSome (B.chip bench.old).image (λ image. (slots : Slots) → store_of image ≡ Some slots
-        → Gathers slots (opened.records.next ∷ []) (users_of opened.records.users))) }
+    ensures gathers { IfOk result (λ opened. IfSome (B.chip bench.new).image (λ image. (was : Stored) → store_of image ≡ Some was
+        → Gathers was.slots (opened.records.next ∷ []) (users_of opened.records.users))) }
     ensures by_stamp { IfOk result (λ opened. AreByStamp opened.records.users.entries) }
-    ensures octets_read { IfOk result (λ opened. IfSome (B.chip bench.old).image (λ image. (slots : Slots) → store_of image ≡ Some slots
-        → Becomes (ReadsStore opened.store.chains.cells slots) (B.octets_read bench.old) (B.octets_read bench.new))) }
+    ensures octets_read { IfOk result (λ opened. IfSome (B.chip bench.old).image (λ image. (was : Stored) → store_of image ≡ Some was → is_gate_open image ≡ false
+        → Becomes (ReadsStore opened.store.chains.cells was.slots) (B.octets_read bench.old) (B.octets_read bench.new))) }
     ensures most_read { Becomes (ReadsAtMost most_octets) (B.octets_read bench.old) (B.octets_read bench.new) }
-    ensures not_a_card { IsErrOf result OpenRefusal.NotACard → IfSome (B.chip bench.old).image (λ image. (slots : Slots) → store_of image ≡ Some slots → HoldNone slots) }
-    ensures frame { Reads is_open_fault B.chip B.faults bench.old bench.new result }
+    ensures not_a_card { IsErrOf result OpenRefusal.NotACard → IfSome (B.chip bench.old).image (λ image. (was : Stored) → store_of image ≡ Some was → HoldNone was.slots) }
+    ensures frame { Recovers is_open_fault B.chip B.faults bench.old bench.new result }
 {
     let mut opening = Opening::new(alloc, bench)?;
     let mut octets = RecordOctets::new();

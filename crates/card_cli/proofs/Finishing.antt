@@ -1,12 +1,17 @@
 -- How the run of a card ends that was opened.
-use Rattle.std.proofs.Common.{◌≡◌, ℕ, ◌<◌, ◌≤◌, true, List, length, Option, Some, None, refl, sym, ap, subst, ◌∙◌, arith, inl}
+use Rattle.std.proofs.Common.{◌≡◌, ◌⊎◌, ℕ, ◌<◌, ◌≤◌, true, false, List, length, Option, Some, None, refl, sym, ap, subst, ◌∙◌, arith, inl, inr}
 use Rattle.std.specs.Prelude.{IsSome, IfSome}
 use Rattle.eeprom.specs.Chip.{Chip, Becomes}
-use Rattle.scql_model.specs.Database.{Database}
+use Rattle.scql_model.specs.Database.{Database, fresh}
 use Rattle.scql_model.specs.Machine.{Machine, start}
 use Rattle.scql_model.specs.Lines.{lines, run_text}
 use Rattle.scql_model.specs.Opens.{Opens}
-use Rattle.card.specs.Making.{OpensToNone}
+use Rattle.eeprom.specs.StoreOf.{store_of, is_gate_open}
+use Rattle.eeprom.proofs.Moments.{throughout-then}
+use Rattle.record_store.specs.Recovery.{KeepsStore}
+use Rattle.record_store.proofs.Fronts.{Keeps-then}
+use Rattle.card.specs.Making.{LeavesMade, OpensAsBefore, OpensToNone}
+use Rattle.card.proofs.Starting.{opens-same}
 use Rattle.card.specs.Card.{Kept, IsAt}
 use Rattle.card_cli.specs.declared.words.Form.{Form}
 use Rattle.card_cli.specs.declared.words.Form.TheVariants.{New, Apdu}
@@ -31,19 +36,26 @@ open_to chip told opens = of_image chip.image told opens
     of_image None told opens = absurd cc
     of_image (Some image) told opens = (opens.0, (image, refl, opens.1))
 
-pub opens_if_told : (chip : Chip) (db : Database) → IsOpenTo chip db → IfSome chip.image (λ (image : List ℕ). Opens image db)
-opens_if_told chip db opens = subst (λ (o : Option (List ℕ)). IfSome o (λ (image : List ℕ). Opens image db)) (sym opens.1) opens.2
-
 -- an EEPROM that is open to a database isn't one that opens to none
 pub not_to_none : (chip : Chip) (db : Database) → IsOpenTo chip db → IfSome chip.image OpensToNone → ⊥
 not_to_none chip db opens none = subst (λ (o : Option (List ℕ)). IfSome o OpensToNone) opens.1 none db opens.2
 
 -- where a card is lacking none was opened
-pub lacks_none : (form : Form) (old mid : Chip) → LacksCard form old → LeavesUntilOpen form old mid → IfSome mid.image (λ (image : List ℕ). (db : Database) × Opens image db) → ⊥
-lacks_none (New n) old mid lacks leaves opens = lacks
-lacks_none Apdu old mid lacks leaves opens =
-    let found = subst (λ (o : Option (List ℕ)). IfSome o (λ (image : List ℕ). (db : Database) × Opens image db)) (ap (λ (chip : Chip). chip.image) leaves ∙ lacks.1) opens in
-    lacks.2 found.0 found.1
+pub lacks_none : (form : Form) (old mid : Chip) → LacksCard form old → LeavesUntilOpen form old mid → (IsSome old.image → IsSome mid.image) → IfSome mid.image (λ (image : List ℕ). (db : Database) × Opens image db) → ⊥
+lacks_none (New n) old mid lacks leaves told opens = lacks
+lacks_none Apdu old mid lacks leaves told opens = found mid.image refl (told (subst (λ (o : Option (List ℕ)). IsSome o) (sym lacks.1) refl)) opens
+  where
+    found : (o : Option (List ℕ)) → mid.image ≡ o → IsSome o → IfSome o (λ (image : List ℕ). (db : Database) × Opens image db) → ⊥
+    found None is some opens = absurd cc
+    found (Some left) is some opens =
+        let at = leaves.keeps.image left is in
+        let same : at.0 ≡ lacks.0 = cc (at.1, lacks.1) in
+        lacks.2 opens.0 (subst (λ (image : List ℕ). Opens image opens.0) same (opens-same left at.0 at.2 opens.0 opens.1))
+
+-- and what was there keeps its store
+pub lacks_keeps : (form : Form) (old new : Chip) → LacksCard form old → LeavesUntilOpen form old new → KeepsStore old new
+lacks_keeps (New n) old new lacks leaves = absurd lacks
+lacks_keeps Apdu old new lacks leaves = leaves
 
 -- what is told of the whole input is told of this one
 becomes-at : (P : List ℕ → List ℕ → Type 0) (start now : Option (List ℕ)) (input left : List ℕ) → start ≡ Some input → now ≡ Some left → Becomes (λ i l. P i l) start now → P input left
@@ -72,6 +84,61 @@ pub same_faults : (a b s c d : ℕ) → a ≡ b → c ≡ d
     → (let first : AllFaults = record { eeprom = a; source = s; outlet = c } in let second : AllFaults = record { eeprom = b; source = s; outlet = d } in first ≡ second)
 same_faults a b s c d p q = rw (p, q) refl
 
--- what was left until a card was open, where nothing happens afterwards
-pub until_same : (form asked : Form) (old mid new : Chip) → form ≡ asked → new ≡ mid → LeavesUntilOpen form old mid → LeavesUntilOpen asked old new
-until_same form asked old mid new same stays leaves = subst (λ (chip : Chip). LeavesUntilOpen asked old chip) (sym stays) (subst (λ (f : Form). LeavesUntilOpen f old mid) same leaves)
+-- an EEPROM that was open to a database is so after it was opened
+pub kept_open : (mid new : Chip) (db : Database) → KeepsStore mid new → IsOpenTo mid db → IfSome new.image (λ (image : List ℕ). Opens image db)
+kept_open mid new db keeps opens = found new.image refl
+  where
+    found : (o : Option (List ℕ)) → new.image ≡ o → IfSome o (λ (image : List ℕ). Opens image db)
+    found None is = tt
+    found (Some left) is =
+        let at = keeps.keeps.image left is in
+        let same : opens.0 ≡ at.0 = cc (opens.1, at.1) in
+        opens-same opens.0 left (ap store_of same ∙ sym at.2) db opens.2
+
+-- nothing happens, or more is done
+pub keeps_same : (chip : Chip) → KeepsStore chip chip
+keeps_same chip = record {
+  keeps = record { still = refl; image = λ now told. (now, told, refl); later = omega arith; only = λ t g left since there. inl there };
+  closed = nothing chip.image;
+}
+  where
+    nothing : (image : Option (List ℕ)) → IfSome image (λ image. is_gate_open image ≡ false → chip ≡ chip)
+    nothing None = tt
+    nothing (Some image) = λ closed. refl
+
+keeps_then : (old mid new : Chip) → KeepsStore old mid → KeepsStore mid new → KeepsStore old new
+keeps_then old mid new first second = record { keeps = Keeps-then store_of old mid new first.keeps second.keeps; closed = both old.image refl first.closed }
+  where
+    both : (image : Option (List ℕ)) → old.image ≡ image → IfSome image (λ image. is_gate_open image ≡ false → mid ≡ old) → IfSome image (λ image. is_gate_open image ≡ false → new ≡ old)
+    both None is closed = tt
+    both (Some image) is closed = λ shut.
+        let same : mid ≡ old = closed shut in
+        let told : mid.image ≡ Some image = ap (λ (chip : Chip). chip.image) same ∙ is in
+        subst (λ (o : Option (List ℕ)). IfSome o (λ image. is_gate_open image ≡ false → new ≡ mid)) told second.closed shut ∙ same
+
+-- an image that may be left while a card is made, or has the same store as one
+made_alike : (n : ℕ) (old : Chip) (left was : List ℕ) → store_of left ≡ store_of was → OpensAsBefore old was ⊎ (OpensToNone was ⊎ Opens was (fresh n)) → OpensAsBefore old left ⊎ (OpensToNone left ⊎ Opens left (fresh n))
+made_alike n old left was same (inl before) = inl (before.0, before.1, λ db. (λ opens. (before.2 db).0 (opens-same left was same db opens), λ opens. opens-same was left (sym same) db ((before.2 db).1 opens)))
+made_alike n old left was same (inr (inl none)) = inr (inl (λ db opens. none db (opens-same left was same db opens)))
+made_alike n old left was same (inr (inr opens)) = inr (inr (opens-same was left (sym same) (fresh n) opens))
+
+made_then : (n : ℕ) (old mid new : Chip) → LeavesMade n old mid → KeepsStore mid new → LeavesMade n old new
+made_then n old mid new made keeps = throughout-then old mid new _ made (record {
+  later = keeps.keeps.later;
+  only = λ t g left since there. elim (keeps.keeps.only t g left since there) [
+    | inl before ↦ inl before
+    | inr at ↦ inr (let here = made.now at.1 at.2 in (at.0 ∙ here.0, made_alike n old left at.1 at.3 here.1))
+  ];
+  now = λ image told.
+      let at = keeps.keeps.image image told in
+      let here = made.now at.0 at.1 in
+      (ap (λ still. still.mark) keeps.keeps.still ∙ here.0, made_alike n old image at.0 at.2 here.1);
+})
+
+-- what is left until a card is open, from what is left until it is there
+pub until_open : (form asked : Form) (old mid new : Chip) → form ≡ asked → KeepsStore mid new → LeavesUntilOpen form old mid → LeavesUntilOpen asked old new
+until_open form asked old mid new same keeps leaves = of_form asked (subst (λ (f : Form). LeavesUntilOpen f old mid) same leaves)
+  where
+    of_form : (asked : Form) → LeavesUntilOpen asked old mid → LeavesUntilOpen asked old new
+    of_form (New n) made = made_then n old mid new made keeps
+    of_form Apdu first = keeps_then old mid new first keeps

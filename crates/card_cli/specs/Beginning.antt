@@ -3,6 +3,7 @@ use Rattle.std.specs.Prelude.{◌≡◌, ℕ, ◌+◌, ◌*◌, ◌≤◌, List,
 use Rattle.eeprom.specs.Chip.{Chip}
 use Rattle.scql_model.specs.Database.{Database, fresh}
 use Rattle.scql_model.specs.Opens.{Opens}
+use Rattle.record_store.specs.Recovery.{KeepsStore}
 use Rattle.card.specs.Making.{LeavesMade, OpensToNone}
 use Rattle.card_cli.specs.declared.words.Form.{Form}
 use Rattle.card_cli.specs.declared.words.Form.TheVariants.{New, Apdu}
@@ -34,10 +35,10 @@ pub record FindsNoCard (words : List (List ℕ)) (chip : Chip) : Type 0 where
   pub asked : form_in words ≡ Some form
   pub lacks : LacksCard form chip
 
--- Until the card is open a power loss leaves what it leaves while a card is made; opening one that is there writes nothing.
+-- Until the card is open a power loss leaves what it leaves while a card is made; or, where one is there, what it leaves while that is opened.
 abbrev pub LeavesUntilOpen : Form → Chip → Chip → Type 0
 LeavesUntilOpen (New n) old opened = LeavesMade n old opened
-LeavesUntilOpen Apdu old opened = opened ≡ old
+LeavesUntilOpen Apdu old opened = KeepsStore old opened
 
 -- The run ended before it read a line: the source is as it was, nothing was given, and the EEPROM is as it may be until the card is open.
 pub record EndsUnread {S : Type 0} (words : List (List ℕ)) (before after : S) (old new : Chip) : Type 0 where

@@ -5,7 +5,6 @@ ghost use Rattle.scql_model.specs.Machine.{Machine};
 ghost use Rattle.scql_model.specs.Step.{step};
 ghost use Rattle.scql_model.specs.Lines as model;
 ghost use Rattle.card.specs.Card.{IsReady, IsAt};
-ghost use Rattle.card.specs.Answering.{reply_of};
 ghost use Rattle.card_cli.specs.Line.{line_octets, line_content};
 ghost use Rattle.card_cli.specs.RunState.{Prints, Feeds, Faults, Causes};
 ghost use Rattle.card_cli.specs.CutOff.{FailsIn, IsCutShort};
@@ -16,8 +15,9 @@ ghost use Rattle.eeprom.specs.Fault.{Counts};
 
 use crate::line::{Line, LineContent};
 use crate::stop::Stop;
+use apdu::Reply;
 use arrayvec::ArrayVec;
-use card::{Card, Outcome, Reply};
+use card::{Card, Outcome};
 use eeprom::{Bench, SinkFault};
 use scql_base::StatusWord;
 
@@ -129,7 +129,7 @@ fn answer_command<B: Bench>(card: &mut Card, bench: &mut B, octets: &[u8]) -> Re
 
 // A reply in hexadecimal, with a line feed.
 fn reply_text(reply: &Reply) -> ArrayVec<u8, LONGEST_ANSWER>
-    ensures { result.items ≡ encode_upper (model.reply_octets (reply_of reply.now)) ++ codes "\n" }
+    ensures { result.items ≡ encode_upper (model.reply_octets reply.now) ++ codes "\n" }
 {
     let mut octets: ArrayVec<u8, 258> = ArrayVec::new();
     put(&mut octets, &reply.body);

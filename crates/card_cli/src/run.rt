@@ -6,6 +6,7 @@ ghost use Rattle.eeprom.specs.Fault.{Rose};
 ghost use Rattle.scql_model.specs.Database.{Database};
 ghost use Rattle.scql_model.specs.Machine.{start};
 ghost use Rattle.scql_model.specs.Lines.{lines, run_text};
+ghost use Rattle.record_store.specs.Recovery.{KeepsStore};
 ghost use Rattle.card.specs.Making.{OpensToNone};
 ghost use Rattle.card_cli.specs.Words.{form_in, IsWithinLimits};
 ghost use Rattle.card_cli.specs.declared.stop.Stop.TheVariants as stop;
@@ -36,13 +37,13 @@ pub fn run_card<S: Source, B: Bench>(
     ensures too_small { (result ≡ Status.TooSmall) ↔ ((n : ℕ) × (form_in (map string_bytes words.now) ≡ Some (Form.New n)) × ((B.chip bench.old).still.size < 70 * n + 34)) }
     // In both cases nothing is read, given or written.
     ensures untouched { (result ≡ Status.Usage) ⊎ (result ≡ Status.TooSmall) → (source.new ≡ source.old) × (bench.new ≡ bench.old) }
-    // Without memory or a card no line is read and nothing is given, and an image that was to be opened stays as it was.
+    // Without memory or a card no line is read and nothing is given, and an image that was to be opened has the store that it had.
     ensures unread { (result ≡ Status.NoMemory) ⊎ (result ≡ Status.NotACard) → EndsUnread (map string_bytes words.now) source.old source.new (B.chip bench.old) (B.chip bench.new) }
     // The words ask for the card that is there, and the image, where told, opens to no database;
     ensures not_a_card { result ≡ Status.NotACard → IsSome (B.chip bench.old).image → FindsNoCard (map string_bytes words.now) (B.chip bench.old) }
-    // and then the run ends so, unless the EEPROM fails or there is no memory: nothing is read, given or written.
+    // and then the run ends so, unless the EEPROM fails or there is no memory: nothing is read or given, and the image keeps what store it has.
     ensures no_card { FindsNoCard (map string_bytes words.now) (B.chip bench.old)
-        → IsWithoutCard result × (source.new ≡ source.old) × (B.chip bench.new ≡ B.chip bench.old) }
+        → IsWithoutCard result × (source.new ≡ source.old) × KeepsStore (B.chip bench.old) (B.chip bench.new) }
     // A run that reads its input has a database with which it began, where the image is told.
     ensures begins { has_read result ≡ true → IsSome (B.chip bench.old).image → (db : Database) × BeginsWith (map string_bytes words.now) (B.chip bench.old) db }
     // The input was read to its end, or more came than a run takes.

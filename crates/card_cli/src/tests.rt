@@ -11,7 +11,7 @@ use std::test::Fail;
 
 /// The image of a fresh card of 16 cells: what stands at which place. All else is 00.
 const FRESH_CARD: [(usize, &[u8]); 5] = [
-    (0, &[0x53, 0x43, 0x51, 0x4C, 0x01, 0x00, 0x00, 0x10, 0x00]),
+    (0, &[0x53, 0x43, 0x51, 0x4C, 0x02, 0x00, 0x00, 0x10, 0x00]),
     (32, &[0x00, 0x00, 0x00, 0x01]),
     (36, &[0xFF; 28]),
     (130, &[0xFF, 0xFF, 0x00, 0x05, 0x00, 0x00, 0x00, 0x00, 0x02]),
@@ -25,10 +25,12 @@ const FRESH_CARD: [(usize, &[u8]); 5] = [
 ];
 
 /// What is different in it after OWNER made ANN, a basic user.
-const WITH_ANN: [(usize, &[u8]); 5] = [
-    (8, &[0x01]),
-    (64, &[0x00, 0x03, 0x00, 0x01, 0x00, 0x02]),
-    (70, &[0xFF; 26]),
+const WITH_ANN: [(usize, &[u8]); 4] = [
+    (32, &[0x00, 0x03, 0x00, 0x01, 0x00, 0x02]),
+    (
+        64,
+        &[0x00, 0x02, 0x00, 0x00, 0x00, 0x03, 0x00, 0x02, 0x00, 0x02],
+    ),
     (
         194,
         &[
@@ -112,6 +114,11 @@ fn fresh_card(alloc: Global) -> Result<Vec<u8>, AllocError> {
     let mut image = vec![in alloc; 0u8; 1154]?;
     lay(image.as_mut_slice(), &FRESH_CARD);
     Ok(image)
+}
+
+// Whether an image's gate is open.
+fn is_open(image: &[u8]) -> bool {
+    image.get(8).is_some_and(|gate| *gate % 2 == 1)
 }
 
 fn words_of(alloc: Global, words: &[&str]) -> Result<Vec<String>, AllocError> {

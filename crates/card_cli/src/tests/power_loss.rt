@@ -1,5 +1,6 @@
-// Power is lost within each write of a run: the image opens, and has each user whose making was answered.
-use super::{WITH_ANN, fresh_card, lay, no_faults, run_over};
+// Power is lost within each write of a run, and of each opening after that: the image opens, and has each user whose making was
+// answered.
+use super::{WITH_ANN, fresh_card, is_open, lay, no_faults, run_over};
 use crate::status::Status;
 use eeprom::MemBench;
 use std::alloc::{AllocError, Global};
@@ -26,28 +27,61 @@ const ANSWERS: [&str; 4] = [
 ];
 
 /// What a power loss left.
-#[derive(Clone, Copy)]
+#[derive(Clone, Copy, PartialEq, Eq)]
 enum Left {
     NoCard,
     /// A card with so many of the three users.
     Users(usize),
-    /// The run over it ended in another way, or wrote.
+    /// A run over it ended in another way, or wrote what it needn't.
     Else,
 }
 
+/// What power is lost with: each octet in the range of the write has this value.
+const FILLS: [u8; 3] = [0x00, 0xFF, 0x5A];
+
+// Opens an image twice. Power is lost in each write of the first opening too, and that image is opened twice as well.
 fn look_at(alloc: Global, image: &[u8]) -> Result<Left, AllocError> {
-    let (status, bench) = run_over(alloc, &["apdu"], PRESENT_THREE, image, no_faults(alloc))?;
-    if bench.writes() != 0 || bench.image() != image {
-        return Ok(Left::Else);
+    let (left, bench) = open_twice(alloc, image)?;
+    for write in 0..bench.writes() {
+        for fill in FILLS {
+            let Some(cut) = bench.image_within(alloc, write, fill)? else {
+                return Ok(Left::Else);
+            };
+            let (found, _) = open_twice(alloc, &cut)?;
+            if found != left {
+                return Ok(Left::Else);
+            }
+        }
     }
-    Ok(match status {
+    Ok(left)
+}
+
+// What two openings find, one after another, and the bench of the first. The first writes only where the gate is open, and the
+// second nothing.
+fn open_twice(alloc: Global, image: &[u8]) -> Result<(Left, MemBench), AllocError> {
+    let (first, bench) = open_once(alloc, image)?;
+    let (second, again) = open_once(alloc, bench.image())?;
+    let is_quiet = is_open(image) || bench.writes() == 0;
+    let is_kept = again.writes() == 0 && again.image() == bench.image();
+    let left = if first == second && is_quiet && is_kept {
+        first
+    } else {
+        Left::Else
+    };
+    Ok((left, bench))
+}
+
+fn open_once(alloc: Global, image: &[u8]) -> Result<(Left, MemBench), AllocError> {
+    let (status, bench) = run_over(alloc, &["apdu"], PRESENT_THREE, image, no_faults(alloc))?;
+    let left = match status {
         Status::NotACard => Left::NoCard,
         Status::Done => match users_by(bench.given()) {
-            Some(users) => Left::Users(users),
-            None => Left::Else,
+            Some(users) if !is_open(bench.image()) => Left::Users(users),
+            _ => Left::Else,
         },
         _ => Left::Else,
-    })
+    };
+    Ok((left, bench))
 }
 
 fn users_by(output: &[u8]) -> Option<usize> {
@@ -76,7 +110,7 @@ fn count_wrong(
 ) -> Result<usize, AllocError> {
     let mut wrong = 0usize;
     for write in 0..bench.writes() {
-        for fill in [0x00, 0xFF, 0x5A] {
+        for fill in FILLS {
             let found = bench.image_within(alloc, write, fill)?;
             let is_right = match (found, bench.given_at(write)) {
                 (Some(image), Some(given)) => {
@@ -90,6 +124,20 @@ fn count_wrong(
         }
     }
     Ok(wrong)
+}
+
+// How many of these images have an open gate, so that an opening has to write.
+fn count_open(alloc: Global, bench: &MemBench) -> Result<usize, AllocError> {
+    let mut open = 0usize;
+    for write in 0..bench.writes() {
+        for fill in FILLS {
+            let found = bench.image_within(alloc, write, fill)?;
+            if found.is_some_and(|image| is_open(&image)) {
+                open = open.saturating_add(1);
+            }
+        }
+    }
+    Ok(open)
 }
 
 #[test]
@@ -106,8 +154,10 @@ fn cut_in_each_write(rt: HostRuntime) -> Result<(), Fail> {
     for (words, image, before) in rows {
         let (status, bench) = run_over(alloc, words, MAKES_THREE, image, no_faults(alloc))?;
         assert!(rt; status == Status::Done, "{before:?}");
-        // Each user's record, directory and selector.
-        assert!(rt; 9 <= bench.writes(), "{before:?}");
+        // Each user's two records, journal, gate, directory and gate again.
+        assert!(rt; 18 <= bench.writes(), "{before:?}");
+        // For each user the first write of the gate with FF, each of the directory's two, and the last of the gate with FF.
+        assert!(rt; 24 <= count_open(alloc, &bench)?, "{before:?}");
         assert!(rt;
             matches!(look_at(alloc, bench.image())?, Left::Users(3)),
             "{before:?}"

@@ -22,7 +22,7 @@ fn full_card(alloc: Global) -> Result<Vec<u8>, AllocError> {
         &[
             (
                 0,
-                [0x53, 0x43, 0x51, 0x4C, 0x01, 0x00, 0x08, 0x00].as_slice(),
+                [0x53, 0x43, 0x51, 0x4C, 0x02, 0x00, 0x08, 0x00].as_slice(),
             ),
             (FIRST_CELL, counter.as_slice()),
             (FIRST_CELL + 32, owner.as_slice()),
@@ -75,14 +75,14 @@ fn digit(number: u16) -> u8 {
     b'0' + (number % 10) as u8
 }
 
-// A full card is opened with one read of its front, one of a directory, and one of each cell.
+// A full card is opened with one read of its front, one of its directory, and one of each cell.
 #[test]
 fn a_read_for_each_cell(rt: HostRuntime) -> Result<(), Fail> {
     let alloc = rt.alloc();
     let image = full_card(alloc)?;
     let (status, bench) = run_over(alloc, &["apdu"], "", &image, no_faults(alloc))?;
     assert!(rt; status == Status::Done);
-    assert_eq!(rt; bench.octets_read(), 9 + 2 * 2048 + 32 * 2048);
+    assert_eq!(rt; bench.octets_read(), 11 + 2 * 2048 + 32 * 2048);
     for (number, status) in [(2049, Status::Eeprom), (2050, Status::Done)] {
         let mut plan = no_faults(alloc);
         plan.reads.push(number)?;

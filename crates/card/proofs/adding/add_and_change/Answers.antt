@@ -22,6 +22,7 @@ returns-in-Err-Full-clause-adds g c = record {
   stands = λ is. if_some-then (StandsFor c.write_both-written.new.store) (StandsFor c.rollback.new.self) (g.B.Eeprom.chip c.write_both-written.new.bench).image c.rollback.ensures.stands
       (c.write_both-written.ensures.adds.stands (search rules));
   cells = search rules;
+  rows = search rules;
   still = search rules;
   moments = moments g (goal.at.returns-in-Err-Full-clause-adds g c).After-write_both-written;
 }
@@ -48,6 +49,7 @@ returns-clause-adds g c = record {
   full = search rules;
   stands = search rules;
   cells = search rules;
+  rows = search rules;
   still = search rules;
   moments = moments g (goal.at.returns-clause-adds g c).After-write_both-written;
 }
@@ -60,6 +62,7 @@ returns-2-clause-adds g c = record {
   full = search rules;
   stands = search rules;
   cells = search rules;
+  rows = search rules;
   still = search rules;
   moments = moments g (goal.at.returns-2-clause-adds g c).After-write_both-written;
 }

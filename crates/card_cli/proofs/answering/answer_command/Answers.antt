@@ -7,7 +7,7 @@ use Rattle.scql_model.specs.Machine.{Machine}
 use Rattle.scql_model.specs.Opens.{Opens}
 use Rattle.card.specs.Card.{IsAt}
 use Rattle.card_cli.specs.Moments.{IsInLine, IsInAnswered}
-use Rattle.scql_model.specs.Commands.{Reply}
+use Rattle.scql_model.specs.Replies.{Reply}
 use Rattle.scql_model.specs.Step.{step}
 use Rattle.card.proofs.Leaving.{Opens-at}
 use Rattle.card_cli.proofs.Moving.{gives-throughout, line-moments, answered-moments}
@@ -61,7 +61,7 @@ returns-in_err-give-in-Replied-clause-fails g c = λ m at.
 mute : (g : _) (c : After-give-in-Mute g) → c.deref-in-Mute.result.now ≡ mute_text
 mute g c =
     let mute = c.in-Mute.ensures.mute refl in
-    c.deref-in-Mute.ensures.0 ∙ (c.reply_text-in-Mute.ensures ∙ mute_text-reply c.answer.new.reply.body.items c.answer.new.reply.word mute.0 mute.1)
+    c.deref-in-Mute.ensures.0 ∙ (c.reply_text-in-Mute.ensures ∙ mute_text-reply c.answer.new.reply.body c.answer.new.reply.word mute.0 mute.1)
 
 pub returns-in-Ok-clause-fails : goal.returns-in-Ok-clause-fails
 returns-in-Ok-clause-fails g c = λ m at.

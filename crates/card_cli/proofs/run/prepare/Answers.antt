@@ -3,7 +3,8 @@ use Rattle.std.proofs.Common.{ℕ, List, sym, subst}
 use Rattle.eeprom.specs.Image.{overwrite}
 use Rattle.card.specs.Card.{fresh_card}
 use Rattle.card_cli.specs.declared.words.Form.{Form}
-use Rattle.card_cli.specs.Beginning.{Begins}
+use Rattle.card_cli.specs.Beginning.{Begins, LeavesUntilOpen}
+use Rattle.card_cli.proofs.Finishing.{keeps_same}
 use Rattle.card_cli.proofs.Preparing.{begins-new, began-new}
 use Rattle.card_cli.proofs.run.prepare.Goals as goal
 
@@ -19,3 +20,6 @@ returns-in-New-clause-began g c =
 
 pub returns-in-Apdu-clause-began : goal.returns-in-Apdu-clause-began
 returns-in-Apdu-clause-began g c = λ db opens. (db, subst (λ (f : Form). Begins f (g.B.Eeprom.chip c.args.bench.now) db) (sym c.in-Apdu.is) opens)
+
+pub returns-in-Apdu-clause-leaves : goal.returns-in-Apdu-clause-leaves
+returns-in-Apdu-clause-leaves g c = subst (λ (f : Form). LeavesUntilOpen f (g.B.Eeprom.chip c.args.bench.now) (g.B.Eeprom.chip c.args.bench.now)) (sym c.in-Apdu.is) (keeps_same (g.B.Eeprom.chip c.args.bench.now))

@@ -1,5 +1,5 @@
 -- The card that was opened is at the start of the database with which the run begins; from there the run over its input tells how it ends.
-use Rattle.std.proofs.Common.{◌≡◌, ℕ, List, Option, inr, refl, sym, ap, subst, ◌∙◌}
+use Rattle.std.proofs.Common.{◌≡◌, ℕ, List, Option, inl, inr, refl, sym, ap, subst, ◌∙◌}
 use Rattle.std.specs.Prelude.{IfSome, map}
 use Rattle.std.specs.String.{string_bytes}
 use Rattle.eeprom.specs.Chip.{Chip, Still, Becomes}
@@ -7,19 +7,20 @@ use Rattle.scql_model.specs.Database.{Database}
 use Rattle.scql_model.specs.Machine.{start}
 use Rattle.scql_model.specs.Opens.{Opens}
 use Rattle.card.specs.Card.{IsAt}
+use Rattle.record_store.specs.Recovery.{KeepsStore}
 use Rattle.card_cli.specs.declared.status.Status.{Status}
 use Rattle.card_cli.specs.declared.status.Status.TheVariants.{Done, Eeprom, ReadFault, WriteFault, TooLong}
 use Rattle.card_cli.specs.declared.words.Form.{Form}
-use Rattle.card_cli.specs.Beginning.{IsOpenTo, BeginsWith, Begins, LacksCard}
+use Rattle.card_cli.specs.Beginning.{IsOpenTo, BeginsWith, Begins, LacksCard, FindsNoCard, EndsUnread}
 use Rattle.card_cli.specs.Ends.{AllFaults, EndsBy, EndsAs}
 use Rattle.card_cli.specs.Keeping.{KeepsTo}
-use Rattle.card_cli.proofs.Finishing.{is_at, open_to, opens_if_told, not_to_none, lacks_none, answers_all, same_faults, until_same}
+use Rattle.card_cli.proofs.Finishing.{is_at, open_to, kept_open, not_to_none, lacks_none, lacks_keeps, answers_all, same_faults, until_open}
 use Rattle.card_cli.proofs.run.run_card.Given as given
 use Rattle.card_cli.proofs.run.run_card.Goals as goal
-use Rattle.card_cli.proofs.run.run_card.Goals.{After-answer_input as Ended}
+use Rattle.card_cli.proofs.run.run_card.Goals.{After-answer_input as Ended, After-open as Opened}
 
 still : (g : given.Over) (c : Ended g) → (g.B.Eeprom.chip c.open.new.bench).still ≡ (g.B.Eeprom.chip c.args.bench.now).still
-still g c = ap (λ (chip : Chip). chip.still) c.open.ensures.same ∙ c.prepare.ensures.still
+still g c = c.open.ensures.recovers.store.keeps.still ∙ c.prepare.ensures.still
 
 -- no fault was counted until then
 no_fault : (g : given.Over) (c : Ended g) → g.B.Eeprom.faults c.open.new.bench ≡ g.B.Eeprom.faults c.args.bench.now
@@ -74,7 +75,7 @@ pub returns-in-Ok-open-clause-no_card : goal.returns-in-Ok-open-clause-no_card
 returns-in-Ok-open-clause-no_card g c = λ finds.
     let same : finds.form ≡ c.in-Some.form = cc (c.in-Some.ensures, finds.asked) in
     absurd (lacks_none c.in-Some.form (g.B.Eeprom.chip c.args.bench.now) (g.B.Eeprom.chip c.prepare.new.bench)
-    (subst (λ (f : Form). LacksCard f (g.B.Eeprom.chip c.args.bench.now)) same finds.lacks) c.in-Ok.ensures.leaves c.in-Ok-open.ensures.opens)
+    (subst (λ (f : Form). LacksCard f (g.B.Eeprom.chip c.args.bench.now)) same finds.lacks) c.in-Ok.ensures.leaves c.in-Ok.ensures.told c.in-Ok-open.ensures.opens)
 
 pub returns-in-Ok-open-clause-begins : goal.returns-in-Ok-open-clause-begins
 returns-in-Ok-open-clause-begins g c = λ read told.
@@ -109,8 +110,53 @@ returns-in-Ok-open-clause-moments g c = inr (λ db begins given left last.
       record {
         opened = now;
         still = still g run;
-        opens = subst (λ (chip : Chip). IfSome chip.image (λ (image : List ℕ). Opens image db)) (sym c.open.ensures.same) (opens_if_told mid db (opened g run db begins));
-        until = until_same c.in-Some.form begins.form old mid now same c.open.ensures.same c.in-Ok.ensures.leaves;
+        opens = kept_open mid now db c.open.ensures.recovers.store (opened g run db begins);
+        until = until_open c.in-Some.form begins.form old mid now same c.open.ensures.recovers.store c.in-Ok.ensures.leaves;
         runs = subst (λ (from : ℕ). KeepsTo c.answer_input.result from (g.B.Eeprom.faults c.answer_input.new.bench) (start db) moments.0 left now (g.B.Eeprom.chip c.answer_input.new.bench)) (no_fault g run) moments.2;
       },
     ))
+
+-- a run that ended before a line was read
+unread : (g : given.Over) (c : Opened g) → EndsUnread (map string_bytes c.args.words.now) c.args.source.now c.args.source.now (g.B.Eeprom.chip c.args.bench.now) (g.B.Eeprom.chip c.open.new.bench)
+unread g c = record {
+  source = refl;
+  given = ap (λ (s : Still). s.given) (c.open.ensures.recovers.store.keeps.still ∙ c.prepare.ensures.still);
+  leaves = λ form asked. until_open c.in-Some.form form (g.B.Eeprom.chip c.args.bench.now) (g.B.Eeprom.chip c.prepare.new.bench) (g.B.Eeprom.chip c.open.new.bench) (cc (c.in-Some.ensures, asked)) c.open.ensures.recovers.store c.in-Ok.ensures.leaves;
+}
+
+pub returns-in-Err-NotACard-clause-unread : goal.returns-in-Err-NotACard-clause-unread
+returns-in-Err-NotACard-clause-unread g c = λ _. unread g (goal.at.returns-in-Err-NotACard-clause-unread g c).After-open
+
+pub returns-in-Err-NoMemory-clause-unread : goal.returns-in-Err-NoMemory-clause-unread
+returns-in-Err-NoMemory-clause-unread g c = λ _. unread g (goal.at.returns-in-Err-NoMemory-clause-unread g c).After-open
+
+pub returns-in-Err-NotACard-clause-moments : goal.returns-in-Err-NotACard-clause-moments
+returns-in-Err-NotACard-clause-moments g c = inl (unread g (goal.at.returns-in-Err-NotACard-clause-moments g c).After-open)
+
+pub returns-in-Err-NoMemory-clause-moments : goal.returns-in-Err-NoMemory-clause-moments
+returns-in-Err-NoMemory-clause-moments g c = inl (unread g (goal.at.returns-in-Err-NoMemory-clause-moments g c).After-open)
+
+pub returns-in-Err-Fault-open-clause-moments : goal.returns-in-Err-Fault-open-clause-moments
+returns-in-Err-Fault-open-clause-moments g c = inl (unread g (goal.at.returns-in-Err-Fault-open-clause-moments g c).After-open)
+
+pub returns-in-Err-Fault-open-clause-mute : goal.returns-in-Err-Fault-open-clause-mute
+returns-in-Err-Fault-open-clause-mute g c = λ _ db begins. inl (unread g (goal.at.returns-in-Err-Fault-open-clause-mute g c).After-open)
+
+-- where there is no card the image keeps its store
+without : (g : given.Over) (c : Opened g) → FindsNoCard (map string_bytes c.args.words.now) (g.B.Eeprom.chip c.args.bench.now) → KeepsStore (g.B.Eeprom.chip c.args.bench.now) (g.B.Eeprom.chip c.open.new.bench)
+without g c finds = lacks_keeps finds.form (g.B.Eeprom.chip c.args.bench.now) (g.B.Eeprom.chip c.open.new.bench) finds.lacks ((unread g c).leaves finds.form finds.asked)
+
+pub returns-in-Err-NotACard-clause-no_card : goal.returns-in-Err-NotACard-clause-no_card
+returns-in-Err-NotACard-clause-no_card g c = λ finds. (inl refl, refl, without g (goal.at.returns-in-Err-NotACard-clause-no_card g c).After-open finds)
+
+pub returns-in-Err-NoMemory-clause-no_card : goal.returns-in-Err-NoMemory-clause-no_card
+returns-in-Err-NoMemory-clause-no_card g c = λ finds. (inr (inl refl), refl, without g (goal.at.returns-in-Err-NoMemory-clause-no_card g c).After-open finds)
+
+pub returns-in-Err-Fault-open-clause-no_card : goal.returns-in-Err-Fault-open-clause-no_card
+returns-in-Err-Fault-open-clause-no_card g c = λ finds. (inr (inr refl), refl, without g (goal.at.returns-in-Err-Fault-open-clause-no_card g c).After-open finds)
+
+pub returns-in-Err-NoMemory-clause-text : goal.returns-in-Err-NoMemory-clause-text
+returns-in-Err-NoMemory-clause-text g c = λ db begins quiet input left from to short.
+    let first = g.met.B.Bench.output c.args.bench.now in
+    let second = g.met.B.Bench.output c.open.new.bench in
+    inr (refl, sym second.0 ∙ (ap (λ (s : Still). s.given) (c.open.ensures.recovers.store.keeps.still ∙ c.prepare.ensures.still) ∙ first.0))

@@ -40,6 +40,6 @@ returns-clause-performs g c = λ m actor name profile secret at is.
     subst (λ (kept : Kept). Performs m outcome c.answer_to.result (record kept { store = c.add_and_change-added.new.store }) (g.B.Eeprom.chip c.args.bench.now) new) (sym c.self.view_is)
     (subst (λ (result : Result StatusWord EepromFault). Performs m outcome result (record c.args.self.now { store = c.add_and_change-added.new.store }) (g.B.Eeprom.chip c.args.bench.now) new) (sym c.answer_to.ensures)
     (Performs-added c.args.self.now c.add_and_change-added.new.store (g.B.Eeprom.chip c.args.bench.now) (g.B.Eeprom.chip c.add_and_change-added.new.bench) m at actor name profile secret c.args.addition.now c.add_and_change-added.result
-    c.requires.ready is c.requires.slot c.add_and_change-added.ensures.adds.told
+    c.requires.ready is c.requires.slot (rw store at c.add_and_change-added.ensures.adds.rows) c.add_and_change-added.ensures.adds.told
     (rw (user, counter, store) at c.add_and_change-added.ensures.adds.written) (rw (user, store) at c.add_and_change-added.ensures.adds.full) (rw store at c.add_and_change-added.ensures.unchanged)
     (rw (user, counter, store) at c.add_and_change-added.ensures.adds.moments)))

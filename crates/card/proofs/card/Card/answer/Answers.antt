@@ -1,5 +1,5 @@
 use Rattle.std.proofs.Common.{ap, subst, ◌∙◌, inl, inr}
-use Rattle.scql_model.specs.Commands.{Reply}
+use Rattle.scql_model.specs.Replies.{Reply}
 use Rattle.card.specs.Card.{IsAt}
 use Rattle.card.proofs.card.Card.answer.Goals as goal
 

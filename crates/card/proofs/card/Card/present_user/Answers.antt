@@ -4,7 +4,7 @@ use Rattle.std.specs.Str.{bytes_eq}
 use Rattle.scql_model.specs.Database.{public_name}
 use Rattle.card.specs.Card.{Kept}
 use Rattle.scql_base.specs.Words.{done}
-use Rattle.scql_model.specs.Commands.{said}
+use Rattle.scql_model.specs.Replies.{said}
 use Rattle.scql_model.specs.Step.{answered, user_presented}
 use Rattle.card.specs.Answering.{Answers}
 use Rattle.card.proofs.Presenting.{nobody_presented, unknown_answers, user_answers}

@@ -7,6 +7,7 @@ pub returns-clause-at : goal.returns-clause-at
 returns-clause-at c = λ chip m at. record {
   slots = at.slots;
   committed = ap (λ (kept : Kept). committed_slots kept.store chip.image) c.self.view_is ∙ at.committed;
+  limit = at.limit ∙ ap (λ (kept : Kept). kept.store.row_limit) (sym c.self.view_is);
   holds = at.holds;
   valid = at.valid;
   transaction = refl;
