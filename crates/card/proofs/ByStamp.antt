@@ -8,7 +8,7 @@ use Rattle.std.specs.Cmp.{unsigned_tied}
 use Rattle.std.specs.Option.{option_map_or}
 use Rattle.std.proofs.lemmas.Bool.{cases_Bool, eqb-true, eqb-false, eq-eqb, ne_eqb}
 use Rattle.std.proofs.lemmas.Option.{none-some}
-use Rattle.eeprom.specs.Slots.{has, place}
+use Rattle.eeprom.specs.Slots.{has, put_in_order}
 use Rattle.eeprom.proofs.InOrder.{counts, counts_not}
 use Rattle.scql_model.specs.Database.{is_maker, is_made_by_maker}
 use Rattle.scql_base.specs.declared.records.User.{User}
@@ -23,7 +23,7 @@ in_entries entries = values_of entries
 
 -- a user of a new stamp goes to its place
 pub entries-placed : (entries : List (ℕ × User)) (u : User) → AreByStamp entries → lookup (is_at (nat_cmp u.stamp)) entries ≡ None
-    → in_entries (insert_entry nat_cmp entries u.stamp u) ≡ place stamp_of u (in_entries entries)
+    → in_entries (insert_entry nat_cmp entries u.stamp u) ≡ put_in_order stamp_of u (in_entries entries)
 entries-placed [] u by none = refl
 entries-placed (e ∷ entries) u by none =
     let same : e.0 ≡ e.1.stamp = by.0 in

@@ -6,7 +6,7 @@ use Rattle.std.proofs.lemmas.Bool.{cases_Bool, eqb-true, eq-eqb}
 use Rattle.std.proofs.lemmas.List.{append-nil}
 use Rattle.std.proofs.lemmas.List.Sums.{sum_by-cons, sum_by-append}
 use Rattle.eeprom.specs.StoreOf.{Slots}
-use Rattle.eeprom.specs.Slots.{AreApart, has, place, in_order, in_slot}
+use Rattle.eeprom.specs.Slots.{AreApart, has, put_in_order, in_order, in_slot}
 use Rattle.eeprom.proofs.InOrder.{counts, counts_not, count_by-in_order, sum_by-in_order, list_all-in_order, in_order-middle, AreApart-rising}
 use Rattle.scql_base.specs.declared.records.User.{User}
 use Rattle.scql_model.specs.Records.{counter_record, user_record, counter_in, user_in}
@@ -69,13 +69,13 @@ apart-added key xs x apart none = λ k.
     ]
 
 pub gathers-user : (slots : Slots) (counters : List ℕ) (users : List User) (octets : List ℕ) (u : User) → Gathers slots counters users → counter_in octets ≡ None → user_in octets ≡ Some u
-    → user_record.fits u ≡ true → count_by (has stamp_of u.stamp) users ≡ 0 → Gathers (slots ++ Some octets ∷ []) counters (place stamp_of u users)
+    → user_record.fits u ≡ true → count_by (has stamp_of u.stamp) users ≡ 0 → Gathers (slots ++ Some octets ∷ []) counters (put_in_order stamp_of u users)
 gathers-user slots counters users octets u g other is fits new =
     let before = filter_map (in_slot user_in) slots in
     let all : filter_map (in_slot user_in) (slots ++ Some octets ∷ []) ≡ before ++ u ∷ [] = with_slot (in_slot user_in) slots (Some octets) [] (Some u) is in
     let none : count_by (has stamp_of u.stamp) before ≡ 0 = sym (count_by-in_order stamp_of (has stamp_of u.stamp) before) ∙ ap (count_by (has stamp_of u.stamp)) g.users ∙ new in
-    let placed : in_order stamp_of (before ++ u ∷ []) ≡ place stamp_of u users =
-    in_order-middle stamp_of u before [] none ∙ ap (place stamp_of u) (ap (in_order stamp_of) (append-nil before) ∙ g.users) in
+    let placed : in_order stamp_of (before ++ u ∷ []) ≡ put_in_order stamp_of u users =
+    in_order-middle stamp_of u before [] none ∙ ap (put_in_order stamp_of u) (ap (in_order stamp_of) (append-nil before) ∙ g.users) in
     let fit : list_all user_record.fits before ≡ true = sym (list_all-in_order stamp_of user_record.fits before) ∙ ap (list_all user_record.fits) g.users ∙ g.user_limits in
     record {
       spelled = all-added is_spelled slots (Some octets) g.spelled (rw (other, is) refl);
@@ -137,7 +137,7 @@ none-with_counter slots None users octets next more some g is = absurd (some ref
 none-with_counter slots (Some counter) users octets next more some g is = none-second_counter slots (next_of counter) users octets next more g is
 
 pub user-added : {T E : Type 0} (r : Result T E) (counters : List ℕ) (was now : List User) (octets : List ℕ) (u : User) → counter_in octets ≡ None → user_in octets ≡ Some u → user_record.fits u ≡ true
-    → OnOk r (now ≡ place stamp_of u was) → OnOk r (count_by (has stamp_of u.stamp) was ≡ 0)
+    → OnOk r (now ≡ put_in_order stamp_of u was) → OnOk r (count_by (has stamp_of u.stamp) was ≡ 0)
     → OnOk r ((slots : Slots) → Gathers slots counters was → Gathers (slots ++ Some octets ∷ []) counters now)
 user-added (Err e) counters was now octets u other is fits placed new = tt
 user-added (Ok x) counters was now octets u other is fits placed new = λ slots g. rw placed (gathers-user slots counters was octets u g other is fits new)

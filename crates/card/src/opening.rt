@@ -2,7 +2,7 @@
 ghost use Rattle.std.specs.Prelude.{◌≡◌, ◌≢◌, OnErr, ◌+◌, ◌*◌, ◌≤◌, [], ◌∷◌, ◌++◌, Some, None, false, is_some, IfSome, IfOk, OnOk, IsErrOf, count_by};
 ghost use Rattle.eeprom.specs.Chip.{Becomes};
 ghost use Rattle.eeprom.specs.StoreOf.{Slots, Stored, store_of, is_gate_open};
-ghost use Rattle.eeprom.specs.Slots.{has, place};
+ghost use Rattle.eeprom.specs.Slots.{has, put_in_order};
 ghost use Rattle.cell_store.specs.Reading.{ReadsAtMost};
 ghost use Rattle.record_store.specs.Faults.{is_open_fault};
 ghost use Rattle.record_store.specs.Held.{IsOver, stored};
@@ -134,7 +134,7 @@ impl Found {
 fn add_user(users: &mut BTreeMap<u32, User>, user: User) -> Result<(), OpenRefusal>
     requires by_stamp { AreByStamp users.old.entries }
     ensures by_stamp { OnOk result (AreByStamp users.new.entries) }
-    ensures placed { OnOk result (users_of users.new ≡ place (λ (u : User). u.stamp) user (users_of users.old)) }
+    ensures placed { OnOk result (users_of users.new ≡ put_in_order (λ (u : User). u.stamp) user (users_of users.old)) }
     ensures first { OnOk result (count_by (has (λ (u : User). u.stamp) user.stamp) (users_of users.old) ≡ 0) }
     ensures second { IsErrOf result OpenRefusal.NotACard → 1 ≤ count_by (has (λ (u : User). u.stamp) user.stamp) (users_of users.old) }
     ensures no_fault { ¬ (IsErrOf result OpenRefusal.Fault) }

@@ -2,7 +2,7 @@
 use Rattle.std.proofs.Common.{◌≡◌, ℕ, ◌+◌, ◌-◌, ◌≤◌, true, false, List, [], ◌∷◌, ◌++◌, length, take, drop, Option, Err, refl, sym, ap, subst, ◌∙◌, arith, inl, inr, append-nil, append_assoc, length-append, take-append-drop}
 use Rattle.std.proofs.lemmas.List.{length-take-le, take-append-le}
 use Rattle.std.proofs.Math.Seq.{take-append_seam}
-use Rattle.eeprom.specs.Input.{Takes}
+use Rattle.eeprom.specs.Input.{TakesPiece}
 use Rattle.std.specs.Prelude.{IsSome}
 use Rattle.eeprom.specs.Chip.{Chip, Becomes, Throughout}
 use Rattle.eeprom.specs.Fault.{Rose}
@@ -61,7 +61,7 @@ HasTaken-nothing state left ready = λ all told. (all, told, record { taken = []
 
 -- a piece more
 pub HasTaken-more : (room count : ℕ) (piece : List ℕ) (old mid new : RunState) (start before now : Option (List ℕ)) → count ≤ length piece → count ≤ room
-    → Becomes (HasTaken room old mid) start before → Takes count piece before now → Feeds (take count piece) mid new
+    → Becomes (HasTaken room old mid) start before → TakesPiece count piece before now → Feeds (take count piece) mid new
     → Becomes (HasTaken (room - count) old new) start now
 HasTaken-more room count piece old mid new start before now within fits so_far takes feeds = λ all told.
     let last = takes.octets all told in
@@ -102,7 +102,7 @@ Ends-read_fault from to room old mid start before now m ready running so_far sam
     )
 
 -- nothing is left, and all was taken
-taken_all : (room : ℕ) (piece : List ℕ) (old mid : RunState) (start before now : Option (List ℕ)) → Becomes (HasTaken room old mid) start before → Takes 0 piece before now
+taken_all : (room : ℕ) (piece : List ℕ) (old mid : RunState) (start before now : Option (List ℕ)) → Becomes (HasTaken room old mid) start before → TakesPiece 0 piece before now
     → Becomes (λ (input left : List ℕ). Feeds input old mid) start now
 taken_all room piece old mid start before now so_far takes = λ left told.
     let last = takes.octets left told in
@@ -113,7 +113,7 @@ taken_all room piece old mid start before now so_far takes = λ left told.
 
 -- the last line was answered
 pub Ends-done : (from to : ℕ) (room : ℕ) (piece : List ℕ) (old mid new : RunState) (start before now : Option (List ℕ)) (m : Machine)
-    → IsRunning old (from_machine m) → Becomes (HasTaken room old mid) start before → Takes 0 piece before now → IsReady new.card new.chip
+    → IsRunning old (from_machine m) → Becomes (HasTaken room old mid) start before → TakesPiece 0 piece before now → IsReady new.card new.chip
     → ((r : Running) → IsRunning mid r → IsAt new.card new.chip (after_end r).machine)
     → ((r : Running) → IsRunning mid r → Prints (end_text r) mid.chip.still.given new.chip.still.given)
     → ((r : Running) → IsRunning mid r → IfGiven new.chip (Throughout mid.chip new.chip (IsAtEnd r mid.chip.still.mark)))
@@ -152,7 +152,7 @@ record LooksAt (k room : ℕ) (piece : List ℕ) (old mid : RunState) (input : L
   feeds : Feeds taken old mid
 
 looks_at : (room count k : ℕ) (piece : List ℕ) (old mid : RunState) (start before now : Option (List ℕ)) → k ≤ count
-    → Becomes (HasTaken room old mid) start before → Takes count piece before now → Becomes (λ (input left : List ℕ). LooksAt k room piece old mid input) start now
+    → Becomes (HasTaken room old mid) start before → TakesPiece count piece before now → Becomes (λ (input left : List ℕ). LooksAt k room piece old mid input) start now
 looks_at room count k piece old mid start before now fits so_far takes = λ left told.
     let last = takes.octets left told in
     let first = so_far last.0 last.1 in
@@ -181,7 +181,7 @@ looked_at-whole room piece old mid input within seen =
 
 -- more came than a run takes
 pub Ends-too_long : (from to : ℕ) (room count : ℕ) (piece : List ℕ) (old mid new : RunState) (start before now : Option (List ℕ)) (m : Machine) → room ≤ count → count ≤ length piece
-    → IsReady new.card new.chip → IsRunning old (from_machine m) → Becomes (HasTaken room old mid) start before → Takes count piece before now → Feeds (take room piece) mid new
+    → IsReady new.card new.chip → IsRunning old (from_machine m) → Becomes (HasTaken room old mid) start before → TakesPiece count piece before now → Feeds (take room piece) mid new
     → Becomes (Ends TooLong from to m old.chip new.chip) start now
 Ends-too_long from to room count piece old mid new start before now m over within ready running so_far takes feeds = λ left told.
     let found = looks_at room count room piece old mid start before now over so_far takes left told in
@@ -216,7 +216,7 @@ Ends-stopped Both from to m input left old now counts stops kept = record { ende
 
 -- a device stopped the run among the octets of a piece, of which so many were looked at
 pub Ends-halted : (stop : Stop) (from to : ℕ) → CountsAt stop from to → (room count k : ℕ) (piece : List ℕ) (old mid : RunState) (now : Chip) (start before taken : Option (List ℕ)) (m : Machine) → k ≤ count
-    → IsRunning old (from_machine m) → Becomes (HasTaken room old mid) start before → Takes count piece before taken → Halts stop (take k piece) mid now
+    → IsRunning old (from_machine m) → Becomes (HasTaken room old mid) start before → TakesPiece count piece before taken → Halts stop (take k piece) mid now
     → Becomes (Ends (status_of stop) from to m old.chip now) start taken
 Ends-halted stop from to counts room count k piece old mid now start before taken m fits running so_far takes halts = λ left told.
     let found = looks_at room count k piece old mid start before taken fits so_far takes left told in
@@ -232,7 +232,7 @@ Ends-halted stop from to counts room count k piece old mid now start before take
 
 -- a device stopped the run in the last line
 pub Ends-last : (stop : Stop) (from to : ℕ) → CountsAt stop from to → (room : ℕ) (piece : List ℕ) (old mid : RunState) (now : Chip) (start before taken : Option (List ℕ)) (m : Machine)
-    → IsRunning old (from_machine m) → Becomes (HasTaken room old mid) start before → Takes 0 piece before taken
+    → IsRunning old (from_machine m) → Becomes (HasTaken room old mid) start before → TakesPiece 0 piece before taken
     → ((r : Running) → IsRunning mid r → (is_empty_line r.begun ≡ false) × FailsAt stop [] r mid.chip.still.given now)
     → ((r : Running) → IsRunning mid r → IfGiven now (Throughout mid.chip now (IsInStopped stop r.machine (line_content r.begun) mid.chip.still.mark)))
     → Becomes (Ends (status_of stop) from to m old.chip now) start taken

@@ -7,7 +7,7 @@ use Rattle.scql_base.specs.declared.records.ObjectKind.{ObjectKind}
 use Rattle.scql_base.specs.declared.records.ObjectKind.TheVariants.{Table, View, Dictionary}
 use Rattle.scql_model.specs.Fields.{Field, made_at}
 use Rattle.scql_model.specs.Records.{object_record, object_from, object_spelling, object_fits, starts_with, to_table, to_view, to_dictionary, table_record, view_record, dictionary_record}
-use Rattle.scql_model.proofs.FieldLaws.{AreOctets, Took, Takes, IsLastField, IsLastField-from_IsField, mapped_some}
+use Rattle.scql_model.proofs.FieldLaws.{AreOctets, Took, TakesField, IsLastField, IsLastField-from_IsField, mapped_some}
 use Rattle.scql_model.proofs.RecordLaws.{IsField-table, IsField-view, IsField-dictionary}
 use Rattle.catalog_codec.specs.Kinds.{starts}
 
@@ -17,7 +17,7 @@ in_branch true o p x is first second = first is
 in_branch false o p x is first second = second is
 
 -- what a field takes, made into an object that has its spelling and limits
-took_object : {A : Type 0} (to : A → Object) (f : Field A) → Takes f → ((a : A) → object_spelling (to a) ≡ f.spell a) → ((a : A) → object_fits (to a) ≡ f.fits a)
+took_object : {A : Type 0} (to : A → Object) (f : Field A) → TakesField f → ((a : A) → object_spelling (to a) ≡ f.spell a) → ((a : A) → object_fits (to a) ≡ f.fits a)
     → (octets : List ℕ) (o : Object) (rest : List ℕ) → AreOctets octets → made_at to f.read octets ≡ Some (o, rest) → Took object_record octets o rest
 took_object {A} to f takes spells fits octets o rest are is =
     mapped_some (λ (a : A × List ℕ). (to a.0, a.1)) (f.read octets) (o, rest) is (λ (a : A × List ℕ) at same.
@@ -26,7 +26,7 @@ took_object {A} to f takes spells fits octets o rest are is =
     = record { spelling = took.spelling ∙ ap (λ (front : List ℕ). front ++ a.1) (sym (spells a.0)); fits = fits a.0 ∙ took.fits; behind = took.behind } in
     subst (λ (r : Object × List ℕ). Took object_record octets r.0 r.1) same made)
 
-takes-object : Takes object_record
+takes-object : TakesField object_record
 takes-object octets o rest are is =
     in_branch (starts_with 0x02 octets) _ _ (o, rest) is
     (took_object to_table table_record IsField-table.takes (λ x. refl) (λ x. refl) octets o rest are)

@@ -2,7 +2,7 @@
 use Rattle.std.proofs.Common.{◌≡◌, ℕ, zero, suc, ◌+◌, ◌<◌, ◌≤◌, ◌≢◌, ◌==◌, ◌&&◌, not, Bool, true, false, List, [], ◌∷◌, length, set, get_or, replicate, slice_index, sym, refl, ap, ◌∙◌, arith, subst, true≢false}
 use Rattle.eeprom.specs.StoreOf.{is_distinct, longest_chain}
 use Rattle.std.specs.List.{AllByRecursion}
-use Rattle.cell_store.specs.Cells.{Cells, kept, link_in, IsUsedChain, freed}
+use Rattle.cell_store.specs.Cells.{Cells, cells_from, link_in, IsUsedChain, freed}
 use Rattle.cell_store.specs.Chains.{AreLinked, AreMarked, with_unmarked}
 use Rattle.cell_store.specs.Marks.{is_marked, StaysMarked}
 use Rattle.std.proofs.lemmas.List.{get_or-set_other, length-replicate}
@@ -115,12 +115,12 @@ Freeing-full links start used first step cell long f chain linked marked short =
     none (x ∷ rest) done e = absurd (omega arith)
 
 -- a store of which the cells of a used chain are marked no more
-pub Freeing-seen : (n : ℕ) (used later : List Bool) (links : List ℕ) (first : ℕ) (store : Cells) → kept n used links ≡ store
+pub Freeing-seen : (n : ℕ) (used later : List Bool) (links : List ℕ) (first : ℕ) (store : Cells) → cells_from n used links ≡ store
     → ((chain : List ℕ) → AreLinked (link_in links) (length links) first chain → AreMarked used chain → length chain ≤ longest_chain → later ≡ with_unmarked used chain)
-    → (chain : List ℕ) → IsUsedChain store first chain → kept n later links ≡ freed store chain
+    → (chain : List ℕ) → IsUsedChain store first chain → cells_from n later links ≡ freed store chain
 Freeing-seen n used later links first store seen unmarked =
-    subst (λ (store : Cells). (chain : List ℕ) → IsUsedChain store first chain → kept n later links ≡ freed store chain) seen
-    (λ chain is. ap (λ (used : List Bool). kept n used links) (unmarked chain is.linked is.used is.short))
+    subst (λ (store : Cells). (chain : List ℕ) → IsUsedChain store first chain → cells_from n later links ≡ freed store chain) seen
+    (λ chain is. ap (λ (used : List Bool). cells_from n used links) (unmarked chain is.linked is.used is.short))
 
 -- what is read of a store is what is seen of it
 pub length-links : (view store : Cells) → view ≡ store → length view.links ≡ length store.links

@@ -4,7 +4,7 @@ use Rattle.std.specs.List.{AllByRecursion}
 use Rattle.std.proofs.lemmas.List.{get_or_append_left, drop-take}
 use Rattle.eeprom.specs.Chip.{Becomes}
 use Rattle.eeprom.specs.StoreOf.{chain_of, cell_place, cells_for, payload_of, number_at, record_in, is_record, slot_of, longest_record}
-use Rattle.cell_store.specs.Cells.{Cells, IsInRange, kept, link_in}
+use Rattle.cell_store.specs.Cells.{Cells, IsInRange, cells_from, link_in}
 use Rattle.cell_store.specs.Chains.{AreLinked, link_of, IsRecordChain}
 use Rattle.cell_store.specs.Marks.{is_marked}
 use Rattle.cell_store.specs.Placed.{IsPlaced, IsLaid, IsTaken}
@@ -61,7 +61,7 @@ taken-agree n start marks links now (cell ∷ chain) new taken = (new cell taken
 
 written : (store : Cells) (later : List Bool) (links payload octets : List ℕ) (count first : ℕ) (was now : List ℕ) → IsInRange store → 70 * store.cells + 34 ≤ length was → length links ≡ length store.links → 1 ≤ length octets → length octets ≤ longest_record
     → number_at payload 0 ≡ length octets → record_in payload ≡ octets → count ≡ cells_for (length octets) → IsLaid store.cells store.used later 0 count first store.links links → IsPlaced store.cells store.used later payload 0 count first links was now
-    → IsWritten store (kept store.cells later links) first octets was now
+    → IsWritten store (cells_from store.cells later links) first octets was now
 written store later links payload octets count first was now range room links_size some most number record_is cells laid p =
     let n = store.cells in
     let chain : List ℕ = p.placed.chain in
@@ -86,7 +86,7 @@ written store later links payload octets count first was now range room links_si
     }
 
 pub written-becomes : (store new : Cells) (marks later : List Bool) (links before payload octets : List ℕ) (n count first size : ℕ) (old now : Option (List ℕ)) → IsInRange store → 70 * store.cells + 34 ≤ size → IfSome old (λ image. length image ≡ size) → n ≡ store.cells → marks ≡ store.used → before ≡ store.links
-    → length links ≡ length before → 1 ≤ length octets → length octets ≤ longest_record → number_at payload 0 ≡ length octets → record_in payload ≡ octets → count ≡ cells_for (length octets) → new ≡ kept store.cells later links
+    → length links ≡ length before → 1 ≤ length octets → length octets ≤ longest_record → number_at payload 0 ≡ length octets → record_in payload ≡ octets → count ≡ cells_for (length octets) → new ≡ cells_from store.cells later links
     → IsLaid n marks later 0 count first before links → Becomes (IsPlaced n marks later payload 0 count first links) old now → Becomes (IsWritten store new first octets) old now
 written-becomes store new marks later links before payload octets n count first size old now range room sized n_is marks_is before_is links_size some most number record_is cells new_is laid placed = λ image told.
     let from = placed image told in

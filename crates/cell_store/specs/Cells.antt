@@ -19,12 +19,12 @@ pub record IsInRange (store : Cells) : Type 0 where
   pub links_count : length store.links ≡ 2 * store.cells
 
 -- these marks and links
-abbrev pub kept : ℕ → List Bool → List ℕ → Cells
-kept n used links = record { cells = n; used = used; links = links }
+abbrev pub cells_from : ℕ → List Bool → List ℕ → Cells
+cells_from n used links = record { cells = n; used = used; links = links }
 
 -- no cell is used
 abbrev pub all_free : ℕ → Cells
-all_free n = kept n (replicate (2 * n) false) (replicate (2 * n) 65535)
+all_free n = cells_from n (replicate (2 * n) false) (replicate (2 * n) 65535)
 
 -- the link of a cell in memory
 abbrev pub link_in : List ℕ → ℕ → ℕ
@@ -46,4 +46,4 @@ StayLinked used old new = (cell : ℕ) → is_marked used cell ≡ true → slic
 
 -- the cells of a chain are free again
 abbrev pub freed : Cells → List ℕ → Cells
-freed store chain = kept store.cells (with_unmarked store.used chain) store.links
+freed store chain = cells_from store.cells (with_unmarked store.used chain) store.links

@@ -17,5 +17,5 @@ abbrev pub ReadsAtMost : ℕ → ℕ → ℕ → Type 0
 ReadsAtMost most before after = after ≤ before + most
 
 -- so many octets are appended
-abbrev pub Appends : ℕ → List ℕ → List ℕ → Type 0
-Appends count old new = (octets : List ℕ) × (length octets ≡ count) × (new ≡ old ++ octets)
+abbrev pub Extends : ℕ → List ℕ → List ℕ → Type 0
+Extends count old new = (octets : List ℕ) × (length octets ≡ count) × (new ≡ old ++ octets)

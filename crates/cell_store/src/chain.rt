@@ -7,7 +7,7 @@ ghost use Rattle.eeprom.specs.Fault.{each_error};
 ghost use Rattle.eeprom.specs.Frame.{HasRoom, Reads};
 ghost use Rattle.eeprom.specs.StoreOf.{chain_of, payload_of, slot_of, record_in, number_at, cell_place, piece_size, longest_record, longest_chain};
 ghost use Rattle.cell_store.specs.Chains.{IsRecordChain};
-ghost use Rattle.cell_store.specs.Reading.{Appends, ReadsCells, ReadsRecord};
+ghost use Rattle.cell_store.specs.Reading.{Extends, ReadsCells, ReadsRecord};
 
 use crate::layout::{CELL, LARGEST, LINK, LONGEST, LONGEST_RECORD, cell_place, number_of};
 use arrayvec::ArrayVec;
@@ -78,7 +78,7 @@ pub fn read_cell<B: Eeprom>(
     requires fits { array_vec_len payload.old + piece_size ≤ piece_size * longest_chain }
     ensures link { IfOk result (λ next. IfSome (B.chip bench.old).image (λ image. next ≡ number_at image (cell_place cells cell))) }
     ensures payload { OnOk result (IfSome (B.chip bench.old).image (λ image. payload.new.items ≡ payload.old.items ++ payload_of image cells cell)) }
-    ensures appends { OnOk result (Appends piece_size payload.old.items payload.new.items) }
+    ensures appends { OnOk result (Extends piece_size payload.old.items payload.new.items) }
     ensures octets_read { Becomes (ReadsCells 1) (B.octets_read bench.old) (B.octets_read bench.new) }
     ensures frame { Reads each_error B.chip B.faults bench.old bench.new result }
 {

@@ -34,13 +34,13 @@ pub struct CellStore {
 }
 
 impl Model for CellStore {
-    ghost use Rattle.cell_store.specs.Cells.{Cells, IsInRange, kept};
+    ghost use Rattle.cell_store.specs.Cells.{Cells, IsInRange, cells_from};
 
     ghost Value = { Cells };
 
-    ghost view = { λ store. kept store.cells store.used store.links.items };
+    ghost view = { λ store. cells_from store.cells store.used store.links.items };
 
-    ghost invariant = { λ store. IsInRange (kept store.cells store.used store.links.items) };
+    ghost invariant = { λ store. IsInRange (cells_from store.cells store.used store.links.items) };
 }
 
 impl CellStore {

@@ -3,7 +3,7 @@ use Rattle.std.proofs.Common.{◌≡◌, ℕ, ◌+◌, ◌<◌, ◌≤◌, Bool,
 use Rattle.std.specs.List.{sum_by, count_by, find, filter, list_all, list_any, AllByRecursion}
 use Rattle.std.proofs.lemmas.Bool.{cases_Bool, ltb-true, ltb-false, lt-ltb, le-ltb, eqb-true, eqb-false, eq-eqb, ne_eqb}
 use Rattle.std.proofs.lemmas.List.Sums.{sum_by-cons}
-use Rattle.eeprom.specs.Slots.{place, in_order, Rises, has, is_after, AreApart, without, replaced, nearer, above, nearest_from}
+use Rattle.eeprom.specs.Slots.{put_in_order, in_order, Rises, has, is_after, AreApart, without, replaced, nearer, above, nearest_from}
 
 pub count_by-cons : {X : Type 0} (p : X → Bool) (x : X) (xs : List X) → count_by p (x ∷ xs) ≡ cond (p x) 1 0 + count_by p xs
 count_by-cons p x xs = sum_by-cons (λ y. cond (p y) 1 0) x xs
@@ -14,17 +14,17 @@ counts p x xs t = count_by-cons p x xs ∙ ap (λ (b : Bool). cond b 1 0 + count
 pub counts_not : {X : Type 0} (p : X → Bool) (x : X) (xs : List X) → p x ≡ false → count_by p (x ∷ xs) ≡ count_by p xs
 counts_not p x xs e = count_by-cons p x xs ∙ ap (λ (b : Bool). cond b 1 0 + count_by p xs) e ∙ omega arith
 
-pub sum_by-place : {X : Type 0} (key f : X → ℕ) (x : X) (xs : List X) → sum_by f (place key x xs) ≡ f x + sum_by f xs
-sum_by-place key f x [] = sum_by-cons f x []
-sum_by-place key f x (y ∷ ys) =
+pub sum_by-put_in_order : {X : Type 0} (key f : X → ℕ) (x : X) (xs : List X) → sum_by f (put_in_order key x xs) ≡ f x + sum_by f xs
+sum_by-put_in_order key f x [] = sum_by-cons f x []
+sum_by-put_in_order key f x (y ∷ ys) =
     elim (cases_Bool (ltb (key x) (key y))) [
       | inl t ↦ rw t (sum_by-cons f x (y ∷ ys))
-      | inr e ↦ rw e (let a = sum_by-cons f y (place key x ys) in let b = sum_by-cons f y ys in let h = sum_by-place key f x ys in omega arith)
+      | inr e ↦ rw e (let a = sum_by-cons f y (put_in_order key x ys) in let b = sum_by-cons f y ys in let h = sum_by-put_in_order key f x ys in omega arith)
     ]
 
 pub sum_by-in_order : {X : Type 0} (key f : X → ℕ) (xs : List X) → sum_by f (in_order key xs) ≡ sum_by f xs
 sum_by-in_order key f [] = refl
-sum_by-in_order key f (x ∷ xs) = sum_by-place key f x (in_order key xs) ∙ ap (λ n. f x + n) (sum_by-in_order key f xs) ∙ sym (sum_by-cons f x xs)
+sum_by-in_order key f (x ∷ xs) = sum_by-put_in_order key f x (in_order key xs) ∙ ap (λ n. f x + n) (sum_by-in_order key f xs) ∙ sym (sum_by-cons f x xs)
 
 pub count_by-in_order : {X : Type 0} (key : X → ℕ) (p : X → Bool) (xs : List X) → count_by p (in_order key xs) ≡ count_by p xs
 count_by-in_order key p xs = sum_by-in_order key (λ x. cond (p x) 1 0) xs
@@ -36,16 +36,16 @@ either_first true false x y rest placed few e = e
 either_first false true x y rest placed few e = refl
 either_first false false x y rest placed few e = e
 
-find-place : {X : Type 0} (key : X → ℕ) (p : X → Bool) (x : X) (xs : List X) → count_by p (x ∷ xs) ≤ 1 → find p (place key x xs) ≡ find p (x ∷ xs)
-find-place key p x [] h = refl
-find-place key p x (y ∷ ys) h =
+find-put_in_order : {X : Type 0} (key : X → ℕ) (p : X → Bool) (x : X) (xs : List X) → count_by p (x ∷ xs) ≤ 1 → find p (put_in_order key x xs) ≡ find p (x ∷ xs)
+find-put_in_order key p x [] h = refl
+find-put_in_order key p x (y ∷ ys) h =
     let a = count_by-cons p x (y ∷ ys) in
     let b = count_by-cons p y ys in
     let c = count_by-cons p x ys in
     let few : count_by p (x ∷ ys) ≤ 1 = omega arith in
     elim (cases_Bool (ltb (key x) (key y))) [
       | inl t ↦ rw t refl
-      | inr e ↦ rw e (either_first (p x) (p y) x y (find p ys) (find p (place key x ys)) (omega arith) (find-place key p x ys few))
+      | inr e ↦ rw e (either_first (p x) (p y) x y (find p ys) (find p (put_in_order key x ys)) (omega arith) (find-put_in_order key p x ys few))
     ]
 
 pub find-in_order : {X : Type 0} (key : X → ℕ) (p : X → Bool) (xs : List X) → count_by p xs ≤ 1 → find p (in_order key xs) ≡ find p xs
@@ -56,7 +56,7 @@ find-in_order key p (x ∷ xs) h =
     let c = count_by-in_order key p xs in
     let few : count_by p xs ≤ 1 = omega arith in
     let placed : count_by p (x ∷ in_order key xs) ≤ 1 = omega arith in
-    find-place key p x (in_order key xs) placed ∙ ap (λ found. cond (p x) (Some x) found) (find-in_order key p xs few)
+    find-put_in_order key p x (in_order key xs) placed ∙ ap (λ found. cond (p x) (Some x) found) (find-in_order key p xs few)
 
 -- what a test of two numbers says of the other tests
 flips : (a b : ℕ) → ltb a b ≡ true → ltb b a ≡ false
@@ -69,13 +69,13 @@ between_tests : (a b c : ℕ) → ltb a c ≡ true → ltb b c ≡ false → ltb
 between_tests a b c t f = let h = ltb-true a c t in let g = ltb-false b c f in lt-ltb a b (omega arith)
 
 -- two elements of different keys may go to their places in either order
-place-swap : {X : Type 0} (key : X → ℕ) (x y : X) (xs : List X) → (key x ≡ key y → ⊥) → place key x (place key y xs) ≡ place key y (place key x xs)
-place-swap key x y [] ne =
+put_in_order-swap : {X : Type 0} (key : X → ℕ) (x y : X) (xs : List X) → (key x ≡ key y → ⊥) → put_in_order key x (put_in_order key y xs) ≡ put_in_order key y (put_in_order key x xs)
+put_in_order-swap key x y [] ne =
     elim (cases_Bool (ltb (key x) (key y))) [
       | inl t ↦ simp (t, flips (key x) (key y) t)
       | inr f ↦ simp (f, flips_ne (key x) (key y) f ne)
     ]
-place-swap key x y (z ∷ zs) ne =
+put_in_order-swap key x y (z ∷ zs) ne =
     elim (cases_Bool (ltb (key x) (key z))) [
       | inl t ↦ elim (cases_Bool (ltb (key y) (key z))) [
         | inl u ↦ elim (cases_Bool (ltb (key x) (key y))) [
@@ -86,28 +86,28 @@ place-swap key x y (z ∷ zs) ne =
       ]
       | inr f ↦ elim (cases_Bool (ltb (key y) (key z))) [
         | inl u ↦ (simp (f, u, flips (key y) (key x) (between_tests (key y) (key x) (key z) u f)))
-        | inr g ↦ simp (f, g) (ap (λ placed. z ∷ placed) (place-swap key x y zs ne))
+        | inr g ↦ simp (f, g) (ap (λ placed. z ∷ placed) (put_in_order-swap key x y zs ne))
       ]
     ]
 
-pub in_order-middle : {X : Type 0} (key : X → ℕ) (x : X) (xs ys : List X) → count_by (has key (key x)) xs ≡ 0 → in_order key (xs ++ x ∷ ys) ≡ place key x (in_order key (xs ++ ys))
+pub in_order-middle : {X : Type 0} (key : X → ℕ) (x : X) (xs ys : List X) → count_by (has key (key x)) xs ≡ 0 → in_order key (xs ++ x ∷ ys) ≡ put_in_order key x (in_order key (xs ++ ys))
 in_order-middle key x [] ys none = refl
 in_order-middle key x (w ∷ ws) ys none =
     elim (cases_Bool (eqb (key w) (key x))) [
       | inl t ↦ absurd (let a = counts (has key (key x)) w ws t in omega arith)
       | inr f ↦ (let a = counts_not (has key (key x)) w ws f in
-          ap (place key w) (in_order-middle key x ws ys (omega arith)) ∙ place-swap key w x (in_order key (ws ++ ys)) (eqb-false (key w) (key x) f))
+          ap (put_in_order key w) (in_order-middle key x ws ys (omega arith)) ∙ put_in_order-swap key w x (in_order key (ws ++ ys)) (eqb-false (key w) (key x) f))
     ]
 
-pub place-last : {X : Type 0} (key : X → ℕ) (x : X) (xs : List X) → AllByRecursion (λ y. key y < key x) xs → place key x xs ≡ xs ++ x ∷ []
-place-last key x [] below = refl
-place-last key x (y ∷ ys) below =
+pub put_in_order-last : {X : Type 0} (key : X → ℕ) (x : X) (xs : List X) → AllByRecursion (λ y. key y < key x) xs → put_in_order key x xs ≡ xs ++ x ∷ []
+put_in_order-last key x [] below = refl
+put_in_order-last key x (y ∷ ys) below =
     let h : key y < key x = below.0 in
-    rw (le-ltb (key x) (key y) (omega arith)) (ap (λ placed. y ∷ placed) (place-last key x ys below.1))
+    rw (le-ltb (key x) (key y) (omega arith)) (ap (λ placed. y ∷ placed) (put_in_order-last key x ys below.1))
 
-pub place-first : {X : Type 0} (key : X → ℕ) (x : X) (xs : List X) → AllByRecursion (λ y. key x < key y) xs → place key x xs ≡ x ∷ xs
-place-first key x [] behind = refl
-place-first key x (y ∷ ys) behind = rw (lt-ltb (key x) (key y) behind.0) refl
+pub put_in_order-first : {X : Type 0} (key : X → ℕ) (x : X) (xs : List X) → AllByRecursion (λ y. key x < key y) xs → put_in_order key x xs ≡ x ∷ xs
+put_in_order-first key x [] behind = refl
+put_in_order-first key x (y ∷ ys) behind = rw (lt-ltb (key x) (key y) behind.0) refl
 
 -- where no element has a key, nothing is left out
 pub without-none : {X : Type 0} (key : X → ℕ) (k : ℕ) (xs : List X) → count_by (has key k) xs ≡ 0 → without key k xs ≡ xs
@@ -118,15 +118,15 @@ without-none key k (y ∷ ys) none =
       | inr f ↦ (let a = counts_not (has key k) y ys f in rw f (ap (λ left. y ∷ left) (without-none key k ys (omega arith))))
     ]
 
-pub without-place : {X : Type 0} (key : X → ℕ) (x : X) (xs : List X) → count_by (has key (key x)) xs ≡ 0 → without key (key x) (place key x xs) ≡ xs
-without-place key x [] none = rw (eq-eqb (key x) (key x) refl) refl
-without-place key x (y ∷ ys) none =
+pub without-put_in_order : {X : Type 0} (key : X → ℕ) (x : X) (xs : List X) → count_by (has key (key x)) xs ≡ 0 → without key (key x) (put_in_order key x xs) ≡ xs
+without-put_in_order key x [] none = rw (eq-eqb (key x) (key x) refl) refl
+without-put_in_order key x (y ∷ ys) none =
     elim (cases_Bool (eqb (key y) (key x))) [
       | inl t ↦ absurd (let a = counts (has key (key x)) y ys t in omega arith)
       | inr f ↦ (let a = counts_not (has key (key x)) y ys f in
           elim (cases_Bool (ltb (key x) (key y))) [
             | inl t ↦ rw t (rw (eq-eqb (key x) (key x) refl) (without-none key (key x) (y ∷ ys) none))
-            | inr g ↦ rw g (rw f (ap (λ left. y ∷ left) (without-place key x ys (omega arith))))
+            | inr g ↦ rw g (rw f (ap (λ left. y ∷ left) (without-put_in_order key x ys (omega arith))))
           ])
     ]
 
@@ -140,7 +140,7 @@ replaced-none key x (y ∷ ys) none =
     ]
 
 -- the key of x may be written as that of y
-replaced_at : {X : Type 0} (key : X → ℕ) (x y : X) (zs : List X) → key x ≡ key y → count_by (has key (key y)) zs ≡ 0 → replaced key y (place key x zs) ≡ place key y zs
+replaced_at : {X : Type 0} (key : X → ℕ) (x y : X) (zs : List X) → key x ≡ key y → count_by (has key (key y)) zs ≡ 0 → replaced key y (put_in_order key x zs) ≡ put_in_order key y zs
 replaced_at key x y [] same none = rw (eq-eqb (key x) (key y) same) refl
 replaced_at key x y (z ∷ zs) same none =
     elim (cases_Bool (eqb (key z) (key y))) [
@@ -152,19 +152,19 @@ replaced_at key x y (z ∷ zs) same none =
           ])
     ]
 
-pub replaced-place : {X : Type 0} (key : X → ℕ) (x y : X) (zs : List X) → key x ≡ key y → count_by (has key (key x)) zs ≡ 0 → replaced key y (place key x zs) ≡ place key y zs
-replaced-place key x y zs same none = replaced_at key x y zs same (subst (λ k. count_by (has key k) zs ≡ 0) same none)
+pub replaced-put_in_order : {X : Type 0} (key : X → ℕ) (x y : X) (zs : List X) → key x ≡ key y → count_by (has key (key x)) zs ≡ 0 → replaced key y (put_in_order key x zs) ≡ put_in_order key y zs
+replaced-put_in_order key x y zs same none = replaced_at key x y zs same (subst (λ k. count_by (has key k) zs ≡ 0) same none)
 
 all-weaker : {X : Type 0} (P Q : X → Type 0) (xs : List X) → ((x : X) → P x → Q x) → AllByRecursion P xs → AllByRecursion Q xs
 all-weaker P Q [] f all = tt
 all-weaker P Q (x ∷ xs) f all = (f x all.0, all-weaker P Q xs f all.1)
 
-all-place : {X : Type 0} (key : X → ℕ) (P : X → Type 0) (x : X) (xs : List X) → P x → AllByRecursion P xs → AllByRecursion P (place key x xs)
-all-place key P x [] here all = (here, tt)
-all-place key P x (y ∷ ys) here all =
+all-put_in_order : {X : Type 0} (key : X → ℕ) (P : X → Type 0) (x : X) (xs : List X) → P x → AllByRecursion P xs → AllByRecursion P (put_in_order key x xs)
+all-put_in_order key P x [] here all = (here, tt)
+all-put_in_order key P x (y ∷ ys) here all =
     elim (cases_Bool (ltb (key x) (key y))) [
       | inl t ↦ rw t (here, all)
-      | inr f ↦ rw f (all.0, all-place key P x ys here all.1)
+      | inr f ↦ rw f (all.0, all-put_in_order key P x ys here all.1)
     ]
 
 pub all-filter : {X : Type 0} (P : X → Type 0) (p : X → Bool) (xs : List X) → AllByRecursion P xs → AllByRecursion P (filter p xs)
@@ -189,9 +189,9 @@ AreApart-tail key x xs apart = λ k. let a = count_by-cons (has key k) x xs in l
 apart-in_order : {X : Type 0} (key : X → ℕ) (x : X) (xs : List X) → AreApart key (x ∷ xs) → count_by (has key (key x)) (in_order key xs) ≡ 0
 apart-in_order key x xs apart = count_by-in_order key (has key (key x)) xs ∙ AreApart-head key x xs apart
 
-Rises-place : {X : Type 0} (key : X → ℕ) (x : X) (xs : List X) → Rises key xs → count_by (has key (key x)) xs ≡ 0 → Rises key (place key x xs)
-Rises-place key x [] rises none = (tt, tt)
-Rises-place key x (y ∷ ys) rises none =
+Rises-put_in_order : {X : Type 0} (key : X → ℕ) (x : X) (xs : List X) → Rises key xs → count_by (has key (key x)) xs ≡ 0 → Rises key (put_in_order key x xs)
+Rises-put_in_order key x [] rises none = (tt, tt)
+Rises-put_in_order key x (y ∷ ys) rises none =
     elim (cases_Bool (eqb (key y) (key x))) [
       | inl u ↦ absurd (let a = counts (has key (key x)) y ys u in omega arith)
       | inr g ↦ (let a = counts_not (has key (key x)) y ys g in
@@ -201,14 +201,14 @@ Rises-place key x (y ∷ ys) rises none =
                 rw t ((less, all-weaker (λ z. key y < key z) (λ z. key x < key z) ys (λ z h. omega arith) rises.0), rises))
             | inr f ↦ (let most = ltb-false (key x) (key y) f in
                 let less : key y < key x = omega (arith, ne) in
-                rw f (all-place key (λ z. key y < key z) x ys less rises.0, Rises-place key x ys rises.1 (omega arith)))
+                rw f (all-put_in_order key (λ z. key y < key z) x ys less rises.0, Rises-put_in_order key x ys rises.1 (omega arith)))
           ])
     ]
 
 pub Rises-in_order : {X : Type 0} (key : X → ℕ) (xs : List X) → AreApart key xs → Rises key (in_order key xs)
 Rises-in_order key [] apart = tt
 Rises-in_order key (x ∷ xs) apart =
-    Rises-place key x (in_order key xs) (Rises-in_order key xs (AreApart-tail key x xs apart)) (apart-in_order key x xs apart)
+    Rises-put_in_order key x (in_order key xs) (Rises-in_order key xs (AreApart-tail key x xs apart)) (apart-in_order key x xs apart)
 
 -- no key is below all, and none above all
 pub count-above : {X : Type 0} (key : X → ℕ) (k : ℕ) (xs : List X) → AllByRecursion (λ y. k < key y) xs → count_by (has key k) xs ≡ 0
@@ -236,7 +236,7 @@ AreApart-rising key (x ∷ xs) rises = λ k.
 
 pub in_order-rising : {X : Type 0} (key : X → ℕ) (xs : List X) → Rises key xs → in_order key xs ≡ xs
 in_order-rising key [] rises = refl
-in_order-rising key (x ∷ xs) rises = ap (place key x) (in_order-rising key xs rises.1) ∙ place-first key x xs rises.0
+in_order-rising key (x ∷ xs) rises = ap (put_in_order key x) (in_order-rising key xs rises.1) ∙ put_in_order-first key x xs rises.0
 
 -- the nearer of three is found in either grouping
 nearer-assoc : {X : Type 0} (key : X → ℕ) (a b c : Option X) → nearer key (nearer key a b) c ≡ nearer key a (nearer key b c)
@@ -260,10 +260,10 @@ nearer-none key None = refl
 nearer-none key (Some x) = refl
 
 -- the first after a number, when one element more has gone to its place
-after-place : {X : Type 0} (key : X → ℕ) (k : ℕ) (x : X) (zs : List X) → count_by (has key (key x)) zs ≡ 0 →
-    find (is_after key k) (place key x zs) ≡ nearer key (above key k x) (find (is_after key k) zs)
-after-place key k x [] none = sym (nearer-none key (above key k x))
-after-place key k x (z ∷ zs) none =
+after-put_in_order : {X : Type 0} (key : X → ℕ) (k : ℕ) (x : X) (zs : List X) → count_by (has key (key x)) zs ≡ 0 →
+    find (is_after key k) (put_in_order key x zs) ≡ nearer key (above key k x) (find (is_after key k) zs)
+after-put_in_order key k x [] none = sym (nearer-none key (above key k x))
+after-put_in_order key k x (z ∷ zs) none =
     elim (cases_Bool (eqb (key z) (key x))) [
       | inl u ↦ absurd (let a = counts (has key (key x)) z zs u in omega arith)
       | inr g ↦ (let a = counts_not (has key (key x)) z zs g in
@@ -278,7 +278,7 @@ after-place key k x (z ∷ zs) none =
               | inl v ↦ (let h = ltb-false (key x) (key z) f in let i = ltb-true k (key z) v in
                   let less : key z < key x = omega (arith, ne) in
                   simp (f, v, lt-ltb k (key x) (omega arith), lt-ltb (key z) (key x) less))
-              | inr w ↦ simp (f, w) (after-place key k x zs (omega arith))
+              | inr w ↦ simp (f, w) (after-put_in_order key k x zs (omega arith))
             ]
           ])
     ]
@@ -287,21 +287,21 @@ nearest-from : {X : Type 0} (key : X → ℕ) (k : ℕ) (best : Option X) (xs : 
 nearest-from key k best [] apart = sym (nearer-none key best)
 nearest-from key k best (x ∷ xs) apart =
     nearest-from key k (nearer key best (above key k x)) xs (AreApart-tail key x xs apart) ∙ nearer-assoc key best (above key k x) (find (is_after key k) (in_order key xs))
-    ∙ ap (nearer key best) (sym (after-place key k x (in_order key xs) (apart-in_order key x xs apart)))
+    ∙ ap (nearer key best) (sym (after-put_in_order key k x (in_order key xs) (apart-in_order key x xs apart)))
 
 pub nearest-in_order : {X : Type 0} (key : X → ℕ) (k : ℕ) (xs : List X) → AreApart key xs → nearest_from key k None xs ≡ find (is_after key k) (in_order key xs)
 nearest-in_order key k xs apart = nearest-from key k None xs apart
 
-filter-place : {X : Type 0} (key : X → ℕ) (p : X → Bool) (x : X) (zs : List X) → Rises key zs → filter p (place key x zs) ≡ cond (p x) (place key x (filter p zs)) (filter p zs)
-filter-place key p x [] rises = refl
-filter-place key p x (z ∷ zs) rises =
+filter-put_in_order : {X : Type 0} (key : X → ℕ) (p : X → Bool) (x : X) (zs : List X) → Rises key zs → filter p (put_in_order key x zs) ≡ cond (p x) (put_in_order key x (filter p zs)) (filter p zs)
+filter-put_in_order key p x [] rises = refl
+filter-put_in_order key p x (z ∷ zs) rises =
     elim (cases_Bool (ltb (key x) (key z))) [
       | inl t ↦ (let less = ltb-true (key x) (key z) t in
           let all = all-filter (λ y. key x < key y) p (z ∷ zs) (less, all-weaker (λ y. key z < key y) (λ y. key x < key y) zs (λ y h. omega arith) rises.0) in
-          rw t (ap (λ placed. cond (p x) placed (filter p (z ∷ zs))) (sym (place-first key x (filter p (z ∷ zs)) all))))
+          rw t (ap (λ placed. cond (p x) placed (filter p (z ∷ zs))) (sym (put_in_order-first key x (filter p (z ∷ zs)) all))))
       | inr f ↦ elim (cases_Bool (p z)) [
-        | inl u ↦ rw f (rw u (ap (λ left. z ∷ left) (filter-place key p x zs rises.1) ∙ elim (cases_Bool (p x)) [ inl v ↦ simp (v, f) | inr w ↦ simp w ]))
-        | inr w ↦ rw f (rw w (filter-place key p x zs rises.1))
+        | inl u ↦ rw f (rw u (ap (λ left. z ∷ left) (filter-put_in_order key p x zs rises.1) ∙ elim (cases_Bool (p x)) [ inl v ↦ simp (v, f) | inr w ↦ simp w ]))
+        | inr w ↦ rw f (rw w (filter-put_in_order key p x zs rises.1))
       ]
     ]
 
@@ -309,7 +309,7 @@ pub filter-in_order : {X : Type 0} (key : X → ℕ) (p : X → Bool) (xs : List
 filter-in_order key p [] apart = refl
 filter-in_order key p (x ∷ xs) apart =
     let tail = AreApart-tail key x xs apart in
-    filter-place key p x (in_order key xs) (Rises-in_order key xs tail) ∙ ap (λ left. cond (p x) (place key x left) left) (filter-in_order key p xs tail)
+    filter-put_in_order key p x (in_order key xs) (Rises-in_order key xs tail) ∙ ap (λ left. cond (p x) (put_in_order key x left) left) (filter-in_order key p xs tail)
     ∙ elim (cases_Bool (p x)) [ inl t ↦ simp t | inr f ↦ simp f ]
 
 and-swap : (a b c : Bool) → (b && (a && c)) ≡ (a && (b && c))
@@ -322,26 +322,26 @@ or-swap false b c = refl
 or-swap true true c = refl
 or-swap true false c = refl
 
-list_all-place : {X : Type 0} (key : X → ℕ) (p : X → Bool) (x : X) (xs : List X) → list_all p (place key x xs) ≡ (p x && list_all p xs)
-list_all-place key p x [] = refl
-list_all-place key p x (y ∷ ys) =
+list_all-put_in_order : {X : Type 0} (key : X → ℕ) (p : X → Bool) (x : X) (xs : List X) → list_all p (put_in_order key x xs) ≡ (p x && list_all p xs)
+list_all-put_in_order key p x [] = refl
+list_all-put_in_order key p x (y ∷ ys) =
     elim (cases_Bool (ltb (key x) (key y))) [
       | inl t ↦ rw t refl
-      | inr f ↦ rw f (ap (λ left. p y && left) (list_all-place key p x ys) ∙ and-swap (p x) (p y) (list_all p ys))
+      | inr f ↦ rw f (ap (λ left. p y && left) (list_all-put_in_order key p x ys) ∙ and-swap (p x) (p y) (list_all p ys))
     ]
 
 pub list_all-in_order : {X : Type 0} (key : X → ℕ) (p : X → Bool) (xs : List X) → list_all p (in_order key xs) ≡ list_all p xs
 list_all-in_order key p [] = refl
-list_all-in_order key p (x ∷ xs) = list_all-place key p x (in_order key xs) ∙ ap (λ left. p x && left) (list_all-in_order key p xs)
+list_all-in_order key p (x ∷ xs) = list_all-put_in_order key p x (in_order key xs) ∙ ap (λ left. p x && left) (list_all-in_order key p xs)
 
-list_any-place : {X : Type 0} (key : X → ℕ) (p : X → Bool) (x : X) (xs : List X) → list_any p (place key x xs) ≡ (p x || list_any p xs)
-list_any-place key p x [] = refl
-list_any-place key p x (y ∷ ys) =
+list_any-put_in_order : {X : Type 0} (key : X → ℕ) (p : X → Bool) (x : X) (xs : List X) → list_any p (put_in_order key x xs) ≡ (p x || list_any p xs)
+list_any-put_in_order key p x [] = refl
+list_any-put_in_order key p x (y ∷ ys) =
     elim (cases_Bool (ltb (key x) (key y))) [
       | inl t ↦ rw t refl
-      | inr f ↦ rw f (ap (λ left. p y || left) (list_any-place key p x ys) ∙ or-swap (p x) (p y) (list_any p ys))
+      | inr f ↦ rw f (ap (λ left. p y || left) (list_any-put_in_order key p x ys) ∙ or-swap (p x) (p y) (list_any p ys))
     ]
 
 pub list_any-in_order : {X : Type 0} (key : X → ℕ) (p : X → Bool) (xs : List X) → list_any p (in_order key xs) ≡ list_any p xs
 list_any-in_order key p [] = refl
-list_any-in_order key p (x ∷ xs) = list_any-place key p x (in_order key xs) ∙ ap (λ left. p x || left) (list_any-in_order key p xs)
+list_any-in_order key p (x ∷ xs) = list_any-put_in_order key p x (in_order key xs) ∙ ap (λ left. p x || left) (list_any-in_order key p xs)

@@ -4,8 +4,8 @@ use Rattle.std.proofs.Math.ListN.{set}
 use Rattle.std.proofs.lemmas.Bool.{eq-eqb}
 use Rattle.std.proofs.lemmas.List.Sums.{sum_by-append}
 use Rattle.std.specs.List.{filter_map, cons_option, count_by, AllByRecursion}
-use Rattle.eeprom.specs.Slots.{place, in_order, Rises, has, without, replaced}
-use Rattle.eeprom.proofs.InOrder.{counts, count_by-in_order, count-below, in_order-middle, place-last, without-place, replaced-place, AreApart-rising}
+use Rattle.eeprom.specs.Slots.{put_in_order, in_order, Rises, has, without, replaced}
+use Rattle.eeprom.proofs.InOrder.{counts, count_by-in_order, count-below, in_order-middle, put_in_order-last, without-put_in_order, replaced-put_in_order, AreApart-rising}
 
 cons_option-append : {X : Type 0} (o : Option X) (xs ys : List X) → cons_option o (xs ++ ys) ≡ cons_option o xs ++ ys
 cons_option-append None xs ys = refl
@@ -66,8 +66,8 @@ kept-new key f slots slot v x within was now below =
     let c = ap (count_by (has key (key x))) old in
     let d = sum_by-append (λ y. cond (has key (key x) y) 1 0) before behind in
     let none : count_by (has key (key x)) before ≡ 0 = omega arith in
-    ap (in_order key) (set_as f slots slot v (Some x) within now) ∙ in_order-middle key x before behind none ∙ ap (λ xs. place key x (in_order key xs)) (sym old)
-    ∙ place-last key x (in_order key (filter_map f slots)) below
+    ap (in_order key) (set_as f slots slot v (Some x) within now) ∙ in_order-middle key x before behind none ∙ ap (λ xs. put_in_order key x (in_order key xs)) (sym old)
+    ∙ put_in_order-last key x (in_order key (filter_map f slots)) below
 
 -- an element in the place of one with its key
 pub kept-changed : {X : Type 0} (key : X → ℕ) (f : Option (List ℕ) → Option X) (slots : List (Option (List ℕ))) (slot : ℕ) (v : Option (List ℕ)) (x y : X) → slot < length slots →
@@ -80,7 +80,7 @@ kept-changed key f slots slot v x y within was now same rises =
     let none = nowhere_else key x before behind (filter_map f slots) old rises in
     ap (in_order key) (set_as f slots slot v (Some y) within now)
     ∙ in_order-middle key y before behind (subst (λ k. count_by (has key k) before ≡ 0) same none.0)
-    ∙ sym (replaced-place key x y (in_order key (before ++ behind)) same none.1)
+    ∙ sym (replaced-put_in_order key x y (in_order key (before ++ behind)) same none.1)
     ∙ ap (replaced key y) (sym (ap (in_order key) old ∙ in_order-middle key x before behind none.0))
 
 -- an element less
@@ -93,5 +93,5 @@ kept-removed key f slots slot v x within was now rises =
     let old = split_as f slots slot (Some x) within was in
     let none = nowhere_else key x before behind (filter_map f slots) old rises in
     ap (in_order key) (set_as f slots slot v None within now)
-    ∙ sym (without-place key x (in_order key (before ++ behind)) none.1)
+    ∙ sym (without-put_in_order key x (in_order key (before ++ behind)) none.1)
     ∙ ap (without key (key x)) (sym (ap (in_order key) old ∙ in_order-middle key x before behind none.0))

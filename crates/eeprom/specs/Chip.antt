@@ -53,6 +53,10 @@ Becomes {A} {B} step old new = (after : B) → new ≡ Some after → (before : 
 abbrev pub RisesBy : ℕ → ℕ → ℕ → Type 0
 RisesBy count before after = after ≡ before + count
 
+-- a count rises by at most so many
+abbrev pub RisesAtMost : ℕ → ℕ → ℕ → Type 0
+RisesAtMost most before after = after ≤ before + most
+
 -- time goes on by one stretch of the image as it is, or nothing happens
 abbrev pub GoesOn : (List ℕ → Stretch) → Chip → Chip → Type 0
 GoesOn stretch old new =

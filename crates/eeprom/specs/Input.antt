@@ -3,6 +3,6 @@ use Rattle.std.specs.Prelude.{◌≡◌, ℕ, ◌≤◌, List, [], ◌++◌, len
 use Rattle.eeprom.specs.Chip.{Becomes}
 
 -- the next so many octets are taken into the front of a buffer, or there is nothing left to take
-pub record Takes (count : ℕ) (into : List ℕ) (old new : Option (List ℕ)) : Type 0 where
+pub record TakesPiece (count : ℕ) (into : List ℕ) (old new : Option (List ℕ)) : Type 0 where
   pub fits : count ≤ length into
   pub octets : Becomes (λ before after. (before ≡ take count into ++ after) × (count ≡ 0 → before ≡ [])) old new

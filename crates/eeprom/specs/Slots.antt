@@ -3,14 +3,14 @@ use Rattle.std.specs.Prelude.{ℕ, ◌<◌, ◌≤◌, ◌==◌, nat_lt, not, Bo
 use Rattle.std.specs.List.{filter_map, AllByRecursion}
 
 -- the element before the first that has a greater key
-abbrev pub place : {X : Type 0} → (X → ℕ) → X → List X → List X
-place key x [] = x ∷ []
-place key x (y ∷ ys) = if nat_lt (key x) (key y) then x ∷ y ∷ ys else y ∷ place key x ys
+abbrev pub put_in_order : {X : Type 0} → (X → ℕ) → X → List X → List X
+put_in_order key x [] = x ∷ []
+put_in_order key x (y ∷ ys) = if nat_lt (key x) (key y) then x ∷ y ∷ ys else y ∷ put_in_order key x ys
 
 -- the elements in rising order of their keys
 abbrev pub in_order : {X : Type 0} → (X → ℕ) → List X → List X
 in_order key [] = []
-in_order key (x ∷ xs) = place key x (in_order key xs)
+in_order key (x ∷ xs) = put_in_order key x (in_order key xs)
 
 -- each key is below all later ones
 abbrev pub Rises : {X : Type 0} → (X → ℕ) → List X → Type 0

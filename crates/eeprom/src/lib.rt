@@ -6,6 +6,7 @@ mod device;
 mod entry;
 mod fault;
 mod input;
+mod layout;
 mod mem_bench;
 mod output;
 mod plan;
@@ -18,6 +19,11 @@ pub use device::{Bench, Eeprom};
 pub use entry::Entry;
 pub use fault::{EepromFault, SinkFault, SourceFault};
 pub use input::Source;
+pub use layout::{
+    CELL_SIZE, FEWEST_CELLS, GATE_PLACE, HEADER_SIZE, LARGEST_DIRECTORY, LONGEST_CHAIN,
+    LONGEST_RECORD, MIGRATED_ROW_LIMIT, MOST_CELLS, NO_CELL, PIECE_SIZE, ROW_LIMIT, cell_place,
+    image_size, journal_place,
+};
 pub use mem_bench::MemBench;
 pub use output::Outlet;
 pub use plan::FaultPlan;

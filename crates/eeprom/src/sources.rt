@@ -17,7 +17,7 @@ pub struct Pieces {
 
 impl Pieces {
     ghost use Rattle.std.specs.Prelude.{◌≡◌, length, Some};
-    ghost use Rattle.eeprom.specs.Input.{Takes};
+    ghost use Rattle.eeprom.specs.Input.{TakesPiece};
     ghost use Rattle.eeprom.specs.Sources.{left_of, supply_of, taken_into};
 
     fn new(octets: Vec<u8>, piece: usize) -> Pieces
@@ -35,7 +35,7 @@ impl Pieces {
     /// Takes a piece into the front of `into`, and answers how many octets it has.
     fn take(&mut self, into: &mut [u8]) -> usize
         requires { 0 < length into.old }
-        ensures taken { Takes result into.new (Some (left_of self.old)) (Some (left_of self.new)) }
+        ensures taken { TakesPiece result into.new (Some (left_of self.old)) (Some (left_of self.new)) }
         ensures count { result ≡ taken_into (length into.old) (supply_of self.old) }
         ensures piece { (supply_of self.new).piece ≡ (supply_of self.old).piece }
     {
@@ -79,7 +79,7 @@ impl MemSource {
 impl Source for MemSource {
     ghost use Rattle.std.specs.Prelude.{◌≡◌, ◌↔◌, ◌<◌, length, Some, IsTrue, IsErr, IfOk, OnErr};
     ghost use Rattle.eeprom.specs.Fault.{Counts};
-    ghost use Rattle.eeprom.specs.Input.{Takes};
+    ghost use Rattle.eeprom.specs.Input.{TakesPiece};
     ghost use Rattle.eeprom.specs.Planned.{next_made, is_next_failing};
     ghost use Rattle.eeprom.specs.Sources.{mem_supply, mem_reads, mem_faults, taken_into};
 
@@ -90,7 +90,7 @@ impl Source for MemSource {
     fn read(&mut self, into: &mut [u8]) -> Result<usize, SourceFault>
         requires { 0 < length into.old }
         ensures fails { IsErr result ↔ IsTrue (is_next_failing (mem_reads self.old)) }
-        ensures taken { IfOk result (λ count. Takes count into.new (Some (mem_supply self.old).left) (Some (mem_supply self.new).left)) }
+        ensures taken { IfOk result (λ count. TakesPiece count into.new (Some (mem_supply self.old).left) (Some (mem_supply self.new).left)) }
         ensures count { IfOk result (λ count. count ≡ taken_into (length into.old) (mem_supply self.old)) }
         ensures err { OnErr result (Some (mem_supply self.new).left ≡ Some (mem_supply self.old).left) }
         ensures piece { (mem_supply self.new).piece ≡ (mem_supply self.old).piece }
@@ -130,7 +130,7 @@ impl SteadySource {
 impl Source for SteadySource {
     ghost use Rattle.std.specs.Prelude.{◌≡◌, ◌<◌, length, Some, IsOk, IfOk, OnErr};
     ghost use Rattle.eeprom.specs.Fault.{Counts};
-    ghost use Rattle.eeprom.specs.Input.{Takes};
+    ghost use Rattle.eeprom.specs.Input.{TakesPiece};
     ghost use Rattle.eeprom.specs.Sources.{steady_supply, taken_into};
 
     ghost left = { λ source. Some (steady_supply source).left };
@@ -140,7 +140,7 @@ impl Source for SteadySource {
     fn read(&mut self, into: &mut [u8]) -> Result<usize, SourceFault>
         requires { 0 < length into.old }
         ensures succeeds { IsOk result }
-        ensures taken { IfOk result (λ count. Takes count into.new (Some (steady_supply self.old).left) (Some (steady_supply self.new).left)) }
+        ensures taken { IfOk result (λ count. TakesPiece count into.new (Some (steady_supply self.old).left) (Some (steady_supply self.new).left)) }
         ensures count { IfOk result (λ count. count ≡ taken_into (length into.old) (steady_supply self.old)) }
         ensures err { OnErr result (Some (steady_supply self.new).left ≡ Some (steady_supply self.old).left) }
         ensures piece { (steady_supply self.new).piece ≡ (steady_supply self.old).piece }

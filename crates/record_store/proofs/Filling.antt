@@ -3,7 +3,7 @@ use Rattle.std.proofs.Common.{◌≡◌, ◌≢◌, inl, inr, ℕ, ◌+◌, ◌<
 use Rattle.std.proofs.lemmas.List.{get_or-set_same}
 use Rattle.eeprom.specs.Chip.{Chip, Becomes, Keeps}
 use Rattle.eeprom.specs.StoreOf.{store_of}
-use Rattle.cell_store.specs.Cells.{Cells, kept, IsUsedChain, freed, link_in}
+use Rattle.cell_store.specs.Cells.{Cells, cells_from, IsUsedChain, freed, link_in}
 use Rattle.cell_store.specs.Chains.{AreLinked, is_among}
 use Rattle.cell_store.specs.Claims.{TakesChain}
 use Rattle.cell_store.specs.Marks.{StaysMarked, is_marked, unmarked}
@@ -22,9 +22,9 @@ use Rattle.record_store.proofs.Sides.{after_commit, put_into, Frees, all-among, 
 abbrev pub with_cells : Held → Cells → Held
 with_cells held new = record held { chains = new }
 
-same-cells : (P : Held → Type 0) (held : Held) (new : Cells) → new.cells ≡ held.chains.cells → new.links ≡ held.chains.links → P (with_cells held (kept held.chains.cells new.used held.chains.links)) → P (with_cells held new)
+same-cells : (P : Held → Type 0) (held : Held) (new : Cells) → new.cells ≡ held.chains.cells → new.links ≡ held.chains.links → P (with_cells held (cells_from held.chains.cells new.used held.chains.links)) → P (with_cells held new)
 same-cells P held new cells links p =
-    subst (λ (n : ℕ). P (with_cells held (kept n new.used new.links))) (sym cells) (subst (λ (links : List ℕ). P (with_cells held (kept held.chains.cells new.used links))) (sym links) p)
+    subst (λ (n : ℕ). P (with_cells held (cells_from n new.used new.links))) (sym cells) (subst (λ (links : List ℕ). P (with_cells held (cells_from held.chains.cells new.used links))) (sym links) p)
 
 and-parts : (a b : Bool) → (a && not b) ≡ true → (a ≡ true) × (b ≡ false)
 and-parts true true h = absurd (true≢false (sym h))
@@ -97,13 +97,13 @@ filled-sound held mid used slot weight count first new e takes =
     let begun : mid.begun ≡ true = ap (λ (h : Held). h.begun) e.is ∙ e.begun in
     let empty : slice_index mid.working slot ≡ 65535 = ap (λ (h : Held). slice_index h.working slot) e.is ∙ get_or-set_same held.working slot 65535 0 (omega (arith, e.inside, e.sound.working_count)) in
     let done = sound-put mid slot first count new.used new.links e.mid_sound begun (omega (arith, e.inside, cells)) empty (put_in-takes mid new first count takes) (omega (arith, r.cells, e.fits, cells)) in
-    subst (λ (n : ℕ). IsSound (record mid { chains = kept n new.used new.links; working = set mid.working slot first })) (sym takes.cells) done
+    subst (λ (n : ℕ). IsSound (record mid { chains = cells_from n new.used new.links; working = set mid.working slot first })) (sym takes.cells) done
 
 -- a write that failed left the chains as they were
 pub failed-sound : (held : Held) (new : Cells) → IsSound held → KeepsChains held.chains new → IsSound (with_cells held new)
 failed-sound held new sound keeps =
     let k = sound.sides in
-    let at : IsSound (with_cells held (kept held.chains.cells held.chains.used new.links)) =
+    let at : IsSound (with_cells held (cells_from held.chains.cells held.chains.used new.links)) =
     record {
       range = record { few = sound.range.few; many = sound.range.many; used_count = sound.range.used_count; links_count = keeps.links_count ∙ sound.range.links_count };
       rows = sound.rows;
@@ -118,7 +118,7 @@ failed-sound held new sound keeps =
         used = k.used;
       };
     } in
-    subst (λ (n : ℕ). IsSound (with_cells held (kept n new.used new.links))) (sym keeps.cells) (subst (λ (used : List Bool). IsSound (with_cells held (kept held.chains.cells used new.links))) (sym keeps.used) at)
+    subst (λ (n : ℕ). IsSound (with_cells held (cells_from n new.used new.links))) (sym keeps.cells) (subst (λ (used : List Bool). IsSound (with_cells held (cells_from held.chains.cells used new.links))) (sym keeps.used) at)
 
 -- the record is there then
 put-into : (held mid : Held) (used : List Bool) (slot first count : ℕ) (new : Cells) (octets was now : List ℕ) → IsSound held → held.begun ≡ true → slot < held.chains.cells → StaysMarked used held.chains.used → mid ≡ emptied held slot used → IsSound mid
@@ -129,11 +129,11 @@ put-into held mid used slot first count new octets was now sound begun inside fe
     subst (λ (mid : Held). IsSound mid → IsSound (filled mid) → StandsFor held was → TakesChain mid.chains new first count → IsWritten mid.chains new first octets was now → IsPut held (filled mid) slot octets was now) (sym is)
     (λ mid_sound next_sound stands takes written.
     let cells : new.cells ≡ held.chains.cells = takes.cells in
-    let next : IsSound (put_into (emptied held slot used) slot first new.used new.links) = subst (λ (n : ℕ). IsSound (record held { chains = kept n new.used new.links; working = set (set held.working slot 65535) slot first })) cells next_sound in
-    let same : new ≡ kept held.chains.cells new.used new.links = ap (λ (n : ℕ). kept n new.used new.links) cells in
+    let next : IsSound (put_into (emptied held slot used) slot first new.used new.links) = subst (λ (n : ℕ). IsSound (record held { chains = cells_from n new.used new.links; working = set (set held.working slot 65535) slot first })) cells next_sound in
+    let same : new ≡ cells_from held.chains.cells new.used new.links = ap (λ (n : ℕ). cells_from n new.used new.links) cells in
     let put = put-emptied held slot first count used new.used new.links octets was now sound mid_sound next begun inside fewer stands
     (subst (λ (new : Cells). TakesChain (emptied held slot used).chains new first count) same takes) (subst (λ (new : Cells). IsWritten (emptied held slot used).chains new first octets was now) same written) in
-    subst (λ (n : ℕ). IsPut held (record held { chains = kept n new.used new.links; working = set (set held.working slot 65535) slot first }) slot octets was now) (sym cells) put)
+    subst (λ (n : ℕ). IsPut held (record held { chains = cells_from n new.used new.links; working = set (set held.working slot 65535) slot first }) slot octets was now) (sym cells) put)
   where
     filled : Held → Held
     filled mid = record mid { chains = new; working = set mid.working slot first }

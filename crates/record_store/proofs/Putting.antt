@@ -7,7 +7,7 @@ use Rattle.std.proofs.lemmas.Option.{same_Some}
 use Rattle.std.proofs.lemmas.List.Sums.{sum_by-cons, sum_by-set}
 use Rattle.eeprom.specs.Chip.{Chip, Keeps}
 use Rattle.eeprom.specs.StoreOf.{longest_chain, Slots, chain_of, chains_of, cells_for, cells_of, is_record, slot_of, slots_at, are_apart, is_gate_open, written_directory, store_of}
-use Rattle.cell_store.specs.Cells.{kept, AreLinkedIn}
+use Rattle.cell_store.specs.Cells.{cells_from, AreLinkedIn}
 use Rattle.cell_store.specs.Chains.{is_among, steps}
 use Rattle.cell_store.specs.Claims.{TakesChain}
 use Rattle.cell_store.specs.Marks.{StaysMarked, is_marked, marked, unmarked}
@@ -147,7 +147,7 @@ stands-emptied held slot used image sound next_sound begun inside fewer stands =
 
 -- a record is put into a slot that is empty
 pub put-done : (held : Held) (slot first count : ℕ) (used : List Bool) (links octets was now : List ℕ) → IsSound held → IsSound (put_into held slot first used links) → held.begun ≡ true → slot < held.chains.cells → StandsFor held was
-    → TakesChain held.chains (kept held.chains.cells used links) first count → IsWritten held.chains (kept held.chains.cells used links) first octets was now → IsPut held (put_into held slot first used links) slot octets was now
+    → TakesChain held.chains (cells_from held.chains.cells used links) first count → IsWritten held.chains (cells_from held.chains.cells used links) first octets was now → IsPut held (put_into held slot first used links) slot octets was now
 put-done held slot first count used links octets was now sound next_sound begun inside stands takes w =
     let n = held.chains.cells in
     let next : Held = put_into held slot first used links in
@@ -173,7 +173,7 @@ put-done held slot first count used links octets was now sound next_sound begun 
 
 -- both, one after the other
 pub put-emptied : (held : Held) (slot first count : ℕ) (less used : List Bool) (links octets was now : List ℕ) → IsSound held → IsSound (emptied held slot less) → IsSound (put_into (emptied held slot less) slot first used links) → held.begun ≡ true → slot < held.chains.cells → StaysMarked less held.chains.used
-    → StandsFor held was → TakesChain (emptied held slot less).chains (kept held.chains.cells used links) first count → IsWritten (emptied held slot less).chains (kept held.chains.cells used links) first octets was now
+    → StandsFor held was → TakesChain (emptied held slot less).chains (cells_from held.chains.cells used links) first count → IsWritten (emptied held slot less).chains (cells_from held.chains.cells used links) first octets was now
     → IsPut held (put_into (emptied held slot less) slot first used links) slot octets was now
 put-emptied held slot first count less used links octets was now sound mid_sound next_sound begun inside fewer stands takes w =
     let e = stands-emptied held slot less was sound mid_sound begun inside fewer stands in

@@ -1,6 +1,6 @@
 -- Chains that are freed slot by slot, where others are kept in their place.
 use Rattle.std.proofs.Common.{◌≡◌, ◌≢◌, inl, inr, ℕ, ◌+◌, ◌<◌, ◌&&◌, not, Bool, true, false, List, [], length, get_or, slice_index, sym, refl, ap, ◌∙◌, arith, subst, true≢false}
-use Rattle.cell_store.specs.Cells.{Cells, IsUsedChain, freed, kept, link_in}
+use Rattle.cell_store.specs.Cells.{Cells, IsUsedChain, freed, link_in}
 use Rattle.cell_store.specs.Chains.{AreLinked, is_among}
 use Rattle.cell_store.specs.Marks.{StaysMarked, is_marked}
 use Rattle.cell_store.proofs.Marking.{unmarked-with}

@@ -5,7 +5,7 @@ use Rattle.std.proofs.lemmas.Bool.{and_parts}
 use Rattle.std.proofs.lemmas.Option.{same_Some, none-some}
 use Rattle.std.proofs.lemmas.List.Sums.{sum_by-cons}
 use Rattle.eeprom.specs.StoreOf.{longest_chain, Slots, Stored, store_of, has_version, chain_of, chains_of, cell_place, number_at, is_record, slot_of, slots_at, are_apart, has_header, cells_of, weight_of}
-use Rattle.cell_store.specs.Cells.{kept, link_in, AreLinkedIn}
+use Rattle.cell_store.specs.Cells.{cells_from, link_in, AreLinkedIn}
 use Rattle.cell_store.specs.Chains.{AreLinked, link_of, steps}
 use Rattle.cell_store.specs.Marks.{is_marked}
 use Rattle.cell_store.proofs.Chains.{cells-chain, chains-parts}
@@ -89,7 +89,7 @@ walk-without links (first ∷ firsts) (chain ∷ chains) (suc slot) few inside a
     rw next (omega (arith, sum_by-cons (steps links longest_chain) first (take slot firsts), steps-linked links first longest_chain chain few are.0 are.1, walk-without links firsts chains slot few (omega arith) are.2, length-append chain (cells_in (set chains slot []))))
 
 -- chains in memory are the image's
-pub chains-told : (image : List ℕ) (n : ℕ) (used : List Bool) (links firsts : List ℕ) (chains : List (List ℕ)) → 16 ≤ n → n ≤ 2048 → length links ≡ 2 * n → AreLinkedIn (kept n used links) image → AllByRecursion (λ cell. is_marked used cell ≡ true) (cells_in chains) → length (cells_in chains) ≤ n → AreChains links firsts chains
+pub chains-told : (image : List ℕ) (n : ℕ) (used : List Bool) (links firsts : List ℕ) (chains : List (List ℕ)) → 16 ≤ n → n ≤ 2048 → length links ≡ 2 * n → AreLinkedIn (cells_from n used links) image → AllByRecursion (λ cell. is_marked used cell ≡ true) (cells_in chains) → length (cells_in chains) ≤ n → AreChains links firsts chains
     → chains_of image n firsts ≡ Some chains
 chains-told image n used links [] [] few many size all marked short are = refl
 chains-told image n used links [] (chain ∷ chains) few many size all marked short are = absurd are

@@ -24,8 +24,8 @@ pub record Took {A : Type 0} (f : Field A) (octets : List ℕ) (x : A) (rest : L
   pub fits : f.fits x ≡ true
   pub behind : AreOctets rest
 
-abbrev pub Takes : {A : Type 0} → Field A → Type 0
-Takes {A} f = (octets : List ℕ) (x : A) (rest : List ℕ) → AreOctets octets → f.read octets ≡ Some (x, rest) → Took f octets x rest
+abbrev pub TakesField : {A : Type 0} → Field A → Type 0
+TakesField {A} f = (octets : List ℕ) (x : A) (rest : List ℕ) → AreOctets octets → f.read octets ≡ Some (x, rest) → Took f octets x rest
 
 abbrev pub Again : {A : Type 0} → Field A → Type 0
 Again {A} f = (x : A) (rest : List ℕ) → f.fits x ≡ true → f.read (f.spell x ++ rest) ≡ Some (x, rest)
@@ -35,12 +35,12 @@ AgainAtEnd {A} f = (x : A) → f.fits x ≡ true → f.read (f.spell x) ≡ Some
 
 -- what a field owes that others may follow
 pub record IsField {A : Type 0} (f : Field A) : Type 0 where
-  pub takes : Takes f
+  pub takes : TakesField f
   pub again : Again f
 
 -- what a field owes that goes to the end of the octets, so that none may follow
 pub record IsLastField {A : Type 0} (f : Field A) : Type 0 where
-  pub takes : Takes f
+  pub takes : TakesField f
   pub again : AgainAtEnd f
 
 pub IsLastField-from_IsField : {A : Type 0} (f : Field A) → IsField f → IsLastField f
@@ -96,7 +96,7 @@ number_took a b c d rest are =
       behind = λ i. are (suc (suc (suc (suc i))));
     }
 
-takes-number : Takes number
+takes-number : TakesField number
 takes-number [] x rest are is = absurd (none-some (x, rest) is)
 takes-number (a ∷ []) x rest are is = absurd (none-some (x, rest) is)
 takes-number (a ∷ b ∷ []) x rest are is = absurd (none-some (x, rest) is)
@@ -112,7 +112,7 @@ pub IsField-number : IsField number
 IsField-number = record { takes = takes-number; again = again-number }
 
 -- An octet that passes a test.
-takes-octet : (test : ℕ → Bool) → Takes (octet test)
+takes-octet : (test : ℕ → Bool) → TakesField (octet test)
 takes-octet test [] x rest are is = absurd (none-some (x, rest) is)
 takes-octet test (first ∷ octets) x rest are is =
     let passes = chosen_some (test first) (Some (first, octets)) (x, rest) is in
@@ -132,7 +132,7 @@ Codes {A} code value = (x : A) → value (code x) ≡ Some x
 abbrev pub CodesAlone : {A : Type 0} → (A → ℕ) → (ℕ → Option A) → Type 0
 CodesAlone {A} code value = (n : ℕ) (x : A) → value n ≡ Some x → n ≡ code x
 
-takes-letter : {A : Type 0} (code : A → ℕ) (value : ℕ → Option A) → CodesAlone code value → Takes (letter code value)
+takes-letter : {A : Type 0} (code : A → ℕ) (value : ℕ → Option A) → CodesAlone code value → TakesField (letter code value)
 takes-letter code value alone [] x rest are is = absurd (none-some (x, rest) is)
 takes-letter {A} code value alone (first ∷ octets) x rest are is =
     mapped_some (with_rest octets) (value first) (x, rest) is (λ (y : A) at same.
@@ -155,7 +155,7 @@ text_took test len octets are enough passes = record {
   behind = AreOctets-drop len octets are;
 }
 
-takes-text : (test : List ℕ → Bool) → Takes (text test)
+takes-text : (test : List ℕ → Bool) → TakesField (text test)
 takes-text test [] x rest are is = absurd (none-some (x, rest) is)
 takes-text test (len ∷ octets) x rest are is =
     let enough = not_chosen_some (nat_lt (length octets) len) (if test (take len octets) then Some (take len octets, drop len octets) else None) (x, rest) is in
@@ -183,7 +183,7 @@ then_took f g octets a b first second = record {
 abbrev behind_first : {A B : Type 0} → Field B → A × List ℕ → Option ((A × B) × List ℕ)
 behind_first {A} {B} g a = option_map (λ (b : B × List ℕ). ((a.0, b.0), b.1)) (g.read a.1)
 
-takes-then : {A B : Type 0} (f : Field A) (g : Field B) → Takes f → Takes g → Takes (f then g)
+takes-then : {A B : Type 0} (f : Field A) (g : Field B) → TakesField f → TakesField g → TakesField (f then g)
 takes-then {A} {B} f g first second octets x rest are is =
     option_and_then_some (behind_first {A = A} g) (f.read octets) (x, rest) is (λ (a : A × List ℕ) at is'.
     let took = first octets a.0 a.1 are at in
@@ -227,7 +227,7 @@ took_one_more f count octets a more first others = record {
 abbrev behind_one : {A : Type 0} → Field A → ℕ → A × List ℕ → Option (List A × List ℕ)
 behind_one f count a = option_map (with_front a.0) (many_at f.read count a.1)
 
-takes-many : {A : Type 0} (f : Field A) → Takes f → (count : ℕ) (octets : List ℕ) (r : List A × List ℕ) → AreOctets octets → many_at f.read count octets ≡ Some r
+takes-many : {A : Type 0} (f : Field A) → TakesField f → (count : ℕ) (octets : List ℕ) (r : List A × List ℕ) → AreOctets octets → many_at f.read count octets ≡ Some r
     → TookMany f count octets r.0 r.1
 takes-many {A} f takes zero octets r are is =
     let none : TookMany f 0 octets [] octets = record { many = refl; spelling = refl; fits = refl; behind = are } in
@@ -255,7 +255,7 @@ counted_took test f count octets xs rest passes took = record {
   behind = took.behind;
 }
 
-takes-counted : {A : Type 0} (test : ℕ → Bool) (f : Field A) → Takes f → Takes (counted_list test f)
+takes-counted : {A : Type 0} (test : ℕ → Bool) (f : Field A) → TakesField f → TakesField (counted_list test f)
 takes-counted test f takes [] x rest are is = absurd (none-some (x, rest) is)
 takes-counted test f takes (count ∷ octets) x rest are is =
     let passes = chosen_some (test count) (many_at f.read count octets) (x, rest) is in
@@ -281,7 +281,7 @@ record_took {A} to from f parts octets a took = record {
 abbrev made : {A B : Type 0} → (A → B) → A × List ℕ → B × List ℕ
 made to a = (to a.0, a.1)
 
-takes-as_record : {A B : Type 0} (to : A → B) (from : B → A) (f : Field A) → ((x : A) → from (to x) ≡ x) → Takes f → Takes (as_record to from f)
+takes-as_record : {A B : Type 0} (to : A → B) (from : B → A) (f : Field A) → ((x : A) → from (to x) ≡ x) → TakesField f → TakesField (as_record to from f)
 takes-as_record {A} to from f parts takes octets x rest are is =
     mapped_some (made to) (f.read octets) (x, rest) is (λ (a : A × List ℕ) at same.
     took_as (as_record to from f) octets (to a.0, a.1) (x, rest) (record_took to from f parts octets a (takes octets a.0 a.1 are at)) same)
@@ -305,7 +305,7 @@ IsLastField-as_record {A} {B} to from f parts restored is = record {
 }
 
 -- A first octet that tells the kind.
-takes-marked : {A : Type 0} (mark : ℕ) (f : Field A) → Takes f → Takes (with_mark mark f)
+takes-marked : {A : Type 0} (mark : ℕ) (f : Field A) → TakesField f → TakesField (with_mark mark f)
 takes-marked mark f takes [] x rest are is = absurd (none-some (x, rest) is)
 takes-marked mark f takes (first ∷ octets) x rest are is =
     let kind = chosen_some (first == mark) (f.read octets) (x, rest) is in
@@ -332,7 +332,7 @@ IsLastField-marked {A} mark f is = record {
 }
 
 -- Values to the end.
-takes-values_to_the_end : Takes values_to_the_end
+takes-values_to_the_end : TakesField values_to_the_end
 takes-values_to_the_end octets x rest are is =
     option_and_then_some no_rest (params_of octets) (x, rest) is (λ strings at is'.
     let kept = chosen_some (is_row strings) (Some (strings, [])) (x, rest) is' in

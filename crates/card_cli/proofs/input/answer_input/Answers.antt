@@ -1,7 +1,7 @@
 -- What was taken so far is told in the invariant; at the end of the input the last line is answered.
 use Rattle.std.proofs.Common.{◌≡◌, ℕ, ◌≤◌, List, [], take, Option, Some, None, refl, sym, ap, subst, ◌∙◌, arith}
 use Rattle.eeprom.specs.Chip.{Chip, Becomes}
-use Rattle.eeprom.specs.Input.{Takes}
+use Rattle.eeprom.specs.Input.{TakesPiece}
 use Rattle.scql_model.specs.Machine.{Machine}
 use Rattle.card.specs.Card.{Kept, IsAt}
 use Rattle.card_cli.specs.declared.status.Status.{Status}
@@ -61,7 +61,7 @@ done g c m at =
     let new : RunState = state g c.answer_last.new.card None c.answer_last.new.bench in
     Ends-done (g.B.Eeprom.faults c.args.bench.now) (g.B.Eeprom.faults c.answer_last.new.bench) c.loop-count.room c.read.new.into old mid new (g.S.Source.left c.args.source.now) (g.S.Source.left c.loop-count.source) (g.S.Source.left c.read.new.self) m
     (record { at = at; line = refl }) c.loop-count.invariant.taken
-    (subst (λ (count : ℕ). Takes count c.read.new.into (g.S.Source.left c.loop-count.source) (g.S.Source.left c.read.new.self)) c.if-count-eq0.true c.in-Ok.ensures.taken)
+    (subst (λ (count : ℕ). TakesPiece count c.read.new.into (g.S.Source.left c.loop-count.source) (g.S.Source.left c.read.new.self)) c.if-count-eq0.true c.in-Ok.ensures.taken)
     c.in-Ok-answer_last.ensures.ready c.in-Ok-answer_last.ensures.at c.in-Ok-answer_last.ensures.text c.in-Ok-answer_last.ensures.answered
 
 pub returns-in-Ok-answer_last-clause-ends_as : goal.returns-in-Ok-answer_last-clause-ends_as
@@ -81,7 +81,7 @@ last_failed g c m at =
     subst (λ (status : Status). EndsSo g m status c.args.source.now c.read.new.self c.args.bench.now c.answer_last.new.bench) (sym c.status.ensures)
     (Ends-last c.in-Err.stop (g.B.Eeprom.faults c.args.bench.now) (g.B.Eeprom.faults c.answer_last.new.bench) counts c.loop-count.room c.read.new.into old mid now (g.S.Source.left c.args.source.now) (g.S.Source.left c.loop-count.source) (g.S.Source.left c.read.new.self) m
     (record { at = at; line = refl }) c.loop-count.invariant.taken
-    (subst (λ (count : ℕ). Takes count c.read.new.into (g.S.Source.left c.loop-count.source) (g.S.Source.left c.read.new.self)) c.if-count-eq0.true c.in-Ok.ensures.taken)
+    (subst (λ (count : ℕ). TakesPiece count c.read.new.into (g.S.Source.left c.loop-count.source) (g.S.Source.left c.read.new.self)) c.if-count-eq0.true c.in-Ok.ensures.taken)
     c.in-Err.ensures.fails c.in-Err.ensures.moments)
 
 pub returns-in-Err-clause-ends_as : goal.returns-in-Err-clause-ends_as

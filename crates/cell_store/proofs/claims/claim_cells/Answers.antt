@@ -1,6 +1,6 @@
 use Rattle.std.proofs.Common.{◌≡◌, ◌*◌, ℕ, Some, length, IfSome, refl, sym, ap, ◌∙◌, rules, arith, subst, length-append}
 use Rattle.eeprom.specs.StoreOf.{payload_of, longest_chain, cell_size}
-use Rattle.cell_store.specs.Cells.{Cells, kept}
+use Rattle.cell_store.specs.Cells.{Cells, cells_from}
 use Rattle.cell_store.specs.Claims.{TakesChain}
 use Rattle.cell_store.specs.Claiming.{record_cells}
 use Rattle.cell_store.proofs.Claiming.{Claiming, Claiming-start, Claiming-more, Claiming-taken, Claiming-on, Claiming-record, Claiming-takes, Claiming-linked, longer-none, longer-counted, no-length}
@@ -25,20 +25,20 @@ at-end g c = omega (arith, c.loop-cell-test.false, c.loop-cell.auto._cell-end, (
 
 pub returns-in_err-next-clause-bad_chain : goal.returns-in_err-next-clause-bad_chain
 returns-in_err-next-clause-bad_chain g c = λ refused.
-    let start : Cells = kept c.args.cells c.args.used.now c.args.links.now in
+    let start : Cells = cells_from c.args.cells c.args.used.now c.args.links.now in
     let image = (g.B.Eeprom.chip c.args.bench.now).image in
     Claiming-taken start start image c.args.first 0 c.args.first c.requires.many c.requires.used (longer-none image c.args.cells c.args.first) (c.in_err-next.ensures.taken (search rules)) (Claiming-start start image c.args.first)
 
 pub returns-in_default-clause-bad_chain : goal.returns-in_default-clause-bad_chain
 returns-in_default-clause-bad_chain g c = λ _.
-    let start : Cells = kept c.args.cells c.args.used.now c.args.links.now in
+    let start : Cells = cells_from c.args.cells c.args.used.now c.args.links.now in
     let image = (g.B.Eeprom.chip c.args.bench.now).image in
     no-length start image c.args.first (told-count image c.args.cells c.args.first c.claim_cell.new.payload.items _ (rw c.clear.ensures at c.in_ok-next.ensures.payload) (ap record_cells (sym c.as_slice.ensures.value) ∙ (sym c.record_cells.ensures ∙ c.in_default.is)))
 
 pub loop-cell-init : goal.loop-cell-init
 loop-cell-init g c =
-    let start : Cells = kept c.args.cells c.args.used.now c.args.links.now in
-    let now : Cells = kept c.args.cells c.claim_cell.new.used c.claim_cell.new.links in
+    let start : Cells = cells_from c.args.cells c.args.used.now c.args.links.now in
+    let now : Cells = cells_from c.args.cells c.claim_cell.new.used c.claim_cell.new.links in
     let image = (g.B.Eeprom.chip c.args.bench.now).image in
     let more = c.in_ok-next.ensures.appends in
     let empty : length c.clear.new.self.items ≡ 0 = ap (length {A = ℕ}) c.clear.ensures in
@@ -57,9 +57,9 @@ loop-cell-init g c =
 
 pub loop-cell-preserved : goal.loop-cell-preserved
 loop-cell-preserved g c =
-    let start : Cells = kept c.args.cells c.args.used.now c.args.links.now in
-    let now : Cells = kept c.args.cells c.loop-cell.used c.loop-cell.links in
-    let new : Cells = kept c.args.cells c.claim_cell-in-loop-cell.new.used c.claim_cell-in-loop-cell.new.links in
+    let start : Cells = cells_from c.args.cells c.args.used.now c.args.links.now in
+    let now : Cells = cells_from c.args.cells c.loop-cell.used c.loop-cell.links in
+    let new : Cells = cells_from c.args.cells c.claim_cell-in-loop-cell.new.used c.claim_cell-in-loop-cell.new.links in
     let image = (g.B.Eeprom.chip c.args.bench.now).image in
     let inv = c.loop-cell.invariant in
     let more = c.in_ok-next-2.ensures.appends in
@@ -78,8 +78,8 @@ loop-cell-preserved g c =
 
 pub returns-in_err-next-2-clause-bad_chain : goal.returns-in_err-next-2-clause-bad_chain
 returns-in_err-next-2-clause-bad_chain g c = λ refused.
-    let start : Cells = kept c.args.cells c.args.used.now c.args.links.now in
-    let now : Cells = kept c.args.cells c.loop-cell.used c.loop-cell.links in
+    let start : Cells = cells_from c.args.cells c.args.used.now c.args.links.now in
+    let now : Cells = cells_from c.args.cells c.loop-cell.used c.loop-cell.links in
     let image = (g.B.Eeprom.chip c.args.bench.now).image in
     let at = (goal.at.returns-in_err-next-2-clause-bad_chain g c).In-Some in
     Claiming-taken start now image c.args.first c.loop-cell._cell c.loop-cell.next c.requires.many c.requires.used (longer-counted image c.args.cells c.args.first c.loop-cell._cell c.in-Some.count (told g at) c.loop-cell-test.true)
@@ -87,8 +87,8 @@ returns-in_err-next-2-clause-bad_chain g c = λ refused.
 
 pub returns-then-next-clause-takes : goal.returns-then-next-clause-takes
 returns-then-next-clause-takes g c =
-    let start : Cells = kept c.args.cells c.args.used.now c.args.links.now in
-    let now : Cells = kept c.args.cells c.loop-cell.used c.loop-cell.links in
+    let start : Cells = cells_from c.args.cells c.args.used.now c.args.links.now in
+    let now : Cells = cells_from c.args.cells c.loop-cell.used c.loop-cell.links in
     let end = at-end g (goal.at.returns-then-next-clause-takes g c).After-loop-cell in
     let short = count-short c.loop-cell.payload.items c.in-Some.count c.loop-cell.invariant.front in
     subst (TakesChain start now c.args.first) end (Claiming-takes start now (g.B.Eeprom.chip c.args.bench.now).image c.args.first c.loop-cell._cell c.loop-cell.next c.requires.links c.loop-cell.invariant.links c.if-next.true
@@ -96,13 +96,13 @@ returns-then-next-clause-takes g c =
 
 pub returns-then-next-clause-linked : goal.returns-then-next-clause-linked
 returns-then-next-clause-linked g c =
-    Claiming-linked (kept c.args.cells c.args.used.now c.args.links.now) (kept c.args.cells c.loop-cell.used c.loop-cell.links) (g.B.Eeprom.chip c.args.bench.now).image c.args.first c.loop-cell._cell c.loop-cell.next c.requires.used
+    Claiming-linked (cells_from c.args.cells c.args.used.now c.args.links.now) (cells_from c.args.cells c.loop-cell.used c.loop-cell.links) (g.B.Eeprom.chip c.args.bench.now).image c.args.first c.loop-cell._cell c.loop-cell.next c.requires.used
     c.loop-cell.invariant.claiming
 
 pub returns-then-next-clause-record : goal.returns-then-next-clause-record
 returns-then-next-clause-record g c =
-    let start : Cells = kept c.args.cells c.args.used.now c.args.links.now in
-    let now : Cells = kept c.args.cells c.loop-cell.used c.loop-cell.links in
+    let start : Cells = cells_from c.args.cells c.args.used.now c.args.links.now in
+    let now : Cells = cells_from c.args.cells c.loop-cell.used c.loop-cell.links in
     let image = (g.B.Eeprom.chip c.args.bench.now).image in
     let at = (goal.at.returns-then-next-clause-record g c).In-Some in
     let end = at-end g (goal.at.returns-then-next-clause-record g c).After-loop-cell in
@@ -122,8 +122,8 @@ returns-then-next-clause-size g c = c.loop-cell.invariant.size ∙ ap (λ (k : �
 
 pub returns-else-next-clause-bad_chain : goal.returns-else-next-clause-bad_chain
 returns-else-next-clause-bad_chain g c = λ _.
-    let start : Cells = kept c.args.cells c.args.used.now c.args.links.now in
-    let now : Cells = kept c.args.cells c.loop-cell.used c.loop-cell.links in
+    let start : Cells = cells_from c.args.cells c.args.used.now c.args.links.now in
+    let now : Cells = cells_from c.args.cells c.loop-cell.used c.loop-cell.links in
     let image = (g.B.Eeprom.chip c.args.bench.now).image in
     let at = (goal.at.returns-else-next-clause-bad_chain g c).In-Some in
     let end = at-end g (goal.at.returns-else-next-clause-bad_chain g c).After-loop-cell in

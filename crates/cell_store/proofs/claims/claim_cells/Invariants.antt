@@ -1,7 +1,7 @@
 use Rattle.std.proofs.Common.{◌≡◌, ◌*◌, ℕ, List, Some, length, IfSome}
 use Rattle.eeprom.specs.Chip.{Becomes}
 use Rattle.eeprom.specs.StoreOf.{chain_of}
-use Rattle.cell_store.specs.Cells.{kept}
+use Rattle.cell_store.specs.Cells.{cells_from}
 use Rattle.cell_store.specs.Claiming.{record_cells}
 use Rattle.cell_store.specs.Reading.{ReadsCells}
 use Rattle.cell_store.specs.Walk.{Walked}
@@ -10,7 +10,7 @@ use Rattle.cell_store.proofs.claims.claim_cells.Given as goal
 
 abbrev pub invariant-loop-cell : goal.invariant-loop-cell
 invariant-loop-cell g l = record {
-  claiming : Claiming (kept l.cells l.fn.used l.fn.links) (kept l.cells l.used l.links) (g.B.Eeprom.chip l.fn.bench).image l.first l._cell l.next;
+  claiming : Claiming (cells_from l.cells l.fn.used l.fn.links) (cells_from l.cells l.used l.links) (g.B.Eeprom.chip l.fn.bench).image l.first l._cell l.next;
   walked : IfSome (g.B.Eeprom.chip l.fn.bench).image (λ image. (chain : List ℕ) → chain_of image l.cells (2 * l.cells) l.first ≡ Some chain
       → Walked l.cells chain l.next l.payload.items l._cell image);
   size : length l.payload.items ≡ 30 * l._cell;

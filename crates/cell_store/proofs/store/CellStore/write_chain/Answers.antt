@@ -1,11 +1,11 @@
 use Rattle.std.proofs.Common.{◌≡◌, ℕ, List, Bool, length, drop, ap, refl, arith, rules, subst, ◌∙◌}
-use Rattle.cell_store.specs.Cells.{Cells, kept, IsInRange}
+use Rattle.cell_store.specs.Cells.{Cells, cells_from, IsInRange}
 use Rattle.cell_store.proofs.Cells.{take-whole}
 use Rattle.cell_store.proofs.Writing.{written-becomes}
 use Rattle.cell_store.proofs.store.CellStore.write_chain.Goals as goal
 
-kept-alike : (a b : ℕ) (used : List Bool) (links others : List ℕ) → a ≡ b → links ≡ others → kept a used links ≡ kept b used others
-kept-alike a b used links others same linked = rw (same, linked) refl
+cells_from-alike : (a b : ℕ) (used : List Bool) (links others : List ℕ) → a ≡ b → links ≡ others → cells_from a used links ≡ cells_from b used others
+cells_from-alike a b used links others same linked = rw (same, linked) refl
 
 pub returns-clause-written : goal.returns-clause-written
 returns-clause-written g c =
@@ -16,6 +16,6 @@ returns-clause-written g c =
     (g.B.Eeprom.chip c.args.bench.now).still.size (g.B.Eeprom.chip c.args.bench.now).image (g.B.Eeprom.chip c.write_cells.new.bench).image (subst IsInRange c.self.view_is c.self.invariant) c.requires.room
     (g.met.B.Eeprom.sized c.args.bench.now) cells (ap (λ (store : Cells). store.used) c.self.view_is) (c.as_mut_slice.ensures.value ∙ links) c.in_ok-first.ensures.links
     c.requires.some c.requires.most (rw c.as_slice.ensures.value c.payload_of_record-payload.ensures.number) (rw c.as_slice.ensures.value c.payload_of_record-payload.ensures.record) (search rules)
-    (kept-alike c.self.inside.cells c.args.self.now.cells c.write_cells.new.marks _ c.write_cells.new.links cells
+    (cells_from-alike c.self.inside.cells c.args.self.now.cells c.write_cells.new.marks _ c.write_cells.new.links cells
     (take-whole c.write_cells.new.links (drop (length c.write_cells.new.links) c.self.inside.links.items) c.self.inside.links.len size))
     c.in_ok-first.ensures.laid c.in_ok-first.ensures.placed
