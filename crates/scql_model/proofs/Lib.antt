@@ -35,6 +35,7 @@ pub mod FreshCard
 pub mod Hearing
 pub mod LastCommits
 pub mod LongerLists
+pub mod Migrating
 pub mod NameOrder
 pub mod Naming
 pub mod Positions

@@ -13,6 +13,7 @@ pub mod Heard
 pub mod Lines
 pub mod Machine
 pub mod Matching
+pub mod Migrating
 pub mod Moves
 pub mod Objects
 pub mod Opens
