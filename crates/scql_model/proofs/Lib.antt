@@ -4,6 +4,7 @@ mod WorkedForms
 mod WorkedMachine
 mod WorkedReading
 mod WorkedRows
+mod WorkedSpelling
 mod WorkedValidity
 pub mod Acting
 pub mod AddedUser
