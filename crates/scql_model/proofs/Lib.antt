@@ -19,6 +19,7 @@ pub mod ChangedRows
 pub mod ChangedUsers
 pub mod ChangingSessions
 pub mod ChosenRows
+pub mod CommandsAgain
 pub mod ContentsRise
 pub mod CounterSlot
 pub mod Creating
@@ -29,12 +30,14 @@ pub mod EditLaws
 pub mod FewerObjects
 pub mod FewerUsers
 pub mod FieldLaws
+pub mod FieldsAgain
 pub mod FormedCommands
 pub mod FormedParts
 pub mod FoundAgain
 pub mod FreshCard
 pub mod Hearing
 pub mod LastCommits
+pub mod LinesFound
 pub mod LongerLists
 pub mod NameOrder
 pub mod Naming
@@ -52,5 +55,7 @@ pub mod SeenThrough
 pub mod SpellingLengths
 pub mod Spellings
 pub mod Stored
+pub mod TailsAgain
+pub mod TakenFields
 pub mod Touching
 pub mod Validity

@@ -1,5 +1,5 @@
 -- Worked spellings of commands: the definitions compute them.
-use Rattle.std.proofs.Common.{◌≡◌, ℕ, List, [], ◌∷◌, ◌++◌, length, map, replicate, Option, Some, None, refl}
+use Rattle.std.proofs.Common.{◌≡◌, ℕ, List, [], ◌∷◌, ◌++◌, map, replicate, Option, Some, None, refl}
 use Rattle.std.specs.Prelude.{codes}
 use Rattle.std.specs.Result.{result_unwrap_or}
 use Rattle.hex.specs.Hex.{decode_of}
@@ -11,7 +11,7 @@ use Rattle.scql_base.specs.declared.operation.Operation.TheVariants.{CreateTable
 use Rattle.scql_base.specs.declared.words.Subject.TheVariants.{Objects}
 use Rattle.scql_base.specs.declared.words.Comparison.TheVariants.{Equal}
 use Rattle.scql_model.specs.Operations.{operations}
-use Rattle.scql_model.specs.Spelling.{line_for, parts_of, octets_of, part_octets}
+use Rattle.scql_model.specs.Spelling.{line_for, part_count, octets_of, part_octets}
 
 -- octets, from their digits
 abbrev octets : List ℕ → List ℕ
@@ -93,7 +93,7 @@ values = replicate 5 (replicate 200 0x61) ++ (replicate 14 0x62 ∷ [])
 abbrev inserts : Command
 inserts = on 0 (Insert (codes "W") values) None
 
-five_parts : parts_of inserts ≡ 5
+five_parts : part_count inserts ≡ 5
 five_parts = refl
 
 first_part : part_octets inserts 0

@@ -1,5 +1,5 @@
 -- The spelling of commands (ISO/IEC 7816-4, command APDU; ISO/IEC 7816-7 for the parameters of SCQL): the octets that a command is written as, whole or in parts.
-use Rattle.std.specs.Prelude.{ℕ, zero, suc, ◌+◌, ◌*◌, ◌/◌, ◌%◌, max, nat_le, nat_lt, Bool, false, List, [], ◌∷◌, ◌++◌, length, take, drop, Option, Some, None, if◌then◌else◌}
+use Rattle.std.specs.Prelude.{◌≡◌, ℕ, zero, suc, ◌+◌, ◌*◌, ◌/◌, ◌%◌, max, nat_le, nat_lt, Bool, true, false, List, [], ◌∷◌, ◌++◌, length, take, drop, Option, Some, None, if◌then◌else◌}
 use Rattle.std.specs.List.{find, flat_map}
 use Rattle.std.specs.Option.{option_map_or}
 use Rattle.scql_base.specs.declared.operation.TheConstants.Command.{LONGEST_DATA, LONGEST_IN_PARTS}
@@ -7,11 +7,13 @@ use Rattle.scql_base.specs.declared.condition.Condition.{Condition}
 use Rattle.scql_base.specs.declared.operation.Command.{Command}
 use Rattle.scql_base.specs.declared.operation.Line.{Line}
 use Rattle.scql_base.specs.declared.operation.Operation.{Operation}
-use Rattle.scql_base.specs.declared.operation.Operation.TheVariants.{CreateTable, CreateView, CreateDictionary, DropTable, DropView, Grant, Revoke, DeclareCursor, OpenCursor, Next, Fetch, FetchNext, Insert, Update, Delete, Begin, Commit, Rollback, PresentUser, CreateUser, DeleteUser, Verify, OpenChannel, CloseChannel, GetResponse}
+use Rattle.scql_base.specs.declared.operation.Operation.TheVariants.{CreateTable, CreateView, CreateDictionary, DropTable, DropView, Grant, Revoke, DeclareCursor, Insert, Update, PresentUser, CreateUser, DeleteUser, Verify}
 use Rattle.scql_base.specs.declared.operation.OperationKind.{OperationKind}
 use Rattle.scql_base.specs.contracts.operation.OperationKindPartialEq.TheImpl.{ghosts}
+use Rattle.scql_base.specs.Row.{row_size}
 use Rattle.scql_base.specs.Strings.{spelled}
-use Rattle.scql_model.specs.Operations.{operations, comes_in_parts, kind_of}
+use Rattle.scql_model.specs.Operations.{operations, line_of, comes_in_parts, kind_of}
+use Rattle.scql_model.specs.Parameters.{is_new_secret}
 use Rattle.scql_model.specs.Records.{comparison_code, profile_code, subject_code}
 
 -- a condition is three parameters: a name, one octet for the comparison, and a value
@@ -100,12 +102,12 @@ abbrev pub part_at : ℕ → List ℕ → List ℕ
 part_at place octets = take LONGEST_DATA (drop (LONGEST_DATA * place) octets)
 
 -- how many parts a command has
-abbrev pub parts_of : Command → ℕ
-parts_of c = parts_for (length (field_of c.operation))
+abbrev pub part_count : Command → ℕ
+part_count c = parts_for (length (field_of c.operation))
 
 -- a part goes on in the next one where it isn't the last; Le stands in the last
 abbrev pub goes_on_after : Command → ℕ → Bool
-goes_on_after c place = nat_lt (place + 1) (parts_of c)
+goes_on_after c place = nat_lt (place + 1) (part_count c)
 
 -- The octets of the part of a command at a place.
 unfoldable pub part_octets : Command → ℕ → List ℕ
@@ -114,3 +116,13 @@ part_octets c place =
     (λ (l : Line). apdu_by l (cla_of c.channel (goes_on_after c place)) (part_at place (field_of c.operation)) (if goes_on_after c place then None else c.le))
     (line_for operations (kind_of c.operation))
     []
+
+-- What a card takes of the operations that have their forms: an INSERT's row within its limit, and a new user's secret where secrets can be shown.
+abbrev pub IsTaken : Bool → ℕ → Operation → Type 0
+IsTaken secrets limit (Insert table values) = nat_le (row_size values) limit ≡ true
+IsTaken secrets limit (CreateUser name profile secret) = is_new_secret secrets secret ≡ true
+IsTaken secrets limit operation = Unit {0}
+
+-- a table has the line of an operation: it is found by its INS, P1 and P2
+abbrev pub HasLine : List Line → OperationKind → Type 0
+HasLine table kind = (l : Line) → line_for operations kind ≡ Some l → line_of table l.ins l.p1 l.p2 ≡ Some l
