@@ -4,6 +4,7 @@ mod WorkedForms
 mod WorkedMachine
 mod WorkedReading
 mod WorkedRows
+mod WorkedSpelling
 mod WorkedValidity
 pub mod Acting
 pub mod AddedUser
@@ -18,6 +19,7 @@ pub mod ChangedRows
 pub mod ChangedUsers
 pub mod ChangingSessions
 pub mod ChosenRows
+pub mod CommandsAgain
 pub mod ContentsRise
 pub mod CounterSlot
 pub mod Creating
@@ -28,12 +30,14 @@ pub mod EditLaws
 pub mod FewerObjects
 pub mod FewerUsers
 pub mod FieldLaws
+pub mod FieldsAgain
 pub mod FormedCommands
 pub mod FormedParts
 pub mod FoundAgain
 pub mod FreshCard
 pub mod Hearing
 pub mod LastCommits
+pub mod LinesFound
 pub mod LongerLists
 pub mod Migrating
 pub mod NameOrder
@@ -52,5 +56,7 @@ pub mod SeenThrough
 pub mod SpellingLengths
 pub mod Spellings
 pub mod Stored
+pub mod TailsAgain
+pub mod TakenFields
 pub mod Touching
 pub mod Validity

@@ -30,6 +30,7 @@ pub mod Rights
 pub mod Rules
 pub mod Sessions
 pub mod Shown
+pub mod Spelling
 pub mod Step
 pub mod Stored
 pub mod Transactions

@@ -2,6 +2,7 @@
 #![tactic(auto)]
 
 mod laws;
+mod written;
 
 pub use laws::{
     a_step_accepts_or_leaves_the_machine, a_step_reads_what_is_shown,
@@ -9,3 +10,4 @@ pub use laws::{
     depth_is_one_more_than_the_base_has, equal_shown_gives_equal_replies,
     objects_are_shown_by_their_names, reading_is_of_what_is_shown, views_are_seen_through,
 };
+pub use written::what_is_written_is_read_back;
