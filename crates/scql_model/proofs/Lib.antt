@@ -1,3 +1,4 @@
+mod WorkedBounds
 mod WorkedChanges
 mod WorkedCreating
 mod WorkedForms
@@ -10,6 +11,7 @@ pub mod AddedUser
 pub mod AnswerWords
 pub mod Apart
 pub mod Assigning
+pub mod Bounds
 pub mod ChangeLaws
 pub mod ChangedGrants
 pub mod ChangedLists
