@@ -39,6 +39,7 @@ pub mod LastCommits
 pub mod LongerLists
 pub mod NameOrder
 pub mod Naming
+pub mod NothingWritten
 pub mod Positions
 pub mod ReadingIsShown
 pub mod ReadingSteps
