@@ -1,3 +1,4 @@
+mod WorkedBounds
 mod WorkedChanges
 mod WorkedCreating
 mod WorkedForms
@@ -11,6 +12,7 @@ pub mod AddedUser
 pub mod AnswerWords
 pub mod Apart
 pub mod Assigning
+pub mod Bounds
 pub mod ChangeLaws
 pub mod ChangedGrants
 pub mod ChangedLists
@@ -42,6 +44,7 @@ pub mod LongerLists
 pub mod Migrating
 pub mod NameOrder
 pub mod Naming
+pub mod NothingWritten
 pub mod Positions
 pub mod ReadingIsShown
 pub mod ReadingSteps

@@ -22,11 +22,11 @@ use Rattle.scql_model.specs.Step.{step_by}
 use Rattle.scql_model.specs.Lines.{reply_octets}
 
 -- octets from hexadecimal digits
-abbrev digits_of : {E : Type 0} → Result (List ℕ) E → List ℕ
+abbrev pub digits_of : {E : Type 0} → Result (List ℕ) E → List ℕ
 digits_of (Ok octets) = octets
 digits_of (Err e) = []
 
-abbrev hexadecimal : List ℕ → List ℕ
+abbrev pub hexadecimal : List ℕ → List ℕ
 hexadecimal digits = digits_of (decode_of digits)
 
 -- the answers to commands, each in hexadecimal digits and a line of its own; and the machine after them
@@ -34,23 +34,23 @@ abbrev answers : Machine → List (List ℕ) → List ℕ
 answers m [] = []
 answers m (octets ∷ commands) = encode_upper (reply_octets (step_by operations m octets).reply) ++ codes "\n" ++ answers (step_by operations m octets).machine commands
 
-abbrev after : Machine → List (List ℕ) → Machine
+abbrev pub after : Machine → List (List ℕ) → Machine
 after m [] = m
 after m (octets ∷ commands) = after (step_by operations m octets).machine commands
 
-abbrev card : Machine
+abbrev pub card : Machine
 card = start (fresh 64)
 
 -- a fresh card with OWNER presented
-abbrev owner_card : Machine
+abbrev pub owner_card : Machine
 owner_card = after card (hexadecimal (codes "0014008006054F574E4552") ∷ [])
 
 -- and with table T of columns A and B
-abbrev with_table : Machine
+abbrev pub with_table : Machine
 with_table = after owner_card (hexadecimal (codes "0010008006015401410142") ∷ [])
 
 -- and with row (x, empty) in it
-abbrev with_row : Machine
+abbrev pub with_row : Machine
 with_row = after with_table (hexadecimal (codes "0010008C050154017800") ∷ [])
 
 -- OWNER is presented
@@ -178,7 +178,7 @@ unfolding step_by form_of params_of pieces_of edits_of move_of holds appears con
 grants = refl
 
 -- and with user BOB, whose secret is 1234
-abbrev with_bob : Machine
+abbrev pub with_bob : Machine
 with_bob = after owner_card (hexadecimal (codes "001400810B03424F4201030431323334") ∷ [])
 
 user_with_a_secret : answers owner_card (hexadecimal (codes "001400810B03424F4201030431323334") ∷ []) ≡ codes "9000\n"
