@@ -8,6 +8,7 @@ pub mod Filling
 pub mod FreshStore
 pub mod Fronts
 pub mod HeaderRead
+pub mod Keeping
 pub mod OpeningSlots
 pub mod Putting
 pub mod Records

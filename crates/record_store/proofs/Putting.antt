@@ -26,6 +26,7 @@ use Rattle.record_store.specs.Slots.{steps_without}
 use Rattle.record_store.specs.Sound.{IsSound, AreChains, cells_in}
 use Rattle.record_store.specs.declared.side.Side.{Side}
 use Rattle.record_store.specs.declared.side.Side.TheVariants.{Committed, Working}
+use Rattle.record_store.proofs.Keeping.{keeps-leaves}
 use Rattle.record_store.proofs.Replacing.{marked-chains, all-marked-same, replaced}
 use Rattle.record_store.proofs.SameSlots.{slots-same}
 use Rattle.record_store.proofs.Sides.{put_into, small-links, length-put, length-chains}
@@ -85,15 +86,7 @@ keeps-store held marks n old new cells used sound stands keeps =
     λ left was keeping. subst (λ (n : ℕ). Keeping held.chains.used n left was) cells (subst (λ (marks : List Bool). Keeping marks n left was) used keeping) in
     let kept : (left was : List ℕ) → old.image ≡ Some was → Keeping marks n left was → store_of left ≡ store_of was =
     λ left was told keeping. store-kept held left was sound (rw told at stands) (keeping_is left was keeping) in
-    record {
-      still = keeps.still;
-      image = λ now told. (let at = keeps.moments.now now told in (at.1, at.2, kept now at.1 at.2 at.3));
-      later = keeps.moments.later;
-      only = λ t g left since there. elim (keeps.moments.only t g left since there) [
-        | inl before ↦ inl before
-        | inr at ↦ inr (at.0, at.1, at.2, kept left at.1 at.2 at.3)
-      ];
-    }
+    keeps-leaves store_of (λ was left. Keeping marks n left was) old new keeps.still (λ was left told keeping. kept left was told keeping) keeps.moments
 
 -- one slot has another chain, and the others are as they were
 refilled : (held next : Held) (slot first : ℕ) (chain was now : List ℕ) (slots : Slots) → IsSound held → IsSound next → next.chains.cells ≡ held.chains.cells → firsts next Working ≡ set (firsts held Working) slot first → StandsFor held was → AreLinkedIn next.chains now
@@ -113,7 +106,7 @@ refilled held next slot first chain was now slots sound next_sound same_cells sa
     ap (λ (n : ℕ). slots_at now n (firsts next Working)) same_cells ∙ (ap (λ (firsts : List ℕ). slots_at now n firsts) same_firsts
     ∙ rw (r.of, r.records, apart_set, r.slots) (ap (λ (slots : Slots). Some (set slots slot (slot_of now n chain))) (sym told.is)))
 
-set-again : {A : Type 0} (xs : List A) (i : ℕ) (a b : A) → set (set xs i a) i b ≡ set xs i b
+pub set-again : {A : Type 0} (xs : List A) (i : ℕ) (a b : A) → set (set xs i a) i b ≡ set xs i b
 set-again [] i a b = refl
 set-again (x ∷ xs) zero a b = refl
 set-again (x ∷ xs) (suc i) a b = ap (λ (rest : List _). x ∷ rest) (set-again xs i a b)

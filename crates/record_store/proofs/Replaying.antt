@@ -8,6 +8,7 @@ use Rattle.journal.specs.Journal.{KeepsRest, KeepsDirectory, IsReplayed}
 use Rattle.record_store.specs.Header.{IsHeaderOf}
 use Rattle.record_store.specs.Opening.{front_octets}
 use Rattle.record_store.specs.declared.header.Header.{Header}
+use Rattle.record_store.proofs.Keeping.{keeps-leaves}
 use Rattle.record_store.proofs.SameSlots.{slots-beside}
 
 pub rest-front : (n : ℕ) (was left : List ℕ) → KeepsRest n was left → SameFront left was
@@ -59,15 +60,7 @@ told-image : (P : List ℕ → Type 0) (o : Option (List ℕ)) (image : List ℕ
 told-image P o image told holds = subst (λ (o : Option (List ℕ)). IfSome o P) told holds
 
 pub replay-keeps : (header : Header) (old new : Chip) → header.cells ≤ 2048 → IfSome old.image (λ image. IsHeaderOf image header) → new.still ≡ old.still → LeavesOf (KeepsDirectory header.cells) old new → Keeps store_of old new
-replay-keeps header old new few begins still leaves = record {
-  still = still;
-  image = λ now told. (let at = leaves.now now told in (at.1, at.2, same now at.1 at.2 at.3));
-  later = leaves.later;
-  only = λ t g left since there. elim (leaves.only t g left since there) [
-    | inl before ↦ inl before
-    | inr at ↦ inr (at.0, at.1, at.2, same left at.1 at.2 at.3)
-  ];
-}
+replay-keeps header old new few begins still leaves = keeps-leaves store_of (KeepsDirectory header.cells) old new still (λ was left told keeps. same left was told keeps) leaves
   where
     same : (left was : List ℕ) → old.image ≡ Some was → KeepsDirectory header.cells was left → store_of left ≡ store_of was
     same left was told keeps = store-replayed header was left few (told-image (λ image. IsHeaderOf image header) old.image was told begins) keeps

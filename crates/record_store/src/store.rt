@@ -1,5 +1,5 @@
 // A store of records, of which a directory in memory knows where each begins.
-ghost use Rattle.std.specs.Prelude.{◌≡◌, ◌+◌, ◌*◌, ◌≤◌, ◌<◌, ℕ, List, Some, None, false, IsTrue, IsSome, if◌then◌else◌, length, slice_index, is_some, IfSome, IfOk, IsErrOf, OnOk, OnErr};
+ghost use Rattle.std.specs.Prelude.{◌≡◌, ◌+◌, ◌*◌, ◌≤◌, ◌<◌, ℕ, List, Some, None, false, IsTrue, IsSome, if◌then◌else◌, length, drop, slice_index, is_some, IfSome, IfOk, IsErrOf, OnOk, OnErr};
 ghost use Rattle.eeprom.specs.Chip.{Becomes, RisesBy, Keeps};
 ghost use Rattle.eeprom.specs.Fault.{Counts, CountsFaults, each_error};
 ghost use Rattle.eeprom.specs.Frame.{Reads};
@@ -11,10 +11,10 @@ ghost use Rattle.record_store.specs.Faults.{is_open_fault, is_put_fault};
 ghost use Rattle.record_store.specs.Recovery.{Recovers};
 ghost use Rattle.eeprom.specs.StoreOf.{weight_of};
 ghost use Rattle.record_store.specs.Put.{IsPut, IsRemoved, IsFull, IsWithin, emptied};
-ghost use Rattle.record_store.specs.Slots.{changed, steps_without};
+ghost use Rattle.record_store.specs.Slots.{steps_without};
 ghost use Rattle.cell_store.specs.Marks.{StaysMarked};
 ghost use Rattle.cell_store.specs.Reading.{ReadsAtMost, ReadsRecord};
-ghost use Rattle.record_store.specs.Transaction.{begun_from, IsCommitted, Commits};
+ghost use Rattle.record_store.specs.Transaction.{begun_from, entries, IsCommitted, Commits};
 ghost use Rattle.record_store.specs.declared.side.Side.TheVariants.{Committed, Working};
 
 use crate::entries::entries_of;
@@ -167,6 +167,7 @@ impl Store {
         ensures stands { (image : List ℕ) → StandsFor self.old image → StandsFor self.new image }
         ensures starts { (image : List ℕ) → contents self.new Working image ≡ contents self.old Committed image }
         ensures committed { (image : List ℕ) → contents self.new Committed image ≡ contents self.old Committed image }
+        ensures no_entries { entries self.new ≡ 0 }
     {
         self.working.copy_from_slice(self.committed.as_slice());
         self.begun = true;
@@ -197,7 +198,9 @@ impl Store {
         ensures cells { OnOk result (self.new.chains.cells ≡ self.old.chains.cells) }
         ensures rows { OnOk result (self.new.row_limit ≡ self.old.row_limit) }
         ensures octets_written { OnOk result (Becomes (RisesBy (cell_size * image.cells_for (length octets.now))) (B.chip bench.old).written (B.chip bench.new).written) }
+        ensures entries { OnOk result (entries self.new ≤ entries self.old + 1) }
         ensures moments { Keeps store_of (B.chip bench.old) (B.chip bench.new) }
+        ensures behind { Keeps (drop (image.image_size self.old.chains.cells)) (B.chip bench.old) (B.chip bench.new) }
         ensures cause { CountsFaults is_put_fault (B.faults bench.old) (B.faults bench.new) result }
     {
         let next = self.next_slot;
@@ -234,6 +237,7 @@ impl Store {
         ensures rows { self.new.row_limit ≡ self.old.row_limit }
         ensures emptied { self.new ≡ emptied self.old slot self.new.chains.used }
         ensures fewer { StaysMarked self.new.chains.used self.old.chains.used }
+        ensures entries { entries self.new ≤ entries self.old + 1 }
     {
         let weight = self.weight_without(slot);
         let first = self.working[slot as usize];
@@ -267,7 +271,8 @@ impl Store {
         ensures told { OnOk result (is_some (B.chip bench.new).image ≡ is_some (B.chip bench.old).image) }
         ensures done { OnOk result (Becomes (IsCommitted self.old self.new) (B.chip bench.old).image (B.chip bench.new).image) }
         ensures moments { Commits self.old (B.chip bench.old) (B.chip bench.new) }
-        ensures octets_written { OnOk result (Becomes (RisesBy (4 + 6 * changed self.old.committed self.old.working)) (B.chip bench.old).written (B.chip bench.new).written) }
+        ensures behind { Keeps (drop (image.image_size self.old.chains.cells)) (B.chip bench.old) (B.chip bench.new) }
+        ensures octets_written { OnOk result (Becomes (RisesBy (4 + 6 * entries self.old)) (B.chip bench.old).written (B.chip bench.new).written) }
         ensures unchanged { OnErr result (self.new ≡ self.old) }
         ensures cause { Counts (B.faults bench.old) (B.faults bench.new) result }
     {

@@ -1,9 +1,12 @@
-use Rattle.std.proofs.Common.{◌≡◌, List, Bool, ap, ◌∙◌, subst, arith}
+use Rattle.std.proofs.Common.{◌≡◌, List, Bool, drop, ap, ◌∙◌, subst, arith}
 use Rattle.cell_store.specs.Marks.{StaysMarked}
+use Rattle.eeprom.specs.Chip.{Keeps}
+use Rattle.eeprom.specs.StoreOf.{image_size}
 use Rattle.record_store.specs.Held.{Held}
 use Rattle.record_store.specs.Transaction.{Commits}
 use Rattle.record_store.proofs.Commit.{Ready, ready-from, changed-few, commits-from, commit-done}
 use Rattle.record_store.proofs.Filling.{commit-sound, commit-view}
+use Rattle.record_store.proofs.Keeping.{behind-commit}
 use Rattle.record_store.proofs.Weighing.{weighed-committed}
 use Rattle.record_store.proofs.store.Store.commit.Goals.{After-entries_of-entries, After-commit}
 use Rattle.record_store.proofs.store.Store.commit.Goals as goal
@@ -52,3 +55,14 @@ returns-clause-done g c =
 
 pub returns-clause-moments : goal.returns-clause-moments
 returns-clause-moments g c = moments g (goal.at.returns-clause-moments g c).After-commit
+
+behind : (g : _) (c : After-commit g) → Keeps (drop (image_size c.args.self.now.chains.cells)) (g.B.Eeprom.chip c.args.bench.now) (g.B.Eeprom.chip c.commit.new.bench)
+behind g c =
+    behind-commit c.cells.result c.args.self.now.chains.cells c.as_slice-3.result.now (g.B.Eeprom.chip c.args.bench.now) (g.B.Eeprom.chip c.commit.new.bench)
+    (c.cells.ensures.number ∙ ap (λ (held : Held). held.chains.cells) c.self.view_is) c.commit.ensures.still c.commit.ensures.moments
+
+pub returns-in_err-commit-clause-behind : goal.returns-in_err-commit-clause-behind
+returns-in_err-commit-clause-behind g c = behind g (goal.at.returns-in_err-commit-clause-behind g c).After-commit
+
+pub returns-clause-behind : goal.returns-clause-behind
+returns-clause-behind g c = behind g (goal.at.returns-clause-behind g c).After-commit

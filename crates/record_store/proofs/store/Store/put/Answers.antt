@@ -1,11 +1,13 @@
-use Rattle.std.proofs.Common.{◌≡◌, ◌<◌, None, length, slice_index, ap, ◌∙◌, refl, arith, rules, subst}
+use Rattle.std.proofs.Common.{◌≡◌, ◌<◌, None, length, slice_index, drop, ap, ◌∙◌, refl, arith, rules, subst}
 use Rattle.eeprom.specs.Chip.{Keeps}
-use Rattle.eeprom.specs.StoreOf.{store_of, cells_for}
+use Rattle.eeprom.specs.StoreOf.{store_of, cells_for, image_size}
 use Rattle.record_store.specs.Held.{Held}
 use Rattle.record_store.specs.Slots.{steps_without}
 use Rattle.record_store.specs.Sound.{IsSound}
+use Rattle.record_store.proofs.ChangedSlots.{entries-filled}
 use Rattle.record_store.proofs.Emptying.{empty-record, full-found, full-none, working-of}
 use Rattle.record_store.proofs.Filling.{Emptied, room-enough, filled-becomes, filled-keeps}
+use Rattle.record_store.proofs.Keeping.{behind-marked}
 use Rattle.record_store.proofs.Putting.{put-over, put-within}
 use Rattle.record_store.proofs.Weighing.{weighed-filled, weighed-failed}
 use Rattle.record_store.proofs.store.Store.put.Goals.{In-Some, After-as_slice, After-weight_without-weight, After-write_chain}
@@ -111,3 +113,19 @@ returns-in-Ok-clause-within g c =
     let cells : c.self.inside.chains.cells ≡ c.args.self.now.chains.cells = ap (λ (held : Held). held.chains.cells) c.self.view_is in
     put-within c.args.self.now c.in-Some.slot c.weight_without-weight.result c.args.octets.now (g.B.Eeprom.chip c.args.bench.now).image (sound g at.After-as_slice) c.requires.begun c.requires.over.stands (inside g at.In-Some)
     (weight g at.After-weight_without-weight) (omega (arith, c.if-weight-count.false, c.cells.ensures.number, cells, c.cells_for-count.ensures))
+
+pub returns-in-Ok-clause-entries : goal.returns-in-Ok-clause-entries
+returns-in-Ok-clause-entries g c =
+    let at = (goal.at.returns-in-Ok-clause-entries g c).After-write_chain in
+    entries-filled c.args.self.now (mid g at) c.write_chain.new.self c.in-Some.slot c.in-Ok.first c.remove.new.self.chains.used c.requires.begun (emptied g at).is
+
+behind : (g : _) (c : After-write_chain g) → Keeps (drop (image_size c.args.self.now.chains.cells)) (g.B.Eeprom.chip c.args.bench.now) (g.B.Eeprom.chip c.write_chain.new.bench)
+behind g c =
+    behind-marked c.self-2.inside.chains.used c.self-2.inside.chains.cells c.args.self.now.chains.cells (g.B.Eeprom.chip c.args.bench.now) (g.B.Eeprom.chip c.write_chain.new.bench)
+    (ap (λ (held : Held). held.chains.cells) (emptied g c).is) c.write_chain.ensures.moments
+
+pub returns-in-Ok-clause-behind : goal.returns-in-Ok-clause-behind
+returns-in-Ok-clause-behind g c = behind g (goal.at.returns-in-Ok-clause-behind g c).After-write_chain
+
+pub returns-in-Err-Fault-clause-behind : goal.returns-in-Err-Fault-clause-behind
+returns-in-Err-Fault-clause-behind g c = behind g (goal.at.returns-in-Err-Fault-clause-behind g c).After-write_chain

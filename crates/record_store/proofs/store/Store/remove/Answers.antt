@@ -5,6 +5,7 @@ use Rattle.record_store.specs.Slots.{steps_without}
 use Rattle.record_store.specs.Sound.{IsSound}
 use Rattle.record_store.specs.Weighed.{IsWeighed}
 use Rattle.record_store.specs.declared.store.Store.TheInside.{Inside}
+use Rattle.record_store.proofs.ChangedSlots.{entries-emptied}
 use Rattle.record_store.proofs.Emptying.{removed-stands}
 use Rattle.record_store.proofs.Filling.{freed-sound, kept-sound}
 use Rattle.record_store.proofs.Weighing.{weighed-emptied}
@@ -38,3 +39,6 @@ invariant_of-self c =
 pub returns-clause-removed : goal.returns-clause-removed
 returns-clause-removed c = λ image stands.
     removed-stands c.args.self.now _ c.args.slot c.if-first-index.self-inside.chains.used image (subst IsSound c.self.view_is c.self.invariant.sound) (invariant_of-self c).sound c.requires.begun c.requires.slot (search rules) (search rules) stands
+
+pub returns-clause-entries : goal.returns-clause-entries
+returns-clause-entries c = entries-emptied c.args.self.now _ c.args.slot c.if-first-index.self-inside.chains.used (invariant_of-self c).sound c.requires.begun (search rules)
