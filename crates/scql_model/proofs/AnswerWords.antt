@@ -43,8 +43,8 @@ use Rattle.scql_model.specs.Edits.{Edit, applied}
 use Rattle.scql_model.specs.Defining.{makes_objects, of_kind, is_table_or_view, has_view, new_object, owned_by, named_anew, object_created, view_created, table_dropped, view_dropped}
 use Rattle.scql_model.specs.Granting.{grantee_named, grant_to, privileges_granted, privileges_revoked}
 use Rattle.scql_model.specs.Writing.{Assignment, record_at_cursor, row_after, written_through, row_inserted, row_updated, row_deleted}
-use Rattle.scql_model.specs.Creating.{may_create, is_taken}
-use Rattle.scql_model.specs.Users.{owns_user, is_needed, user_added, user_deleted}
+use Rattle.scql_model.specs.Creating.{may_create, is_taken, user_added}
+use Rattle.scql_model.specs.Users.{owns_user, is_needed, user_deleted}
 use Rattle.scql_base.specs.declared.words.Profile.{Profile}
 use Rattle.scql_model.specs.Changing.{edits_of, lacks_room, with_edits}
 use Rattle.scql_model.specs.Accepting.{channel_named, ended_at, EndsCursor, CostsTry}
@@ -303,7 +303,6 @@ gives-deleted db actor cursor =
     there Anything (record_at_cursor db c) record_not_found _ refl (λ _. tt)))
 
 gives-user_added : (db : Database) (actor : Actor) (name : List ℕ) (profile : Profile) (secret : List ℕ) → Gives Anything (user_added db actor name profile secret)
-unfolding user_added
 gives-user_added db actor name profile secret =
     asked Anything (may_create actor profile) security_not_satisfied _ refl (asked Anything (not (is_taken db name)) already_exists _ refl tt)
 
