@@ -36,7 +36,7 @@ use Rattle.scql_model.proofs.FormedCommands.{refused-not, not_refused, not_unles
 use Rattle.scql_model.proofs.FormedParts.{read_on, IfSome-read_on-named}
 use Rattle.scql_model.proofs.ReadingSteps.{ended-user, ended-actor, ended-reading}
 use Rattle.std.proofs.lemmas.Option.{same_Some}
-use Rattle.scql_model.specs.Answering.{AreCommand, FindsNone, ComesToEnd, ComparesWrong}
+use Rattle.scql_model.specs.Answering.{IsTriesLeft, AreCommand, FindsNone, ComesToEnd, ComparesWrong}
 use Rattle.scql_model.proofs.ReadingSteps.{stepped-reading}
 use Rattle.scql_model.proofs.RefusalWords.{IsPlain, plain-done, plain-rest, end-not_try, plain-refusal, Gives, behind, or_word, if_word, asked, there, gives-selected, gives-rows, gives-opened, gives-fitting, gives-named_among, Plain, plain-changed, plain-deleted, gives-session_named, plain-opened, plain-closed, RefusedSo, refused-form_of}
 
@@ -173,16 +173,19 @@ module _ (m : Machine) (c : Command) where
       go (Ok move) (inr ends) =
           let stood = sym (ap (λ (reading : Reading). reading.cursor) (ended-reading m channel)) ∙ ends.stood in
           let listed = ap (λ (who : Actor). rows_under (base m channel) who ends.cursor) (sym (ended-actor m channel)) ∙ ends.listed in
-          inr (inl (record { reading = command; reads = reads; cursor = ends.cursor; stood = stood; rows = ends.rows; listed = listed; none = ends.none }, record {
-            cursor = ends.cursor;
-            stood = stood;
-            rows = ends.rows;
-            listed = listed;
-            none = no_row command ends.cursor.place ends.rows ends.none;
-            reply = ap (λ (move : Move Reading). move.reply) ends.is;
-            machine = ap (λ (move : Move Reading). changing_session (reading_so move.after) ended channel) ends.is ∙ came_to_end ends.cursor;
-            commits = refl;
-          }))
+          inr (inl (
+            record { reading = command; reads = reads; cursor = ends.cursor; stood = stood; rows = ends.rows; listed = listed; none = ends.none },
+            record {
+              cursor = ends.cursor;
+              stood = stood;
+              rows = ends.rows;
+              listed = listed;
+              none = no_row command ends.cursor.place ends.rows ends.none;
+              reply = ap (λ (move : Move Reading). move.reply) ends.is;
+              machine = ap (λ (move : Move Reading). changing_session (reading_so move.after) ended channel) ends.is ∙ came_to_end ends.cursor;
+              commits = refl;
+            },
+          ))
 
   answers-verified : (secret : List ℕ) → c.operation ≡ Verify secret → m.transaction ≡ None → Gives (Answers m c) (verified ended channel secret)
   answers-verified secret verifies outside =
@@ -204,18 +207,21 @@ module _ (m : Machine) (c : Command) where
       go p u at unproved stored had true is = inl plain-done
       go p u at unproved stored had false is =
           let had_tries = λ (none : u.tries ≡ 0). false≢true (ap (λ (n : ℕ). not (n == 0)) (sym none) ∙ had) in
-          inr (inr (record {
-            secret = secret;
-            verifies = verifies;
-            outside = outside;
-            who = p;
-            presented = at;
-            unproved = unproved;
-            user = u;
-            stored = stored;
-            had_tries = had_tries;
-            wrong = is;
-          }, record { who = p; presented = at; user = u; stored = stored; had_tries = had_tries; reply = refl; machine = refl; commits = refl }))
+          inr (inr (
+            record {
+              secret = secret;
+              verifies = verifies;
+              outside = outside;
+              who = p;
+              presented = at;
+              unproved = unproved;
+              user = u;
+              stored = stored;
+              had_tries = had_tries;
+              wrong = is;
+            },
+            record { who = p; presented = at; user = u; stored = stored; had_tries = had_tries; reply = refl; machine = refl; commits = refl },
+          ))
 
   -- VERIFY waits for every transaction
   answers-operated : (operation : Operation) → c.operation ≡ operation → is_kept_waiting (waits (kind_of operation)) m.transaction channel ≡ false
@@ -309,8 +315,8 @@ module _ (table : List Line) (m : Machine) (octets : List ℕ) where
   pub step-comes_to_end : (step_by table m octets).reply.word ≡ end_reached → AreCommand table m octets ComesToEnd
   step-comes_to_end is = let came = step-came is in record { command = came.0; read = came.1.0; is = came.1.1.0 }
 
-  pub step-compares_wrong : (n : ℕ) → (step_by table m octets).reply.word ≡ tries_left n → AreCommand table m octets ComparesWrong
-  step-compares_wrong n is = let tried = step-tried n is in record { command = tried.0; read = tried.1.0; is = tried.1.1.0 }
+  pub step-compares_wrong : IsTriesLeft (step_by table m octets).reply.word → AreCommand table m octets ComparesWrong
+  step-compares_wrong (n, is) = let tried = step-tried n is in record { command = tried.0; read = tried.1.0; is = tried.1.1.0 }
 
 -- The other way: a command that comes to the end, or compares a wrong secret, is answered so.
 moved-none : (db : Database) (actor : Actor) (reading : Reading) (command : ReadingCommand) (c : Cursor) (rows : List StampedRow) → reading.cursor ≡ Some c → rows_under db actor c ≡ Ok rows
@@ -348,6 +354,6 @@ pub end-step : (table : List Line) (m : Machine) (octets : List ℕ) → AreComm
 unfolding step_by
 end-step table m octets are = ap (λ (form : Form). (stepped m form).reply.word) are.read ∙ stepped-comes_to_end m are.command are.is
 
-pub try-step : (table : List Line) (m : Machine) (octets : List ℕ) (are : AreCommand table m octets ComparesWrong) → (step_by table m octets).reply.word ≡ tries_left (are.is.user.tries - 1)
+pub try-step : (table : List Line) (m : Machine) (octets : List ℕ) → AreCommand table m octets ComparesWrong → IsTriesLeft (step_by table m octets).reply.word
 unfolding step_by
-try-step table m octets are = ap (λ (form : Form). (stepped m form).reply.word) are.read ∙ stepped-compares_wrong m are.command are.is
+try-step table m octets are = (are.is.user.tries - 1, ap (λ (form : Form). (stepped m form).reply.word) are.read ∙ stepped-compares_wrong m are.command are.is)

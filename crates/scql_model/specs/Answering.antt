@@ -9,6 +9,8 @@ use Rattle.scql_base.specs.declared.records.User.{User}
 use Rattle.scql_base.specs.declared.operation.Command.{Command}
 use Rattle.scql_base.specs.declared.operation.Line.{Line}
 use Rattle.scql_base.specs.declared.operation.Operation.TheVariants.{Verify}
+use Rattle.scql_base.specs.declared.words.StatusWord.{StatusWord}
+use Rattle.scql_base.specs.Words.{tries_left}
 use Rattle.scql_model.specs.Database.{user_stamped}
 use Rattle.scql_model.specs.Machine.{Machine, open_channels, base, actor}
 use Rattle.scql_model.specs.Sessions.{command_chain, cursor_of, user_of}
@@ -16,6 +18,10 @@ use Rattle.scql_model.specs.Form.{a_command, form_of}
 use Rattle.scql_model.specs.Objects.{StampedRow}
 use Rattle.scql_model.specs.ReadingCommands.{ReadingCommand, declare, open_cursor, next, fetch, fetch_next, get_response, reading_command}
 use Rattle.scql_model.specs.Moves.{is_opened, rows_under, row_behind}
+
+-- 63CX: a secret was wrong, and so many tries are left
+abbrev pub IsTriesLeft : StatusWord → Type 0
+IsTriesLeft word = (n : ℕ) × (word ≡ tries_left n)
 
 -- octets are a command on a machine, of which this is so
 pub record AreCommand (table : List Line) (m : Machine) (octets : List ℕ) (IsSo : Machine → Command → Type 0) : Type 0 where
