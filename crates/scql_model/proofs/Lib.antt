@@ -1,3 +1,4 @@
+mod WorkedBounds
 mod WorkedChanges
 mod WorkedCreating
 mod WorkedForms
@@ -10,6 +11,7 @@ pub mod AddedUser
 pub mod AnswerWords
 pub mod Apart
 pub mod Assigning
+pub mod Bounds
 pub mod ChangeLaws
 pub mod ChangedGrants
 pub mod ChangedLists
@@ -37,12 +39,14 @@ pub mod LastCommits
 pub mod LongerLists
 pub mod NameOrder
 pub mod Naming
+pub mod NothingWritten
 pub mod Positions
 pub mod ReadingIsShown
 pub mod ReadingSteps
 pub mod RecordLaws
 pub mod RecordLengths
 pub mod RecordsOf
+pub mod RefusalWords
 pub mod Refusing
 pub mod Removing
 pub mod RightEdits
