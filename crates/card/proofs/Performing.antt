@@ -75,6 +75,15 @@ Performs-refused card old new m word outcome ready at same refused =
     Performs-unwritten card card old new m (answered m outcome) (Ok word) ready at same
     (subst (λ (o : Result Answer StatusWord). Answers (answered m o) (said word) card new) (sym refused) (record { reply = refl; at = IsAt-unwritten card old new m at same }))
 
+-- a command from a machine that has committed the same
+pub Performs-from : (m next : Machine) (answer : Answer) (result : Result StatusWord EepromFault) (card : Kept) (old new : Chip) → next.committed ≡ m.committed
+    → Performs next answer result card old new → Performs m answer result card old new
+Performs-from m next answer result card old new same performs = record {
+  step = performs.step;
+  moments = subst (λ (db : Database). LeavesOneOf (db ∷ answer.commits) old new) same performs.moments;
+  unwritten = performs.unwritten;
+}
+
 -- For whom a channel acts, by the stamp of its proved user.
 abbrev acting : Database → ℕ → Actor
 acting db stamp = option_map_or (λ (u : User). a_user u.stamp u.profile) (user_stamped db.users stamp) Public

@@ -11,6 +11,7 @@ use Rattle.scql_base.specs.Words.{done, no_space}
 use Rattle.scql_model.specs.Replies as model
 use Rattle.scql_model.specs.Machine.{Machine, session_for}
 use Rattle.scql_model.specs.Replies.{said}
+use Rattle.scql_model.specs.Accepting.{channel_named, IsAsBefore}
 use Rattle.scql_model.specs.Step.{Answer}
 use Rattle.card.specs.Card.{Kept, IsAt}
 use Rattle.scql_base.specs.declared.cursor.Presented.{Presented}
@@ -46,6 +47,10 @@ abbrev pub committed_at_once : Machine → Result Database StatusWord → Result
 committed_at_once m (Err word) = Err word
 committed_at_once m (Ok db) = Ok (record { reply = said done; machine = record m { committed = db }; commits = db ∷ [] })
 
--- a command is done, or the machine is as it was and nothing is committed
-abbrev pub IsDoneOrStays : Machine → Answer → Type 0
-IsDoneOrStays m answer = (answer.reply.word ≡ done) ⊎ ((answer.machine ≡ m) × (answer.commits ≡ []))
+-- what octets say is done, or nothing is committed and the machine is as it was, but that their channel may have lost the parts of a command
+abbrev pub IsDoneOrStays : Machine → List ℕ → Answer → Type 0
+IsDoneOrStays m octets answer = (answer.reply.word ≡ done) ⊎ ((answer.commits ≡ []) × IsAsBefore m (channel_named octets) answer.machine)
+
+-- card and EEPROM are at a machine as it was, but that this channel may have lost the parts of a command
+abbrev pub IsAtAsBefore : Kept → Chip → Machine → ℕ → Type 0
+IsAtAsBefore card chip m channel = (next : Machine) × IsAsBefore m channel next × IsAt card chip next

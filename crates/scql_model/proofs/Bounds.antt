@@ -18,7 +18,6 @@ use Rattle.scql_model.specs.Sessions.{changing_session, command_chain, without_c
 use Rattle.scql_model.specs.Form.{a_command, form_of}
 use Rattle.scql_model.specs.Edits.{Edit, of_user, making, octets_for}
 use Rattle.scql_model.specs.Creating.{created, new_user}
-use Rattle.scql_model.specs.Users.{user_added}
 use Rattle.scql_model.specs.Changing.{edits_of, with_edits}
 use Rattle.scql_model.specs.Bound.{octets_for_change, or_nothing, octets_stepped, octets_bound_by}
 use Rattle.scql_model.proofs.Creating.{IsCreated-from_ok}
@@ -39,7 +38,7 @@ module _ (db : Database) (channel : ℕ) (cursor : Option Cursor) (name : List �
 
   octets_made-ok : (t : Option Transaction) (who : Actor) (new : Database) → t ≡ None → created db who name profile secret ≡ Ok new
       → octets_made t who ≡ octets_for (making db (of_user (new_user db who name profile secret)))
-  unfolding edits_of user_added octets_made
+  unfolding edits_of octets_made
   octets_made-ok t who new none ok =
       let made = IsCreated-from_ok db who name profile secret new ok in
       rw (none, made.may, made.free, made.stamps_left, made.room) refl

@@ -51,6 +51,7 @@ pub mod ReadingSteps
 pub mod RecordLaws
 pub mod RecordLengths
 pub mod RecordsOf
+pub mod RefusalWords
 pub mod Refusing
 pub mod Removing
 pub mod RightEdits

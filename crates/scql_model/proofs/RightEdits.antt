@@ -31,7 +31,8 @@ use Rattle.scql_model.specs.Rights.{owns, seen_named, update_privilege, delete_p
 use Rattle.scql_model.specs.Defining.{of_kind, owned_by, named_anew, has_view, removing_object, removing_rows, object_created, view_created, table_dropped, view_dropped}
 use Rattle.scql_model.specs.Granting.{grantee_named, grant_to, more_granted, privileges_left, less_granted, privileges_granted, privileges_revoked}
 use Rattle.scql_model.specs.Writing.{Assignment, row_inserted, written_through, row_at_place, record_at_cursor, row_after, row_updated, row_deleted}
-use Rattle.scql_model.specs.Users.{owns_user, is_needed, removing_user, user_added, user_deleted}
+use Rattle.scql_model.specs.Users.{owns_user, is_needed, removing_user, user_deleted}
+use Rattle.scql_model.specs.Creating.{user_added}
 use Rattle.scql_model.specs.Changing.{edits_of, is_counter, takes_stamp}
 use Rattle.scql_model.specs.Edits.{AnyRecord, of_counter, of_user, of_object, of_grant, of_row, record_stamp, Action, to_add, to_change, to_remove, Edit, making, changing, removing, has_record, edited, applied}
 
@@ -140,7 +141,6 @@ unfolding row_inserted
 inserted-right db actor name values = search outcomes
 
 user_added-right : (db : Database) (actor : Actor) (name : List ℕ) (profile : Profile) (secret : List ℕ) → Gives (AreRight db) (user_added db actor name profile secret)
-unfolding user_added
 user_added-right db actor name profile secret = search outcomes
 
 -- an object that the actor owns is there

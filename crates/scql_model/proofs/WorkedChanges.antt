@@ -28,14 +28,14 @@ use Rattle.scql_model.specs.Refusals.{◌>>=◌}
 use Rattle.scql_model.specs.Defining.{object_created, view_created, table_dropped, view_dropped}
 use Rattle.scql_model.specs.Granting.{privileges_granted, privileges_revoked}
 use Rattle.scql_model.specs.Writing.{row_inserted, row_updated, row_deleted}
-use Rattle.scql_model.specs.Users.{user_added, user_deleted}
+use Rattle.scql_model.specs.Users.{user_deleted}
 use Rattle.scql_model.specs.Machine.{Transaction}
 use Rattle.scql_model.specs.Edits.{Edit, octets_for, applied}
 use Rattle.scql_model.specs.Changing.{edits_of, change_of, transaction_after}
 
 -- the edits of a command and what it does, with all definitions open
 unfoldable edits_by : Actor → Option Cursor → Operation → Database → Result (List Edit) StatusWord
-unfolding edits_of object_created view_created table_dropped view_dropped privileges_granted privileges_revoked row_inserted row_updated row_deleted user_added user_deleted holds appears depth_of contents_of
+unfolding edits_of object_created view_created table_dropped view_dropped privileges_granted privileges_revoked row_inserted row_updated row_deleted user_deleted holds appears depth_of contents_of
 edits_by actor cursor operation db = edits_of db actor cursor operation
 
 unfoldable done_by : Actor → Option Cursor → Operation → Database → Result Database StatusWord

@@ -1,4 +1,5 @@
 pub mod Accepting
+pub mod Answering
 pub mod Bound
 pub mod Changing
 pub mod Contents

@@ -17,8 +17,8 @@ use Rattle.card.proofs.card.Card.add_user.Goals as goal
 
 pub add_and_change-added-requires-clause-may_add : goal.add_and_change-added-requires-clause-may_add
 add_and_change-added-requires-clause-may_add g c =
-    let counter : c.deref-2.result.now ≡ counter_record.spell (c.args.addition.now.user.stamp + 1) = c.deref-2.ensures.0 ∙ c.encode.ensures in
-    let user : c.deref.result.now ≡ user_record.spell c.args.addition.now.user = c.deref.ensures.0 ∙ c.encode_user.ensures in
+    let counter : c.deref-2.result.now ≡ counter_record.spell (c.args.addition.now.user.stamp + 1) = c.deref-2.ensures.0 ∙ c.encode-2.ensures in
+    let user : c.deref.result.now ≡ user_record.spell c.args.addition.now.user = c.deref.ensures.0 ∙ c.encode.ensures in
     let store = ap (λ (kept : Kept). kept.store) c.self.view_is in
     record {
       over = search rules;
@@ -33,8 +33,8 @@ add_and_change-added-requires-clause-may_add g c =
 pub returns-clause-performs : goal.returns-clause-performs
 returns-clause-performs g c = λ m actor name profile secret at is.
     let store = ap (λ (kept : Kept). kept.store) c.self.view_is in
-    let user : c.deref.result.now ≡ user_record.spell c.args.addition.now.user = c.deref.ensures.0 ∙ c.encode_user.ensures in
-    let counter : c.deref-2.result.now ≡ counter_record.spell (c.args.addition.now.user.stamp + 1) = c.deref-2.ensures.0 ∙ c.encode.ensures in
+    let user : c.deref.result.now ≡ user_record.spell c.args.addition.now.user = c.deref.ensures.0 ∙ c.encode.ensures in
+    let counter : c.deref-2.result.now ≡ counter_record.spell (c.args.addition.now.user.stamp + 1) = c.deref-2.ensures.0 ∙ c.encode-2.ensures in
     let outcome = answered m (committed_at_once m (created m.committed actor name profile secret)) in
     let new = g.B.Eeprom.chip c.add_and_change-added.new.bench in
     subst (λ (kept : Kept). Performs m outcome c.answer_to.result (record kept { store = c.add_and_change-added.new.store }) (g.B.Eeprom.chip c.args.bench.now) new) (sym c.self.view_is)

@@ -6,7 +6,7 @@ use Rattle.scql_base.specs.declared.operation.Operation.TheVariants.{CreateUser}
 use Rattle.scql_model.specs.Step.{Answer, answered, changed, user_presented, carried_out}
 use Rattle.card.specs.Answering.{Performs}
 use Rattle.card.proofs.BuiltLines.{IsBuilt-operation}
-use Rattle.card.proofs.IdleSteps.{carried_out-presents, carried_out-creates}
+use Rattle.card.proofs.UnreadSteps.{carried_out-presents, carried_out-creates}
 use Rattle.card.proofs.Performing.{Performs-unwritten}
 use Rattle.card.proofs.card.Card.carry_out.Goals as goal
 
@@ -27,5 +27,5 @@ returns-in-CreateUser-clause-performs g c = λ m at.
     subst (λ (outcome : Result Answer StatusWord). Performs m (answered m outcome) c.create_user.result c.create_user.new.self (g.B.Eeprom.chip c.args.bench.now) (g.B.Eeprom.chip c.create_user.new.bench)) (sym creates)
     (rw (c.in-CreateUser.name-is, c.in-CreateUser.profile-is, c.in-CreateUser.secret-is) at (c.create_user.ensures.performs m at))
 
-pub returns-in_default : goal.returns-in_default
-returns-in_default g c = absurd (IsBuilt-operation c.args.command.operation c.requires.built c.in_default.not-PresentUser c.in_default.not-CreateUser)
+pub unreachable-requires : goal.unreachable-requires
+unreachable-requires g c = absurd (IsBuilt-operation c.args.command.operation c.requires.built c.in_default.not-PresentUser c.in_default.not-CreateUser)

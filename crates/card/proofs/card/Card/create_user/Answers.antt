@@ -12,7 +12,8 @@ use Rattle.card.specs.Card.{Kept, IsAt, committed_slots}
 use Rattle.card.specs.Creating.{IsAddition, Prepares}
 use Rattle.card.specs.Answering.{Performs, committed_at_once}
 use Rattle.card.proofs.Performing.{Performs-unwritten, Performs-refused, IsAt-unwritten, asked-at}
-use Rattle.card.proofs.IdleSteps.{changed-creates}
+use Rattle.card.proofs.SeenSessions.{unread-card}
+use Rattle.card.proofs.UnreadSteps.{changed-creates}
 use Rattle.card.proofs.card.Card.create_user.Goals.{After-prepare_user}
 use Rattle.card.proofs.card.Card.create_user.Goals as goal
 
@@ -42,7 +43,7 @@ returns-in-Refused-clause-performs g c = λ m at.
     = rw (c.in_ok-word.was, c.in-Refused.is) at (prepared g (goal.at.returns-in-Refused-clause-performs g c).After-prepare_user m at) in
     Performs-refused c.args.self.now old (g.B.Eeprom.chip c.prepare_user.new.bench) m c.in-Refused.word (changed m c.args.channel (CreateUser c.args.name.now c.args.profile c.args.secret.now)) c.requires.ready at
     (c.in_ok-word.ensures.frame.same ∙ c.in_ok-actor.ensures.same)
-    (changed-creates c.args.self.now old m c.args.channel c.in_ok-actor.actor c.args.name.now c.args.profile c.args.secret.now at c.requires.idle (c.in_ok-actor.ensures.actor m at) ∙ ap (committed_at_once m) refused)
+    (changed-creates c.args.self.now old m c.args.channel c.in_ok-actor.actor c.args.name.now c.args.profile c.args.secret.now at (unread-card c.self.inside.store c.self.inside.live c.self.inside.sessions c.self.inside.chains c.args.self.now c.self.view_is) (c.in_ok-actor.ensures.actor m at) ∙ ap (committed_at_once m) refused)
 
 pub returns-in-Ready-clause-performs : goal.returns-in-Ready-clause-performs
 returns-in-Ready-clause-performs g c = λ m at.
@@ -52,5 +53,5 @@ returns-in-Ready-clause-performs g c = λ m at.
     let stays = c.in_ok-word.ensures.frame.same ∙ c.in_ok-actor.ensures.same in
     subst (λ (chip : Chip). Performs m (answered m (changed m c.args.channel (CreateUser c.args.name.now c.args.profile c.args.secret.now))) c.add_user.result c.add_user.new.self chip (g.B.Eeprom.chip c.add_user.new.bench)) stays
     (subst (λ (o : Result Answer StatusWord). Performs m (answered m o) c.add_user.result c.add_user.new.self (g.B.Eeprom.chip c.prepare_user.new.bench) (g.B.Eeprom.chip c.add_user.new.bench))
-    (sym (changed-creates c.args.self.now old m c.args.channel c.in_ok-actor.actor c.args.name.now c.args.profile c.args.secret.now at c.requires.idle (c.in_ok-actor.ensures.actor m at)))
+    (sym (changed-creates c.args.self.now old m c.args.channel c.in_ok-actor.actor c.args.name.now c.args.profile c.args.secret.now at (unread-card c.self.inside.store c.self.inside.live c.self.inside.sessions c.self.inside.chains c.args.self.now c.self.view_is) (c.in_ok-actor.ensures.actor m at)))
     (c.add_user.ensures.performs m c.in_ok-actor.actor c.args.name.now c.args.profile c.args.secret.now (IsAt-unwritten c.args.self.now old (g.B.Eeprom.chip c.prepare_user.new.bench) m at stays) ready))

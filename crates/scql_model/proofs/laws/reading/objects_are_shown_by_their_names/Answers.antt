@@ -1,7 +1,7 @@
 use Rattle.scql_model.specs.Shown.{shown}
 use Rattle.scql_model.proofs.FoundAgain.{find-objects_shown}
 use Rattle.scql_model.proofs.NameOrder.{IsSorted-objects_shown}
-use Rattle.scql_model.proofs.laws.objects_are_shown_by_their_names.Goals as goal
+use Rattle.scql_model.proofs.laws.reading.objects_are_shown_by_their_names.Goals as goal
 
 pub returns-clause-sorted : goal.returns-clause-sorted
 unfolding shown

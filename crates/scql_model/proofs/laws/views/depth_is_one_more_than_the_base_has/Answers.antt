@@ -1,5 +1,5 @@
 use Rattle.scql_model.proofs.Depths.{depth_of-table, depth_of-view, depth_of-too_deep, depth_of-dictionary, depth_of-most}
-use Rattle.scql_model.proofs.laws.depth_is_one_more_than_the_base_has.Goals as goal
+use Rattle.scql_model.proofs.laws.views.depth_is_one_more_than_the_base_has.Goals as goal
 
 pub returns-clause-table : goal.returns-clause-table
 returns-clause-table c = λ objects o columns is kind. depth_of-table objects o is columns kind

@@ -1,5 +1,5 @@
 use Rattle.scql_model.proofs.ReadingSteps.{stepped-reply, stepped-shown, stepped-others}
-use Rattle.scql_model.proofs.laws.a_step_reads_what_is_shown.Goals as goal
+use Rattle.scql_model.proofs.laws.reading.a_step_reads_what_is_shown.Goals as goal
 
 pub returns-clause-reply : goal.returns-clause-reply
 returns-clause-reply c = stepped-reply

@@ -1,5 +1,5 @@
 use Rattle.scql_model.proofs.Depths.{contents_of-table, contents_of-view, contents_of-dictionary}
-use Rattle.scql_model.proofs.laws.contents_are_those_of_the_kind.Goals as goal
+use Rattle.scql_model.proofs.laws.views.contents_are_those_of_the_kind.Goals as goal
 
 pub returns-clause-table : goal.returns-clause-table
 returns-clause-table c = λ db o columns is kind. contents_of-table db o is columns kind
