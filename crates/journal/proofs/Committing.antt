@@ -7,9 +7,9 @@ use Rattle.eeprom.specs.Image.{overwrite, IsTorn}
 use Rattle.eeprom.specs.StoreOf.{number_at, entries_at, journal_place, journal, is_entry, is_gate_open, written_directory, with_entries, directory, image_size}
 use Rattle.eeprom.specs.declared.entry.Entry.{Entry}
 use Rattle.journal.specs.Journal.{KeepsRest, TakesEntries, IsBetween, IsReplayed, KeepsDirectory}
-use Rattle.journal.specs.Redo.{IsOpenWith}
+use Rattle.journal.specs.Redo.{HasJournal, IsOpenWith}
 use Rattle.journal.proofs.Outside.{torn-outside, torn-whole, alike-written, number-alike, entries-alike, gate-stays, directory-before, directory-behind, rest-gate, rest-body, rest-then}
-use Rattle.journal.proofs.Redoing.{HasJournal, directory-closed, directory-either, directory-open, journal-kept, gate-open}
+use Rattle.journal.proofs.Redoing.{directory-closed, directory-either, directory-open, journal-kept, gate-open}
 
 -- the octets of a journal with these entries
 pub record AreJournal (n : ℕ) (entries : List Entry) (octets : List ℕ) : Type 0 where

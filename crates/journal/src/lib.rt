@@ -2,8 +2,8 @@
 #![tactic(auto)]
 
 mod journal;
-mod layout;
 mod octets;
+mod reading;
 mod redo;
 mod refusal;
 mod run;

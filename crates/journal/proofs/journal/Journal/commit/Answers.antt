@@ -7,14 +7,14 @@ use Rattle.journal.proofs.Finishing.{journaled-leaves, commit-first, commit-seco
 use Rattle.journal.proofs.journal.Journal.commit.Goals.{After-write, After-write-2, In_ok-write-2}
 use Rattle.journal.proofs.journal.Journal.commit.Goals as goal
 
-are : (g : _) (c : After-write g) → AreJournal c.args.cells c.args.entries.now c.as_slice-octets.result.now
+are : (g : _) (c : After-write g) → AreJournal c.args.cells c.args.entries.now c.as_slice.result.now
 are g c =
-    are-from c.args.cells c.args.entries.now c.journal_octets-journal.result.items c.as_slice-octets.result.now c.as_slice-octets.ensures.value c.requires.few c.requires.entries
-    c.journal_octets-journal.ensures.number c.journal_octets-journal.ensures.entries c.journal_octets-journal.ensures.count
+    are-from c.args.cells c.args.entries.now c.push_journal.new.octets.items c.as_slice.result.now c.as_slice.ensures.value c.requires.few c.requires.entries
+    c.push_journal.ensures.number c.push_journal.ensures.entries c.push_journal.ensures.count
 
 journaled : (g : _) (c : After-write g) → LeavesOf (IsJournaled c.args.cells) (g.B.Eeprom.chip c.args.bench.now) (g.B.Eeprom.chip c.write.new.self)
 journaled g c =
-    journaled-leaves c.args.cells c.args.entries.now c.as_slice-octets.result.now c.journal_place.result (g.B.Eeprom.chip c.args.bench.now) (g.B.Eeprom.chip c.write.new.self) c.journal_place.ensures (are g c) c.requires.room
+    journaled-leaves c.args.cells c.args.entries.now c.as_slice.result.now c.journal_place.result (g.B.Eeprom.chip c.args.bench.now) (g.B.Eeprom.chip c.write.new.self) c.journal_place.ensures (are g c) c.requires.room
     (g.met.B.Eeprom.sized c.args.bench.now) c.requires.closed (g.met.B.Eeprom.clocked c.args.bench.now) c.write.ensures.writes
 
 pub returns-in_err-write-clause-moments : goal.returns-in_err-write-clause-moments
@@ -24,7 +24,7 @@ returns-in_err-write-clause-moments g c =
 opening : (g : _) (c : After-write-2 g) → LeavesOf (IsBetween c.args.cells c.args.entries.now) (g.B.Eeprom.chip c.args.bench.now) (g.B.Eeprom.chip c.write-2.new.self)
 opening g c =
     let first = (goal.at.After-write-2 g c).After-write in
-    commit-second c.args.cells c.args.entries.now c.as_slice-octets.result.now c.journal_place.result (g.B.Eeprom.chip c.args.bench.now) (g.B.Eeprom.chip c.write.new.self) (g.B.Eeprom.chip c.write-2.new.self) (1 ∷ []) refl
+    commit-second c.args.cells c.args.entries.now c.as_slice.result.now c.journal_place.result (g.B.Eeprom.chip c.args.bench.now) (g.B.Eeprom.chip c.write.new.self) (g.B.Eeprom.chip c.write-2.new.self) (1 ∷ []) refl
     c.write.ensures.writes.still c.journal_place.ensures (are g first) c.requires.room (g.met.B.Eeprom.sized c.args.bench.now) (journaled g first) c.in_ok-write.ensures.written (g.met.B.Eeprom.clocked c.write.new.self)
     c.write-2.ensures.writes
 
@@ -34,7 +34,7 @@ returns-in_err-write-2-clause-moments g c = opening g (goal.at.returns-in_err-wr
 there : (g : _) (c : In_ok-write-2 g) → Becomes (IsOpened c.args.cells c.args.entries.now) (g.B.Eeprom.chip c.args.bench.now).image (g.B.Eeprom.chip c.write-2.new.self).image
 there g c =
     let first = (goal.at.In_ok-write-2 g c).After-write in
-    opened-there c.args.cells c.args.entries.now c.as_slice-octets.result.now c.journal_place.result (g.B.Eeprom.chip c.args.bench.now) (g.B.Eeprom.chip c.write.new.self) (g.B.Eeprom.chip c.write-2.new.self) (1 ∷ []) refl
+    opened-there c.args.cells c.args.entries.now c.as_slice.result.now c.journal_place.result (g.B.Eeprom.chip c.args.bench.now) (g.B.Eeprom.chip c.write.new.self) (g.B.Eeprom.chip c.write-2.new.self) (1 ∷ []) refl
     c.journal_place.ensures (are g first) c.requires.room (g.met.B.Eeprom.sized c.args.bench.now) (journaled g first) c.in_ok-write.ensures.written c.in_ok-write-2.ensures.written
 
 pub redo-requires-clause-over : goal.redo-requires-clause-over

@@ -1,6 +1,6 @@
 use Rattle.std.proofs.Common.{◌≡◌, ◌+◌, ◌*◌, length, take}
 use Rattle.eeprom.specs.StoreOf.{number_at, entries_at}
-use Rattle.journal.proofs.octets.journal_octets.Given as goal
+use Rattle.journal.proofs.octets.push_journal.Given as goal
 
 abbrev pub invariant-loop-entry : goal.invariant-loop-entry
 invariant-loop-entry l = record {
