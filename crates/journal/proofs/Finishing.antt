@@ -10,8 +10,9 @@ use Rattle.eeprom.proofs.Overwrite.{map-some}
 use Rattle.journal.specs.Journal.{TakesEntries, IsBetween, IsReplayed, KeepsDirectory}
 use Rattle.journal.specs.Redo.{HasJournal, IsOpenWith, IsRewritten}
 use Rattle.eeprom.proofs.Leaves.{at-told, write-leaves, leaves-weaker, leaves-then, leaves-last}
+use Rattle.journal.specs.Writing.{AreJournal}
 use Rattle.journal.proofs.Redoing.{directory-closed, redo-keeps, closing-keeps, redo-done}
-use Rattle.journal.proofs.Committing.{AreJournal, IsJournaled, IsOpened, journaled-torn, journaled-between, journal-there, opening-between, opened, opened-between, opened-done}
+use Rattle.journal.proofs.Committing.{IsJournaled, IsOpened, journaled-torn, journaled-between, journal-there, opening-between, opened, opened-between, opened-done}
 
 -- what is known of whatever is told
 pub if-told : (P : List ℕ → Type 0) (image : Option (List ℕ)) → ((was : List ℕ) → image ≡ Some was → P was) → IfSome image P

@@ -9,10 +9,11 @@ ghost use Rattle.journal.specs.Faults.{is_replay_fault};
 ghost use Rattle.journal.specs.Journal.{TakesEntries, IsBetween, IsReplayed, KeepsDirectory};
 
 use crate::ReplayRefusal;
-use crate::octets::{Entries, JournalOctets, push_journal};
+use crate::octets::Entries;
 use crate::reading::read_journal;
 use crate::redo::redo;
-use eeprom::{Eeprom, EepromFault, Entry, GATE_PLACE, journal_place};
+use crate::writing::write_journal;
+use eeprom::{Eeprom, EepromFault, Entry, GATE_PLACE};
 
 /// The octet of an open gate.
 const OPEN: [u8; 1] = [1];
@@ -41,9 +42,7 @@ impl Journal {
         ensures octets_read { B.octets_read bench.new ≡ B.octets_read bench.old }
         ensures cause { Counts (B.faults bench.old) (B.faults bench.new) result }
     {
-        let mut journal = JournalOctets::new();
-        push_journal(&mut journal, entries);
-        bench.write(journal_place(cells), journal.as_slice())?;
+        write_journal(bench, cells, entries)?;
         bench.write(GATE_PLACE, &OPEN)?;
         redo(bench, cells, entries)
     }

@@ -7,6 +7,7 @@ mod reading;
 mod redo;
 mod refusal;
 mod run;
+mod writing;
 
 pub use eeprom::Entry;
 pub use journal::Journal;

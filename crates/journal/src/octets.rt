@@ -14,14 +14,18 @@ pub const LARGEST_ENTRIES: usize = 4 * MOST_ENTRIES;
 
 pub const LARGEST_JOURNAL: usize = 2 + LARGEST_ENTRIES;
 
-pub type JournalOctets = ArrayVec<u8, LARGEST_JOURNAL>;
+/// How many entries a small journal has at most, and how many octets with their number.
+pub const FEW_ENTRIES: usize = 8;
+
+pub const SMALL_JOURNAL: usize = 34;
 
 pub type Entries = ArrayVec<Entry, MOST_ENTRIES>;
 
 /// Makes these the octets of a journal with these entries, where there are none yet.
-pub fn push_journal(octets: &mut JournalOctets, entries: &[Entry])
+pub fn push_journal<const CAP: usize>(octets: &mut ArrayVec<u8, CAP>, entries: &[Entry])
     requires none { octets.old.items ≡ [] }
     requires few { length entries.now ≤ 2048 }
+    requires fits { 2 + 4 * length entries.now ≤ CAP }
     ensures number { number_at octets.new.items 0 ≡ length entries.now }
     ensures entries { entries_at octets.new.items 2 (length entries.now) ≡ entries.now }
     ensures count { length octets.new.items ≡ 2 + 4 * length entries.now }

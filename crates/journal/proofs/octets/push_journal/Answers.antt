@@ -5,7 +5,7 @@ use Rattle.journal.proofs.Pushed.{entries-grown, number-front}
 use Rattle.journal.proofs.octets.push_journal.Goals as goal
 
 pub loop-entry-preserved : goal.loop-entry-preserved
-loop-entry-preserved c =
+loop-entry-preserved g c =
     let i = c.loop-entry.entry-index in
     let items = c.loop-entry.octets.items in
     let mid = c.push_number-in-loop-entry.new.octets.items in
