@@ -7,7 +7,7 @@ use Rattle.eeprom.specs.declared.entry.Entry.{Entry}
 use Rattle.eeprom.proofs.Places.{length-numbers_at, get_or-numbers_at}
 use Rattle.eeprom.proofs.Regions.{get-inside}
 use Rattle.journal.specs.Journal.{KeepsRest, IsReplayed, KeepsDirectory}
-use Rattle.journal.specs.Redo.{names, IsOpenWith, IsRewritten, IsRun, place_of}
+use Rattle.journal.specs.Redo.{HasJournal, names, IsOpenWith, IsRewritten, IsRun, place_of}
 use Rattle.journal.specs.declared.run.Run.{Run}
 use Rattle.journal.proofs.Entries.{with-agree}
 use Rattle.journal.proofs.Outside.{SameOutside, torn-outside, torn-whole, alike-before, alike-behind, number-alike, journal-stays, range-stays, gate-stays, directory-behind, rest-gate, rest-body, rest-then}
@@ -69,11 +69,7 @@ rewritten-with n entries was left is = with-agree entries (written_directory lef
 abbrev in_force : Bool → Bool → List Entry → List ℕ → Option (List ℕ)
 in_force gate range entries written = if gate then (if range then Some (with_entries entries written) else None) else Some written
 
--- a journal that is in range, and has these entries
-pub record HasJournal (n : ℕ) (entries : List Entry) (image : List ℕ) : Type 0 where
-  pub range : is_in_range image n ≡ true
-  pub listed : journal image n ≡ entries
-
+-- behind an open gate a journal makes its entries those of the directory
 pub directory-open : (n : ℕ) (entries : List Entry) (image written : List ℕ) → is_gate_open image ≡ true → HasJournal n entries image → written_directory image n ≡ written → directory image n ≡ Some (with_entries entries written)
 directory-open n entries image written gate has is =
     ap (λ (gate : Bool). in_force gate (is_in_range image n) (journal image n) (written_directory image n)) gate

@@ -1,5 +1,5 @@
 -- Runs: the numbers of neighbouring slots, which wait to be written together.
-use Rattle.std.proofs.Common.{◌≡◌, inl, inr, ℕ, ◌+◌, ◌*◌, ◌<◌, ◌≤◌, ◌==◌, true, false, List, [], ◌++◌, length, take, get_or, Option, IfSome, refl, sym, ap, ◌∙◌, subst, arith, length-append, eq-eqb}
+use Rattle.std.proofs.Common.{◌≡◌, inl, inr, ℕ, ◌+◌, ◌*◌, ◌<◌, ◌≤◌, ◌==◌, true, false, List, ◌++◌, length, take, get_or, Option, IfSome, refl, sym, ap, ◌∙◌, subst, arith, length-append, eq-eqb}
 use Rattle.std.proofs.Math.ListN.{set}
 use Rattle.std.specs.List.{list_all}
 use Rattle.std.proofs.lemmas.Bool.{cases_Bool, and_parts, eqb-true, ltb-true}
@@ -14,7 +14,7 @@ use Rattle.eeprom.proofs.Regions.{length-overwrite}
 use Rattle.journal.specs.Redo.{names, IsRun, IsRewritten, place_of, promised}
 use Rattle.journal.specs.declared.run.Run.{Run}
 use Rattle.journal.proofs.Entries.{number-set, with-more}
-use Rattle.journal.proofs.Leaves.{at-told, write-leaves, leaves-weaker, leaves-then, leaves-last}
+use Rattle.eeprom.proofs.Leaves.{at-told, write-leaves, leaves-weaker, leaves-then, leaves-last}
 use Rattle.journal.proofs.Redoing.{rewritten-torn, rewritten-then}
 
 -- a run that is written
@@ -110,15 +110,7 @@ octets-more old between new waits mids pushes i more before now after told =
     let a = before b.0 b.1 in
     (a.0, a.1, omega (arith, a.2, b.2))
 
--- a run is there before the first entry, and has room for one number more
-pub run-empty : (n : ℕ) (entries : List Entry) (run : Run) → run.octets.items ≡ [] → run.slot ≡ 0 → IsRun n entries run
-run-empty n entries run none at = record {
-  count = 0;
-  size = ap (λ (xs : List ℕ). length xs) none;
-  within = omega (arith, at);
-  named = λ slot from below. absurd (omega (arith, from, below));
-}
-
+-- a run has room for one number more
 pub run-room : (n : ℕ) (entries : List Entry) (run : Run) (slot : ℕ) → n ≤ 2048 → IsRun n entries run → length run.octets.items + 2 * run.slot ≡ 2 * slot → slot < n → length run.octets.items + 2 ≤ 4096
 run-room n entries run slot few is next within = omega arith
 

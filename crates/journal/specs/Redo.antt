@@ -10,6 +10,11 @@ use Rattle.journal.specs.declared.run.Run.{Run}
 abbrev pub names : List Entry → ℕ → Bool
 names entries slot = list_any (λ entry. entry.slot == slot) entries
 
+-- the journal is in range, and these are its entries
+pub record HasJournal (n : ℕ) (entries : List Entry) (image : List ℕ) : Type 0 where
+  pub range : is_in_range image n ≡ true
+  pub listed : journal image n ≡ entries
+
 -- the gate is open, and behind it stands a journal with these entries
 pub record IsOpenWith (n : ℕ) (entries : List Entry) (image : List ℕ) : Type 0 where
   pub gate : is_gate_open image ≡ true

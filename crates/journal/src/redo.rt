@@ -8,9 +8,11 @@ ghost use Rattle.eeprom.specs.StoreOf.{is_entry, written_directory, with_entries
 ghost use Rattle.journal.specs.Journal.{IsReplayed, KeepsDirectory};
 ghost use Rattle.journal.specs.Redo.{IsOpenWith, IsRewritten};
 
-use crate::layout::{CLOSED, GATE};
 use crate::run::Run;
-use eeprom::{Eeprom, EepromFault, Entry};
+use eeprom::{Eeprom, EepromFault, Entry, GATE_PLACE};
+
+/// The octet of a closed gate.
+const CLOSED: [u8; 1] = [0];
 
 /// Makes the entries of the journal those of the directory, and closes the gate. They are the same however often it is begun.
 pub fn redo<B: Eeprom>(bench: &mut B, cells: u16, entries: &[Entry]) -> Result<(), EepromFault>
@@ -28,7 +30,7 @@ pub fn redo<B: Eeprom>(bench: &mut B, cells: u16, entries: &[Entry]) -> Result<(
     ensures cause { Counts (B.faults bench.old) (B.faults bench.new) result }
 {
     write_entries(bench, cells, entries)?;
-    bench.write(GATE, &CLOSED)
+    bench.write(GATE_PLACE, &CLOSED)
 }
 
 /// Writes the entries into the directory, those of neighbouring slots together.
@@ -47,7 +49,7 @@ fn write_entries<B: Eeprom>(bench: &mut B, cells: u16, entries: &[Entry]) -> Res
 {
     let mut run = Run::at(0);
     for entry in entries {
-        run = run.up_to(bench, entry.slot)?;
+        run.go_to(bench, entry.slot)?;
         run.push(entry.first);
     }
     run.write(bench)

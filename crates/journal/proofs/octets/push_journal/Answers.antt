@@ -2,10 +2,10 @@ use Rattle.std.proofs.Common.{◌≡◌, ◌+◌, length, take, sym, ap, ◌∙�
 use Rattle.std.proofs.lemmas.List.{take_more}
 use Rattle.eeprom.specs.StoreOf.{number_at}
 use Rattle.journal.proofs.Pushed.{entries-grown, number-front}
-use Rattle.journal.proofs.octets.journal_octets.Goals as goal
+use Rattle.journal.proofs.octets.push_journal.Goals as goal
 
 pub loop-entry-preserved : goal.loop-entry-preserved
-loop-entry-preserved c =
+loop-entry-preserved g c =
     let i = c.loop-entry.entry-index in
     let items = c.loop-entry.octets.items in
     let mid = c.push_number-in-loop-entry.new.octets.items in
