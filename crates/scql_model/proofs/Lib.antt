@@ -41,6 +41,7 @@ pub mod LinesFound
 pub mod LongerLists
 pub mod NameOrder
 pub mod Naming
+pub mod PartsAgain
 pub mod Positions
 pub mod ReadingIsShown
 pub mod ReadingSteps
