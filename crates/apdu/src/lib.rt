@@ -1,7 +1,9 @@
 //! Commands and replies, to octets and back (ISO/IEC 7816-4).
 #![tactic(auto)]
 
+mod codes;
 mod command;
+mod field;
 mod fields;
 mod lists;
 mod reading;

@@ -45,7 +45,7 @@ line-again : (table : List Line) (channel : ℕ) (l : Line) (asked : OperationKi
 line-again table channel l asked found same closed = rw (found, same, closed) refl
 
 -- What is read of the octets of a command by a line with some data, where these are a part or the last of a command.
-part-again : (table : List Line) (l : Line) (channel : ℕ) (asked : OperationKind) (octets : List ℕ) (channels : List Bool) (chain : ℕ → Option Chain) (limit : ℕ)
+pub part-again : (table : List Line) (l : Line) (channel : ℕ) (asked : OperationKind) (octets : List ℕ) (channels : List Bool) (chain : ℕ → Option Chain) (limit : ℕ)
     → channel ≤ 3 → line_of table l.ins l.p1 l.p2 ≡ Some l → l.kind ≡ asked → is_for_channel channel asked ≡ true
     → takes_case l.takes (tail octets None) && is_case_3 (tail octets None) ≡ true → slice_get channels channel ≡ Some true
     → form_of table (apdu_by l (cla_of channel true) octets None) channels chain limit
@@ -61,7 +61,7 @@ part-again table l channel asked octets channels chain limit near found same clo
       same,
     ) refl
 
-last-again : (table : List Line) (l : Line) (c : Command) (octets : List ℕ) (channels : List Bool) (chain : ℕ → Option Chain) (limit : ℕ)
+pub last-again : (table : List Line) (l : Line) (c : Command) (octets : List ℕ) (channels : List Bool) (chain : ℕ → Option Chain) (limit : ℕ)
     → IsWellFormed c → line_of table l.ins l.p1 l.p2 ≡ Some l → l.kind ≡ kind_of c.operation → takes_case l.takes (tail octets c.le) ≡ true → slice_get channels c.channel ≡ Some true
     → IsTaken (has_secrets table) limit c.operation → concat (parts_of (kind_of c.operation) (chain c.channel)) ++ octets ≡ field_of c.operation
     → form_of table (apdu_by l (cla_of c.channel false) octets c.le) channels chain limit ≡ a_command c

@@ -45,6 +45,7 @@ pub mod Migrating
 pub mod NameOrder
 pub mod Naming
 pub mod NothingWritten
+pub mod PartsAgain
 pub mod Positions
 pub mod ReadingIsShown
 pub mod ReadingSteps
