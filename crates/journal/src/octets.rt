@@ -14,10 +14,12 @@ pub const LARGEST_ENTRIES: usize = 4 * MOST_ENTRIES;
 
 pub const LARGEST_JOURNAL: usize = 2 + LARGEST_ENTRIES;
 
-/// How many entries a small journal has at most, and how many octets with their number.
+/// Most commits have few entries: at most so many, of so many octets with their number, and of so many in the directory.
 pub const FEW_ENTRIES: usize = 8;
 
-pub const SMALL_JOURNAL: usize = 34;
+pub const SMALL_JOURNAL: usize = 2 + 4 * FEW_ENTRIES;
+
+pub const SMALL_RUN: usize = 2 * FEW_ENTRIES;
 
 pub type Entries = ArrayVec<Entry, MOST_ENTRIES>;
 
