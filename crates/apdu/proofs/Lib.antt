@@ -4,3 +4,4 @@ pub mod FieldsWritten
 pub mod FormsRead
 pub mod ListsRead
 pub mod NamesRead
+pub mod PartsWritten

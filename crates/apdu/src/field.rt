@@ -1,5 +1,5 @@
 // The data field of a command that is written (ISO/IEC 7816-7): the parameters of its operation, one behind the other.
-ghost use Rattle.std.specs.Prelude.{◌≡◌, ◌<◌, ◌∷◌, [], Some, length, map, option_map};
+ghost use Rattle.std.specs.Prelude.{◌≡◌, ◌<◌, ◌∷◌, [], IsSome, Some, length, map, option_map};
 ghost use Rattle.std.specs.List.{flat_map};
 ghost use Rattle.scql_base.specs.Strings.{spelled};
 ghost use Rattle.scql_base.specs.declared.operation.Operation.TheVariants as operation;
@@ -31,7 +31,7 @@ impl Model for Field {
 #[tactic(auto, using(crate::proofs::FieldsWritten::with_both, crate::proofs::FieldsWritten::with_some, crate::proofs::FieldsWritten::with_no_room, crate::proofs::FieldsWritten::with_none))]
 impl Field {
     // No octets yet.
-    pub(crate) fn new() -> Field
+    fn new() -> Field
         ensures { result ≡ Some [] }
     {
         Field {
@@ -49,6 +49,14 @@ impl Field {
         } else {
             None
         }
+    }
+
+    // The octets, which are there.
+    pub(crate) fn written(&self) -> &[u8]
+        requires { IsSome self.now }
+        ensures { Some result.now ≡ self.now }
+    {
+        self.octets.as_slice()
     }
 
     fn put_octets(&mut self, octets: &[u8])
@@ -142,8 +150,7 @@ impl Field {
         self.put_string(secret.as_slice());
     }
 
-    // The data field of an operation.
-    pub(crate) fn put(&mut self, operation: &Operation)
+    fn put_operation(&mut self, operation: &Operation)
         ensures { self.new ≡ with_more (spelling.field_of operation.now) self.old }
     {
         match operation {
@@ -211,4 +218,13 @@ impl Field {
             | Operation::GetResponse => {}
         }
     }
+}
+
+// The data field of an operation.
+pub(crate) fn field_of(operation: &Operation) -> Field
+    ensures { result ≡ with_more (spelling.field_of operation.now) (Some []) }
+{
+    let mut field = Field::new();
+    field.put_operation(operation);
+    field
 }

@@ -10,7 +10,9 @@ mod reading;
 mod reply;
 mod table;
 mod tail;
+mod writing;
 
 pub use command::CommandApdu;
 pub use reading::{Apdu, Refusal};
 pub use reply::Reply;
+pub use writing::CommandOctets;

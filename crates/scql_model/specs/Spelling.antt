@@ -74,7 +74,7 @@ le_octets (Some le) = le % 256 ∷ []
 
 -- CLA INS P1 P2, the data with Lc, and Le
 abbrev pub apdu_by : Line → ℕ → List ℕ → Option ℕ → List ℕ
-apdu_by line cla data' le = cla ∷ line.ins ∷ line.p1 ∷ line.p2 ∷ (with_length data' ++ le_octets le)
+apdu_by line cla body le = cla ∷ line.ins ∷ line.p1 ∷ line.p2 ∷ (with_length body ++ le_octets le)
 
 -- The octets of a command. An operation that stands in no line of the table, as to open channel 7, is written as none.
 unfoldable pub octets_of : Command → List ℕ
@@ -105,17 +105,20 @@ part_at place octets = take LONGEST_DATA (drop (LONGEST_DATA * place) octets)
 abbrev pub part_count : Command → ℕ
 part_count c = parts_for (length (field_of c.operation))
 
--- a part goes on in the next one where it isn't the last; Le stands in the last
+-- a part goes on in the next one where it isn't the last
 abbrev pub goes_on_after : Command → ℕ → Bool
 goes_on_after c place = nat_lt (place + 1) (part_count c)
+
+-- the part at a place of a data field, by the line of the operation; Le stands in the last part
+abbrev pub part_by : Line → ℕ → Option ℕ → List ℕ → ℕ → List ℕ
+part_by line channel le field place =
+    let is_part = nat_lt (place + 1) (parts_for (length field)) in
+    apdu_by line (cla_of channel is_part) (part_at place field) (if is_part then None else le)
 
 -- The octets of the part of a command at a place.
 unfoldable pub part_octets : Command → ℕ → List ℕ
 part_octets c place =
-    option_map_or
-    (λ (l : Line). apdu_by l (cla_of c.channel (goes_on_after c place)) (part_at place (field_of c.operation)) (if goes_on_after c place then None else c.le))
-    (line_for operations (kind_of c.operation))
-    []
+    option_map_or (λ (l : Line). part_by l c.channel c.le (field_of c.operation) place) (line_for operations (kind_of c.operation)) []
 
 -- What a card takes of the operations that have their forms: an INSERT's row within its limit, and a new user's secret where secrets can be shown.
 abbrev pub IsTaken : Bool → ℕ → Operation → Type 0
