@@ -35,6 +35,9 @@ pub mod FormedParts
 pub mod FoundAgain
 pub mod FreshCard
 pub mod Hearing
+pub mod Keeping
+pub mod KeepsGrants
+pub mod KeepsRows
 pub mod LastCommits
 pub mod LongerLists
 pub mod NameOrder
