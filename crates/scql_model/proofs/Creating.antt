@@ -99,7 +99,7 @@ user-fits : (u : User) → nat_lt u.stamp (2 ^ 32) ≡ true → nat_lt u.owner (
 user-fits u stamp owner tries name secret = rw (stamp, owner, tries, name, secret) refl
 
 -- the new user's owner may own it
-maker-profile : (users : List User) (stamp : ℕ) (profile : Profile) → is_maker profile ≡ true → option_map (λ (u : User). u.profile) (user_stamped users stamp) ≡ Some profile
+pub maker-profile : (users : List User) (stamp : ℕ) (profile : Profile) → is_maker profile ≡ true → option_map (λ (u : User). u.profile) (user_stamped users stamp) ≡ Some profile
     → is_made_by_maker users stamp ≡ true
 maker-profile users stamp profile maker acts = go (user_stamped users stamp) acts
   where

@@ -38,6 +38,9 @@ pub mod FormedParts
 pub mod FoundAgain
 pub mod FreshCard
 pub mod Hearing
+pub mod Keeping
+pub mod KeepsGrants
+pub mod KeepsRows
 pub mod LastCommits
 pub mod LinesFound
 pub mod LongerLists
