@@ -143,6 +143,6 @@ entries-begun held = changed-same held.committed
 pub entries-emptied : (held new : Held) (slot : ℕ) (used : List Bool) → IsSound new → held.begun ≡ true → new ≡ emptied held slot used → entries new ≤ entries held + 1
 entries-emptied held new slot used sound begun is = rw (is, begun) (changed-set held.committed held.working slot 65535)
 
-pub entries-filled : (held mid : Held) (chains : Cells) (slot first : ℕ) (used : List Bool) → held.begun ≡ true → mid ≡ emptied held slot used → entries (record mid { chains = chains; working = set mid.working slot first }) ≤ entries held + 1
-entries-filled held mid chains slot first used begun is =
+pub entries-filled : (held mid : Held) (chains : Cells) (octets : List ℕ) (slot first : ℕ) (used : List Bool) → held.begun ≡ true → mid ≡ emptied held slot used → entries (record mid { chains = chains; working = set mid.working slot first; first_octets = octets }) ≤ entries held + 1
+entries-filled held mid chains octets slot first used begun is =
     rw (is, begun, set-again held.working slot 65535 first) (changed-set held.committed held.working slot first)

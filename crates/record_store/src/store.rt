@@ -1,11 +1,11 @@
 // A store of records, of which a directory in memory knows where each begins.
-ghost use Rattle.std.specs.Prelude.{◌≡◌, ◌+◌, ◌*◌, ◌≤◌, ◌<◌, ℕ, List, Some, None, false, IsTrue, IsSome, if◌then◌else◌, length, drop, slice_index, is_some, IfSome, IfOk, IsErrOf, OnOk, OnErr};
+ghost use Rattle.std.specs.Prelude.{◌≡◌, ◌↔◌, ◌+◌, ◌*◌, ◌≤◌, ◌<◌, ℕ, List, Some, None, false, IsTrue, IsSome, if◌then◌else◌, length, drop, slice_index, is_some, IfSome, IfOk, IsErrOf, OnOk, OnErr};
 ghost use Rattle.eeprom.specs.Chip.{Becomes, RisesBy, Keeps};
 ghost use Rattle.eeprom.specs.Fault.{Counts, CountsFaults, each_error};
 ghost use Rattle.eeprom.specs.Frame.{Reads};
-ghost use Rattle.eeprom.specs.StoreOf.{Slots, Stored, store_of, is_gate_open, cell_size, longest_record};
+ghost use Rattle.eeprom.specs.StoreOf.{no_cell, Slots, Stored, store_of, is_gate_open, cell_size, longest_record};
 ghost use Rattle.eeprom.specs.StoreOf as image;
-ghost use Rattle.record_store.specs.Held.{firsts, contents, stored, record_at, StandsFor, IsOver, IsRowLimit};
+ghost use Rattle.record_store.specs.Held.{firsts, contents, stored, record_at, first_octet, StandsFor, IsOver, IsRowLimit};
 ghost use Rattle.record_store.specs.Opening.{StandsSoFar, ReadsStore, most_octets, slots_so_far};
 ghost use Rattle.record_store.specs.Faults.{is_open_fault, is_put_fault};
 ghost use Rattle.record_store.specs.Recovery.{Recovers};
@@ -15,11 +15,12 @@ ghost use Rattle.record_store.specs.Slots.{steps_without};
 ghost use Rattle.cell_store.specs.Marks.{StaysMarked};
 ghost use Rattle.cell_store.specs.Reading.{ReadsAtMost, ReadsRecord};
 ghost use Rattle.record_store.specs.Transaction.{begun_from, entries, IsCommitted, Commits};
+ghost use Rattle.record_store.specs.declared.side.Side.{Side};
 ghost use Rattle.record_store.specs.declared.side.Side.TheVariants.{Committed, Working};
 
 use crate::entries::entries_of;
 use crate::opening::Opening;
-use crate::slots::{free_replaced, named_or_empty, search_from};
+use crate::slots::{free_replaced, named_or_empty, search_from, slots_in_use};
 use crate::{OpenRefusal, Side, StoreRefusal};
 use cell_store::{CellRefusal, CellStore, NO_CELL, RecordOctets, cells_for};
 use eeprom::{Eeprom, EepromFault};
@@ -35,22 +36,26 @@ pub struct Store {
     committed: Vec<u16>,
     working: Vec<u16>,
     begun: bool,
+    /// For each cell that the chain of a record begins at, the first octet of the record.
+    first_octets: Vec<u8>,
     /// How many cells the records of each side have.
     committed_weight: u16,
     working_weight: u16,
+    /// Behind so many slots all are empty on both sides.
+    slots_in_use: u16,
     /// From where an empty slot is searched.
     next_slot: u16,
 }
 
 impl Model for Store {
     ghost use Rattle.record_store.specs.Held.{Held};
-    ghost use Rattle.record_store.specs.Weighed.{IsWeighed};
+    ghost use Rattle.record_store.specs.Kept.{IsKept};
 
     ghost Value = { Held };
 
-    ghost view = { λ store. record { chains = store.chains; row_limit = store.row_limit; committed = store.committed.items; working = store.working.items; begun = store.begun } };
+    ghost view = { λ store. record { chains = store.chains; row_limit = store.row_limit; committed = store.committed.items; working = store.working.items; begun = store.begun; first_octets = store.first_octets.items } };
 
-    ghost invariant = { λ store. IsWeighed (record { chains = store.chains; row_limit = store.row_limit; committed = store.committed.items; working = store.working.items; begun = store.begun }) store.committed_weight store.working_weight };
+    ghost invariant = { λ store. IsKept (record { chains = store.chains; row_limit = store.row_limit; committed = store.committed.items; working = store.working.items; begun = store.begun; first_octets = store.first_octets.items }) store.committed_weight store.working_weight store.slots_in_use };
 }
 
 impl Opening {
@@ -64,14 +69,17 @@ impl Opening {
         ensures idle { result.begun ≡ false }
         ensures cells { result.chains.cells ≡ self.chains.cells }
     {
+        let slots_in_use = slots_in_use(self.committed.as_slice());
         Store {
             chains: self.chains,
             row_limit: self.row_limit,
             committed: self.committed,
             working: self.working,
             begun: false,
+            first_octets: self.first_octets,
             committed_weight: self.weight,
             working_weight: self.weight,
+            slots_in_use,
             next_slot: 0,
         }
     }
@@ -133,6 +141,27 @@ impl Store {
             Side::Committed => self.committed_weight,
             Side::Working => self.working_weight,
         }
+    }
+
+    /// How many slots at the front may have a record: all behind these are empty on both sides.
+    pub fn slots_in_use(&self) -> u16
+        ensures most { result ≤ self.now.chains.cells }
+        ensures empty { (image : List ℕ) (side : Side) (slot : ℕ) → StandsFor self.now image → result ≤ slot → record_at self.now side slot image ≡ None }
+    {
+        self.slots_in_use
+    }
+
+    /// The first octet of the record of a slot, which says its kind. Nothing is read.
+    pub fn kind(&self, side: Side, slot: u16) -> Option<u8>
+        requires slot { slot < self.now.chains.cells }
+        ensures kind { (image : List ℕ) → StandsFor self.now image → result ≡ first_octet (record_at self.now side slot image) }
+        ensures empty { (result ≡ None) ↔ (slice_index (firsts self.now side) slot ≡ no_cell) }
+    {
+        let first = self.first_cell(side, slot);
+        if first == NO_CELL {
+            return None;
+        }
+        Some(self.first_octets[first as usize])
     }
 
     /// Reads the record of a slot, and answers whether there is one.
@@ -217,7 +246,9 @@ impl Store {
         match self.chains.write_chain(bench, octets) {
             Ok(first) => {
                 self.working[slot as usize] = first;
+                self.first_octets[first as usize] = octets[0];
                 self.working_weight = weight + count;
+                self.slots_in_use = self.slots_in_use.max(slot + 1);
                 self.next_slot = search_from(named, slot, next);
                 Ok(slot)
             }
