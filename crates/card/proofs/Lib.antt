@@ -18,3 +18,4 @@ mod TakenForms
 pub mod Told
 mod TwoRecords
 mod UnreadSteps
+mod WrittenOctets

@@ -13,6 +13,7 @@ use Rattle.scql_model.specs.Sessions.{changing_session, command_chain, without_c
 use Rattle.scql_model.specs.Operations.{IsBuilt, built_operations, has_instruction, has_secrets, kind_of}
 use Rattle.scql_model.specs.Form.{Form, refused, refused_on, part_on, a_command, form_of, formed, formed_on, class_of, is_open, channel_asked, line_on, taken_in, is_chained, part_in, command_in, parts_of}
 use Rattle.scql_model.specs.Accepting.{channel_named, IsAsBefore}
+use Rattle.scql_model.specs.Bound.{octets_bound, octets_bound_by, octets_carried_out, octets_stepped, or_nothing}
 use Rattle.scql_model.specs.Database.{Database, IsValid}
 use Rattle.scql_model.specs.Opens.{Holds}
 use Rattle.scql_model.specs.Replies.{said}
@@ -152,6 +153,27 @@ step-taken card chip m octets channels sessions chains limit at are_open seen is
     ap (stepped m) (form-card card chip m octets channels sessions chains limit at are_open seen is)
     ∙ stepped-taken m (form_of built_operations octets channels (chain_on chains) limit)
 
+-- How many octets are written for it at most.
+abbrev pub octets_taken : Machine → Form → ℕ
+octets_taken m (refused word) = 0
+octets_taken m (refused_on channel word) = 0
+octets_taken m (part_on channel kind octets) = 0
+octets_taken m (a_command c) = or_nothing (octets_carried_out m c)
+
+octets_stepped-taken : (m : Machine) (form : Form) → octets_stepped m form ≡ octets_taken (taken_at m form) form
+octets_stepped-taken m (refused word) = refl
+octets_stepped-taken m (refused_on channel word) = refl
+octets_stepped-taken m (part_on channel kind octets) = refl
+octets_stepped-taken m (a_command c) = refl
+
+pub bound-taken : (card : Kept) (chip : Chip) (m : Machine) (octets : List ℕ) (channels : List Bool) (sessions : List (Option Session)) (chains : List (Option Chain)) (limit : ℕ) → IsAt card chip m
+    → channels ≡ map (λ (s : Option Seen). is_some s) card.sessions → card.sessions ≡ sessions_of sessions chains → limit ≡ card.store.row_limit
+    → (let form = form_of built_operations octets channels (chain_on chains) limit in octets_bound m octets ≡ octets_taken (taken_at m form) form)
+unfolding octets_bound octets_bound_by
+bound-taken card chip m octets channels sessions chains limit at are_open seen is =
+    ap (octets_stepped m) (form-card card chip m octets channels sessions chains limit at are_open seen is)
+    ∙ octets_stepped-taken m (form_of built_operations octets channels (chain_on chains) limit)
+
 -- What comes of what was taken.
 pub taken-refused : (m : Machine) (form : Form) (word : StatusWord) → taken.Refused word ≡ taken_of form → outcome_of m form ≡ Err word
 taken-refused m (refused other) word is = cc
@@ -173,6 +195,9 @@ taken-whole (a_command other) c is = cc
 
 pub outcome-whole : (m : Machine) (form : Form) (c : Command) → taken.Whole c ≡ taken_of form → outcome_of m form ≡ carried_out m c
 outcome-whole m form c is = ap (outcome_of m) (taken-whole form c is)
+
+pub octets-whole : (m : Machine) (form : Form) (c : Command) → taken.Whole c ≡ taken_of form → octets_taken m form ≡ or_nothing (octets_carried_out m c)
+octets-whole m form c is = ap (octets_taken m) (taken-whole form c is)
 
 -- a command that was taken whole is of an operation that is built
 pub built-taken : (octets : List ℕ) (channels : List Bool) (chain : ℕ → Option Chain) (limit : ℕ) (c : Command) → limit ≤ 1020 → taken.Whole c ≡ taken_of (form_of built_operations octets channels chain limit)

@@ -1,6 +1,6 @@
 // The card: its store, its sessions, and the answer to a command.
-ghost use Rattle.std.specs.Prelude.{◌≡◌, ◌≢◌, ◌↔◌, ℕ, List, slice_get, ◌<◌, ◌≤◌, ◌+◌, ◌*◌, [], ◌∷◌, Some, None, true, false, map, is_some, length, option_map, IfSome, IfOk, OnOk, IsTrue, IsErrOf};
-ghost use Rattle.eeprom.specs.Chip.{Chip, Becomes};
+ghost use Rattle.std.specs.Prelude.{◌≡◌, ◌≢◌, ◌↔◌, ℕ, List, slice_get, ◌<◌, ◌≤◌, ◌+◌, ◌*◌, [], ◌∷◌, Some, None, true, false, map, is_some, length, drop, option_map, IfSome, IfOk, OnOk, IsTrue, IsErrOf};
+ghost use Rattle.eeprom.specs.Chip.{Chip, Becomes, Keeps, RisesAtMost};
 ghost use Rattle.eeprom.specs.Fault.{Counts, Rose};
 ghost use Rattle.eeprom.specs.StoreOf.{image_size, is_gate_open};
 ghost use Rattle.cell_store.specs.Reading.{ReadsAtMost};
@@ -16,13 +16,15 @@ ghost use Rattle.scql_base.specs.Words.{done, memory_failure};
 ghost use Rattle.scql_model.specs.Database.{Database, fresh};
 ghost use Rattle.eeprom.specs.Image.{overwrite};
 ghost use Rattle.card.specs.Card.{Kept, IsReady, IsAt, committed_slots, fresh_card};
-ghost use Rattle.card.specs.Answering.{Answers, IsAtAsBefore, IsDoneOrStays, LeavesOneOf, Performs, answer_to, committed_at_once, with_session_for};
+ghost use Rattle.card.specs.Answering.{Answers, IsAtAsBefore, IsDoneOrStays, LeavesOneOf, Performs, answer_to, committed_at_once, octets_if_made, with_session_for};
 ghost use Rattle.card.specs.Creating.{IsAddition, IsCounter};
 ghost use Rattle.card.specs.Making.{LeavesMade};
 ghost use Rattle.card.specs.Opening.{ReadsCard};
 ghost use Rattle.card.specs.Sessions.{proved_user, sessions_of};
 ghost use Rattle.scql_base.specs.declared.operation.Operation.TheVariants as operation;
-ghost use Rattle.scql_model.specs.Creating.{created};
+ghost use Rattle.scql_model.specs.Bound.{octets_bound, octets_carried_out, octets_changed, or_nothing};
+ghost use Rattle.scql_model.specs.Creating.{created, new_user};
+ghost use Rattle.scql_model.specs.Edits.{making, of_user};
 ghost use Rattle.scql_model.specs.Accepting.{channel_named};
 ghost use Rattle.scql_model.specs.Operations.{IsBuilt, kind_of};
 ghost use Rattle.scql_model.specs.WellFormed.{HasForm, IsWellFormed};
@@ -75,6 +77,7 @@ impl Card {
         ensures image { OnOk result ((B.chip bench.new).image ≡ option_map (λ image. overwrite image 0 (fresh_card n)) (B.chip bench.old).image) }
         ensures fresh { OnOk result (IfSome (B.chip bench.new).image (λ image. Opens image (fresh n))) }
         ensures still { (B.chip bench.new).still ≡ (B.chip bench.old).still }
+        ensures behind { Keeps (drop (image_size n)) (B.chip bench.old) (B.chip bench.new) }
         ensures moments { LeavesMade n (B.chip bench.old) (B.chip bench.new) }
         ensures too_small { IsErrOf result FormatRefusal.TooSmall ↔ ((B.chip bench.old).still.size < image_size n) }
         ensures unchanged { IsErrOf result FormatRefusal.TooSmall → bench.new ≡ bench.old }
@@ -137,6 +140,11 @@ impl Card {
         // What commits nothing writes nothing.
         ensures unwritten { (m : machine.Machine) → IsAt self.old (B.chip bench.old) m → result ≡ Outcome.Replied
             → (stepping.step m command.now).commits ≡ [] → B.chip bench.new ≡ B.chip bench.old }
+        // No more octets are written than the step's bound.
+        ensures octets_written { (m : machine.Machine) → IsAt self.old (B.chip bench.old) m → result ≡ Outcome.Replied
+            → Becomes (RisesAtMost (octets_bound m command.now)) (B.chip bench.old).written (B.chip bench.new).written }
+        // Nothing is written behind the image, at no moment.
+        ensures behind { Keeps (drop (image_size self.old.store.chains.cells)) (B.chip bench.old) (B.chip bench.new) }
         // So a refused command writes nothing, and leaves all as it was, but that its channel may have lost the parts of a command.
         ensures refused { (m : machine.Machine) → IsAt self.old (B.chip bench.old) m → result ≡ Outcome.Replied → reply.new.word ≢ done
             → (B.chip bench.new ≡ B.chip bench.old) × IsAtAsBefore self.new (B.chip bench.new) m (channel_named command.now) }
@@ -179,10 +187,10 @@ impl Card {
     ) -> Result<StatusWord, EepromFault>
         requires ready { IsReady self.old (B.chip bench.old) }
         ensures performs { (m : machine.Machine) → IsAt self.old (B.chip bench.old) m
-            → Performs m (stepping.step m command.now) result self.new (B.chip bench.old) (B.chip bench.new) }
+            → Performs m (stepping.step m command.now) (octets_bound m command.now) result self.new (B.chip bench.old) (B.chip bench.new) }
         ensures ready { OnOk result (IsReady self.new (B.chip bench.new)) }
         ensures cause { Counts (B.faults bench.old) (B.faults bench.new) result }
-        ensures still { (B.chip bench.new).still ≡ (B.chip bench.old).still }
+        ensures behind { Keeps (drop (image_size self.old.store.chains.cells)) (B.chip bench.old) (B.chip bench.new) }
         // None of the operations that are built answers another word than done where it changes the machine.
         ensures done_or_stays { (m : machine.Machine) → IsAt self.old (B.chip bench.old) m → IsDoneOrStays m command.now (stepping.step m command.now) }
     {
@@ -203,10 +211,10 @@ impl Card {
         requires formed { IsWellFormed command }
         requires built { IsBuilt (kind_of command.operation) }
         ensures performs { (m : machine.Machine) → IsAt self.old (B.chip bench.old) m
-            → Performs m (stepping.answered m (stepping.carried_out m command)) result self.new (B.chip bench.old) (B.chip bench.new) }
+            → Performs m (stepping.answered m (stepping.carried_out m command)) (or_nothing (octets_carried_out m command)) result self.new (B.chip bench.old) (B.chip bench.new) }
         ensures ready { OnOk result (IsReady self.new (B.chip bench.new)) }
         ensures cause { Counts (B.faults bench.old) (B.faults bench.new) result }
-        ensures still { (B.chip bench.new).still ≡ (B.chip bench.old).still }
+        ensures behind { Keeps (drop (image_size self.old.store.chains.cells)) (B.chip bench.old) (B.chip bench.new) }
     {
         let channel = command.channel;
         match command.operation {
@@ -276,10 +284,11 @@ impl Card {
         requires channel { channel < 4 }
         requires formed { HasForm (operation.CreateUser name.now profile secret.now) }
         ensures performs { (m : machine.Machine) → IsAt self.old (B.chip bench.old) m
-            → Performs m (stepping.answered m (stepping.changed m channel (operation.CreateUser name.now profile secret.now))) result self.new (B.chip bench.old) (B.chip bench.new) }
+            → Performs m (stepping.answered m (stepping.changed m channel (operation.CreateUser name.now profile secret.now)))
+            (or_nothing (octets_changed m channel (operation.CreateUser name.now profile secret.now))) result self.new (B.chip bench.old) (B.chip bench.new) }
         ensures ready { OnOk result (IsReady self.new (B.chip bench.new)) }
         ensures cause { Counts (B.faults bench.old) (B.faults bench.new) result }
-        ensures still { (B.chip bench.new).still ≡ (B.chip bench.old).still }
+        ensures behind { Keeps (drop (image_size self.old.store.chains.cells)) (B.chip bench.old) (B.chip bench.new) }
     {
         let actor = self.actor_of(bench, channel)?;
         match prepare_user(&self.store, bench, actor, name, profile, secret)? {
@@ -300,10 +309,11 @@ impl Card {
         requires counter { IfSome (committed_slots self.old.store (B.chip bench.old).image) (IsCounter addition.now.counter_slot) }
         ensures performs { (m : machine.Machine) (actor : Actor) (name : List ℕ) (profile : Profile) (secret : List ℕ) → (at : IsAt self.old (B.chip bench.old) m)
             → IsAddition m.committed actor name profile secret at.slots addition.now
-            → Performs m (stepping.answered m (committed_at_once m (created m.committed actor name profile secret))) result self.new (B.chip bench.old) (B.chip bench.new) }
+            → Performs m (stepping.answered m (committed_at_once m (created m.committed actor name profile secret)))
+            (octets_if_made (created m.committed actor name profile secret) (making m.committed (of_user (new_user m.committed actor name profile secret)))) result self.new (B.chip bench.old) (B.chip bench.new) }
         ensures ready { OnOk result (IsReady self.new (B.chip bench.new)) }
         ensures cause { Counts (B.faults bench.old) (B.faults bench.new) result }
-        ensures still { (B.chip bench.new).still ≡ (B.chip bench.old).still }
+        ensures behind { Keeps (drop (image_size self.old.store.chains.cells)) (B.chip bench.old) (B.chip bench.new) }
     {
         let mut user = RecordOctets::new();
         addition.user.encode(&mut user);

@@ -14,6 +14,9 @@ returns-in-Err-clause-moments g c = λ m at. (c.in-Err.ensures.performs m at).mo
 pub returns-in-Ok-clause-unwritten : goal.returns-in-Ok-clause-unwritten
 returns-in-Ok-clause-unwritten g c = λ m at is idle. (c.in-Ok.ensures.performs m at).unwritten idle
 
+pub returns-in-Ok-clause-octets_written : goal.returns-in-Ok-clause-octets_written
+returns-in-Ok-clause-octets_written g c = λ m at is. (c.in-Ok.ensures.performs m at).octets
+
 pub returns-in-Ok-clause-refused : goal.returns-in-Ok-clause-refused
 returns-in-Ok-clause-refused g c = λ m at is not_done.
     let performs = c.in-Ok.ensures.performs m at in
