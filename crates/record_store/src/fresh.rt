@@ -9,11 +9,11 @@ ghost use Rattle.record_store.specs.Appends.{Appends, end_of};
 ghost use Rattle.record_store.specs.Faults.{is_format_fault};
 ghost use Rattle.record_store.specs.FreshImage.{LeavesFormatted, LeavesCleared, fresh_image, fresh_body, fresh_header, fresh_directory, fresh_cell};
 
-use crate::layout::{FORMAT, MAGIC, image_size};
+use crate::layout::{FORMAT, MAGIC};
 use crate::writer::Writer;
 use crate::{FormatRefusal, Store};
 use cell_store::octets_of;
-use eeprom::{Eeprom, EepromFault};
+use eeprom::{Eeprom, EepromFault, image_size};
 
 impl Store {
     /// Makes a new store, which has these two records in its first slots.
