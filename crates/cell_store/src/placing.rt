@@ -11,10 +11,10 @@ ghost use Rattle.cell_store.specs.Cells.{StayLinked};
 ghost use Rattle.cell_store.specs.Runs as runs;
 
 use crate::chain::{Payload, append};
-use crate::layout::{LARGEST, LARGEST_RUN, NO_CELL, PIECE, cell_place, octets_of};
+use crate::layout::{LARGEST_PAYLOAD, LARGEST_RUN, octets_of};
 use crate::marks::{Marks, Run, unmark_chain};
 use arrayvec::ArrayVec;
-use eeprom::{Eeprom, EepromFault};
+use eeprom::{Eeprom, EepromFault, NO_CELL, PIECE_SIZE, cell_place};
 
 /// The octets of the cells of the longest chain.
 type RunOctets = ArrayVec<u8, LARGEST_RUN>;
@@ -29,7 +29,10 @@ pub fn payload_of_record(octets: &[u8]) -> Payload
     let mut payload = Payload::new();
     append(&mut payload, &octets_of(octets.len() as u16));
     append(&mut payload, octets);
-    append(&mut payload, &[0; LARGEST][..LARGEST - 2 - octets.len()]);
+    append(
+        &mut payload,
+        &[0; LARGEST_PAYLOAD][..LARGEST_PAYLOAD - 2 - octets.len()],
+    );
     payload
 }
 
@@ -48,8 +51,8 @@ fn run_octets(run: Run, after: u16, payload: &[u8], piece: u16) -> RunOctets
         } else {
             after
         };
-        let place = PIECE * (piece as usize + step as usize);
-        push_cell(&mut octets, next, &payload[place..place + PIECE]);
+        let place = PIECE_SIZE * (piece as usize + step as usize);
+        push_cell(&mut octets, next, &payload[place..place + PIECE_SIZE]);
     }
     octets
 }
