@@ -17,7 +17,7 @@ ghost use Rattle.cell_store.specs.Faults.{is_claim_fault, is_write_fault};
 use crate::chain::{Payload, RecordOctets, copy_record, read_record};
 use crate::claims::claim_cells;
 use crate::marks::{Marks, unmark_chain};
-use crate::placing::{payload_of_record, write_cells};
+use crate::placing::{fill_payload, write_cells};
 use crate::{CellRefusal, ClaimRefusal};
 use eeprom::{Eeprom, EepromFault, LONGEST_CHAIN, NO_CELL, PIECE_SIZE};
 use std::alloc::{AllocError, Global};
@@ -135,7 +135,8 @@ impl CellStore {
         if count > self.used.count_free() {
             return Err(CellRefusal::NoCell);
         }
-        let payload = payload_of_record(octets);
+        let mut payload = Payload::new();
+        fill_payload(&mut payload, octets);
         let first = write_cells(
             bench,
             self.cells,
