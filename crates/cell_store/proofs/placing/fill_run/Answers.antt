@@ -1,8 +1,8 @@
 use Rattle.std.proofs.Common.{◌≡◌, ℕ, ◌+◌, ◌-◌, suc, sym, ◌∙◌, arith, length-append, length-take, length-drop}
 use Rattle.cell_store.specs.Runs.{run_first}
 use Rattle.cell_store.proofs.Runs.{first-some, first-none, octets-more}
-use Rattle.cell_store.proofs.placing.run_octets.Goals.{then-step-run, else-step-run}
-use Rattle.cell_store.proofs.placing.run_octets.Goals as goal
+use Rattle.cell_store.proofs.placing.fill_run.Goals.{then-step-run, else-step-run}
+use Rattle.cell_store.proofs.placing.fill_run.Goals as goal
 
 pub loop-step-preserved : goal.loop-step-preserved
 loop-step-preserved c =

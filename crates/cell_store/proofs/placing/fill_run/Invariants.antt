@@ -1,6 +1,6 @@
 use Rattle.std.proofs.Common.{◌≡◌, ◌+◌, ◌-◌, ◌*◌, ◌++◌, length}
 use Rattle.cell_store.specs.Runs.{run_octets}
-use Rattle.cell_store.proofs.placing.run_octets.Given as goal
+use Rattle.cell_store.proofs.placing.fill_run.Given as goal
 
 abbrev pub invariant-loop-step : goal.invariant-loop-step
 invariant-loop-step l = record {
