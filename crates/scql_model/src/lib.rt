@@ -10,4 +10,7 @@ pub use laws::{
     depth_is_one_more_than_the_base_has, equal_shown_gives_equal_replies,
     objects_are_shown_by_their_names, reading_is_of_what_is_shown, views_are_seen_through,
 };
-pub use written::{parts_that_are_written_are_read_back, what_is_written_is_read_back};
+pub use written::{
+    operations_have_their_lines, parts_are_the_least, parts_that_are_written_are_read_back,
+    what_is_written_is_read_back,
+};
