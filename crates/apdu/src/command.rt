@@ -1,5 +1,5 @@
 // Commands, read from octets and written (ISO/IEC 7816-4, command APDU).
-ghost use Rattle.std.specs.Prelude.{◌≡◌, ◌<◌, ℕ, Bool, Some, true, IfOk, slice_get, min};
+ghost use Rattle.std.specs.Prelude.{◌≡◌, ◌<◌, [], ℕ, Bool, Some, true, IfOk, slice_get, min};
 ghost use Rattle.scql_model.specs.Form as form;
 ghost use Rattle.scql_model.specs.Operations as table;
 ghost use Rattle.scql_model.specs.Spelling as spelling;
@@ -73,7 +73,11 @@ impl CommandApdu for Command {
     fn write(&self, out: &mut CommandOctets)
         requires fits { spelling.fits self.now ≡ true }
         requires one { spelling.part_count self.now ≡ 1 }
-        ensures { out.new.items ≡ spelling.octets_of self.now }
+        ensures octets { out.new.items ≡ spelling.octets_of self.now }
+        ensures read_back { (limit : ℕ)
+            → IsWellFormed self.now → table.IsBuilt (table.kind_of self.now.operation)
+            → spelling.IsTaken (table.has_secrets table.built_operations) limit self.now.operation
+            → spelling.ReadsAs table.built_operations limit self.now [] out.new.items (form.a_command self.now) }
     {
         self.write_part(0, out);
     }

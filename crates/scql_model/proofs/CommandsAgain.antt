@@ -9,7 +9,7 @@ use Rattle.scql_model.specs.Machine.{Chain}
 use Rattle.scql_model.specs.Operations.{has_instruction, has_secrets, line_of, is_for_channel, kind_of}
 use Rattle.scql_model.specs.WellFormed.{IsWellFormed}
 use Rattle.scql_model.specs.Form.{is_chained, takes_case, is_case_3, channel_asked, line_on, parts_of, a_command, formed, part_in, form_of}
-use Rattle.scql_model.specs.Spelling.{field_of, cla_of, apdu_by, octets_of, HasLine, IsTaken}
+use Rattle.scql_model.specs.Spelling.{field_of, cla_of, apdu_by, octets_of, HasLine, IsTaken, ReadsAs}
 use Rattle.scql_model.proofs.FieldsAgain.{operation-again}
 use Rattle.scql_model.proofs.TailsAgain.{tail, tail-again, data-again}
 use Rattle.scql_model.proofs.LinesFound.{has_instruction-found}
@@ -80,12 +80,10 @@ last-again table l c octets channels chain limit formed' found same takes open' 
     ) refl
 
 -- A command in one.
-pub command-again : (table : List Line) (c : Command) (channels : List Bool) (chain : ℕ → Option Chain) (limit : ℕ)
-    → IsWellFormed c → HasLine table (kind_of c.operation) → IsTaken (has_secrets table) limit c.operation → slice_get channels c.channel ≡ Some true
-    → parts_of (kind_of c.operation) (chain c.channel) ≡ []
-    → form_of table (octets_of c) channels chain limit ≡ a_command c
+pub command-again : (table : List Line) (limit : ℕ) (c : Command) → IsWellFormed c → HasLine table (kind_of c.operation) → IsTaken (has_secrets table) limit c.operation
+    → ReadsAs table limit c [] (octets_of c) (a_command c)
 unfolding octets_of
-command-again table c channels chain limit formed' has taken open' none =
+command-again table limit c formed' has taken channels chain open' none =
     let lined = Lined-field c.operation c.le formed'.form formed'.wanted in
     rw lined.found
     (last-again table lined.line c (field_of c.operation) channels chain limit formed' (has lined.line lined.found) lined.kind lined.takes open' taken (ap (λ (parts : List (List ℕ)). concat parts ++ field_of c.operation) none))

@@ -1,17 +1,15 @@
 -- The parts of a command are read back one by one, and the last with those before it as that command.
-use Rattle.std.proofs.Common.{◌≡◌, ◌≤◌, ◌<◌, ℕ, zero, suc, ◌+◌, ◌*◌, ◌==◌, nat_le, Bool, true, false, List, [], ◌∷◌, ◌++◌, length, take, drop, Option, Some, None, if◌then◌else◌, refl, ap, subst, sym, ◌∙◌, arith, length-take-le, length-drop, append_assoc, take-append-drop, add-one, ◌-◌}
-use Rattle.std.specs.Prelude.{slice_get}
+use Rattle.std.proofs.Common.{◌≡◌, ◌≤◌, ◌<◌, ℕ, zero, suc, ◌+◌, ◌*◌, ◌==◌, nat_le, Bool, true, false, List, [], ◌∷◌, ◌++◌, length, take, drop, None, if◌then◌else◌, refl, ap, subst, sym, ◌∙◌, arith, length-take-le, length-drop, append_assoc, take-append-drop, add-one, ◌-◌}
 use Rattle.std.specs.List.{concat}
 use Rattle.std.proofs.lemmas.Bool.{leb-true, lt-ltb, le-ltb, ne_eqb, and_from}
 use Rattle.std.proofs.lemmas.List.{drop-drop, take_all}
 use Rattle.scql_base.specs.declared.operation.Command.{Command}
 use Rattle.scql_base.specs.declared.operation.Line.{Line}
 use Rattle.scql_base.specs.declared.operation.OperationKind.{OperationKind}
-use Rattle.scql_model.specs.Machine.{Chain}
 use Rattle.scql_model.specs.Operations.{has_secrets, comes_in_parts, kind_of}
 use Rattle.scql_model.specs.WellFormed.{IsWellFormed}
-use Rattle.scql_model.specs.Form.{takes_case, is_case_3, a_command, part_on, parts_of, form_of}
-use Rattle.scql_model.specs.Spelling.{field_of, fits, parts_for, part_count, cut, part_at, goes_on_after, part_octets, octets_of, HasLine, IsTaken}
+use Rattle.scql_model.specs.Form.{takes_case, is_case_3, a_command, part_on, parts_of}
+use Rattle.scql_model.specs.Spelling.{field_of, fits, parts_for, part_count, cut, part_at, goes_on_after, part_octets, octets_of, HasLine, IsTaken, ReadsAs}
 use Rattle.scql_model.proofs.TailsAgain.{tail, data-again}
 use Rattle.scql_model.proofs.TakenFields.{Lined, Lined-field, Lined-piece}
 use Rattle.scql_model.proofs.CommandsAgain.{part-again, last-again}
@@ -65,6 +63,9 @@ comes-long : (comes : Bool) (size : ℕ) → nat_le size (if comes then 1275 els
 comes-long true size is long = refl
 comes-long false size is long = let short : size ≤ 255 = leb-true size 255 is in absurd (omega (arith, short, long))
 
+pub parts_some : (size : ℕ) → 1 ≤ parts_for size
+parts_some size = omega arith
+
 pub parts_enough : (size : ℕ) → size ≤ 255 * parts_for size
 parts_enough size = omega arith
 
@@ -82,12 +83,10 @@ case_3 : (octets : List ℕ) → 1 ≤ length octets → is_case_3 (tail octets 
 case_3 [] some = absurd (omega (arith, some))
 case_3 (octet ∷ octets) some = refl
 
-pub part-read : (table : List Line) (c : Command) (place : ℕ) (channels : List Bool) (chain : ℕ → Option Chain) (limit : ℕ)
-    → IsWellFormed c → fits c ≡ true → place + 1 < part_count c → HasLine table (kind_of c.operation) → slice_get channels c.channel ≡ Some true
-    → parts_of (kind_of c.operation) (chain c.channel) ≡ cut place (field_of c.operation)
-    → form_of table (part_octets c place) channels chain limit ≡ part_on c.channel (kind_of c.operation) (part_at place (field_of c.operation))
+pub part-read : (table : List Line) (limit : ℕ) (c : Command) (place : ℕ) → IsWellFormed c → fits c ≡ true → place + 1 < part_count c → HasLine table (kind_of c.operation)
+    → ReadsAs table limit c (cut place (field_of c.operation)) (part_octets c place) (part_on c.channel (kind_of c.operation) (part_at place (field_of c.operation)))
 unfolding part_octets
-part-read table c place channels chain limit formed' fit more has open' before =
+part-read table limit c place formed' fit more has channels chain open' before =
     let asked : OperationKind = kind_of c.operation in
     let field : List ℕ = field_of c.operation in
     let octets : List ℕ = part_at place field in
@@ -115,12 +114,10 @@ Lined-last c (suc place) formed' fit last =
     let size : length (part_at (suc place) field) ≡ length field - 255 * suc place = ap length whole ∙ length-drop (255 * suc place) field in
     Lined-piece c.operation (part_at (suc place) field) c.le (comes-long (comes_in_parts (kind_of c.operation)) (length field) fit (omega (arith, long))) (omega (arith, size, long))
 
-pub last-read : (table : List Line) (c : Command) (place : ℕ) (channels : List Bool) (chain : ℕ → Option Chain) (limit : ℕ)
-    → IsWellFormed c → fits c ≡ true → place + 1 ≡ part_count c → HasLine table (kind_of c.operation) → IsTaken (has_secrets table) limit c.operation → slice_get channels c.channel ≡ Some true
-    → parts_of (kind_of c.operation) (chain c.channel) ≡ cut place (field_of c.operation)
-    → form_of table (part_octets c place) channels chain limit ≡ a_command c
+pub last-read : (table : List Line) (limit : ℕ) (c : Command) (place : ℕ) → IsWellFormed c → fits c ≡ true → place + 1 ≡ part_count c → HasLine table (kind_of c.operation)
+    → IsTaken (has_secrets table) limit c.operation → ReadsAs table limit c (cut place (field_of c.operation)) (part_octets c place) (a_command c)
 unfolding part_octets
-last-read table c place channels chain limit formed' fit last has taken open' before =
+last-read table limit c place formed' fit last has taken channels chain open' before =
     let field : List ℕ = field_of c.operation in
     let lined = Lined-last c place formed' fit last in
     let goes : goes_on_after c place ≡ false = le-ltb (place + 1) (part_count c) (omega (arith, last)) in

@@ -1,5 +1,5 @@
 -- The spelling of commands (ISO/IEC 7816-4, command APDU; ISO/IEC 7816-7 for the parameters of SCQL): the octets that a command is written as, whole or in parts.
-use Rattle.std.specs.Prelude.{◌≡◌, ℕ, zero, suc, ◌+◌, ◌*◌, ◌/◌, ◌%◌, max, nat_le, nat_lt, Bool, true, false, List, [], ◌∷◌, ◌++◌, length, take, drop, Option, Some, None, if◌then◌else◌}
+use Rattle.std.specs.Prelude.{◌≡◌, slice_get, ℕ, zero, suc, ◌+◌, ◌*◌, ◌/◌, ◌%◌, max, nat_le, nat_lt, Bool, true, false, List, [], ◌∷◌, ◌++◌, length, take, drop, Option, Some, None, if◌then◌else◌}
 use Rattle.std.specs.List.{find, flat_map}
 use Rattle.std.specs.Option.{option_map_or}
 use Rattle.scql_base.specs.declared.operation.TheConstants.Command.{LONGEST_DATA, LONGEST_IN_PARTS}
@@ -12,6 +12,8 @@ use Rattle.scql_base.specs.declared.operation.OperationKind.{OperationKind}
 use Rattle.scql_base.specs.contracts.operation.OperationKindPartialEq.TheImpl.{ghosts}
 use Rattle.scql_base.specs.Row.{row_size}
 use Rattle.scql_base.specs.Strings.{spelled}
+use Rattle.scql_model.specs.Form.{Form, parts_of, form_of}
+use Rattle.scql_model.specs.Machine.{Chain}
 use Rattle.scql_model.specs.Operations.{operations, line_of, comes_in_parts, kind_of}
 use Rattle.scql_model.specs.Parameters.{is_new_secret}
 use Rattle.scql_model.specs.Records.{comparison_code, profile_code, subject_code}
@@ -129,3 +131,9 @@ IsTaken secrets limit operation = Unit {0}
 -- a table has the line of an operation: it is found by its INS, P1 and P2
 abbrev pub HasLine : List Line → OperationKind → Type 0
 HasLine table kind = (l : Line) → line_for operations kind ≡ Some l → line_of table l.ins l.p1 l.p2 ≡ Some l
+
+-- Octets are read as this by a table and under a limit, where the command's channel is open and these parts of a command of its operation came before.
+abbrev pub ReadsAs : List Line → ℕ → Command → List (List ℕ) → List ℕ → Form → Type 0
+ReadsAs table limit c before octets form =
+    (channels : List Bool) (chain : ℕ → Option Chain) → slice_get channels c.channel ≡ Some true → parts_of (kind_of c.operation) (chain c.channel) ≡ before
+    → form_of table octets channels chain limit ≡ form

@@ -15,4 +15,7 @@ pub use laws::reading::{
 pub use laws::views::{
     contents_are_those_of_the_kind, depth_is_one_more_than_the_base_has, views_are_seen_through,
 };
-pub use written::{parts_that_are_written_are_read_back, what_is_written_is_read_back};
+pub use written::{
+    operations_have_their_lines, parts_are_the_least, parts_that_are_written_are_read_back,
+    what_is_written_is_read_back,
+};

@@ -1,5 +1,4 @@
-use Rattle.scql_model.proofs.LinesFound.{HasLine-built}
-use Rattle.scql_model.proofs.PartsAgain.{cut-next, parts_enough, parts_least, part-read, last-read, part-one}
+use Rattle.scql_model.proofs.PartsAgain.{cut-next, part-read, last-read, part-one}
 use Rattle.scql_model.proofs.written.parts_that_are_written_are_read_back.Goals as goal
 
 pub returns-clause-part : goal.returns-clause-part
@@ -8,17 +7,8 @@ returns-clause-part c = part-read
 pub returns-clause-last : goal.returns-clause-last
 returns-clause-last c = last-read
 
-pub returns-clause-enough : goal.returns-clause-enough
-returns-clause-enough c = parts_enough
-
-pub returns-clause-least : goal.returns-clause-least
-returns-clause-least c = parts_least
-
 pub returns-clause-next : goal.returns-clause-next
 returns-clause-next c = cut-next
-
-pub returns-clause-built : goal.returns-clause-built
-returns-clause-built c = HasLine-built
 
 pub returns-clause-one : goal.returns-clause-one
 returns-clause-one c = part-one
