@@ -37,6 +37,7 @@ pub mod FreshCard
 pub mod Hearing
 pub mod Keeping
 pub mod KeepsGrants
+pub mod KeepsObjects
 pub mod KeepsRows
 pub mod LastCommits
 pub mod LongerLists
