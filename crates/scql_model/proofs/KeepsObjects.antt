@@ -35,7 +35,7 @@ use Rattle.scql_model.proofs.RightEdits.{Gives, bound-gives, done-gives, owned-t
 use Rattle.scql_model.proofs.Keeping.{HasRoomFor, Keeps, next-making, IsThere, IsThere-found, of_kind-parts, was_asked}
 
 -- who makes objects is a user that may own them
-maker-actor : (db : Database) (actor : Actor) → IsActorOf db actor → makes_objects actor ≡ true → is_made_by_maker db.users (actor_stamp actor) ≡ true
+pub maker-actor : (db : Database) (actor : Actor) → IsActorOf db actor → makes_objects actor ≡ true → is_made_by_maker db.users (actor_stamp actor) ≡ true
 maker-actor db Public acts may = absurd (false≢true may)
 maker-actor db (a_user stamp profile) acts may = maker-profile db.users stamp profile may acts
 
@@ -44,7 +44,7 @@ fits-actor db Public valid acts = refl
 fits-actor db (a_user stamp profile) valid acts = actor_fits db stamp profile valid acts
 
 -- an object is made, whose name no other has
-named_anew-keeps : (db : Database) (o : Object) → IsValid db → o.stamp ≡ db.next → IsObjectOf db.users db.objects o → Gives (Keeps db) (named_anew db o)
+pub named_anew-keeps : (db : Database) (o : Object) → IsValid db → o.stamp ≡ db.next → IsObjectOf db.users db.objects o → Gives (Keeps db) (named_anew db o)
 named_anew-keeps db o valid stamp is =
     bound-gives (Keeps db) (provided (not (list_any (λ (other : Object). bytes_eq o.name other.name) db.objects)) already_exists) _ λ x free.
     done-gives (Keeps db) (making db (of_object o)) (λ (room : HasRoomFor db (making db (of_object o))).

@@ -39,6 +39,8 @@ pub mod Keeping
 pub mod KeepsGrants
 pub mod KeepsObjects
 pub mod KeepsRows
+pub mod KeepsUsers
+pub mod KeepsViews
 pub mod LastCommits
 pub mod LongerLists
 pub mod NameOrder
