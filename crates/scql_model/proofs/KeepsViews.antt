@@ -95,3 +95,50 @@ among-wanted all [] conditions among =
     let parts = and_parts (are_among [] all) (are_among (map (λ (c : Condition). c.column) conditions) all) among in
     and_from (are_among all all) (are_among (map (λ (c : Condition). c.column) conditions) all) (among-self all) parts.1
 among-wanted all (name ∷ names) conditions among = among
+
+-- an object that the actor owns
+owned-parts : (actor : Actor) (found : Option Object) → Gives (λ o. (found ≡ Some o) × (owns actor o ≡ true)) (owned_by actor found)
+owned-parts actor found =
+    bound-gives (λ o. (found ≡ Some o) × (owns actor o ≡ true)) (or_refused found not_found) _ λ o is.
+    bound-gives (λ o. (found ≡ Some o) × (owns actor o ≡ true)) (provided (owns actor o) security_not_satisfied) _ λ x its.
+    done-gives (λ o. (found ≡ Some o) × (owns actor o ≡ true)) o (not_refused found not_found o is, was_asked (owns actor o) security_not_satisfied x its)
+
+own-stamp : (actor : Actor) (o : Object) → owns actor o ≡ true → (o.owner == actor_stamp actor) ≡ true
+own-stamp Public o its = absurd (false≢true its)
+own-stamp (a_user stamp profile) o its = its
+
+-- a view's record is short where its conditions are
+short-view : (o : Object) (base : ℕ) (columns : Columns) (conditions : List Condition) → o.kind ≡ View base columns conditions → is_name o.name ≡ true → AreNames columns
+    → length (records.conditions.spell conditions) ≤ 255 → is_short o ≡ true
+short-view o base columns conditions is named are few =
+    let most = leb-true (length columns) 15 (and_parts (nat_le 1 (length columns)) (nat_le (length columns) 15) are.count).1 in
+    let a = name-size o.name named in
+    let b = names-size columns are.named in
+    let c = length-append (flat_map spelled columns) (records.conditions.spell conditions) in
+    let d = length-append o.name (length columns ∷ (flat_map spelled columns ++ records.conditions.spell conditions)) in
+    rw is (le-leb _ 512 (omega arith))
+
+-- CREATE VIEW
+pub view_created-keeps : (db : Database) (actor : Actor) (name base_name : List ℕ) (columns : Columns) (conditions : List Condition) → IsValid db → IsActorOf db actor → is_name name ≡ true
+    → are_chosen_columns columns ≡ true → are_conditions conditions ≡ true → length (records.conditions.spell conditions) ≤ 255 → Gives (Keeps db) (view_created db actor name base_name columns conditions)
+unfolding view_created
+view_created-keeps db actor name base_name columns conditions valid acts named chosen are few =
+    bound-gives (Keeps db) (provided (makes_objects actor) security_not_satisfied) _ λ x may.
+    bound-gives (Keeps db) (owned_by actor (of_kind is_table_or_view (seen_named db actor base_name))) _ λ base is.
+    bound-gives (Keeps db) (provided (may_have_view db.objects base) conditions_not_satisfied) _ λ y deep.
+    bound-gives (Keeps db) (named_among (columns_of base.kind) columns conditions) _ λ z among.
+    let found = (owned-parts actor _).each base is in
+    let parts = of_kind-parts is_table_or_view (seen_named db actor base_name) base found.0 in
+    let there = IsThere-found db _ base valid parts.0 in
+    let names = AreNames-wanted (columns_of base.kind) columns (AreNames-base db _ base valid parts.0 parts.1) chosen in
+    let wanted = wanted_of (columns_of base.kind) columns in
+    let counted = and_parts (is_count_of_conditions (length conditions)) (list_all (λ (c : Condition). is_name c.column && is_narrow c.value) conditions) are in
+    let o : Object = new_object db actor name (View base.stamp wanted conditions) in
+    let all_among = among-wanted (columns_of base.kind) columns conditions (was_asked (are_named_among (columns_of base.kind) columns conditions) not_found z among) in
+    let all_parts = and_parts (are_among wanted (columns_of base.kind)) _ all_among in
+    named_anew-keeps db o valid refl (record {
+      fits = rw (valid.counter, fits-actor db actor valid acts, there.fits, named, names.count, names.named, counted.0, counted.1) refl;
+      short = short-view o base.stamp wanted conditions refl named names few;
+      maker = maker-actor db actor acts (was_asked (makes_objects actor) security_not_satisfied x may);
+      founded = rw (names.different, there.stamped, there.older, own-stamp actor base found.1, was_asked (may_have_view db.objects base) conditions_not_satisfied y deep, all_parts.0, all_parts.1) refl;
+    })
