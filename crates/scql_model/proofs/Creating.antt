@@ -85,7 +85,7 @@ user-short u name secret =
     (le-leb 1 (length (user_record.spell u)) (omega arith)) (le-leb (length (user_record.spell u)) 1029 (omega arith))
 
 -- the stamp of who acts is a number
-actor_fits : (db : Database) (stamp : ℕ) (profile : Profile) → IsValid db → IsActorOf db (a_user stamp profile) → nat_lt stamp (2 ^ 32) ≡ true
+pub actor_fits : (db : Database) (stamp : ℕ) (profile : Profile) → IsValid db → IsActorOf db (a_user stamp profile) → nat_lt stamp (2 ^ 32) ≡ true
 actor_fits db stamp profile valid acts = go (user_stamped db.users stamp) refl acts
   where
     go : (o : Option User) → user_stamped db.users stamp ≡ o → option_map (λ (u : User). u.profile) o ≡ Some profile → nat_lt stamp (2 ^ 32) ≡ true

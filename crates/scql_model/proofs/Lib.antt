@@ -40,7 +40,10 @@ pub mod FreshCard
 pub mod Hearing
 pub mod Keeping
 pub mod KeepsGrants
+pub mod KeepsObjects
 pub mod KeepsRows
+pub mod KeepsUsers
+pub mod KeepsViews
 pub mod LastCommits
 pub mod LinesFound
 pub mod LongerLists
