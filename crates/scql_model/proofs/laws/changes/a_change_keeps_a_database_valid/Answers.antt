@@ -1,0 +1,5 @@
+use Rattle.scql_model.proofs.KeepsValid.{IsValid-edits_of}
+use Rattle.scql_model.proofs.laws.changes.a_change_keeps_a_database_valid.Goals as goal
+
+pub returns-clause-valid : goal.returns-clause-valid
+returns-clause-valid c = λ db new actor cursor operation edits. IsValid-edits_of db actor cursor operation edits new
