@@ -1,5 +1,5 @@
 -- Each operation keeps a database valid, for an actor of the database and with fields of its form.
-use Rattle.std.proofs.Common.{◌≡◌, ℕ, ◌==◌, ◌≤◌, List, Option, Result, Ok, Err, true, false, sym, subst, ap, ◌∙◌, arith}
+use Rattle.std.proofs.Common.{◌≡◌, ◌≤◌, List, Option, Ok, Err, sym, subst}
 use Rattle.std.proofs.lemmas.Bool.{le-leb, ltb-false}
 use Rattle.scql_base.specs.Row.{row_size}
 use Rattle.scql_base.specs.Words.{instruction_not_supported}
@@ -10,7 +10,7 @@ use Rattle.scql_base.specs.declared.operation.Operation.TheVariants.{CreateTable
 use Rattle.scql_model.specs.Database.{Database, IsValid, weight}
 use Rattle.scql_model.specs.Creating.{IsActorOf}
 use Rattle.scql_model.specs.WellFormed.{HasForm, FitsCard}
-use Rattle.scql_model.specs.Edits.{Edit, applied}
+use Rattle.scql_model.specs.Edits.{Edit}
 use Rattle.scql_model.specs.Changing.{edits_of, with_edits}
 use Rattle.scql_model.proofs.ChangeLaws.{AreMade, AreMade-with_edits}
 use Rattle.scql_model.proofs.RightEdits.{Gives}
