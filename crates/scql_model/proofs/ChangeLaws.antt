@@ -53,7 +53,7 @@ pub record AreMade (db : Database) (edits : List Edit) (new : Database) : Type 0
 same_Ok : {A : Type 0} (x y : A) → (let o : Result A StatusWord = Ok x in o) ≡ Ok y → x ≡ y
 same_Ok x y is = same_Some x y (ap result_ok is)
 
-AreMade-with_edits : (db : Database) (edits : List Edit) (new : Database) → with_edits db edits ≡ Ok new → AreMade db edits new
+pub AreMade-with_edits : (db : Database) (edits : List Edit) (new : Database) → with_edits db edits ≡ Ok new → AreMade db edits new
 AreMade-with_edits db edits new ok =
     elim (cases_Bool (lacks_room db edits)) [
       | inl t ↦ absurd (let wrong : Err no_space ≡ Ok new = rw t at ok in cc)

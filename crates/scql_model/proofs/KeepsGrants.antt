@@ -101,13 +101,13 @@ more_granted-keeps : (db : Database) (o : Object) (grantee privileges : ℕ) (fo
 more_granted-keeps db o grantee privileges None valid there to some none =
     let g : Grant = record { stamp = db.next; object = o.stamp; grantee = grantee; privileges = privileges } in
     λ (room : HasRoomFor db (making db (of_grant g))).
-        IsValid-with_grant db g valid (record { fits = rw (valid.counter, there.fits, to.fits, some) refl; parties = rw (there.among, to.there) refl }) (none-pair g o db.grants refl none) refl room.room
-        (next-making db (of_grant g) valid room)
+    IsValid-with_grant db g valid (record { fits = rw (valid.counter, there.fits, to.fits, some) refl; parties = rw (there.among, to.there) refl }) (none-pair g o db.grants refl none) refl room.room
+    (next-making db (of_grant g) valid room)
 more_granted-keeps db o grantee privileges (Some g) valid there to some is =
     let new : Grant = record g { privileges = bit_or g.privileges privileges } in
     λ (room : HasRoomFor db (changing (of_grant new) ∷ [])).
-        IsValid-with_privileges db (is_granted_to o grantee) g (bit_or g.privileges privileges) valid is
-        (more-privileges g.privileges privileges (held-privileges db (is_granted_to o grantee) g valid is) some) room.room
+    IsValid-with_privileges db (is_granted_to o grantee) g (bit_or g.privileges privileges) valid is
+    (more-privileges g.privileges privileges (held-privileges db (is_granted_to o grantee) g valid is) some) room.room
 
 pub granted-keeps : (db : Database) (actor : Actor) (privileges : ℕ) (name grantee_name : List ℕ) → IsValid db → is_privileges privileges ≡ true
     → Gives (Keeps db) (privileges_granted db actor privileges name grantee_name)
@@ -128,7 +128,7 @@ less_granted-keeps db q g privileges valid found = go (privileges_left g.privile
     go true is = λ room. IsValid-with_grants_left db (λ (h : Grant). not (h.stamp == g.stamp)) valid
     go false is =
         λ (room : HasRoomFor db (changing (of_grant (record g { privileges = privileges_left g.privileges privileges })) ∷ [])).
-            IsValid-with_privileges db q g (privileges_left g.privileges privileges) valid found (less-privileges g.privileges privileges (held-privileges db q g valid found) is) room.room
+        IsValid-with_privileges db q g (privileges_left g.privileges privileges) valid found (less-privileges g.privileges privileges (held-privileges db q g valid found) is) room.room
 
 pub revoked-keeps : (db : Database) (actor : Actor) (privileges : ℕ) (name grantee_name : List ℕ) → IsValid db
     → Gives (Keeps db) (privileges_revoked db actor privileges name grantee_name)

@@ -1,8 +1,8 @@
 -- CREATE USER and DELETE USER keep a database valid.
-use Rattle.std.proofs.Common.{◌≡◌, ℕ, ◌==◌, ◌||◌, Bool, true, false, not, List, [], ◌∷◌, filter, Option, Some, None, Result, Ok, refl, ap, sym, subst, ◌∙◌, inl, inr}
-use Rattle.std.specs.List.{find, list_any, list_all}
+use Rattle.std.proofs.Common.{◌≡◌, ℕ, ◌==◌, ◌||◌, Bool, false, not, List, [], ◌∷◌, filter, Some, ap, sym, subst, ◌∙◌, inl, inr}
+use Rattle.std.specs.List.{find, list_any}
 use Rattle.std.proofs.lemmas.Bool.{cases_Bool, or_parts, false≢true, not-true, eqb-true}
-use Rattle.std.proofs.lemmas.Option.{none-some, same_Some}
+use Rattle.std.proofs.lemmas.Option.{same_Some}
 use Rattle.scql_base.specs.Words.{not_found, security_not_satisfied, already_exists, conditions_not_satisfied}
 use Rattle.scql_base.specs.declared.words.Actor.{Actor}
 use Rattle.scql_base.specs.declared.words.Profile.{Profile}
@@ -10,8 +10,8 @@ use Rattle.scql_base.specs.declared.records.User.{User}
 use Rattle.scql_base.specs.declared.records.Object.{Object}
 use Rattle.scql_base.specs.declared.records.Grant.{Grant}
 use Rattle.scql_model.specs.Records.{of_user}
-use Rattle.scql_model.specs.Refusals.{◌>>=◌, or_refused, provided}
-use Rattle.scql_model.specs.Rules.{AreUsers, owner, is_db_o, is_named, user_named, user_stamped}
+use Rattle.scql_model.specs.Refusals.{or_refused, provided}
+use Rattle.scql_model.specs.Rules.{owner, is_db_o, is_named, user_named, user_stamped}
 use Rattle.scql_model.specs.Database.{Database, IsValid}
 use Rattle.scql_model.specs.Creating.{IsAsked, may_create, is_taken, new_user, user_added}
 use Rattle.scql_model.specs.Users.{owns_user, is_needed, removing_user, user_deleted}

@@ -1,9 +1,9 @@
 -- CREATE VIEW keeps a database valid.
-use Rattle.std.proofs.Common.{◌≡◌, ℕ, suc, ◌+◌, ◌*◌, ◌<◌, ◌≤◌, ◌^◌, ◌==◌, ◌&&◌, ◌||◌, Bool, true, false, not, List, [], ◌∷◌, ◌++◌, length, map, Option, Some, None, Result, Ok, refl, ap, sym, subst, ◌∙◌, inl, inr, arith}
+use Rattle.std.proofs.Common.{◌≡◌, ℕ, ◌≤◌, ◌^◌, ◌==◌, ◌&&◌, ◌||◌, Bool, true, false, List, [], ◌∷◌, ◌++◌, length, map, Option, Some, refl, arith}
 use Rattle.std.specs.Prelude.{nat_le, nat_lt}
 use Rattle.std.specs.List.{find, list_any, list_all, flat_map}
 use Rattle.std.specs.Str.{bytes_eq}
-use Rattle.std.proofs.lemmas.Bool.{cases_Bool, and_parts, and_from, false≢true, eqb-true, eq-eqb, le-leb, leb-true}
+use Rattle.std.proofs.lemmas.Bool.{and_parts, and_from, false≢true, le-leb, leb-true}
 use Rattle.std.proofs.lemmas.List.{length-append}
 use Rattle.std.proofs.lemmas.Slice.Eq.{bytes_eq-Decides}
 use Rattle.scql_base.specs.Name.{is_name}
@@ -12,14 +12,13 @@ use Rattle.scql_base.specs.Strings.{spelled}
 use Rattle.scql_base.specs.Words.{security_not_satisfied, conditions_not_satisfied, not_found}
 use Rattle.scql_base.specs.declared.words.Actor.{Actor}
 use Rattle.scql_base.specs.declared.words.Actor.TheVariants.{Public, User as a_user}
-use Rattle.scql_base.specs.declared.words.StatusWord.{StatusWord}
 use Rattle.scql_base.specs.declared.condition.Condition.{Condition}
 use Rattle.scql_base.specs.declared.records.Object.{Object}
 use Rattle.scql_base.specs.declared.records.ObjectKind.{ObjectKind}
 use Rattle.scql_base.specs.declared.records.ObjectKind.TheVariants.{Table, View, Dictionary}
 use Rattle.scql_model.specs.Records as records
 use Rattle.scql_model.specs.Records.{is_count_of_columns, is_count_of_conditions, object_fits}
-use Rattle.scql_model.specs.Refusals.{◌>>=◌, or_refused, provided}
+use Rattle.scql_model.specs.Refusals.{or_refused, provided}
 use Rattle.scql_model.specs.Rules.{are_different, are_among, are_named_among, is_founded, is_short, may_have_view}
 use Rattle.scql_model.specs.Objects.{columns_of}
 use Rattle.scql_model.specs.Database.{Database, IsValid}
@@ -32,8 +31,8 @@ use Rattle.scql_model.specs.Defining.{makes_objects, of_kind, is_table_or_view, 
 use Rattle.scql_model.proofs.Creating.{name-size}
 use Rattle.scql_model.proofs.LongerLists.{find-all, all-weaker}
 use Rattle.scql_model.proofs.RecordLengths.{names-size}
-use Rattle.scql_model.proofs.RightEdits.{Gives, bound-gives, done-gives, not_refused, owned-there}
-use Rattle.scql_model.proofs.Keeping.{Keeps, IsThere, IsThere-found, of_kind-parts, was_asked}
+use Rattle.scql_model.proofs.RightEdits.{Gives, bound-gives, done-gives, not_refused}
+use Rattle.scql_model.proofs.Keeping.{Keeps, IsThere-found, of_kind-parts, was_asked}
 use Rattle.scql_model.proofs.KeepsObjects.{maker-actor, fits-actor, named_anew-keeps}
 
 -- columns that an object may have: 1 to 15 different names

@@ -43,6 +43,7 @@ pub mod KeepsGrants
 pub mod KeepsObjects
 pub mod KeepsRows
 pub mod KeepsUsers
+pub mod KeepsValid
 pub mod KeepsViews
 pub mod LastCommits
 pub mod LinesFound

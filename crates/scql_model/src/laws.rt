@@ -1,4 +1,5 @@
 // Laws over the definitions. Each is the contract of a function that does nothing.
 pub mod answers;
+pub mod changes;
 pub mod reading;
 pub mod views;
