@@ -1,2 +1,5 @@
-pub mod Changing
-pub mod Finding
+pub mod ListedChanges
+pub mod ListedSearches
+pub mod Rewriting
+pub mod Scan
+pub mod SlotReads

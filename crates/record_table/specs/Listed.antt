@@ -1,10 +1,11 @@
 -- The records of one kind in the slots of a store.
-use Rattle.std.specs.Prelude.{ℕ, Bool, true, List, Option, Some, None, if◌then◌else◌, option_and_then, slice_index_or}
+use Rattle.std.specs.Prelude.{ℕ, Bool, true, false, List, Option, Some, None, if◌then◌else◌, option_and_then, slice_index_or}
 use Rattle.std.specs.List.{filter_map, sum_by}
+use Rattle.std.specs.Option.{option_map_or}
 use Rattle.eeprom.specs.Chip.{Chip}
 use Rattle.eeprom.specs.Slots.{kept, in_slot}
 use Rattle.eeprom.specs.StoreOf.{Slots, cells_of}
-use Rattle.record_store.specs.Held.{Held, contents}
+use Rattle.record_store.specs.Held.{Held, contents, first_octet}
 use Rattle.record_store.specs.declared.side.Side.{Side}
 use Rattle.catalog_codec.specs.Kinds.{Kind, read_as, starts}
 
@@ -25,12 +26,16 @@ abbrev pub is_of : {X : Type 0} → Kind X → Option (List ℕ) → Bool
 is_of {X} kind None = true
 is_of {X} kind (Some octets) = starts kind.marks octets
 
--- how many cells a record has that begins with a mark of the kind, and how many all these have
-abbrev pub own_cells : {X : Type 0} → Kind X → Option (List ℕ) → ℕ
-own_cells {X} kind entry = if is_of kind entry then cells_of entry else 0
+-- the first octet of a slot's record is a mark of the kind
+abbrev pub is_marked : {X : Type 0} → Kind X → Option (List ℕ) → Bool
+is_marked {X} kind entry = option_map_or kind.marks (first_octet entry) false
 
-abbrev pub cells_listed : {X : Type 0} → Kind X → Slots → ℕ
-cells_listed {X} kind slots = sum_by (own_cells kind) slots
+-- how many cells the record of a slot has, if it is marked so, and how many all records that are
+abbrev pub own_cells : {X : Type 0} → Kind X → Option (List ℕ) → ℕ
+own_cells {X} kind entry = if is_marked kind entry then cells_of entry else 0
+
+abbrev pub cells_marked : {X : Type 0} → Kind X → Slots → ℕ
+cells_marked {X} kind slots = sum_by (own_cells kind) slots
 
 -- the slots of a side, where the EEPROM tells its image
 abbrev pub slots_of : Held → Side → Chip → Option Slots

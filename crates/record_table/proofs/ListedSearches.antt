@@ -1,5 +1,6 @@
 -- A search among the slots, and what it says of the list of a kind.
-use Rattle.std.proofs.Common.{◌≡◌, ℕ, ◌≤◌, Bool, cond, List, None, sym, ap, ◌∙◌, arith}
+use Rattle.std.proofs.Common.{◌≡◌, ℕ, ◌≤◌, Bool, true, cond, List, [], ◌∷◌, Option, None, Some, refl, sym, ap, ◌∙◌, arith}
+use Rattle.std.specs.Prelude.{IfSome}
 use Rattle.std.specs.List.{find, filter, count_by, list_any}
 use Rattle.eeprom.specs.StoreOf.{Slots}
 use Rattle.eeprom.specs.Slots.{Rises, AreApart, has, is_after, nearest_from}
@@ -33,3 +34,20 @@ module _ {X : Type 0} (kind : Kind X) where
       let apart = AreApart-in_slots slots rises in
       let fewer : AreApart kind.key (filter p (in_slots kind slots)) = λ n. omega (arith, apart n, sum_by-filter p (λ x. cond (has kind.key n x) 1 0) (in_slots kind slots)) in
       nearest-in_order kind.key k (filter p (in_slots kind slots)) fewer ∙ ap (find (is_after kind.key k)) (sym (filter-in_order kind.key p (in_slots kind slots) apart))
+
+  -- what is found first is what the list says
+  pub found-listed : (p : X → Bool) (found : Option X) (slots : Option Slots) → IfSome slots (λ slots. found ≡ find p (in_slots kind slots))
+      → IfSome slots (λ slots. count_by p (listed kind slots) ≤ 1 → found ≡ find p (listed kind slots))
+  found-listed p found None first = tt
+  found-listed p found (Some slots) first = λ one. first ∙ find-listed p slots one
+
+  -- and so is what is nearest
+  pub next-listed : (k : ℕ) (p : X → Bool) (next : Option X) (slots : Option Slots) → IfSome slots (λ slots. next ≡ nearest_from kind.key k None (filter p (in_slots kind slots)))
+      → IfSome slots (λ slots. Rises kind.key (listed kind slots) → next ≡ find (is_after kind.key k) (filter p (listed kind slots)))
+  next-listed k p next None nearest = tt
+  next-listed k p next (Some slots) nearest = λ rises. nearest ∙ nearest-listed k p slots rises
+
+-- where all pass
+pub filter-any : {X : Type 0} (xs : List X) → filter (λ x. true) xs ≡ xs
+filter-any [] = refl
+filter-any (x ∷ xs) = ap (λ rest. x ∷ rest) (filter-any xs)

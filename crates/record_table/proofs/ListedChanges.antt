@@ -1,7 +1,8 @@
 -- A change of one slot, and what becomes of the records of each kind.
-use Rattle.std.proofs.Common.{◌≡◌, ◌≢◌, ℕ, ◌<◌, Bool, true, false, List, [], ◌∷◌, ◌++◌, length, Option, Some, None, get_or, take, drop, suc, refl, sym, ap, ◌∙◌, arith}
+use Rattle.std.proofs.Common.{◌≡◌, ◌≢◌, ℕ, ◌<◌, Bool, true, false, List, [], ◌∷◌, ◌++◌, length, Option, Some, None, get_or, take, drop, suc, ltb, inl, inr, refl, sym, ap, ◌∙◌, arith}
 use Rattle.std.proofs.Math.ListN.{set}
-use Rattle.std.proofs.lemmas.List.{get_or-set_other}
+use Rattle.std.proofs.lemmas.List.{get_or-set_other, get_or_past}
+use Rattle.std.proofs.lemmas.Bool.{cases_Bool, ltb-true, ltb-false}
 use Rattle.std.specs.List.{filter_map, cons_option, sum_by, AllByRecursion}
 use Rattle.std.proofs.lemmas.List.Sums.{sum_by-cons}
 use Rattle.eeprom.proofs.InOrder.{sum_by-in_order}
@@ -18,6 +19,14 @@ pub no_other : {X Y : Type 0} (kind : Kind X) (other : Kind Y) (entry : Option (
 no_other kind other None is apart of_kind = refl
 no_other kind other (Some []) is apart of_kind = is.others [] refl
 no_other kind other (Some (octet ∷ octets)) is apart of_kind = is.others (octet ∷ octets) (apart octet of_kind)
+
+-- a slot that has a record of a kind is one of the slots
+within-at : {X : Type 0} (kind : Kind X) (slots : Slots) (slot : ℕ) (x : X) → at_slot kind slot slots ≡ Some x → slot < length slots
+within-at kind slots slot x at =
+    elim (cases_Bool (ltb slot (length slots))) [
+      | inl t ↦ ltb-true slot (length slots) t
+      | inr f ↦ (let none = ap (in_slot (read_as kind)) (get_or_past slots slot None (ltb-false slot (length slots) f)) in let wrong : None ≡ Some x = sym none ∙ at in absurd (cc))
+    ]
 
 -- a slot of one kind is given a record of it, or is emptied: no kind with other marks sees it
 pub listed-other : {X Y : Type 0} (kind : Kind X) (other : Kind Y) (slots : Slots) (slot : ℕ) (entry : Option (List ℕ)) → IsKind other → HaveOtherMarks kind other → slot < length slots
@@ -62,43 +71,43 @@ module _ {X : Type 0} (kind : Kind X) (is : IsKind kind) where
       let before = filter_map f (take slot old) in
       let behind = filter_map f (drop (suc slot) old) in
       let split : before ++ w ∷ behind ≡ x ∷ [] =
-      sym (kept-split f old slot changed.within ∙ ap (λ o. before ++ cons_option o behind) at) ∙ in_order-alone kind.key (filter_map f old) x one in
+      sym (kept-split f old slot (within-at kind old slot _ at) ∙ ap (λ o. before ++ cons_option o behind) at) ∙ in_order-alone kind.key (filter_map f old) x one in
       let given : filter_map f new ≡ y ∷ [] =
-      ap (filter_map f) changed.is ∙ kept-set f old slot (Some (kind.form.spell y)) changed.within ∙ ap (λ o. before ++ cons_option o behind) (is.again y fits) ∙ alone before behind w x y split in
+      ap (filter_map f) changed ∙ kept-set f old slot (Some (kind.form.spell y)) (within-at kind old slot _ at) ∙ ap (λ o. before ++ cons_option o behind) (is.again y fits) ∙ alone before behind w x y split in
       ap (in_order kind.key) given
 
   -- a record that is added stands last in the list of its kind, where its key is above all others
-  pub listed-added : (x : X) (slot : ℕ) (old new : Slots) → IsAdded kind x slot old new → kind.form.fits x ≡ true → AllByRecursion (λ y. kind.key y < kind.key x) (listed kind old)
+  pub listed-added : (x : X) (slot : ℕ) (old new : Slots) → slot < length old → IsAdded kind x slot old new → kind.form.fits x ≡ true → AllByRecursion (λ y. kind.key y < kind.key x) (listed kind old)
       → listed kind new ≡ listed kind old ++ x ∷ []
-  listed-added x slot old new added fits above =
+  listed-added x slot old new within added fits above =
       ap (listed kind) added.is
-      ∙ kept-new kind.key (in_slot (read_as kind)) old slot (Some (kind.form.spell x)) x added.within (ap (in_slot (read_as kind)) added.empty) (is.again x fits) above
+      ∙ kept-new kind.key (in_slot (read_as kind)) old slot (Some (kind.form.spell x)) x within (ap (in_slot (read_as kind)) added.empty) (is.again x fits) above
 
   -- a record that is changed stands in the place of the one with its key
   pub listed-changed : (x y : X) (slot : ℕ) (old new : Slots) → IsChanged kind y slot old new → kind.form.fits y ≡ true → at_slot kind slot old ≡ Some x → kind.key x ≡ kind.key y → Rises kind.key (listed kind old)
       → listed kind new ≡ replaced kind.key y (listed kind old)
   listed-changed x y slot old new changed fits at same rises =
-      ap (listed kind) changed.is ∙ kept-changed kind.key (in_slot (read_as kind)) old slot (Some (kind.form.spell y)) x y changed.within at (is.again y fits) same rises
+      ap (listed kind) changed ∙ kept-changed kind.key (in_slot (read_as kind)) old slot (Some (kind.form.spell y)) x y (within-at kind old slot _ at) at (is.again y fits) same rises
 
   -- a record that is removed is missing, and all others stay
   pub listed-removed : (x : X) (slot : ℕ) (old new : Slots) → IsRemoved slot old new → at_slot kind slot old ≡ Some x → Rises kind.key (listed kind old)
       → listed kind new ≡ without kind.key (kind.key x) (listed kind old)
   listed-removed x slot old new removed at rises =
-      ap (listed kind) removed.is ∙ kept-removed kind.key (in_slot (read_as kind)) old slot None x removed.within at refl rises
+      ap (listed kind) removed ∙ kept-removed kind.key (in_slot (read_as kind)) old slot None x (within-at kind old slot _ at) at refl rises
 
   -- kinds with other marks don't see any of these
-  pub other-added : {Y : Type 0} (other : Kind Y) (x : X) (slot : ℕ) (old new : Slots) → IsKind other → HaveOtherMarks kind other → IsAdded kind x slot old new → listed other new ≡ listed other old
-  other-added other x slot old new theirs apart added =
+  pub other-added : {Y : Type 0} (other : Kind Y) (x : X) (slot : ℕ) (old new : Slots) → slot < length old → IsKind other → HaveOtherMarks kind other → IsAdded kind x slot old new → listed other new ≡ listed other old
+  other-added other x slot old new within theirs apart added =
       ap (listed other) added.is
-      ∙ listed-other kind other old slot (Some (kind.form.spell x)) theirs apart added.within (ap (is_of kind) added.empty) (is.begins x)
+      ∙ listed-other kind other old slot (Some (kind.form.spell x)) theirs apart within (ap (is_of kind) added.empty) (is.begins x)
 
   pub other-changed : {Y : Type 0} (other : Kind Y) (x y : X) (slot : ℕ) (old new : Slots) → IsKind other → HaveOtherMarks kind other → IsChanged kind y slot old new → at_slot kind slot old ≡ Some x
       → listed other new ≡ listed other old
   other-changed other x y slot old new theirs apart changed at =
-      ap (listed other) changed.is
-      ∙ listed-other kind other old slot (Some (kind.form.spell y)) theirs apart changed.within (is_of-read kind (get_or old slot None) x is at) (is.begins y)
+      ap (listed other) changed
+      ∙ listed-other kind other old slot (Some (kind.form.spell y)) theirs apart (within-at kind old slot _ at) (is_of-read kind (get_or old slot None) x is at) (is.begins y)
 
   pub other-removed : {Y : Type 0} (other : Kind Y) (x : X) (slot : ℕ) (old new : Slots) → IsKind other → HaveOtherMarks kind other → IsRemoved slot old new → at_slot kind slot old ≡ Some x
       → listed other new ≡ listed other old
   other-removed other x slot old new theirs apart removed at =
-      ap (listed other) removed.is ∙ listed-other kind other old slot None theirs apart removed.within (is_of-read kind (get_or old slot None) x is at) refl
+      ap (listed other) removed ∙ listed-other kind other old slot None theirs apart (within-at kind old slot _ at) (is_of-read kind (get_or old slot None) x is at) refl
