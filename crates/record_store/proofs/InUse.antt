@@ -55,8 +55,11 @@ in_use-filled held new slot first octet count now cells more taken most kept = r
 pub in_use-kept : (held : Held) (new : Cells) (count : ℕ) → new.cells ≡ held.chains.cells → AreInUse held count → AreInUse (record held { chains = new }) count
 in_use-kept held new count cells kept = record { most = omega (arith, cells, kept.most); committed = kept.committed; working = kept.working }
 
-pub in_use-rolled_back : (held : Held) (new : Cells) (count : ℕ) → new.cells ≡ held.chains.cells → AreInUse held count → AreInUse (record held { chains = new; begun = false }) count
-in_use-rolled_back held new count cells kept = record { most = omega (arith, cells, kept.most); committed = kept.committed; working = kept.working }
+pub in_use-rolled_back : (held : Held) (new : Cells) (now : List ℕ) (count : ℕ) → new.cells ≡ held.chains.cells → now ≡ held.committed → AreInUse held count → AreInUse (record held { chains = new; working = now; begun = false }) count
+in_use-rolled_back held new now count cells same kept = record { most = omega (arith, cells, kept.most); committed = kept.committed; working = subst (AreEmptyBehind count) (sym same) kept.committed }
+
+pub in_use-begun : (held : Held) (count : ℕ) → AreInUse held count → AreInUse (record held { begun = true }) count
+in_use-begun held count kept = record { most = kept.most; committed = kept.committed; working = kept.working }
 
 pub in_use-committed : (held : Held) (new : Cells) (now : List ℕ) (count : ℕ) → new.cells ≡ held.chains.cells → now ≡ held.working → AreInUse held count → AreInUse (record held { chains = new; committed = now; begun = false }) count
 in_use-committed held new now count cells same kept = record { most = omega (arith, cells, kept.most); committed = subst (AreEmptyBehind count) (sym same) kept.working; working = kept.working }

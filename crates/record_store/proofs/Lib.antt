@@ -19,5 +19,7 @@ pub mod Replacing
 pub mod Replaying
 pub mod SameSlots
 pub mod Sides
+pub mod Touching
+pub mod Transacting
 pub mod Weighing
 pub mod Weights

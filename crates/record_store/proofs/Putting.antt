@@ -251,7 +251,7 @@ put-over held slot weight octets (Some image) sound begun stands inside is over 
     told-weight held slot octets image (λ w. held.chains.cells < w) sound begun stands inside (omega (arith, is, over)) (contents held Working image) refl
 
 -- there are enough free cells for it, whatever the image tells
-count-marked : (cells : List ℕ) (marks : List Bool) → ((cell : ℕ) → is_marked marks cell ≡ true → is_among cell cells ≡ true) → marked marks ≤ length cells
+pub count-marked : (cells : List ℕ) (marks : List Bool) → ((cell : ℕ) → is_marked marks cell ≡ true → is_among cell cells ≡ true) → marked marks ≤ length cells
 count-marked [] marks among = omega (arith, none marks (λ cell is. among cell is))
   where
     none : (marks : List Bool) → ((cell : ℕ) → is_marked marks cell ≡ true → false ≡ true) → marked marks ≡ 0

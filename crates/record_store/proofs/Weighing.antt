@@ -131,7 +131,8 @@ weighed-committed held new firsts_now committed working w begun links same sound
     record { sound = sound; committed_is = now; working_is = now }
 
 -- it was rolled back
-pub weighed-rolled_back : (held : Held) (new : Cells) (committed working : ℕ) → IsWeighed held committed working → new.links ≡ held.chains.links → IsSound (record held { chains = new; begun = false }) → IsWeighed (record held { chains = new; begun = false }) committed committed
-weighed-rolled_back held new committed working w links sound =
+pub weighed-rolled_back : (held : Held) (new : Cells) (firsts_now : List ℕ) (committed working : ℕ) → IsWeighed held committed working → new.links ≡ held.chains.links → IsSound (record held { chains = new; working = firsts_now; begun = false })
+    → IsWeighed (record held { chains = new; working = firsts_now; begun = false }) committed committed
+weighed-rolled_back held new firsts_now committed working w links sound =
     let now : committed ≡ walk new.links held.committed = rw links (w.committed_is) in
     record { sound = sound; committed_is = now; working_is = now }

@@ -9,5 +9,6 @@ pub mod Put
 pub mod Recovery
 pub mod Slots
 pub mod Sound
+pub mod Touched
 pub mod Transaction
 pub mod Weighed

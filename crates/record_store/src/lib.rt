@@ -12,6 +12,7 @@ mod refusal;
 mod side;
 mod slots;
 mod store;
+mod touched;
 mod writer;
 
 pub use cell_store::RecordOctets;

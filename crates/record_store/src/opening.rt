@@ -16,9 +16,10 @@ ghost use Rattle.record_store.specs.Recovery.{Recovers};
 use crate::OpenRefusal;
 use crate::first_octets::keep_octet;
 use crate::header::{Header, read_directory, read_header};
+use crate::touched::Touched;
 use cell_store::{CellStore, ClaimRefusal, NO_CELL, RecordOctets};
 use eeprom::Eeprom;
-use journal::Journal;
+use journal::{Entry, Journal};
 use std::alloc::Global;
 use std::marker::Model;
 
@@ -32,6 +33,9 @@ pub struct Opening {
     pub(crate) working: Vec<u16>,
     /// For each cell that the chain of a claimed slot begins at, the first octet of its record.
     pub(crate) first_octets: Vec<u8>,
+    /// The memory of transactions.
+    pub(crate) touched: Touched,
+    pub(crate) entries: Vec<Entry>,
     /// How many slots were claimed, and how many cells their chains have.
     pub(crate) claimed: u16,
     pub(crate) weight: u16,
@@ -39,13 +43,15 @@ pub struct Opening {
 
 impl Model for Opening {
     ghost use Rattle.std.specs.Prelude.{◌≡◌};
+    ghost use Rattle.std.specs.Vec.{vec_capacity};
+    ghost use Rattle.record_store.specs.Kept.{HasMemory};
     ghost use Rattle.record_store.specs.Opening.{HeldSoFar, IsSoundSoFar};
 
     ghost Value = { HeldSoFar };
 
     ghost view = { λ opening. record { chains = opening.chains; row_limit = opening.row_limit; firsts = opening.committed.items; claimed = opening.claimed; weight = opening.weight; first_octets = opening.first_octets.items } };
 
-    ghost invariant = { λ opening. (opening.working.items ≡ opening.committed.items) × IsSoundSoFar (record { chains = opening.chains; row_limit = opening.row_limit; firsts = opening.committed.items; claimed = opening.claimed; weight = opening.weight; first_octets = opening.first_octets.items }) };
+    ghost invariant = { λ opening. (opening.working.items ≡ opening.committed.items) × HasMemory opening.chains.cells opening.touched (vec_capacity opening.entries) × IsSoundSoFar (record { chains = opening.chains; row_limit = opening.row_limit; firsts = opening.committed.items; claimed = opening.claimed; weight = opening.weight; first_octets = opening.first_octets.items }) };
 }
 
 impl Opening {
@@ -66,6 +72,8 @@ impl Opening {
         let committed = read_directory(alloc, bench, header)?;
         let working = Vec::from_slice(alloc, committed.as_slice())?;
         let first_octets = vec![in alloc; 0u8; 2 * header.cells as usize]?;
+        let touched = Touched::with_room(alloc, header.cells)?;
+        let entries = Vec::with_capacity(alloc, header.cells as usize)?;
         let chains = CellStore::with_room(alloc, header.cells)?;
         Ok(Opening {
             chains,
@@ -73,6 +81,8 @@ impl Opening {
             committed,
             working,
             first_octets,
+            touched,
+            entries,
             claimed: 0,
             weight: 0,
         })
@@ -122,6 +132,8 @@ impl Opening {
             committed,
             working,
             mut first_octets,
+            touched,
+            entries,
             claimed,
             weight,
         } = self;
@@ -138,6 +150,8 @@ impl Opening {
             committed,
             working,
             first_octets,
+            touched,
+            entries,
             claimed: claimed + 1,
             weight,
         })

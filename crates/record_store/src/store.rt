@@ -18,13 +18,14 @@ ghost use Rattle.record_store.specs.Transaction.{begun_from, entries, IsCommitte
 ghost use Rattle.record_store.specs.declared.side.Side.{Side};
 ghost use Rattle.record_store.specs.declared.side.Side.TheVariants.{Committed, Working};
 
-use crate::entries::entries_of;
+use crate::entries::take_entries;
 use crate::opening::Opening;
-use crate::slots::{free_replaced, named_or_empty, search_from, slots_in_use};
+use crate::slots::{copy_slots, free_replaced, named_or_empty, search_from, slots_in_use};
+use crate::touched::Touched;
 use crate::{OpenRefusal, Side, StoreRefusal};
 use cell_store::{CellRefusal, CellStore, NO_CELL, RecordOctets, cells_for};
 use eeprom::{Eeprom, EepromFault};
-use journal::Journal;
+use journal::{Entry, Journal};
 use std::alloc::Global;
 use std::marker::Model;
 
@@ -45,9 +46,14 @@ pub struct Store {
     slots_in_use: u16,
     /// From where an empty slot is searched.
     next_slot: u16,
+    /// The slots that a transaction touched: in all others both sides have the same chains.
+    touched: Touched,
+    /// The entries of a commit, of which only the memory is kept.
+    entries: Vec<Entry>,
 }
 
 impl Model for Store {
+    ghost use Rattle.std.specs.Vec.{vec_capacity};
     ghost use Rattle.record_store.specs.Held.{Held};
     ghost use Rattle.record_store.specs.Kept.{IsKept};
 
@@ -55,7 +61,7 @@ impl Model for Store {
 
     ghost view = { λ store. record { chains = store.chains; row_limit = store.row_limit; committed = store.committed.items; working = store.working.items; begun = store.begun; first_octets = store.first_octets.items } };
 
-    ghost invariant = { λ store. IsKept (record { chains = store.chains; row_limit = store.row_limit; committed = store.committed.items; working = store.working.items; begun = store.begun; first_octets = store.first_octets.items }) store.committed_weight store.working_weight store.slots_in_use };
+    ghost invariant = { λ store. IsKept (record { chains = store.chains; row_limit = store.row_limit; committed = store.committed.items; working = store.working.items; begun = store.begun; first_octets = store.first_octets.items }) store.committed_weight store.working_weight store.slots_in_use store.touched (vec_capacity store.entries) };
 }
 
 impl Opening {
@@ -81,6 +87,8 @@ impl Opening {
             working_weight: self.weight,
             slots_in_use,
             next_slot: 0,
+            touched: self.touched,
+            entries: self.entries,
         }
     }
 }
@@ -198,7 +206,6 @@ impl Store {
         ensures committed { (image : List ℕ) → contents self.new Committed image ≡ contents self.old Committed image }
         ensures no_entries { entries self.new ≡ 0 }
     {
-        self.working.copy_from_slice(self.committed.as_slice());
         self.begun = true;
     }
 
@@ -245,6 +252,7 @@ impl Store {
         self.remove(slot);
         match self.chains.write_chain(bench, octets) {
             Ok(first) => {
+                self.touched.touch(slot);
                 self.working[slot as usize] = first;
                 self.first_octets[first as usize] = octets[0];
                 self.working_weight = weight + count;
@@ -271,6 +279,7 @@ impl Store {
         ensures entries { entries self.new ≤ entries self.old + 1 }
     {
         let weight = self.weight_without(slot);
+        self.touched.touch(slot);
         let first = self.working[slot as usize];
         if first != self.committed[slot as usize] {
             self.chains.free_chain(first);
@@ -307,14 +316,13 @@ impl Store {
         ensures unchanged { OnErr result (self.new ≡ self.old) }
         ensures cause { Counts (B.faults bench.old) (B.faults bench.new) result }
     {
-        let entries = entries_of(self.committed.as_slice(), self.working.as_slice());
-        Journal::commit(bench, self.chains.cells(), entries.as_slice())?;
-        free_replaced(
-            &mut self.chains,
-            self.committed.as_slice(),
-            self.working.as_slice(),
-        );
-        self.committed.copy_from_slice(self.working.as_slice());
+        let slots = self.touched.slots();
+        let working = self.working.as_slice();
+        take_entries(&mut self.entries, slots, self.committed.as_slice(), working);
+        Journal::commit(bench, self.chains.cells(), self.entries.as_slice())?;
+        free_replaced(&mut self.chains, slots, self.committed.as_slice(), working);
+        copy_slots(slots, working, &mut self.committed);
+        self.touched.clear();
         self.committed_weight = self.working_weight;
         self.begun = false;
         Ok(())
@@ -329,8 +337,11 @@ impl Store {
         ensures stands { (image : List ℕ) → StandsFor self.old image → StandsFor self.new image }
         ensures committed { (image : List ℕ) → contents self.new Committed image ≡ contents self.old Committed image }
     {
-        let replaced = self.working.as_slice();
-        free_replaced(&mut self.chains, replaced, self.committed.as_slice());
+        let slots = self.touched.slots();
+        let committed = self.committed.as_slice();
+        free_replaced(&mut self.chains, slots, self.working.as_slice(), committed);
+        copy_slots(slots, committed, &mut self.working);
+        self.touched.clear();
         self.working_weight = self.committed_weight;
         self.begun = false;
     }

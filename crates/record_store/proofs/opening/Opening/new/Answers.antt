@@ -2,6 +2,7 @@
 use Rattle.std.proofs.Common.{◌≡◌, ℕ, ◌*◌, length, replicate, ap, sym, ◌∙◌, arith, rules}
 use Rattle.std.proofs.lemmas.List.{length-replicate}
 use Rattle.cell_store.specs.Cells.{Cells}
+use Rattle.record_store.specs.Touched.{none_touched}
 use Rattle.record_store.proofs.OpeningSlots.{sound-begun, stands-begun}
 use Rattle.record_store.proofs.Replaying.{front-read}
 use Rattle.record_store.proofs.opening.Opening.new.Goals.{In_ok-chains}
@@ -15,6 +16,7 @@ invariant_of-result g c =
     let filled : c.in_ok-first_octets.first_octets.items ≡ replicate (2 * header.cells) 0 = search rules in
     let copied : c.in_ok-working.working.items ≡ c.in_ok-committed.committed.items = search rules in (
       copied,
+      record { none = c.in_ok-touched.ensures ∙ ap none_touched (sym cells); room_is = omega (arith, cells, c.in_ok-entries.ensures.capacity) },
       sound-begun header.cells header.row_limit c.in_ok-committed.committed.items _ c.in_ok-chains.chains c.in_ok-chains.ensures range.few range.many range.rows c.in_ok-committed.ensures.count (ap (length {A = ℕ}) filled ∙ length-replicate {A = ℕ} (2 * header.cells) 0),
     )
 

@@ -1,4 +1,5 @@
 use Rattle.std.proofs.Common.{◌≡◌, ◌<◌, None, length, set, slice_index, drop, ap, ◌∙◌, refl, arith, rules, subst}
+use Rattle.std.specs.Vec.{vec_capacity}
 use Rattle.eeprom.specs.Chip.{Keeps}
 use Rattle.eeprom.specs.StoreOf.{store_of, cells_for, image_size}
 use Rattle.record_store.specs.Held.{Held}
@@ -10,6 +11,7 @@ use Rattle.record_store.proofs.Filling.{Emptied, room-enough, filled-becomes, fi
 use Rattle.record_store.proofs.InUse.{in_use-filled, in_use-kept}
 use Rattle.record_store.proofs.Keeping.{behind-marked}
 use Rattle.record_store.proofs.Putting.{put-over, put-within}
+use Rattle.record_store.proofs.Transacting.{touched-set, touched-kept}
 use Rattle.record_store.proofs.Weighing.{weighed-filled, weighed-failed}
 use Rattle.record_store.proofs.store.Store.put.Goals.{In-Some, After-as_slice, After-weight_without-weight, After-write_chain}
 use Rattle.record_store.proofs.store.Store.put.Goals as goal
@@ -78,6 +80,8 @@ invariant_of-self g c =
           c.self-2.inside.committed_weight c.self-2.inside.working_weight c.write_chain.new.self (emptied g at) c.in-Ok.ensures.takes c.self-2.invariant.weighed);
       in_use = in_use-filled (mid g at) c.write_chain.new.self c.in-Some.slot c.in-Ok.first (slice_index c.args.octets.now 0) c.self-2.inside.slots_in_use _ c.in-Ok.ensures.takes.cells (omega arith) (omega arith)
           (omega (arith, inside g (goal.at.After-write_chain g at).In-Some, ap (λ (held : Held). held.chains.cells) (emptied g at).is, c.self-2.invariant.in_use.most)) c.self-2.invariant.in_use;
+      transaction = touched-set (mid g at) c.write_chain.new.self (set (mid g at).first_octets c.in-Ok.first (slice_index c.args.octets.now 0)) c.in-Some.slot c.in-Ok.first c.self-2.inside.touched c.touch.new.self (vec_capacity c.self-2.inside.entries)
+          (ap (λ (held : Held). held.begun) (emptied g at).is ∙ c.requires.begun) c.in-Ok.ensures.takes.cells c.touch.ensures.slots c.touch.ensures.size c.self-2.invariant.transaction;
     }
 
 pub invariant_of-self-in-Err-Fault : goal.invariant_of-self-in-Err-Fault
@@ -86,6 +90,7 @@ invariant_of-self-in-Err-Fault g c =
     record {
       weighed = weighed-failed _ c.write_chain.new.self c.self-2.inside.committed_weight c.self-2.inside.working_weight c.self-2.invariant.weighed keeps;
       in_use = in_use-kept _ c.write_chain.new.self c.self-2.inside.slots_in_use keeps.cells c.self-2.invariant.in_use;
+      transaction = touched-kept _ c.write_chain.new.self c.self-2.inside.touched (vec_capacity c.self-2.inside.entries) keeps.cells c.self-2.invariant.transaction;
     }
 
 pub unreachable-requires : goal.unreachable-requires
@@ -139,3 +144,8 @@ returns-in-Ok-clause-behind g c = behind g (goal.at.returns-in-Ok-clause-behind 
 
 pub returns-in-Err-Fault-clause-behind : goal.returns-in-Err-Fault-clause-behind
 returns-in-Err-Fault-clause-behind g c = behind g (goal.at.returns-in-Err-Fault-clause-behind g c).After-write_chain
+
+pub touch-requires : goal.touch-requires
+touch-requires g c =
+    let at = goal.at.touch-requires g c in
+    record { inside = omega (arith, inside g at.In-Some, c.self-2.invariant.transaction.size, ap (λ (held : Held). held.chains.cells) (emptied g at.After-write_chain).is) }
