@@ -48,6 +48,7 @@ pub mod NameOrder
 pub mod Naming
 pub mod NothingWritten
 pub mod Positions
+pub mod ReadFits
 pub mod ReadingIsShown
 pub mod ReadingSteps
 pub mod RecordLaws
