@@ -1,5 +1,5 @@
 -- The answer of all slots is that of those that are left, slot by slot.
-use Rattle.std.proofs.Common.{◌≡◌, ◌+◌, false, Some, Option, refl, sym, ◌∙◌, arith}
+use Rattle.std.proofs.Common.{◌≡◌, ◌+◌, false, Some, Option, refl, sym, ◌∙◌}
 use Rattle.std.specs.Prelude.{IfSome}
 use Rattle.std.specs.List.{find}
 use Rattle.eeprom.specs.StoreOf.{Slots}
