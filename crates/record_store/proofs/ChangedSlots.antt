@@ -1,11 +1,17 @@
 -- Entries for the slots that have another chain now.
-use Rattle.std.proofs.Common.{◌≡◌, ◌⊎◌, inl, inr, ℕ, zero, suc, ◌+◌, ◌*◌, ◌<◌, ◌≤◌, ◌≢◌, ◌==◌, ◌||◌, if◌then◌else◌, true, false, Bool, List, [], ◌∷◌, ◌++◌, length, take, drop, set, slice_index, nat_lt, sym, refl, ap, ap₂, ◌∙◌, arith, subst, length-append}
+use Rattle.std.proofs.Common.{◌≡◌, ◌⊎◌, inl, inr, ℕ, zero, suc, ◌+◌, ◌*◌, ◌<◌, ◌≤◌, ◌≢◌, ◌==◌, ◌||◌, if◌then◌else◌, true, false, Bool, List, [], ◌∷◌, ◌++◌, length, take, drop, set, slice_index, nat_lt, sym, refl, ap, ap₂, ◌∙◌, arith, subst, length-append, eq-eqb}
 use Rattle.std.specs.List.{list_all}
 use Rattle.std.proofs.lemmas.Bool.Decides.{nat_tests}
 use Rattle.std.proofs.lemmas.List.Folds.{list_all-append}
 use Rattle.eeprom.specs.StoreOf.{is_entry, with_entries, no_cell}
 use Rattle.eeprom.specs.declared.entry.Entry.{Entry}
+use Rattle.cell_store.specs.Cells.{Cells}
+use Rattle.record_store.specs.Held.{Held}
+use Rattle.record_store.specs.Put.{emptied}
 use Rattle.record_store.specs.Slots.{AreFirsts, changed}
+use Rattle.record_store.specs.Sound.{IsSound}
+use Rattle.record_store.specs.Transaction.{begun_from, entries}
+use Rattle.record_store.proofs.Putting.{set-again}
 
 with_entries-more : (entries : List Entry) (entry : Entry) (firsts : List ℕ) → with_entries (entries ++ entry ∷ []) firsts ≡ set (with_entries entries firsts) entry.slot entry.first
 with_entries-more [] entry firsts = refl
@@ -112,3 +118,31 @@ so_far-more committed working slot first entries inside count is other s = subst
           count = omega (arith, size, s.count, rw unequal at more);
           few = omega (arith, size, s.few);
         }
+
+-- a store has no entry for slots that are as they were
+pub changed-same : (firsts : List ℕ) → changed firsts firsts ≡ 0
+changed-same [] = refl
+changed-same (first ∷ firsts) = rw (eq-eqb first first refl, changed-same firsts) refl
+
+-- and at most one more where one slot changes
+pub changed-set : (committed working : List ℕ) (slot first : ℕ) → changed committed (set working slot first) ≤ changed committed working + 1
+changed-set [] working slot first = omega arith
+changed-set (old ∷ committed) [] slot first = omega arith
+changed-set (old ∷ committed) (next ∷ working) zero first = one (first == old) (next == old) (changed committed working)
+  where
+    one : (a b : Bool) (rest : ℕ) → (if a then 0 else 1) + rest ≤ ((if b then 0 else 1) + rest) + 1
+    one true true rest = omega arith
+    one true false rest = omega arith
+    one false true rest = omega arith
+    one false false rest = omega arith
+changed-set (old ∷ committed) (next ∷ working) (suc slot) first = omega (arith, changed-set committed working slot first)
+
+pub entries-begun : (held : Held) → entries (begun_from held) ≡ 0
+entries-begun held = changed-same held.committed
+
+pub entries-emptied : (held new : Held) (slot : ℕ) (used : List Bool) → IsSound new → held.begun ≡ true → new ≡ emptied held slot used → entries new ≤ entries held + 1
+entries-emptied held new slot used sound begun is = rw (is, begun) (changed-set held.committed held.working slot 65535)
+
+pub entries-filled : (held mid : Held) (chains : Cells) (octets : List ℕ) (slot first : ℕ) (used : List Bool) → held.begun ≡ true → mid ≡ emptied held slot used → entries (record mid { chains = chains; working = set mid.working slot first; first_octets = octets }) ≤ entries held + 1
+entries-filled held mid chains octets slot first used begun is =
+    rw (is, begun, set-again held.working slot 65535 first) (changed-set held.committed held.working slot first)

@@ -5,9 +5,12 @@ pub mod Commit
 pub mod DirectoryRead
 pub mod Emptying
 pub mod Filling
+pub mod FirstOctets
 pub mod FreshStore
 pub mod Fronts
 pub mod HeaderRead
+pub mod InUse
+pub mod Keeping
 pub mod OpeningSlots
 pub mod Putting
 pub mod Records

@@ -3,6 +3,7 @@ pub mod Faults
 pub mod FreshImage
 pub mod Header
 pub mod Held
+pub mod Kept
 pub mod Opening
 pub mod Put
 pub mod Recovery

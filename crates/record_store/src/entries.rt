@@ -4,11 +4,13 @@ ghost use Rattle.std.specs.List.{list_all};
 ghost use Rattle.eeprom.specs.StoreOf.{is_entry, with_entries, most_cells};
 ghost use Rattle.record_store.specs.Slots.{AreFirsts, changed};
 
-use crate::layout::MOST_CELLS;
 use arrayvec::ArrayVec;
 use journal::Entry;
 
-pub type Entries = ArrayVec<Entry, MOST_CELLS>;
+/// How many entries a commit has at most.
+const MOST_ENTRIES: usize = 2048;
+
+pub type Entries = ArrayVec<Entry, MOST_ENTRIES>;
 
 /// An entry for each slot in which another chain begins now.
 pub fn entries_of(committed: &[u16], working: &[u16]) -> Entries

@@ -8,11 +8,12 @@ ghost use Rattle.record_store.specs.Header.{begins_store, IsHeader, IsHeaderOf};
 ghost use Rattle.record_store.specs.Faults.{is_open_fault};
 
 use crate::OpenRefusal;
-use crate::layout::{
-    DIRECTORY, FORMAT, LARGEST_DIRECTORY, MIGRATED_ROW_LIMIT, ROW_LIMIT, image_size,
-};
+use crate::layout::FORMAT;
 use cell_store::{number_of, octets_of};
-use eeprom::Eeprom;
+use eeprom::{
+    Eeprom, FEWEST_CELLS, HEADER_SIZE, LARGEST_DIRECTORY, MIGRATED_ROW_LIMIT, MOST_CELLS,
+    ROW_LIMIT, image_size,
+};
 use std::alloc::{AllocError, Global};
 
 /// How many octets of an image say whether it has a store, of which size and with which rows.
@@ -71,7 +72,7 @@ fn header_of(octets: &[u8; FRONT], size: usize) -> Option<Header>
         return None;
     };
     let cells = number_of(*high, *low);
-    if cells < 16 || cells > 2048 || size < image_size(cells) {
+    if cells < FEWEST_CELLS || cells > MOST_CELLS || size < image_size(cells) {
         return None;
     }
     Some(Header {
@@ -111,7 +112,7 @@ pub fn read_directory<B: Eeprom>(
 {
     let mut octets = [0; LARGEST_DIRECTORY];
     let directory = &mut octets[..2 * header.cells as usize];
-    bench.read(DIRECTORY, directory)?;
+    bench.read(HEADER_SIZE, directory)?;
     Ok(numbers_of(alloc, directory, header.cells)?)
 }
 

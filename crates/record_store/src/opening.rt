@@ -14,6 +14,7 @@ ghost use Rattle.record_store.specs.Header.{IsHeader, IsHeaderOf};
 ghost use Rattle.record_store.specs.Recovery.{Recovers};
 
 use crate::OpenRefusal;
+use crate::first_octets::keep_octet;
 use crate::header::{Header, read_directory, read_header};
 use cell_store::{CellStore, ClaimRefusal, NO_CELL, RecordOctets};
 use eeprom::Eeprom;
@@ -29,25 +30,26 @@ pub struct Opening {
     pub(crate) row_limit: u16,
     pub(crate) committed: Vec<u16>,
     pub(crate) working: Vec<u16>,
+    /// For each cell that the chain of a claimed slot begins at, the first octet of its record.
+    pub(crate) first_octets: Vec<u8>,
     /// How many slots were claimed, and how many cells their chains have.
     pub(crate) claimed: u16,
     pub(crate) weight: u16,
 }
 
 impl Model for Opening {
-    ghost use Rattle.std.specs.Prelude.{◌≡◌, length};
+    ghost use Rattle.std.specs.Prelude.{◌≡◌};
     ghost use Rattle.record_store.specs.Opening.{HeldSoFar, IsSoundSoFar};
 
     ghost Value = { HeldSoFar };
 
-    ghost view = { λ opening. record { chains = opening.chains; row_limit = opening.row_limit; firsts = opening.committed.items; claimed = opening.claimed; weight = opening.weight } };
+    ghost view = { λ opening. record { chains = opening.chains; row_limit = opening.row_limit; firsts = opening.committed.items; claimed = opening.claimed; weight = opening.weight; first_octets = opening.first_octets.items } };
 
-    ghost invariant = { λ opening. (length opening.working.items ≡ opening.chains.cells) × IsSoundSoFar (record { chains = opening.chains; row_limit = opening.row_limit; firsts = opening.committed.items; claimed = opening.claimed; weight = opening.weight }) };
+    ghost invariant = { λ opening. (opening.working.items ≡ opening.committed.items) × IsSoundSoFar (record { chains = opening.chains; row_limit = opening.row_limit; firsts = opening.committed.items; claimed = opening.claimed; weight = opening.weight; first_octets = opening.first_octets.items }) };
 }
 
 impl Opening {
-    /// Begins to open the store of an image. A journal behind an open gate is replayed. The memory of both directories and of the
-    /// cells is taken here.
+    /// Begins to open the store of an image. A journal behind an open gate is replayed. All memory of the store is taken here.
     pub fn new<B: Eeprom>(alloc: Global, bench: &mut B) -> Result<Opening, OpenRefusal>
         ensures begins { IfOk result (λ opening. opening.claimed ≡ 0) }
         ensures weight { IfOk result (λ opening. opening.weight ≡ 0) }
@@ -63,12 +65,14 @@ impl Opening {
         close_gate(bench, header)?;
         let committed = read_directory(alloc, bench, header)?;
         let working = Vec::from_slice(alloc, committed.as_slice())?;
+        let first_octets = vec![in alloc; 0u8; 2 * header.cells as usize]?;
         let chains = CellStore::with_room(alloc, header.cells)?;
         Ok(Opening {
             chains,
             row_limit: header.row_limit,
             committed,
             working,
+            first_octets,
             claimed: 0,
             weight: 0,
         })
@@ -117,19 +121,23 @@ impl Opening {
             row_limit,
             committed,
             working,
+            mut first_octets,
             claimed,
             weight,
         } = self;
-        let count = claim_slot(&mut chains, bench, committed[claimed as usize], out)?;
+        let first = committed[claimed as usize];
+        let count = claim_slot(&mut chains, bench, first, out)?;
         let weight = weight + count;
         if weight > chains.cells() {
             return Err(OpenRefusal::NotACard);
         }
+        keep_octet(&mut first_octets, first, out.as_slice());
         Ok(Opening {
             chains,
             row_limit,
             committed,
             working,
+            first_octets,
             claimed: claimed + 1,
             weight,
         })

@@ -1,6 +1,7 @@
 // Slots by the first cells of their chains: an empty one, and chains that others replace.
 ghost use Rattle.std.specs.Prelude.{◌≡◌, ◌≤◌, ◌<◌, ℕ, List, true, if◌then◌else◌, length, is_some, slice_index, Some, None, IfSome, IfNone, All};
 ghost use Rattle.cell_store.specs.Marks.{StaysMarked, is_marked};
+ghost use Rattle.record_store.specs.Kept.{AreEmptyBehind};
 ghost use Rattle.record_store.specs.Slots.{AreUsedChains, AreReplaced};
 
 use cell_store::{CellStore, NO_CELL};
@@ -51,6 +52,21 @@ pub fn search_from(named: Option<u16>, found: u16, from: u16) -> u16
         Some(_) => from,
         None => found,
     }
+}
+
+/// Behind so many slots no chain begins.
+pub fn slots_in_use(firsts: &[u16]) -> u16
+    requires few { length firsts.now ≤ 2048 }
+    ensures most { result ≤ length firsts.now }
+    ensures empty { AreEmptyBehind result firsts.now }
+{
+    let mut count = 0;
+    for slot in 0..firsts.len() {
+        if firsts[slot] != NO_CELL {
+            count = slot as u16 + 1;
+        }
+    }
+    count
 }
 
 /// The first slot from one on whose chain begins nowhere.

@@ -1,4 +1,6 @@
 pub mod Accepting
+pub mod Answering
+pub mod Bound
 pub mod Changing
 pub mod Contents
 pub mod Creating
@@ -30,6 +32,7 @@ pub mod Rights
 pub mod Rules
 pub mod Sessions
 pub mod Shown
+pub mod Spelling
 pub mod Step
 pub mod Stored
 pub mod Transactions

@@ -1,16 +1,20 @@
-use Rattle.std.proofs.Common.{◌≡◌, List, Bool, ap, ◌∙◌, subst, arith}
+use Rattle.std.proofs.Common.{◌≡◌, List, Bool, drop, ap, ◌∙◌, subst, arith}
 use Rattle.cell_store.specs.Marks.{StaysMarked}
+use Rattle.eeprom.specs.Chip.{Keeps}
+use Rattle.eeprom.specs.StoreOf.{image_size}
 use Rattle.record_store.specs.Held.{Held}
 use Rattle.record_store.specs.Transaction.{Commits}
 use Rattle.record_store.proofs.Commit.{Ready, ready-from, changed-few, commits-from, commit-done}
 use Rattle.record_store.proofs.Filling.{commit-sound, commit-view}
+use Rattle.record_store.proofs.InUse.{in_use-committed}
+use Rattle.record_store.proofs.Keeping.{behind-commit}
 use Rattle.record_store.proofs.Weighing.{weighed-committed}
 use Rattle.record_store.proofs.store.Store.commit.Goals.{After-entries_of-entries, After-commit}
 use Rattle.record_store.proofs.store.Store.commit.Goals as goal
 
 ready : (g : _) (c : After-entries_of-entries g) → Ready c.args.self.now c.entries_of-entries.result.items
 ready g c =
-    ready-from _ c.args.self.now c.as_slice.result.now c.as_slice-2.result.now c.entries_of-entries.result.items c.self.view_is c.self.invariant.sound c.requires.begun c.as_slice.ensures.value c.as_slice-2.ensures.value
+    ready-from _ c.args.self.now c.as_slice.result.now c.as_slice-2.result.now c.entries_of-entries.result.items c.self.view_is c.self.invariant.weighed.sound c.requires.begun c.as_slice.ensures.value c.as_slice-2.ensures.value
     c.entries_of-entries.ensures.entries c.entries_of-entries.ensures.range c.entries_of-entries.ensures.count
 
 pub commit-requires-clause-few : goal.commit-requires-clause-few
@@ -35,9 +39,13 @@ returns-in_err-commit-clause-moments g c = moments g (goal.at.returns-in_err-com
 pub invariant_of-self : goal.invariant_of-self
 invariant_of-self g c =
     let begun = ap (λ (held : Held). held.begun) c.self.view_is ∙ c.requires.begun in
-    weighed-committed _ c.free_replaced.new.cells _ c.self.inside.committed_weight c.self.inside.working_weight c.self.invariant begun c.free_replaced.ensures.links (c.copy_from_slice.ensures.items ∙ c.as_slice-6.ensures.value)
-    (commit-sound _ c.free_replaced.new.cells _ c.as_slice-4.result.now c.as_slice-5.result.now c.self.invariant.sound (ap (λ (held : Held). held.begun) c.self.view_is ∙ c.requires.begun) c.as_slice-4.ensures.value c.as_slice-5.ensures.value
-    c.free_replaced.ensures.cells c.free_replaced.ensures.links (c.copy_from_slice.ensures.items ∙ c.as_slice-6.ensures.value) c.free_replaced.ensures.freed c.free_replaced.ensures.others c.free_replaced.ensures.fewer c.free_replaced.ensures.count)
+    let same = c.copy_from_slice.ensures.items ∙ c.as_slice-6.ensures.value in
+    record {
+      in_use = in_use-committed _ c.free_replaced.new.cells _ c.self.inside.slots_in_use c.free_replaced.ensures.cells same c.self.invariant.in_use;
+      weighed = weighed-committed _ c.free_replaced.new.cells _ c.self.inside.committed_weight c.self.inside.working_weight c.self.invariant.weighed begun c.free_replaced.ensures.links (c.copy_from_slice.ensures.items ∙ c.as_slice-6.ensures.value)
+          (commit-sound _ c.free_replaced.new.cells _ c.as_slice-4.result.now c.as_slice-5.result.now c.self.invariant.weighed.sound (ap (λ (held : Held). held.begun) c.self.view_is ∙ c.requires.begun) c.as_slice-4.ensures.value c.as_slice-5.ensures.value
+          c.free_replaced.ensures.cells c.free_replaced.ensures.links (c.copy_from_slice.ensures.items ∙ c.as_slice-6.ensures.value) c.free_replaced.ensures.freed c.free_replaced.ensures.others c.free_replaced.ensures.fewer c.free_replaced.ensures.count);
+    }
 
 pub returns-clause-done : goal.returns-clause-done
 returns-clause-done g c =
@@ -47,8 +55,19 @@ returns-clause-done g c =
     let used : c.self.inside.chains.used ≡ c.args.self.now.chains.used = ap (λ (held : Held). held.chains.used) c.self.view_is in
     commit-done c.args.self.now _ c.entries_of-entries.result.items c.free_replaced.new.cells.used (g.B.Eeprom.chip c.args.bench.now).image (g.B.Eeprom.chip c.commit.new.bench).image
     (ready g (goal.at.returns-clause-done g c).After-entries_of-entries) (subst (λ (used : List Bool). StaysMarked c.free_replaced.new.cells.used used) used c.free_replaced.ensures.fewer)
-    (commit-view c.args.self.now c.free_replaced.new.cells _ _ _ cells links (ap (λ (held : Held). held.row_limit) c.self.view_is) (c.copy_from_slice.ensures.items ∙ (c.as_slice-6.ensures.value ∙ working)) working)
+    (commit-view c.args.self.now c.free_replaced.new.cells _ _ _ _ cells links (ap (λ (held : Held). held.row_limit) c.self.view_is) (c.copy_from_slice.ensures.items ∙ (c.as_slice-6.ensures.value ∙ working)) working (ap (λ (held : Held). held.first_octets) c.self.view_is))
     c.requires.over.stands (rw (c.as_slice-3.ensures.value, c.cells.ensures.number, ap (λ (held : Held). held.chains.cells) c.self.view_is) at c.in_ok-commit.ensures.done)
 
 pub returns-clause-moments : goal.returns-clause-moments
 returns-clause-moments g c = moments g (goal.at.returns-clause-moments g c).After-commit
+
+behind : (g : _) (c : After-commit g) → Keeps (drop (image_size c.args.self.now.chains.cells)) (g.B.Eeprom.chip c.args.bench.now) (g.B.Eeprom.chip c.commit.new.bench)
+behind g c =
+    behind-commit c.cells.result c.args.self.now.chains.cells c.as_slice-3.result.now (g.B.Eeprom.chip c.args.bench.now) (g.B.Eeprom.chip c.commit.new.bench)
+    (c.cells.ensures.number ∙ ap (λ (held : Held). held.chains.cells) c.self.view_is) c.commit.ensures.still c.commit.ensures.moments
+
+pub returns-in_err-commit-clause-behind : goal.returns-in_err-commit-clause-behind
+returns-in_err-commit-clause-behind g c = behind g (goal.at.returns-in_err-commit-clause-behind g c).After-commit
+
+pub returns-clause-behind : goal.returns-clause-behind
+returns-clause-behind g c = behind g (goal.at.returns-clause-behind g c).After-commit
