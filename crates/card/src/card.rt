@@ -259,7 +259,8 @@ impl Card {
             self.set_user(channel, None);
             return Ok(StatusWord::DONE);
         }
-        let Some(user) = find_user(&self.store, bench, Wanted::Named(name))? else {
+        let mut octets = RecordOctets::new();
+        let Some(user) = find_user(&self.store, bench, Wanted::Named(name), &mut octets)? else {
             return Ok(StatusWord::NOT_FOUND);
         };
         let proved = user.secret.as_slice().is_empty();
@@ -291,18 +292,28 @@ impl Card {
         ensures cause { Counts (B.faults bench.old) (B.faults bench.new) result }
         ensures behind { Keeps (drop (image_size self.old.store.chains.cells)) (B.chip bench.old) (B.chip bench.new) }
     {
-        let actor = self.actor_of(bench, channel)?;
-        match prepare_user(&self.store, bench, actor, name, profile, secret)? {
+        let mut octets = RecordOctets::new();
+        let actor = self.actor_of(bench, channel, &mut octets)?;
+        match prepare_user(
+            &self.store,
+            bench,
+            actor,
+            name,
+            profile,
+            secret,
+            &mut octets,
+        )? {
             Prepared::Refused(word) => Ok(word),
-            Prepared::Ready(addition) => self.add_user(bench, &addition),
+            Prepared::Ready(addition) => self.add_user(bench, &addition, &mut octets),
         }
     }
 
-    // Commits the user that was prepared and the next stamp, where there is room.
+    // Commits the user that was prepared, spelled in `octets`, and the next stamp, where there is room.
     fn add_user<B: Eeprom>(
         &mut self,
         bench: &mut B,
         addition: &Addition,
+        octets: &mut RecordOctets,
     ) -> Result<StatusWord, EepromFault>
         requires ready { IsReady self.old (B.chip bench.old) }
         requires slot { addition.now.counter_slot < self.old.store.chains.cells }
@@ -316,15 +327,14 @@ impl Card {
         ensures cause { Counts (B.faults bench.old) (B.faults bench.new) result }
         ensures behind { Keeps (drop (image_size self.old.store.chains.cells)) (B.chip bench.old) (B.chip bench.new) }
     {
-        let mut user = RecordOctets::new();
-        addition.user.encode(&mut user);
+        addition.user.encode(octets);
         let mut counter = RecordOctets::new();
         let next = addition.user.stamp + 1;
         Counter { next }.encode(&mut counter);
         let added = add_and_change(
             &mut self.store,
             bench,
-            &user,
+            octets,
             addition.counter_slot,
             &counter,
         );
@@ -332,7 +342,12 @@ impl Card {
     }
 
     // For whom a channel acts: its user where that one is proved, or nobody in particular.
-    fn actor_of<B: Eeprom>(&self, bench: &mut B, channel: u8) -> Result<Actor, EepromFault>
+    fn actor_of<B: Eeprom>(
+        &self,
+        bench: &mut B,
+        channel: u8,
+        octets: &mut RecordOctets,
+    ) -> Result<Actor, EepromFault>
         requires ready { IsReady self.now (B.chip bench.old) }
         requires channel { channel < 4 }
         ensures actor { (m : machine.Machine) → IsAt self.now (B.chip bench.old) m → IfOk result (λ actor. actor ≡ machine.actor m channel) }
@@ -342,7 +357,7 @@ impl Card {
         let Some(stamp) = self.proved_user(channel) else {
             return Ok(Actor::Public);
         };
-        match find_user(&self.store, bench, Wanted::Stamped(stamp))? {
+        match find_user(&self.store, bench, Wanted::Stamped(stamp), octets)? {
             Some(user) => Ok(Actor::User {
                 stamp: user.stamp,
                 profile: user.profile,

@@ -20,10 +20,11 @@ pub(crate) struct CounterSlot {
     pub counter: Counter,
 }
 
-/// Finds the committed counter.
+/// Finds the committed counter. Records are read into `octets`.
 pub(crate) fn find_counter<B: Eeprom>(
     store: &Store,
     bench: &mut B,
+    octets: &mut RecordOctets,
 ) -> Result<Option<CounterSlot>, EepromFault>
     requires over { IsOver store.now (B.chip bench.old) }
     ensures there { IfOk result (λ found. IfSome found (λ found. found.slot < store.now.chains.cells)) }
@@ -33,9 +34,8 @@ pub(crate) fn find_counter<B: Eeprom>(
         (λ slots. None ≡ find (λ _. true) (filter_map (in_slot records.counter_in) slots)))) }
     ensures frame { Reads each_error B.chip B.faults bench.old bench.new result }
 {
-    let mut octets = RecordOctets::new();
     for slot in 0..store.slots_in_use() {
-        if let Some(counter) = counter_at(store, bench, slot, &mut octets)? {
+        if let Some(counter) = counter_at(store, bench, slot, octets)? {
             return Ok(Some(CounterSlot { slot, counter }));
         }
     }

@@ -37,20 +37,20 @@ pub(crate) enum Wanted<'a> {
     Stamped(u32),
 }
 
-/// The committed user that is wanted.
+/// The committed user that is wanted. Records are read into `octets`.
 pub(crate) fn find_user<B: Eeprom>(
     store: &Store,
     bench: &mut B,
     wanted: Wanted<'_>,
+    octets: &mut RecordOctets,
 ) -> Result<Option<User>, EepromFault>
     requires over { IsOver store.now (B.chip bench.old) }
     ensures user { IfOk result (λ user. IfSome (committed_slots store.now (B.chip bench.old).image)
         (λ slots. user ≡ find (is_wanted wanted.entry) (filter_map (in_slot records.user_in) slots))) }
     ensures frame { Reads each_error B.chip B.faults bench.old bench.new result }
 {
-    let mut octets = RecordOctets::new();
     for slot in 0..store.slots_in_use() {
-        if let Some(user) = user_in(store, bench, slot, &mut octets)? {
+        if let Some(user) = user_in(store, bench, slot, octets)? {
             if is_found(&user, wanted) {
                 return Ok(Some(user));
             }
