@@ -64,4 +64,6 @@ pub mod SpellingLengths
 pub mod Spellings
 pub mod Stored
 pub mod Touching
+pub mod UsersFollow
+pub mod ValidSteps
 pub mod Validity
