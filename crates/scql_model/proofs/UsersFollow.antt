@@ -1,12 +1,10 @@
 -- After a change whoever had a secret has one still, or is gone; and a stamp that was given out is no new user's.
 use Rattle.std.proofs.Common.{◌≡◌, ℕ, ◌+◌, ◌<◌, ◌==◌, Bool, true, false, not, List, [], ◌∷◌, ◌++◌, map, filter, Option, Some, None, Ok, Err, if◌then◌else◌, refl, ap, sym, subst, ◌∙◌, inl, inr, arith}
-use Rattle.std.specs.Prelude.{IfSome, nat_le}
-use Rattle.std.specs.List.{list_all, list_any}
-use Rattle.std.specs.Str.{bytes_eq}
+use Rattle.std.specs.Prelude.{IfSome}
+use Rattle.std.specs.List.{list_all}
 use Rattle.std.proofs.lemmas.Bool.{cases_Bool, and_parts, ne_eqb, eqb-true}
 use Rattle.std.proofs.lemmas.List.Folds.{list_all-append}
-use Rattle.scql_base.specs.Row.{row_size}
-use Rattle.scql_base.specs.Words.{already_exists, conditions_not_satisfied, instruction_not_supported, not_found, record_not_found, security_not_satisfied, wrong_data}
+use Rattle.scql_base.specs.Words.{already_exists, conditions_not_satisfied, instruction_not_supported, not_found, security_not_satisfied}
 use Rattle.scql_base.specs.declared.words.Actor.{Actor}
 use Rattle.scql_base.specs.declared.words.Profile.{Profile}
 use Rattle.scql_base.specs.declared.cursor.Cursor.{Cursor}
@@ -14,23 +12,19 @@ use Rattle.scql_base.specs.declared.condition.Condition.{Condition}
 use Rattle.scql_base.specs.declared.records.User.{User}
 use Rattle.scql_base.specs.declared.records.Object.{Object}
 use Rattle.scql_base.specs.declared.records.ObjectKind.{ObjectKind}
-use Rattle.scql_base.specs.declared.records.ObjectKind.TheVariants.{View}
 use Rattle.scql_base.specs.declared.records.Grant.{Grant}
 use Rattle.scql_base.specs.declared.records.RowRecord.{RowRecord}
 use Rattle.scql_base.specs.declared.operation.Operation.{Operation}
 use Rattle.scql_base.specs.declared.operation.Operation.TheVariants.{CreateTable, CreateView, CreateDictionary, DropTable, DropView, Grant as grant, Revoke, Insert, Update, Delete, CreateUser, DeleteUser}
 use Rattle.scql_model.specs.Records.{AnyRecord, of_counter, of_user, of_object, of_grant, of_row}
 use Rattle.scql_model.specs.Refusals.{or_refused, provided}
-use Rattle.scql_model.specs.Rules.{is_table, are_among, may_have_view, user_named, user_stamped}
+use Rattle.scql_model.specs.Rules.{is_table, user_named, user_stamped}
 use Rattle.scql_model.specs.Database.{Database, IsValid}
 use Rattle.scql_model.specs.Creating.{may_create, is_taken, new_user, user_added}
-use Rattle.scql_model.specs.Objects.{columns_of}
-use Rattle.scql_model.specs.ReadingCommands.{wanted_of, named_among}
-use Rattle.scql_model.specs.Moves.{opened}
-use Rattle.scql_model.specs.Rights.{insert_privilege, update_privilege, delete_privilege, holds, seen_named}
-use Rattle.scql_model.specs.Defining.{makes_objects, of_kind, is_table_or_view, owned_by, new_object, named_anew, object_created, view_created, has_view, removing_object, removing_rows, table_dropped, view_dropped}
+use Rattle.scql_model.specs.Rights.{seen_named}
+use Rattle.scql_model.specs.Defining.{of_kind, owned_by, named_anew, object_created, view_created, has_view, removing_object, removing_rows, table_dropped, view_dropped}
 use Rattle.scql_model.specs.Granting.{grantee_named, grant_to, more_granted, privileges_granted, privileges_left, less_granted, privileges_revoked}
-use Rattle.scql_model.specs.Writing.{Assignment, record_at_cursor, row_after, written_through, row_inserted, row_updated, row_deleted}
+use Rattle.scql_model.specs.Writing.{Assignment, row_inserted, row_updated, row_deleted}
 use Rattle.scql_model.specs.Users.{owns_user, is_needed, removing_user, user_deleted}
 use Rattle.scql_model.specs.Edits.{Action, Edit, edited, applied, making, changing, removing, takes_stamp}
 use Rattle.scql_model.specs.Changing.{edits_of}
@@ -79,25 +73,19 @@ leave-rows : (rows : List RowRecord) → list_all (λ (e : Edit). leaves_users e
 leave-rows [] = refl
 leave-rows (r ∷ rows) = leave-rows rows
 
+ruleset follows = (bound-gives, done-gives, follow-left)
+
 -- the commands that leave users
 follow-named_anew : (db : Database) (o : Object) → Gives (Follow db) (named_anew db o)
-follow-named_anew db o =
-    bound-gives (Follow db) (provided (not (list_any (λ (other : Object). bytes_eq o.name other.name) db.objects)) already_exists) _ λ _ _.
-    done-gives (Follow db) (making db (of_object o)) (follow-left db (making db (of_object o)) refl)
+follow-named_anew db o = search follows
 
 follow-object_created : (db : Database) (actor : Actor) (name : List ℕ) (kind : ObjectKind) → Gives (Follow db) (object_created db actor name kind)
 unfolding object_created
-follow-object_created db actor name kind =
-    bound-gives (Follow db) (provided (makes_objects actor) security_not_satisfied) _ λ _ _. follow-named_anew db (new_object db actor name kind)
+follow-object_created db actor name kind = search (follows, follow-named_anew)
 
 follow-view_created : (db : Database) (actor : Actor) (name base_name : List ℕ) (columns : List (List ℕ)) (conditions : List Condition) → Gives (Follow db) (view_created db actor name base_name columns conditions)
 unfolding view_created
-follow-view_created db actor name base_name columns conditions =
-    bound-gives (Follow db) (provided (makes_objects actor) security_not_satisfied) _ λ _ _.
-    bound-gives (Follow db) (owned_by actor (of_kind is_table_or_view (seen_named db actor base_name))) _ λ base _.
-    bound-gives (Follow db) (provided (may_have_view db.objects base) conditions_not_satisfied) _ λ _ _.
-    bound-gives (Follow db) (named_among (columns_of base.kind) columns conditions) _ λ _ _.
-    follow-named_anew db (new_object db actor name (View base.stamp (wanted_of (columns_of base.kind) columns) conditions))
+follow-view_created db actor name base_name columns conditions = search (follows, follow-named_anew) depth 7
 
 follow-table_dropped : (db : Database) (actor : Actor) (name : List ℕ) → Gives (Follow db) (table_dropped db actor name)
 unfolding table_dropped
@@ -140,30 +128,15 @@ follow-revoked db actor privileges name grantee_name =
 
 follow-inserted : (db : Database) (actor : Actor) (name : List ℕ) (values : List (List ℕ)) → Gives (Follow db) (row_inserted db actor name values)
 unfolding row_inserted
-follow-inserted db actor name values =
-    bound-gives (Follow db) (or_refused (of_kind is_table (seen_named db actor name)) not_found) _ λ o _.
-    bound-gives (Follow db) (provided (holds db actor o insert_privilege) security_not_satisfied) _ λ _ _.
-    bound-gives (Follow db) (provided _ wrong_data) _ λ _ _.
-    done-gives (Follow db) (making db (of_row (record { stamp = db.next; table = o.stamp; row = values })))
-    (follow-left db (making db (of_row (record { stamp = db.next; table = o.stamp; row = values }))) refl)
+follow-inserted db actor name values = search follows
 
 follow-updated : (db : Database) (actor : Actor) (cursor : Option Cursor) (assignments : List Assignment) → Gives (Follow db) (row_updated db actor cursor assignments)
 unfolding row_updated
-follow-updated db actor cursor assignments =
-    bound-gives (Follow db) (opened cursor) _ λ c _.
-    bound-gives (Follow db) (written_through db actor update_privilege c) _ λ o _.
-    bound-gives (Follow db) (provided (are_among (map (λ (a : Assignment). a.0) assignments) (columns_of o.kind)) not_found) _ λ _ _.
-    bound-gives (Follow db) (or_refused (record_at_cursor db c) record_not_found) _ λ r _.
-    bound-gives (Follow db) (provided (nat_le (row_size (row_after db assignments r).row) db.limit) wrong_data) _ λ _ _.
-    done-gives (Follow db) (changing (of_row (row_after db assignments r)) ∷ []) (follow-left db (changing (of_row (row_after db assignments r)) ∷ []) refl)
+follow-updated db actor cursor assignments = search follows depth 8
 
 follow-deleted : (db : Database) (actor : Actor) (cursor : Option Cursor) → Gives (Follow db) (row_deleted db actor cursor)
 unfolding row_deleted
-follow-deleted db actor cursor =
-    bound-gives (Follow db) (opened cursor) _ λ c _.
-    bound-gives (Follow db) (written_through db actor delete_privilege c) _ λ _ _.
-    bound-gives (Follow db) (or_refused (record_at_cursor db c) record_not_found) _ λ r _.
-    done-gives (Follow db) (removing (of_row r) ∷ []) (follow-left db (removing (of_row r) ∷ []) refl)
+follow-deleted db actor cursor = search follows
 
 -- CREATE USER: the new user has a stamp that wasn't given out
 secret-added : (users : List User) (u : User) (stamp : ℕ) → stamp < u.stamp → IfSome (user_stamped users stamp) HasSecret → IfSome (user_stamped (users ++ u ∷ []) stamp) HasSecret
