@@ -66,7 +66,7 @@ narrow-assigned assignments (column ∷ columns) (value ∷ values) new old =
     one (Some a) is narrow = find-all (λ (a : Assignment). is_narrow a.1) (λ (a : Assignment). bytes_eq column a.0) assignments a new is
 
 -- a card's limit is at most the largest
-within_largest : (db : Database) (n : ℕ) → IsValid db → nat_le n db.limit ≡ true → nat_le n 1020 ≡ true
+pub within_largest : (db : Database) (n : ℕ) → IsValid db → nat_le n db.limit ≡ true → nat_le n 1020 ≡ true
 within_largest db n valid within =
     let small = leb-true n db.limit within in
     le-leb n 1020 (one small (cases_Bool (db.limit == 240)) valid.limit)

@@ -72,4 +72,6 @@ pub mod Stored
 pub mod TailsAgain
 pub mod TakenFields
 pub mod Touching
+pub mod UsersFollow
+pub mod ValidSteps
 pub mod Validity

@@ -1,5 +1,5 @@
 -- Worked rows of the bound on octets written: the definition computes each.
-use Rattle.std.proofs.Common.{◌≡◌, ℕ, ◌+◌, ◌*◌, List, [], ◌∷◌, refl}
+use Rattle.std.proofs.Common.{◌≡◌, ℕ, ◌+◌, ◌*◌, List, [], ◌∷◌, map, refl}
 use Rattle.std.specs.Prelude.{codes}
 use Rattle.scql_base.specs.Strings.{params_of, pieces_of}
 use Rattle.scql_model.specs.Rights.{holds, appears}
@@ -33,70 +33,43 @@ with_row_within = after in_transaction (hexadecimal (codes "0010008C050154017900
 abbrev bob_presented : Machine
 bob_presented = after with_bob (hexadecimal (codes "001400800403424F42") ∷ [])
 
--- a user takes a cell and the counter one; two records are committed
-user_made : bound_on owner_card (codes "001400810703414E4E010300") ≡ 32 * 2 + (4 + 6 * 2)
-unfolding bound_on opened hexadecimal
-user_made = refl
+-- a machine, a command, and how many octets are written for it at most
+record Case : Type 0 where
+  on : Machine
+  command : List ℕ
+  bound : ℕ
 
--- nobody makes users
-user_refused : bound_on card (codes "001400810703414E4E010300") ≡ 0
-unfolding bound_on opened hexadecimal
-user_refused = refl
+abbrev case : Machine → List ℕ → ℕ → Case
+case on command bound = record { on = on; command = command; bound = bound }
 
--- and a user with a secret has a longer record, which takes a cell too
-user_with_a_secret_made : bound_on owner_card (codes "001400810B03424F4201030431323334") ≡ 32 * 2 + (4 + 6 * 2)
-unfolding bound_on opened hexadecimal
-user_with_a_secret_made = refl
+abbrev AreBounds : List Case → Type 0
+AreBounds cases = map (λ (c : Case). bound_on c.on c.command) cases ≡ map (λ (c : Case). c.bound) cases
 
--- nothing is written where a user is presented, and where one reads
-user_presented : bound_on card (codes "0014008006054F574E4552") ≡ 0
+bounds : AreBounds (
+    -- a user takes a cell and the counter one; two records are committed
+    case owner_card (codes "001400810703414E4E010300") (32 * 2 + (4 + 6 * 2))
+    -- nobody makes users
+    ∷ case card (codes "001400810703414E4E010300") 0
+    -- and a user with a secret has a longer record, which takes a cell too
+    ∷ case owner_card (codes "001400810B03424F4201030431323334") (32 * 2 + (4 + 6 * 2))
+    -- nothing is written where a user is presented, and where one reads
+    ∷ case card (codes "0014008006054F574E4552") 0
+    ∷ case with_row (codes "001000870401540100") 0
+    -- a row is added and the counter changed; a table is removed with its row
+    ∷ case with_table (codes "0010008C050154017900") (32 * 2 + (4 + 6 * 2))
+    ∷ case with_row (codes "00100083020154") (4 + 6 * 2)
+    -- within a transaction the records alone are written, and what it touched is committed at its end
+    ∷ case with_table (codes "00120080") 0
+    ∷ case in_transaction (codes "0010008C050154017900") (32 * 2)
+    ∷ case with_row_within (codes "00120081") (4 + 6 * 2)
+    ∷ case with_row_within (codes "00120082") 0
+    -- a part of a command is kept in memory
+    ∷ case with_table (codes "1010008C0101") 0
+    -- a wrong secret costs one commit of the user's record, the right one two, and none is compared where no user is presented
+    ∷ case bob_presented (codes "002000000430303030") (1 * (32 + (4 + 6 * 1)))
+    ∷ case bob_presented (codes "002000000431323334") (2 * (32 + (4 + 6 * 1)))
+    ∷ case with_bob (codes "002000000431323334") 0
+    ∷ []
+    )
 unfolding bound_on opened hexadecimal
-user_presented = refl
-
-cursor_declared : bound_on with_row (codes "001000870401540100") ≡ 0
-unfolding bound_on opened hexadecimal
-cursor_declared = refl
-
--- a row is added and the counter changed; a table is removed with its row
-row_added : bound_on with_table (codes "0010008C050154017900") ≡ 32 * 2 + (4 + 6 * 2)
-unfolding bound_on opened hexadecimal
-row_added = refl
-
-table_removed : bound_on with_row (codes "00100083020154") ≡ 4 + 6 * 2
-unfolding bound_on opened hexadecimal
-table_removed = refl
-
--- within a transaction the records alone are written, and what it touched is committed at its end
-transaction_begun : bound_on with_table (codes "00120080") ≡ 0
-unfolding bound_on opened hexadecimal
-transaction_begun = refl
-
-row_added_within : bound_on in_transaction (codes "0010008C050154017900") ≡ 32 * 2
-unfolding bound_on opened hexadecimal
-row_added_within = refl
-
-transaction_committed : bound_on with_row_within (codes "00120081") ≡ 4 + 6 * 2
-unfolding bound_on opened hexadecimal
-transaction_committed = refl
-
-transaction_rolled_back : bound_on with_row_within (codes "00120082") ≡ 0
-unfolding bound_on opened hexadecimal
-transaction_rolled_back = refl
-
--- a part of a command is kept in memory
-part_kept : bound_on with_table (codes "1010008C0101") ≡ 0
-unfolding bound_on opened hexadecimal
-part_kept = refl
-
--- a wrong secret costs one commit of the user's record, the right one two, and none is compared where no user is presented
-secret_wrong : bound_on bob_presented (codes "002000000430303030") ≡ 1 * (32 + (4 + 6 * 1))
-unfolding bound_on opened hexadecimal
-secret_wrong = refl
-
-secret_right : bound_on bob_presented (codes "002000000431323334") ≡ 2 * (32 + (4 + 6 * 1))
-unfolding bound_on opened hexadecimal
-secret_right = refl
-
-secret_refused : bound_on with_bob (codes "002000000431323334") ≡ 0
-unfolding bound_on opened hexadecimal
-secret_refused = refl
+bounds = refl

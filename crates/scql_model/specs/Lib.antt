@@ -37,6 +37,7 @@ pub mod Step
 pub mod Stored
 pub mod Transactions
 pub mod Users
+pub mod ValidMachine
 pub mod Validity
 pub mod WellFormed
 pub mod Writing

@@ -8,7 +8,7 @@ pub use laws::answers::{
     a_step_accepts_or_leaves_the_machine, an_answer_comes_of_its_cause,
     an_answer_says_what_it_changes, nothing_is_written_without_a_change,
 };
-pub use laws::changes::a_change_keeps_a_database_valid;
+pub use laws::changes::{a_change_keeps_a_database_valid, a_step_keeps_a_machine_valid};
 pub use laws::reading::{
     a_step_reads_what_is_shown, equal_shown_gives_equal_replies, objects_are_shown_by_their_names,
     reading_is_of_what_is_shown,
