@@ -19,7 +19,7 @@ longer-row : (limit : ℕ) → limit ≤ 1020 → (r : RowRecord) → is_within_
 longer-row limit most r within = grind arith
 
 most-limit : (db : Database) → IsValid db → db.limit ≤ 1020
-most-limit db valid = elim (limit-cases db.limit valid.limit) [ | inl short ↦ omega arith | inr long ↦ omega arith ]
+most-limit db valid = elim (limit-cases db.limit valid.limit) [ inl short ↦ omega arith | inr long ↦ omega arith ]
 
 pub IsValid-migrated : (db : Database) → IsValid db → IsValid (migrated db)
 IsValid-migrated db valid = record {
