@@ -1,5 +1,7 @@
 pub mod BuiltLines
 pub mod FieldsRead
+pub mod FieldsWritten
 pub mod FormsRead
 pub mod ListsRead
 pub mod NamesRead
+pub mod PartsWritten

@@ -1,26 +1,97 @@
-// Commands, read from octets (ISO/IEC 7816-4, command APDU).
-ghost use Rattle.std.specs.Prelude.{◌≡◌, Some, true, IfOk, slice_get, min};
+// Commands, read from octets and written (ISO/IEC 7816-4, command APDU).
+ghost use Rattle.std.specs.Prelude.{◌≡◌, ◌<◌, [], ℕ, Bool, Some, true, IfOk, slice_get, min};
 ghost use Rattle.scql_model.specs.Form as form;
 ghost use Rattle.scql_model.specs.Operations as table;
+ghost use Rattle.scql_model.specs.Spelling as spelling;
 ghost use Rattle.scql_model.specs.WellFormed.{IsWellFormed};
 
+use crate::field::field_of;
 use crate::reading::Apdu;
+use crate::table::line_for;
+use crate::writing::{CommandOctets, kind_of, longest_field, parts_for, put_part};
 use scql_base::{Command, StatusWord};
 
 /// Commands in octets.
 pub trait CommandApdu: Sized {
+    /// Its data field isn't too long to be written.
+    ghost can_be_written: { Self → Bool };
+
+    /// How many parts it has.
+    ghost part_count: { Self → ℕ };
+
     /// The command that octets are, where these channels are open and a row has at most so many octets, and never more than
     /// 1,020, or the status word of the first refusal. A part of a command is refused.
     fn read(octets: &[u8], channels: [bool; 4], limit: u16) -> Result<Self, StatusWord>;
+
+    /// Whether the data field has at most 255 octets, and that of INSERT or UPDATE at most 1,275.
+    fn fits(&self) -> bool;
+
+    /// The least number of parts of 255 octets that hold the data field, and at least 1.
+    fn parts(&self) -> u8
+        requires { can_be_written self.now ≡ true };
+
+    /// Writes a command of one part.
+    fn write(&self, out: &mut CommandOctets)
+        requires fits { can_be_written self.now ≡ true }
+        requires one { part_count self.now ≡ 1 };
+
+    /// Writes the part at a place, counted from 0. All but the last say that the command goes on.
+    fn write_part(&self, part: u8, out: &mut CommandOctets)
+        requires fits { can_be_written self.now ≡ true }
+        requires there { part < part_count self.now };
 }
 
 impl CommandApdu for Command {
+    ghost can_be_written = { spelling.fits };
+
+    ghost part_count = { spelling.part_count };
+
     fn read(octets: &[u8], channels: [bool; 4], limit: u16) -> Result<Command, StatusWord>
         ensures command { result ≡ form.as_command (form.form_of table.built_operations octets.now channels form.no_chain (min limit 1020)) }
         ensures formed { IfOk result IsWellFormed }
         ensures on_open { IfOk result (λ command. slice_get channels command.channel ≡ Some true) }
     {
         command_in(octets, channels, limit)
+    }
+
+    fn fits(&self) -> bool
+        ensures { result ≡ spelling.fits self.now }
+    {
+        match field_of(&self.operation).octets() {
+            Some(field) => field.len() <= longest_field(kind_of(&self.operation)),
+            None => false,
+        }
+    }
+
+    fn parts(&self) -> u8
+        requires { spelling.fits self.now ≡ true }
+        ensures { result ≡ spelling.part_count self.now }
+    {
+        parts_for(field_of(&self.operation).written().len())
+    }
+
+    fn write(&self, out: &mut CommandOctets)
+        requires fits { spelling.fits self.now ≡ true }
+        requires one { spelling.part_count self.now ≡ 1 }
+        ensures octets { out.new.items ≡ spelling.octets_of self.now }
+        ensures read_back { (limit : ℕ)
+            → IsWellFormed self.now → table.IsBuilt (table.kind_of self.now.operation)
+            → spelling.IsTaken (table.has_secrets table.built_operations) limit self.now.operation
+            → spelling.ReadsAs table.built_operations limit self.now [] out.new.items (form.a_command self.now) }
+    {
+        self.write_part(0, out);
+    }
+
+    fn write_part(&self, part: u8, out: &mut CommandOctets)
+        requires fits { spelling.fits self.now ≡ true }
+        requires there { part < spelling.part_count self.now }
+        ensures { out.new.items ≡ spelling.part_octets self.now part }
+    {
+        let field = field_of(&self.operation);
+        match line_for(kind_of(&self.operation)) {
+            Some(line) => put_part(self, &line, field.written(), part, out),
+            None => out.clear(),
+        }
     }
 }
 

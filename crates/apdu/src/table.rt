@@ -2,6 +2,7 @@
 ghost use Rattle.std.specs.Prelude.{◌≡◌, ◌==◌, ◌&&◌};
 ghost use Rattle.std.specs.List.{find, list_any};
 ghost use Rattle.scql_model.specs.Operations as table;
+ghost use Rattle.scql_model.specs.Spelling as spelling;
 
 use scql_base::{Line, OperationKind, Takes};
 
@@ -89,4 +90,17 @@ fn find_line(lines: &[Line], ins: u8, p1: u8, p2: u8) -> Option<Line>
         && line.ins == ins
         && line.p1 == p1
         && line.p2 == p2)
+}
+
+// The line of an operation, whether it is built or not.
+pub(crate) fn line_for(kind: OperationKind) -> Option<Line>
+    ensures { result ≡ spelling.line_for table.operations kind }
+{
+    find_kind(operations(), kind)
+}
+
+fn find_kind(lines: &[Line], kind: OperationKind) -> Option<Line>
+    ensures { result ≡ find (λ line. spelling.is_same line.kind kind) lines.now }
+{
+    lines.iter().copied().find(|line| line.kind == kind)
 }

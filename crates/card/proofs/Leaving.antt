@@ -1,7 +1,7 @@
 -- What a power loss may leave of a card.
 use Rattle.std.proofs.Common.{◌≡◌, ℕ, List, ◌∷◌, Option, Some, refl, sym, ap, subst, ◌∙◌, inl, arith}
 use Rattle.std.specs.Prelude.{IfSome}
-use Rattle.eeprom.specs.Chip.{Chip}
+use Rattle.eeprom.specs.Chip.{Chip, Becomes, Keeps, RisesAtMost}
 use Rattle.record_store.specs.Held.{contents, with_limit, StandsFor}
 use Rattle.record_store.proofs.Weights.{store_of-stands}
 use Rattle.record_store.specs.declared.side.Side.TheVariants.{Committed}
@@ -19,7 +19,19 @@ Opens-at card chip m ready at image told =
     let stored : contents card.store Committed image ≡ Some at.slots = subst (λ (o : Option (List ℕ)). committed_slots card.store o ≡ Some at.slots) told at.committed in
     record { store = record { row_limit = card.store.row_limit; slots = at.slots }; stored = store_of-stands card.store image stands ∙ ap (with_limit card.store.row_limit) stored; limit = at.limit; holds = at.holds; valid = at.valid }
 
--- where nothing is written, the database stays
+-- where nothing is written, all stays
+pub Keeps-none : {A : Type 0} (look : List ℕ → A) (old new : Chip) → new ≡ old → Keeps look old new
+Keeps-none look old new same = subst (Keeps look old) (sym same) (record {
+  still = refl;
+  image = λ after told. (after, told, refl);
+  later = omega arith;
+  only = λ t g left since there. inl there;
+})
+
+pub rises-none : (most : ℕ) (old new : Chip) → new ≡ old → Becomes (RisesAtMost most) old.written new.written
+rises-none most old new same = λ after told. (after, subst (λ (chip : Chip). chip.written ≡ Some after) same told, omega arith)
+
+-- and so does the database
 pub unwritten_leaves : (card : Kept) (old new : Chip) (m : Machine) (more : List Database) → IsReady card old → IsAt card old m → new ≡ old → LeavesOneOf (m.committed ∷ more) old new
 unwritten_leaves card old new m more ready at same = subst (λ (chip : Chip). LeavesOneOf (m.committed ∷ more) old chip) (sym same) (record {
   later = omega arith;

@@ -9,9 +9,7 @@ use Rattle.record_store.specs.Opening.{front_octets}
 use Rattle.scql_model.specs.Records.{counter_record, user_record, counter_in, user_in}
 use Rattle.scql_model.specs.Database.{Database, IsValid, weight}
 use Rattle.scql_model.specs.Opens.{Holds, is_spelled}
-use Rattle.card.specs.declared.coding.Counter.{Counter}
 use Rattle.scql_base.specs.declared.records.User.{User}
-use Rattle.card.specs.Users.{next_of}
 
 -- the users of a map, in its order
 abbrev pub users_of : BTreeMap ℕ User → List User
@@ -22,9 +20,9 @@ abbrev pub AreByStamp : List (ℕ × User) → Type 0
 AreByStamp entries = AllByRecursion (λ entry. entry.0 ≡ entry.1.stamp) entries
 
 -- the stamp that a counter gives next, where there is a counter
-abbrev pub counters_of : Option Counter → List ℕ
+abbrev pub counters_of : Option ℕ → List ℕ
 counters_of None = []
-counters_of (Some counter) = next_of counter ∷ []
+counters_of (Some next) = next ∷ []
 
 -- The records in these slots are these counters and these users, which rise; each is within its limits, and no two users have one stamp.
 pub record Gathers (slots : Slots) (found_counters : List ℕ) (found_users : List User) : Type 0 where

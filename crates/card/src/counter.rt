@@ -1,15 +1,14 @@
 // The counter of stamps in the slots of a store.
-ghost use Rattle.std.specs.Prelude.{◌≡◌, ◌<◌, ◌≤◌, ◌+◌, ◌*◌, Some, None, true, IfSome, IfNone, IfOk, option_map, slice_index_or};
+ghost use Rattle.std.specs.Prelude.{◌≡◌, ◌<◌, ◌≤◌, ◌+◌, ◌*◌, Some, None, true, IfSome, IfNone, IfOk, slice_index_or};
 ghost use Rattle.std.specs.List.{find, filter_map};
 ghost use Rattle.eeprom.specs.Fault.{each_error};
 ghost use Rattle.eeprom.specs.Frame.{Reads};
 ghost use Rattle.eeprom.specs.Slots.{in_slot};
 ghost use Rattle.record_store.specs.Held.{IsOver};
 ghost use Rattle.scql_model.specs.Records as records;
-ghost use Rattle.card.specs.Users.{next_of};
 ghost use Rattle.card.specs.Card.{committed_slots};
 
-use crate::coding::Counter;
+use catalog_codec::{Counter, Record};
 use eeprom::{Eeprom, EepromFault};
 use record_store::{RecordOctets, Side, Store};
 
@@ -28,7 +27,7 @@ pub(crate) fn find_counter<B: Eeprom>(
     requires over { IsOver store.now (B.chip bench.old) }
     ensures there { IfOk result (λ found. IfSome found (λ found. found.slot < store.now.chains.cells)) }
     ensures counter { IfOk result (λ found. IfSome found (λ found. IfSome (committed_slots store.now (B.chip bench.old).image)
-        (λ slots. Some (next_of found.counter) ≡ in_slot records.counter_in (slice_index_or slots found.slot None)))) }
+        (λ slots. Some found.counter ≡ in_slot records.counter_in (slice_index_or slots found.slot None)))) }
     ensures none { IfOk result (λ found. IfNone found (IfSome (committed_slots store.now (B.chip bench.old).image)
         (λ slots. None ≡ find (λ _. true) (filter_map (in_slot records.counter_in) slots)))) }
     ensures frame { Reads each_error B.chip B.faults bench.old bench.new result }
@@ -53,7 +52,7 @@ fn counter_at<B: Eeprom>(
     requires over { IsOver store.now (B.chip bench.old) }
     requires slot { slot < store.now.chains.cells }
     ensures counter { IfOk result (λ counter. IfSome (committed_slots store.now (B.chip bench.old).image)
-        (λ slots. option_map next_of counter ≡ in_slot records.counter_in (slice_index_or slots slot None))) }
+        (λ slots. counter ≡ in_slot records.counter_in (slice_index_or slots slot None))) }
     ensures frame { Reads each_error B.chip B.faults bench.old bench.new result }
 {
     if store.get(bench, Side::Committed, slot, octets)? {

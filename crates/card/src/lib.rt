@@ -3,7 +3,6 @@
 
 mod adding;
 mod card;
-mod coding;
 mod counter;
 mod creating;
 mod opening;

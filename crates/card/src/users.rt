@@ -1,4 +1,4 @@
-// The users' records in the slots of a store.
+// The users of a card: the one with whom it is made, and their records in the slots of a store.
 ghost use Rattle.std.specs.Prelude.{◌≡◌, ◌<◌, ◌≤◌, ◌+◌, ◌*◌, Option, None, IfSome, IfOk, option_map, slice_index_or};
 ghost use Rattle.std.specs.List.{find, filter_map};
 ghost use Rattle.eeprom.specs.Fault.{each_error};
@@ -6,13 +6,28 @@ ghost use Rattle.eeprom.specs.Frame.{Reads};
 ghost use Rattle.eeprom.specs.Slots.{in_slot};
 ghost use Rattle.record_store.specs.Held.{IsOver};
 ghost use Rattle.scql_model.specs.Records as records;
+ghost use Rattle.scql_model.specs.Database as database;
 ghost use Rattle.card.specs.Users.{is_wanted};
 ghost use Rattle.card.specs.Card.{committed_slots};
 
-use crate::coding::decode_user;
+use catalog_codec::Record;
 use eeprom::{Eeprom, EepromFault};
 use record_store::{RecordOctets, Side, Store};
-use scql_base::{Name, User};
+use scql_base::{Name, Octets, Profile, User};
+
+/// The user with whom a card is made.
+pub(crate) fn owner() -> User
+    ensures { result ≡ database.owner }
+{
+    User {
+        stamp: 1,
+        name: Name::read(Name::OWNER).unwrap(),
+        profile: Profile::DbO,
+        owner: 1,
+        secret: Octets::of(b"").unwrap(),
+        tries: 3,
+    }
+}
 
 /// Which user is looked for.
 #[derive(Clone, Copy)]
@@ -58,7 +73,7 @@ fn user_in<B: Eeprom>(
     ensures frame { Reads each_error B.chip B.faults bench.old bench.new result }
 {
     if store.get(bench, Side::Committed, slot, octets)? {
-        Ok(decode_user(octets))
+        Ok(User::decode(octets))
     } else {
         Ok(None)
     }

@@ -1,15 +1,18 @@
+mod WorkedBounds
 mod WorkedChanges
 mod WorkedCreating
 mod WorkedForms
 mod WorkedMachine
 mod WorkedReading
 mod WorkedRows
+mod WorkedSpelling
 mod WorkedValidity
 pub mod Acting
 pub mod AddedUser
 pub mod AnswerWords
 pub mod Apart
 pub mod Assigning
+pub mod Bounds
 pub mod ChangeLaws
 pub mod ChangedGrants
 pub mod ChangedLists
@@ -18,6 +21,7 @@ pub mod ChangedRows
 pub mod ChangedUsers
 pub mod ChangingSessions
 pub mod ChosenRows
+pub mod CommandsAgain
 pub mod ContentsRise
 pub mod CounterSlot
 pub mod Creating
@@ -28,21 +32,34 @@ pub mod EditLaws
 pub mod FewerObjects
 pub mod FewerUsers
 pub mod FieldLaws
+pub mod FieldsAgain
 pub mod FormedCommands
 pub mod FormedParts
 pub mod FoundAgain
 pub mod FreshCard
 pub mod Hearing
+pub mod Keeping
+pub mod KeepsGrants
+pub mod KeepsObjects
+pub mod KeepsRows
+pub mod KeepsUsers
+pub mod KeepsValid
+pub mod KeepsViews
 pub mod LastCommits
+pub mod LinesFound
 pub mod LongerLists
+pub mod Migrating
 pub mod NameOrder
 pub mod Naming
+pub mod NothingWritten
+pub mod PartsAgain
 pub mod Positions
 pub mod ReadingIsShown
 pub mod ReadingSteps
 pub mod RecordLaws
 pub mod RecordLengths
 pub mod RecordsOf
+pub mod RefusalWords
 pub mod Refusing
 pub mod Removing
 pub mod RightEdits
@@ -51,5 +68,7 @@ pub mod SeenThrough
 pub mod SpellingLengths
 pub mod Spellings
 pub mod Stored
+pub mod TailsAgain
+pub mod TakenFields
 pub mod Touching
 pub mod Validity

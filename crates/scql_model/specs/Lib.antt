@@ -1,4 +1,6 @@
 pub mod Accepting
+pub mod Answering
+pub mod Bound
 pub mod Changing
 pub mod Contents
 pub mod Creating
@@ -13,6 +15,7 @@ pub mod Heard
 pub mod Lines
 pub mod Machine
 pub mod Matching
+pub mod Migrating
 pub mod Moves
 pub mod Objects
 pub mod Opens
@@ -29,6 +32,7 @@ pub mod Rights
 pub mod Rules
 pub mod Sessions
 pub mod Shown
+pub mod Spelling
 pub mod Step
 pub mod Stored
 pub mod Transactions

@@ -1,11 +1,9 @@
 -- The search of the whole is that of what is left, slot by slot.
 use Rattle.std.proofs.Common.{◌≡◌, ℕ, ◌<◌, true, Option, refl, ◌∙◌, arith}
-use Rattle.std.specs.Prelude.{option_map}
 use Rattle.eeprom.specs.StoreOf.{Slots}
 use Rattle.eeprom.specs.Slots.{in_slot}
 use Rattle.scql_model.specs.Records as records
 use Rattle.card.specs.Card.{committed_slots}
-use Rattle.card.specs.Users.{next_of}
 use Rattle.card.proofs.SlotCount.{length-committed_slots}
 use Rattle.card.proofs.SlotSearch.{all_left, passed_here, none_left}
 use Rattle.card.proofs.counter.find_counter.Goals as goal
@@ -29,7 +27,7 @@ loop-slot-preserved g c =
       faults = c.in_ok-counter.ensures.frame.counts.1 ∙ c.loop-slot.invariant.faults;
       bound = c.loop-slot.invariant.bound;
       count = c.loop-slot.invariant.count;
-      left = passed_here (λ (n : ℕ). true) (in_slot records.counter_in) slots c.args.store.now.chains.cells c.loop-slot.slot (option_map next_of c.in_ok-counter.field-0)
+      left = passed_here (λ (n : ℕ). true) (in_slot records.counter_in) slots c.args.store.now.chains.cells c.loop-slot.slot c.in_ok-counter.field-0
           c.loop-slot.invariant.count within here (rw c.in_default.is tt) c.loop-slot.invariant.left;
     }
 

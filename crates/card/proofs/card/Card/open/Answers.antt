@@ -1,5 +1,5 @@
 -- A card is opened exactly where the image opens to a database, and is then at its start.
-use Rattle.std.proofs.Common.{refl, sym, subst}
+use Rattle.std.proofs.Common.{refl, sym, ap, subst, ◌∙◌}
 use Rattle.record_store.specs.Sound.{IsSound}
 use Rattle.record_store.proofs.Replaying.{kept-image}
 use Rattle.scql_model.specs.Database.{Database}
@@ -16,10 +16,10 @@ pub returns-clause-starts : goal.returns-clause-starts
 returns-clause-starts g c =
     let old = g.B.Eeprom.chip c.args.bench.now in
     let new = g.B.Eeprom.chip c.open_records.new.bench in
-    kept-image (λ image. (db : Database) → Opens image db → IsAt (opened c.in_ok-store.field-0.store (sessions_of c.first_sessions.result)) new (start db))
-    (λ image. (db : Database) → Opens image db → IsAt (opened c.in_ok-store.field-0.store (sessions_of c.first_sessions.result)) new (start db)) old new c.in_ok-store.ensures.frame.store.keeps c.in_ok-store.ensures.told
+    kept-image (λ image. (db : Database) → Opens image db → IsAt (opened c.in_ok-store.field-0.store (sessions_of c.first_sessions.result c.new.result)) new (start db))
+    (λ image. (db : Database) → Opens image db → IsAt (opened c.in_ok-store.field-0.store (sessions_of c.first_sessions.result c.new.result)) new (start db)) old new c.in_ok-store.ensures.frame.store.keeps c.in_ok-store.ensures.told
     (λ left was same starts db opens. starts db (opens-same was left (sym same) db opens))
-    (starts_at c.in_ok-store.field-0.store (sessions_of c.first_sessions.result) new new.image c.first_sessions.ensures refl c.in_ok-store.ensures.stored)
+    (starts_at c.in_ok-store.field-0.store (sessions_of c.first_sessions.result c.new.result) new new.image (λ db. ap (sessions_of c.first_sessions.result) c.new.ensures ∙ c.first_sessions.ensures db) refl c.in_ok-store.ensures.stored)
 
 pub returns-clause-opens : goal.returns-clause-opens
 returns-clause-opens g c =

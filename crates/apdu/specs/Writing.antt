@@ -1,0 +1,8 @@
+-- The data field of a command, as it is put together.
+use Rattle.std.specs.Prelude.{ℕ, ◌-◌, nat_le, List, ◌++◌, length, Option, Some, None, if◌then◌else◌}
+use Rattle.scql_base.specs.declared.operation.TheConstants.Command.{LONGEST_IN_PARTS}
+
+-- a data field with more octets at its end; none where there is no room for them
+abbrev pub with_more : List ℕ → Option (List ℕ) → Option (List ℕ)
+with_more octets None = None
+with_more octets (Some field) = if nat_le (length octets) (LONGEST_IN_PARTS - length field) then Some (field ++ octets) else None

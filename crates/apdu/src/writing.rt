@@ -1,0 +1,141 @@
+// Command APDUs, written (ISO/IEC 7816-4): CLA, INS, P1 and P2, the data with Lc, and Le.
+ghost use Rattle.std.specs.Prelude.{◌≡◌, ◌<◌, ◌≤◌, ◌*◌, ◌++◌, None, if◌then◌else◌, length};
+ghost use Rattle.scql_model.specs.Operations as table;
+ghost use Rattle.scql_model.specs.Spelling as spelling;
+
+use arrayvec::ArrayVec;
+use scql_base::{Command, Line, Operation, OperationKind};
+
+/// The octets of a command APDU.
+pub type CommandOctets = ArrayVec<u8, 261>;
+
+// Which operation a command asks for.
+pub(crate) fn kind_of(operation: &Operation) -> OperationKind
+    ensures { result ≡ table.kind_of operation.now }
+{
+    match operation {
+        Operation::CreateTable { .. } => OperationKind::CreateTable,
+        Operation::CreateView { .. } => OperationKind::CreateView,
+        Operation::CreateDictionary { .. } => OperationKind::CreateDictionary,
+        Operation::DropTable { .. } => OperationKind::DropTable,
+        Operation::DropView { .. } => OperationKind::DropView,
+        Operation::Grant { .. } => OperationKind::Grant,
+        Operation::Revoke { .. } => OperationKind::Revoke,
+        Operation::DeclareCursor { .. } => OperationKind::DeclareCursor,
+        Operation::OpenCursor => OperationKind::OpenCursor,
+        Operation::Next => OperationKind::Next,
+        Operation::Fetch => OperationKind::Fetch,
+        Operation::FetchNext => OperationKind::FetchNext,
+        Operation::Insert { .. } => OperationKind::Insert,
+        Operation::Update { .. } => OperationKind::Update,
+        Operation::Delete => OperationKind::Delete,
+        Operation::Begin => OperationKind::Begin,
+        Operation::Commit => OperationKind::Commit,
+        Operation::Rollback => OperationKind::Rollback,
+        Operation::PresentUser { .. } => OperationKind::PresentUser,
+        Operation::CreateUser { .. } => OperationKind::CreateUser,
+        Operation::DeleteUser { .. } => OperationKind::DeleteUser,
+        Operation::Verify { .. } => OperationKind::Verify,
+        Operation::OpenChannel { number } => OperationKind::OpenChannel { number: *number },
+        Operation::CloseChannel { number } => OperationKind::CloseChannel { number: *number },
+        Operation::GetResponse => OperationKind::GetResponse,
+    }
+}
+
+// How many octets a data field may have: that of INSERT and UPDATE may come in parts.
+pub(crate) fn longest_field(kind: OperationKind) -> usize
+    ensures { result ≡ spelling.longest_field kind }
+{
+    match kind {
+        OperationKind::Insert | OperationKind::Update => Command::LONGEST_IN_PARTS,
+        _ => Command::LONGEST_DATA,
+    }
+}
+
+// The least number of parts that hold a data field of so many octets, and at least 1.
+pub(crate) fn parts_for(size: usize) -> u8
+    requires { size ≤ 1275 }
+    ensures { result ≡ spelling.parts_for size }
+{
+    size.div_ceil(Command::LONGEST_DATA).max(1) as u8
+}
+
+// The part of a data field at a place, counted from 0.
+fn part_at(place: u8, field: &[u8]) -> &[u8]
+    requires { 255 * place ≤ length field.now }
+    ensures part { result.now ≡ spelling.part_at place field.now }
+    ensures short { length result.now ≤ 255 }
+{
+    let rest = &field[Command::LONGEST_DATA * usize::from(place)..];
+    &rest[..rest.len().min(Command::LONGEST_DATA)]
+}
+
+// The channel, and whether the command goes on in the next one.
+fn cla_of(channel: u8, is_part: bool) -> u8
+    ensures { result ≡ spelling.cla_of channel is_part }
+{
+    channel % 4 + if is_part { 0x10 } else { 0 }
+}
+
+// Le stands in the last part.
+fn le_after(is_part: bool, le: Option<u16>) -> Option<u16>
+    ensures { result ≡ (if is_part then None else le) }
+{
+    if is_part { None } else { le }
+}
+
+// Writes the part of a command at a place of its data field.
+pub(crate) fn put_part(
+    command: &Command,
+    line: &Line,
+    field: &[u8],
+    part: u8,
+    out: &mut CommandOctets,
+)
+    requires short { length field.now ≤ 1275 }
+    requires there { part < spelling.parts_for (length field.now) }
+    ensures { out.new.items ≡ spelling.part_by line.now command.now.channel command.now.le field.now part }
+{
+    let is_part = part + 1 < parts_for(field.len());
+    let cla = cla_of(command.channel, is_part);
+    let le = le_after(is_part, command.le);
+    put_apdu(line, cla, part_at(part, field), le, out);
+}
+
+// Writes a command APDU by the line of its operation.
+fn put_apdu(line: &Line, cla: u8, body: &[u8], le: Option<u16>, out: &mut CommandOctets)
+    requires { length body.now ≤ 255 }
+    ensures { out.new.items ≡ spelling.apdu_by line.now cla body.now le }
+{
+    out.clear();
+    out.push(cla);
+    out.push(line.ins);
+    out.push(line.p1);
+    out.push(line.p2);
+    put_body(body, out);
+    put_le(le, out);
+}
+
+// Lc and the data, where there are any.
+fn put_body(body: &[u8], out: &mut CommandOctets)
+    requires short { length body.now ≤ 255 }
+    requires room { length out.old.items ≤ 4 }
+    ensures { out.new.items ≡ out.old.items ++ spelling.with_length body.now }
+{
+    if body.is_empty() {
+        return;
+    }
+    out.push(body.len() as u8);
+    let fits = out.try_extend_from_slice(body).is_ok();
+    prove!(fits);
+}
+
+// Le in one octet, where there is one. 256 is 00.
+fn put_le(le: Option<u16>, out: &mut CommandOctets)
+    requires { length out.old.items ≤ 260 }
+    ensures { out.new.items ≡ out.old.items ++ spelling.le_octets le }
+{
+    if let Some(le) = le {
+        out.push((le % 256) as u8);
+    }
+}

@@ -1,0 +1,5 @@
+pub mod ListedChanges
+pub mod ListedSearches
+pub mod Rewriting
+pub mod Scan
+pub mod SlotReads

@@ -1,0 +1,9 @@
+use Rattle.scql_model.proofs.KeepsValid.{IsValid-edits_of}
+use Rattle.scql_model.proofs.RightEdits.{edits_of-next}
+use Rattle.scql_model.proofs.laws.changes.a_change_keeps_a_database_valid.Goals as goal
+
+pub returns-clause-valid : goal.returns-clause-valid
+returns-clause-valid c = λ db new actor cursor operation edits. IsValid-edits_of db actor cursor operation edits new
+
+pub returns-clause-next : goal.returns-clause-next
+returns-clause-next c = edits_of-next

@@ -1,0 +1,139 @@
+-- The spelling of commands (ISO/IEC 7816-4, command APDU; ISO/IEC 7816-7 for the parameters of SCQL): the octets that a command is written as, whole or in parts.
+use Rattle.std.specs.Prelude.{◌≡◌, slice_get, ℕ, zero, suc, ◌+◌, ◌*◌, ◌/◌, ◌%◌, max, nat_le, nat_lt, Bool, true, false, List, [], ◌∷◌, ◌++◌, length, take, drop, Option, Some, None, if◌then◌else◌}
+use Rattle.std.specs.List.{find, flat_map}
+use Rattle.std.specs.Option.{option_map_or}
+use Rattle.scql_base.specs.declared.operation.TheConstants.Command.{LONGEST_DATA, LONGEST_IN_PARTS}
+use Rattle.scql_base.specs.declared.condition.Condition.{Condition}
+use Rattle.scql_base.specs.declared.operation.Command.{Command}
+use Rattle.scql_base.specs.declared.operation.Line.{Line}
+use Rattle.scql_base.specs.declared.operation.Operation.{Operation}
+use Rattle.scql_base.specs.declared.operation.Operation.TheVariants.{CreateTable, CreateView, CreateDictionary, DropTable, DropView, Grant, Revoke, DeclareCursor, Insert, Update, PresentUser, CreateUser, DeleteUser, Verify}
+use Rattle.scql_base.specs.declared.operation.OperationKind.{OperationKind}
+use Rattle.scql_base.specs.contracts.operation.OperationKindPartialEq.TheImpl.{ghosts}
+use Rattle.scql_base.specs.Row.{row_size}
+use Rattle.scql_base.specs.Strings.{spelled}
+use Rattle.scql_model.specs.Form.{Form, parts_of, form_of}
+use Rattle.scql_model.specs.Machine.{Chain}
+use Rattle.scql_model.specs.Operations.{operations, line_of, comes_in_parts, kind_of}
+use Rattle.scql_model.specs.Parameters.{is_new_secret}
+use Rattle.scql_model.specs.Records.{comparison_code, profile_code, subject_code}
+
+-- a condition is three parameters: a name, one octet for the comparison, and a value
+abbrev pub condition_strings : Condition → List (List ℕ)
+condition_strings c = c.column ∷ (comparison_code c.comparison ∷ []) ∷ c.value ∷ []
+
+-- the number of columns in one octet, their names, and conditions
+abbrev pub choice_strings : List (List ℕ) → List Condition → List (List ℕ)
+choice_strings columns conditions = (length columns ∷ []) ∷ (columns ++ flat_map condition_strings conditions)
+
+-- a change is two parameters: a name and a value
+abbrev pub change_strings : List ℕ × List ℕ → List (List ℕ)
+change_strings change = change.0 ∷ change.1 ∷ []
+
+-- the parameters of an operation
+abbrev pub parameters_of : Operation → List (List ℕ)
+parameters_of (CreateTable name columns) = name ∷ columns
+parameters_of (CreateView name base columns conditions) = name ∷ base ∷ choice_strings columns conditions
+parameters_of (CreateDictionary name subject) = name ∷ (subject_code subject ∷ []) ∷ []
+parameters_of (DropTable name) = name ∷ []
+parameters_of (DropView name) = name ∷ []
+parameters_of (Grant privileges object grantee) = (privileges ∷ []) ∷ object ∷ grantee ∷ []
+parameters_of (Revoke privileges object grantee) = (privileges ∷ []) ∷ object ∷ grantee ∷ []
+parameters_of (DeclareCursor object columns conditions) = object ∷ choice_strings columns conditions
+parameters_of (Insert table values) = table ∷ values
+parameters_of (Update changes) = flat_map change_strings changes
+parameters_of (PresentUser name) = name ∷ []
+parameters_of (CreateUser name profile secret) = name ∷ (profile_code profile ∷ []) ∷ secret ∷ []
+parameters_of (DeleteUser name) = name ∷ []
+parameters_of operation = []
+
+-- The data field: the bare secret of VERIFY; of each other operation its parameters, each a length octet and its octets.
+abbrev pub field_of : Operation → List ℕ
+field_of (Verify secret) = secret
+field_of operation = flat_map spelled (parameters_of operation)
+
+-- two are the same operation
+abbrev pub is_same : OperationKind → OperationKind → Bool
+is_same kind other = ghosts.eq kind other
+
+-- the line of a table for an operation
+abbrev pub line_for : List Line → OperationKind → Option Line
+line_for table kind = find (λ (l : Line). is_same l.kind kind) table
+
+-- CLA: the channel in bits b2 b1, and bit b5 where the command goes on in the next one
+abbrev pub cla_of : ℕ → Bool → ℕ
+cla_of channel is_part = channel % 4 + (if is_part then 16 else 0)
+
+-- Lc and the data, or no octets where there are no data
+abbrev pub with_length : List ℕ → List ℕ
+with_length [] = []
+with_length (octet ∷ octets) = spelled (octet ∷ octets)
+
+-- Le in one octet, 256 being 00, or none
+abbrev pub le_octets : Option ℕ → List ℕ
+le_octets None = []
+le_octets (Some le) = le % 256 ∷ []
+
+-- CLA INS P1 P2, the data with Lc, and Le
+abbrev pub apdu_by : Line → ℕ → List ℕ → Option ℕ → List ℕ
+apdu_by line cla body le = cla ∷ line.ins ∷ line.p1 ∷ line.p2 ∷ (with_length body ++ le_octets le)
+
+-- The octets of a command. An operation that stands in no line of the table, as to open channel 7, is written as none.
+unfoldable pub octets_of : Command → List ℕ
+octets_of c = option_map_or (λ (l : Line). apdu_by l (cla_of c.channel false) (field_of c.operation) c.le) (line_for operations (kind_of c.operation)) []
+
+-- how many octets a data field may have: that of INSERT and UPDATE may come in parts
+abbrev pub longest_field : OperationKind → ℕ
+longest_field kind = if comes_in_parts kind then LONGEST_IN_PARTS else LONGEST_DATA
+
+-- a command can be written
+abbrev pub fits : Command → Bool
+fits c = nat_le (length (field_of c.operation)) (longest_field (kind_of c.operation))
+
+-- the least number of parts of 255 octets that hold so many octets, and at least 1
+abbrev pub parts_for : ℕ → ℕ
+parts_for size = max 1 ((size + 254) / LONGEST_DATA)
+
+-- the first so many parts of octets, of 255 octets each
+abbrev pub cut : ℕ → List ℕ → List (List ℕ)
+cut zero octets = []
+cut (suc count) octets = take LONGEST_DATA octets ∷ cut count (drop LONGEST_DATA octets)
+
+-- the part at a place, counted from 0
+abbrev pub part_at : ℕ → List ℕ → List ℕ
+part_at place octets = take LONGEST_DATA (drop (LONGEST_DATA * place) octets)
+
+-- how many parts a command has
+abbrev pub part_count : Command → ℕ
+part_count c = parts_for (length (field_of c.operation))
+
+-- a part goes on in the next one where it isn't the last
+abbrev pub goes_on_after : Command → ℕ → Bool
+goes_on_after c place = nat_lt (place + 1) (part_count c)
+
+-- the part at a place of a data field, by the line of the operation; Le stands in the last part
+abbrev pub part_by : Line → ℕ → Option ℕ → List ℕ → ℕ → List ℕ
+part_by line channel le field place =
+    let is_part = nat_lt (place + 1) (parts_for (length field)) in
+    apdu_by line (cla_of channel is_part) (part_at place field) (if is_part then None else le)
+
+-- The octets of the part of a command at a place.
+unfoldable pub part_octets : Command → ℕ → List ℕ
+part_octets c place =
+    option_map_or (λ (l : Line). part_by l c.channel c.le (field_of c.operation) place) (line_for operations (kind_of c.operation)) []
+
+-- What a card takes of the operations that have their forms: an INSERT's row within its limit, and a new user's secret where secrets can be shown.
+abbrev pub IsTaken : Bool → ℕ → Operation → Type 0
+IsTaken secrets limit (Insert table values) = nat_le (row_size values) limit ≡ true
+IsTaken secrets limit (CreateUser name profile secret) = is_new_secret secrets secret ≡ true
+IsTaken secrets limit operation = Unit {0}
+
+-- a table has the line of an operation: it is found by its INS, P1 and P2
+abbrev pub HasLine : List Line → OperationKind → Type 0
+HasLine table kind = (l : Line) → line_for operations kind ≡ Some l → line_of table l.ins l.p1 l.p2 ≡ Some l
+
+-- Octets are read as this by a table and under a limit, where the command's channel is open and these parts of a command of its operation came before.
+abbrev pub ReadsAs : List Line → ℕ → Command → List (List ℕ) → List ℕ → Form → Type 0
+ReadsAs table limit c before octets form =
+    (channels : List Bool) (chain : ℕ → Option Chain) → slice_get channels c.channel ≡ Some true → parts_of (kind_of c.operation) (chain c.channel) ≡ before
+    → form_of table octets channels chain limit ≡ form
