@@ -1,12 +1,12 @@
 -- The first octets of records, kept for the cells that their chains begin at.
-use Rattle.std.proofs.Common.{◌≡◌, ◌≢◌, ◌⊎◌, inl, inr, ℕ, zero, suc, ◌+◌, ◌*◌, ◌<◌, ◌≤◌, ◌==◌, Bool, true, false, List, [], ◌∷◌, ◌++◌, length, map, set, get_or, slice_index, Option, Some, None, if◌then◌else◌, sym, refl, ap, ◌∙◌, arith, subst, true≢false, eq-eqb, length-append, get_or-append-add}
-use Rattle.std.specs.List.{list_all, AllByRecursion}
+use Rattle.std.proofs.Common.{◌≡◌, ◌≢◌, ◌⊎◌, inl, inr, ℕ, zero, suc, ◌+◌, ◌*◌, ◌<◌, ◌≤◌, ◌==◌, Bool, true, false, List, [], ◌∷◌, ◌++◌, length, set, get_or, slice_index, Option, Some, None, if◌then◌else◌, sym, refl, ap, ◌∙◌, arith, subst, true≢false, eq-eqb, length-append, get_or-append-add}
+use Rattle.std.specs.List.{AllByRecursion}
 use Rattle.std.proofs.lemmas.Bool.{or_left}
 use Rattle.std.proofs.lemmas.Bool.Decides.{nat_tests}
 use Rattle.std.proofs.lemmas.List.{length-map, length-set, get_or-set_same, get_or-set_other, get_or_append_left}
 use Rattle.std.proofs.lemmas.Option.{same_Some}
 use Rattle.eeprom.specs.StoreOf.{no_cell, Slots, chain_of, chains_of, slot_of, slots_at}
-use Rattle.cell_store.specs.Cells.{Cells, link_in}
+use Rattle.cell_store.specs.Cells.{link_in}
 use Rattle.cell_store.specs.Chains.{AreLinked, AreFree, is_among}
 use Rattle.cell_store.specs.Marks.{is_marked}
 use Rattle.cell_store.proofs.Chains.{chains-parts}

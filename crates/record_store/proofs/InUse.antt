@@ -1,5 +1,5 @@
 -- The slots that are in use, as slots are emptied and filled and as a transaction ends.
-use Rattle.std.proofs.Common.{◌≡◌, ◌⊎◌, inl, inr, ℕ, zero, suc, ◌+◌, ◌<◌, ◌≤◌, Bool, true, false, if◌then◌else◌, List, length, set, slice_index, slice_index_or, Option, Some, None, IfSome, option_and_then, sym, refl, ap, ◌∙◌, arith, subst}
+use Rattle.std.proofs.Common.{◌≡◌, ◌⊎◌, inl, inr, ℕ, zero, suc, ◌<◌, ◌≤◌, Bool, true, false, if◌then◌else◌, List, length, set, slice_index, slice_index_or, Option, Some, None, option_and_then, sym, refl, ap, ◌∙◌, arith, subst}
 use Rattle.std.proofs.lemmas.List.{length-set, get_or-set_same, get_or-set_other}
 use Rattle.eeprom.specs.StoreOf.{Slots}
 use Rattle.cell_store.specs.Cells.{Cells}

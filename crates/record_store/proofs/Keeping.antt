@@ -1,5 +1,5 @@
 -- What a call keeps of an image at each moment, by what it leaves of it.
-use Rattle.std.proofs.Common.{◌≡◌, inl, inr, ℕ, ◌+◌, ◌≤◌, List, length, drop, Option, Some, IfSome, subst, sym, arith}
+use Rattle.std.proofs.Common.{◌≡◌, inl, inr, ℕ, ◌+◌, ◌≤◌, List, length, drop, Some, IfSome, subst, sym, arith}
 use Rattle.eeprom.specs.Chip.{Chip, Writes, Keeps, LeavesOf}
 use Rattle.eeprom.specs.Image.{IsTorn}
 use Rattle.eeprom.specs.StoreOf.{front_size, image_size, number_at}

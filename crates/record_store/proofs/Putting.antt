@@ -1,5 +1,5 @@
 -- A record put into a slot: the store of the image stays, and the slot has the record.
-use Rattle.std.proofs.Common.{◌≡◌, inl, inr, ℕ, zero, suc, ◌+◌, ◌*◌, ◌<◌, ◌≤◌, ◌==◌, ◌&&◌, ◌||◌, not, Bool, true, false, cond, List, [], ◌∷◌, ◌++◌, length, take, drop, set, get_or, map, slice_index, slice_range, sum_by, nat_le, Option, Some, None, IsSome, IfSome, option_map, sym, refl, ap, ◌∙◌, arith, subst, le-leb, get_or-take, take-take, length-append}
+use Rattle.std.proofs.Common.{◌≡◌, ℕ, zero, suc, ◌+◌, ◌*◌, ◌<◌, ◌≤◌, ◌==◌, ◌&&◌, ◌||◌, not, Bool, true, false, cond, List, [], ◌∷◌, ◌++◌, length, take, drop, set, get_or, map, slice_index, slice_range, sum_by, nat_le, Option, Some, None, IsSome, IfSome, option_map, sym, refl, ap, ◌∙◌, arith, subst, le-leb, get_or-take, take-take, length-append}
 use Rattle.std.specs.List.{list_all}
 use Rattle.std.proofs.lemmas.Bool.{and_parts}
 use Rattle.std.proofs.lemmas.List.{drop-take, length-map}

@@ -1,8 +1,8 @@
 -- A journal is replayed: the image has the store that it had.
-use Rattle.std.proofs.Common.{◌≡◌, inl, inr, is_some, true≢false, arith, ℕ, ◌+◌, ◌*◌, ◌≤◌, true, false, List, drop, Option, Some, None, option_map, option_and_then, IfSome, sym, refl, ap, ◌∙◌, subst}
+use Rattle.std.proofs.Common.{◌≡◌, is_some, true≢false, arith, ℕ, ◌*◌, ◌≤◌, true, false, List, Option, Some, None, option_map, option_and_then, IfSome, sym, refl, ap, ◌∙◌, subst}
 use Rattle.std.proofs.lemmas.Option.{same_Some}
 use Rattle.eeprom.specs.Chip.{Chip, Becomes, Keeps, LeavesOf, RisesBy}
-use Rattle.eeprom.specs.StoreOf.{front_size, Slots, starts_with_magic, has_header, number_at, row_limit, slots_at, is_gate_open, directory, store_of}
+use Rattle.eeprom.specs.StoreOf.{front_size, starts_with_magic, has_header, number_at, row_limit, slots_at, is_gate_open, directory, store_of}
 use Rattle.eeprom.proofs.Regions.{SameFront, same-magic, same-cells, same-header, same-limit}
 use Rattle.eeprom.proofs.SameFrom.{slots-from}
 use Rattle.journal.specs.Journal.{KeepsRest, KeepsDirectory, IsReplayed}

@@ -4,7 +4,6 @@ use Rattle.std.specs.List.{list_all, AllByRecursion}
 use Rattle.eeprom.specs.StoreOf.{Slots, chains_of, cell_place, number_at, is_record, slot_of, slots_at, are_apart}
 use Rattle.cell_store.specs.Placed.{SameCell}
 use Rattle.cell_store.proofs.SameChains.{SameChain, chains-same, record-same, slot-same}
-use Rattle.record_store.proofs.Weights.{slots-chains}
 
 pub records-same : (left was : List ℕ) (n : ℕ) (chains : List (List ℕ)) → AllByRecursion (SameChain left was n) chains → list_all (is_record left n) chains ≡ list_all (is_record was n) chains
 records-same left was n [] same = refl

@@ -1,13 +1,13 @@
 -- Slots that are touched, and what is done with each of them.
-use Rattle.std.proofs.Common.{◌≡◌, ◌≢◌, inl, inr, ℕ, zero, suc, ◌+◌, ◌<◌, ◌≤◌, ◌==◌, ◌||◌, ◌&&◌, not, if◌then◌else◌, Bool, true, false, List, [], ◌∷◌, ◌++◌, length, take, drop, set, get_or, slice_index, replicate, sym, refl, ap, ◌∙◌, arith, subst, true≢false, eqb-true, eq-eqb, length-append}
-use Rattle.std.proofs.lemmas.Bool.{and_parts, cases_Bool, false_from_ne_true, or_cases, or_left, or_right}
+use Rattle.std.proofs.Common.{◌≡◌, ◌≢◌, inl, inr, ℕ, zero, suc, ◌+◌, ◌<◌, ◌≤◌, ◌==◌, ◌||◌, not, if◌then◌else◌, Bool, true, false, List, [], ◌∷◌, ◌++◌, length, take, drop, set, get_or, slice_index, replicate, sym, refl, ap, ◌∙◌, arith, true≢false, eqb-true, eq-eqb, length-append}
+use Rattle.std.proofs.lemmas.Bool.{and_parts, false_from_ne_true, or_cases, or_left, or_right}
 use Rattle.std.proofs.lemmas.Bool.Decides.{nat_tests}
 use Rattle.std.proofs.lemmas.Grind.{same_number_lists}
-use Rattle.std.proofs.lemmas.List.{get_or_default, drop_all, drop_more, length-replicate, length-set, get_or-set_same, get_or-set_other, take_more, take-append-drop}
+use Rattle.std.proofs.lemmas.List.{get_or_default, drop_all, drop_more, length-replicate, length-set, get_or-set_same, get_or-set_other, take-append-drop}
 use Rattle.eeprom.specs.StoreOf.{is_distinct}
 use Rattle.cell_store.specs.Chains.{is_among}
-use Rattle.cell_store.specs.Marks.{is_marked, marked, unmarked}
-use Rattle.cell_store.proofs.Among.{among-append, among-parts, distinct-parts, distinct-join}
+use Rattle.cell_store.specs.Marks.{is_marked, marked}
+use Rattle.cell_store.proofs.Among.{among-append, distinct-parts, distinct-join}
 use Rattle.cell_store.proofs.Marking.{marked-all, marked-inside, marked-set, unmarked-one, unmarked-set}
 use Rattle.record_store.specs.Touched.{AreSlots, AreMarkedOnce, SameOutside, with_touched}
 use Rattle.record_store.proofs.ClaimedSlots.{none-marked}

@@ -1,18 +1,18 @@
 -- The slots that a transaction touches, as slots are emptied and filled and as it begins and ends.
 use Rattle.std.proofs.Common.{◌≡◌, ℕ, true, false, List, [], length, set, slice_index, sym, refl, ap, ◌∙◌, arith, subst, true≢false}
 use Rattle.std.proofs.lemmas.Grind.{same_number_lists}
-use Rattle.std.proofs.lemmas.List.{length-set, get_or-set_other}
+use Rattle.std.proofs.lemmas.List.{get_or-set_other}
 use Rattle.eeprom.specs.StoreOf.{is_distinct}
 use Rattle.cell_store.specs.Cells.{Cells}
 use Rattle.cell_store.specs.Chains.{is_among}
-use Rattle.record_store.specs.Held.{Held, StandsFor, firsts, contents}
+use Rattle.record_store.specs.Held.{Held, StandsFor, firsts}
 use Rattle.record_store.specs.Kept.{HasMemory, IsTouched, IsKept}
 use Rattle.record_store.specs.Opening.{HeldSoFar}
 use Rattle.record_store.specs.Sound.{AreBeside, HasChains, IsSound, cells_in}
 use Rattle.record_store.specs.Touched.{TouchedSlots, AreSlots, SameOutside, with_touched}
 use Rattle.record_store.specs.Transaction.{begun_from}
 use Rattle.record_store.specs.Weighed.{walk, IsWeighed}
-use Rattle.record_store.specs.declared.side.Side.TheVariants.{Committed, Working}
+use Rattle.record_store.specs.declared.side.Side.TheVariants.{Working}
 use Rattle.record_store.proofs.InUse.{in_use-begun}
 use Rattle.record_store.proofs.OpeningSlots.{finished}
 use Rattle.record_store.proofs.Touching.{none-touched}

@@ -1,10 +1,10 @@
 // A store that is being opened: its slots are claimed one after another, so that it is opened only where each has the chain of a
 // record or none, and no cell is in two chains.
 ghost use Rattle.std.specs.Prelude.{◌≡◌, ◌≢◌, ◌+◌, ◌*◌, ◌≤◌, ◌<◌, ◌++◌, false, [], ◌∷◌, None, length, is_some, option_map, IfSome, IfOk, IsErrOf, OnOk};
-ghost use Rattle.eeprom.specs.Chip.{Becomes, RisesBy};
+ghost use Rattle.eeprom.specs.Chip.{Becomes, RisesBy, RisesAtMost};
 ghost use Rattle.eeprom.specs.Frame.{HasRoom, Reads};
 ghost use Rattle.eeprom.specs.StoreOf.{store_of, is_gate_open, cells_of, cell_size, longest_chain, most_cells};
-ghost use Rattle.cell_store.specs.Reading.{ReadsAtMost, ReadsCells};
+ghost use Rattle.cell_store.specs.Reading.{ReadsCells};
 ghost use Rattle.cell_store.specs.Claims.{HasNoRecord};
 ghost use Rattle.cell_store.specs.Cells.{AreLinkedIn};
 ghost use Rattle.cell_store.specs.Faults.{is_claim_fault};
@@ -17,8 +17,8 @@ use crate::OpenRefusal;
 use crate::first_octets::keep_octet;
 use crate::header::{Header, read_directory, read_header};
 use crate::touched::Touched;
-use cell_store::{CellStore, ClaimRefusal, NO_CELL, RecordOctets};
-use eeprom::Eeprom;
+use cell_store::{CellStore, ClaimRefusal, RecordOctets};
+use eeprom::{Eeprom, NO_CELL};
 use journal::{Entry, Journal};
 use std::alloc::Global;
 use std::marker::Model;
@@ -63,7 +63,7 @@ impl Opening {
         ensures told { OnOk result (is_some (B.chip bench.new).image ≡ is_some (B.chip bench.old).image) }
         ensures octets_read { IfOk result (λ opening. IfSome (B.chip bench.old).image (λ image. is_gate_open image ≡ false
             → Becomes (RisesBy (front_octets opening.chains.cells)) (B.octets_read bench.old) (B.octets_read bench.new))) }
-        ensures most_read { Becomes (ReadsAtMost (front_octets most_cells + journal_octets most_cells)) (B.octets_read bench.old) (B.octets_read bench.new) }
+        ensures most_read { Becomes (RisesAtMost (front_octets most_cells + journal_octets most_cells)) (B.octets_read bench.old) (B.octets_read bench.new) }
         ensures not_a_card { IsErrOf result OpenRefusal.NotACard → IfSome (B.chip bench.old).image (λ image. store_of image ≡ None) }
         ensures frame { Recovers is_open_fault B.chip B.faults bench.old bench.new result }
     {
@@ -121,7 +121,7 @@ impl Opening {
         ensures few { IfOk result (λ next. next.weight ≤ next.chains.cells) }
         ensures cells { IfOk result (λ next. next.chains.cells ≡ self.chains.cells) }
         ensures octets_read { OnOk result (Becomes (ReadsCells (cells_of (slot_with out.new.items))) (B.octets_read bench.old) (B.octets_read bench.new)) }
-        ensures most_read { Becomes (ReadsAtMost (cell_size * longest_chain)) (B.octets_read bench.old) (B.octets_read bench.new) }
+        ensures most_read { Becomes (RisesAtMost (cell_size * longest_chain)) (B.octets_read bench.old) (B.octets_read bench.new) }
         ensures no_memory_taken { ¬ (IsErrOf result OpenRefusal.NoMemory) }
         ensures not_a_card { IsErrOf result OpenRefusal.NotACard → IfSome (B.chip bench.old).image (λ image. store_of image ≡ None) }
         ensures frame { Reads is_open_fault B.chip B.faults bench.old bench.new result }
@@ -165,7 +165,7 @@ fn close_gate<B: Eeprom>(bench: &mut B, header: Header) -> Result<(), OpenRefusa
     ensures header { OnOk result (IfSome (B.chip bench.new).image (λ image. IsHeaderOf image (record header { is_open = false }))) }
     ensures told { OnOk result (is_some (B.chip bench.new).image ≡ is_some (B.chip bench.old).image) }
     ensures octets_read { OnOk result (header.is_open ≡ false → B.octets_read bench.new ≡ B.octets_read bench.old) }
-    ensures most_read { Becomes (ReadsAtMost (journal_octets header.cells)) (B.octets_read bench.old) (B.octets_read bench.new) }
+    ensures most_read { Becomes (RisesAtMost (journal_octets header.cells)) (B.octets_read bench.old) (B.octets_read bench.new) }
     ensures not_a_card { IsErrOf result OpenRefusal.NotACard → IfSome (B.chip bench.old).image (λ image. store_of image ≡ None) }
     ensures frame { Recovers is_open_fault B.chip B.faults bench.old bench.new result }
 {
@@ -188,7 +188,7 @@ fn claim_slot<B: Eeprom>(
     ensures linked { OnOk result (IfSome (B.chip bench.old).image (λ image. AreLinkedIn chains.old image → AreLinkedIn chains.new image)) }
     ensures count { IfOk result (λ count. count ≡ cells_of (slot_with out.new.items)) }
     ensures octets_read { IfOk result (λ count. Becomes (ReadsCells count) (B.octets_read bench.old) (B.octets_read bench.new)) }
-    ensures most_read { Becomes (ReadsAtMost (cell_size * longest_chain)) (B.octets_read bench.old) (B.octets_read bench.new) }
+    ensures most_read { Becomes (RisesAtMost (cell_size * longest_chain)) (B.octets_read bench.old) (B.octets_read bench.new) }
     ensures bad_chain { IsErrOf result ClaimRefusal.BadChain → (first ≢ 65535) × IfSome (B.chip bench.old).image (HasNoRecord chains.old first) }
     ensures frame { Reads is_claim_fault B.chip B.faults bench.old bench.new result }
 {

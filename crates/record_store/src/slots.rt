@@ -5,7 +5,8 @@ ghost use Rattle.record_store.specs.Kept.{AreEmptyBehind};
 ghost use Rattle.record_store.specs.Slots.{AreUsedChains, AreReplaced};
 ghost use Rattle.record_store.specs.Touched.{AreSlots, SameOutside};
 
-use cell_store::{CellStore, NO_CELL};
+use cell_store::CellStore;
+use eeprom::NO_CELL;
 
 /// Frees the chains of these slots in whose place others are kept. In all other slots the chains are the same.
 pub fn free_replaced(cells: &mut CellStore, slots: &[u16], replaced: &[u16], kept: &[u16])

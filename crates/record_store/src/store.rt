@@ -1,6 +1,6 @@
 // A store of records, of which a directory in memory knows where each begins.
 ghost use Rattle.std.specs.Prelude.{◌≡◌, ◌↔◌, ◌+◌, ◌*◌, ◌≤◌, ◌<◌, ℕ, List, Some, None, false, IsTrue, IsSome, if◌then◌else◌, length, drop, slice_index, is_some, IfSome, IfOk, IsErrOf, OnOk, OnErr};
-ghost use Rattle.eeprom.specs.Chip.{Becomes, RisesBy, Keeps};
+ghost use Rattle.eeprom.specs.Chip.{Becomes, RisesBy, RisesAtMost, Keeps};
 ghost use Rattle.eeprom.specs.Fault.{Counts, CountsFaults, each_error};
 ghost use Rattle.eeprom.specs.Frame.{Reads};
 ghost use Rattle.eeprom.specs.StoreOf.{no_cell, Slots, Stored, store_of, is_gate_open, cell_size, longest_record};
@@ -13,7 +13,7 @@ ghost use Rattle.eeprom.specs.StoreOf.{weight_of};
 ghost use Rattle.record_store.specs.Put.{IsPut, IsRemoved, IsFull, IsWithin, emptied};
 ghost use Rattle.record_store.specs.Slots.{steps_without};
 ghost use Rattle.cell_store.specs.Marks.{StaysMarked};
-ghost use Rattle.cell_store.specs.Reading.{ReadsAtMost, ReadsRecord};
+ghost use Rattle.cell_store.specs.Reading.{ReadsRecord};
 ghost use Rattle.record_store.specs.Transaction.{begun_from, entries, IsCommitted, Commits};
 ghost use Rattle.record_store.specs.declared.side.Side.{Side};
 ghost use Rattle.record_store.specs.declared.side.Side.TheVariants.{Committed, Working};
@@ -23,8 +23,8 @@ use crate::opening::Opening;
 use crate::slots::{copy_slots, free_replaced, named_or_empty, search_from, slots_in_use};
 use crate::touched::Touched;
 use crate::{OpenRefusal, Side, StoreRefusal};
-use cell_store::{CellRefusal, CellStore, NO_CELL, RecordOctets, cells_for};
-use eeprom::{Eeprom, EepromFault};
+use cell_store::{CellRefusal, CellStore, RecordOctets, cells_for};
+use eeprom::{Eeprom, EepromFault, NO_CELL};
 use journal::{Entry, Journal};
 use std::alloc::Global;
 use std::marker::Model;
@@ -103,7 +103,7 @@ impl Store {
         ensures idle { IfOk result (λ store. store.begun ≡ false) }
         ensures octets_read { IfOk result (λ store. IfSome (B.chip bench.old).image (λ image. (was : Stored) → store_of image ≡ Some was → is_gate_open image ≡ false
             → Becomes (ReadsStore store.chains.cells was.slots) (B.octets_read bench.old) (B.octets_read bench.new))) }
-        ensures most_read { Becomes (ReadsAtMost most_octets) (B.octets_read bench.old) (B.octets_read bench.new) }
+        ensures most_read { Becomes (RisesAtMost most_octets) (B.octets_read bench.old) (B.octets_read bench.new) }
         ensures not_a_card { IsErrOf result OpenRefusal.NotACard → IfSome (B.chip bench.old).image (λ image. store_of image ≡ None) }
         ensures frame { Recovers is_open_fault B.chip B.faults bench.old bench.new result }
     {

@@ -1,5 +1,5 @@
 -- Nothing is copied: where no transaction is begun the working side is the committed one.
-use Rattle.std.proofs.Common.{◌≡◌, true, ap, sym, subst, ◌∙◌, List, ℕ}
+use Rattle.std.proofs.Common.{ap, sym, subst, ◌∙◌}
 use Rattle.record_store.specs.Held.{Held, StandsFor, contents}
 use Rattle.record_store.specs.Transaction.{entries}
 use Rattle.record_store.specs.declared.side.Side.TheVariants.{Committed, Working}

@@ -1,6 +1,6 @@
 use Rattle.std.proofs.Common.{◌≡◌, ℕ, List, Option, Some, None, option_map, drop, ap, refl, ◌∙◌, arith}
 use Rattle.std.specs.Prelude.{IfSome}
-use Rattle.eeprom.specs.Chip.{Chip, Keeps}
+use Rattle.eeprom.specs.Chip.{Keeps}
 use Rattle.eeprom.specs.StoreOf.{store_of, fresh_store, image_size}
 use Rattle.eeprom.specs.Image.{overwrite}
 use Rattle.record_store.specs.FreshImage.{magic, fresh_body, fresh_image, LeavesFormatted}

@@ -1,6 +1,4 @@
-use Rattle.std.proofs.Common.{List, ℕ, sym, subst}
 use Rattle.std.specs.Vec.{vec_capacity}
-use Rattle.record_store.specs.Touched.{AreMarkedOnce}
 use Rattle.record_store.proofs.Touching.{marked-cleared}
 use Rattle.record_store.proofs.touched.Touched.clear.Goals as goal
 

@@ -1,4 +1,4 @@
-use Rattle.std.proofs.Common.{length, subst}
+use Rattle.std.proofs.Common.{subst}
 use Rattle.record_store.specs.Touched.{TouchedSlots, AreSlots}
 use Rattle.record_store.proofs.Touching.{marked-slots}
 use Rattle.record_store.proofs.touched.Touched.slots.Goals as goal

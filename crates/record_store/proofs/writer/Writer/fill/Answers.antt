@@ -1,4 +1,4 @@
-use Rattle.std.proofs.Common.{ℕ, ◌+◌, ◌≤◌, length, take, drop, rules, arith}
+use Rattle.std.proofs.Common.{ℕ, ◌+◌, ◌≤◌, take, drop, rules, arith}
 use Rattle.std.proofs.lemmas.List.{length-replicate}
 use Rattle.eeprom.specs.Chip.{Keeps}
 use Rattle.record_store.specs.Appends.{end_of}

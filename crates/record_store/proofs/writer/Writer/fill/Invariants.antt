@@ -1,4 +1,4 @@
-use Rattle.std.proofs.Common.{◌≡◌, ◌≤◌, ℕ, ◌+◌, length, take, drop, replicate}
+use Rattle.std.proofs.Common.{◌≡◌, ◌≤◌, ℕ, ◌+◌, take, drop, replicate}
 use Rattle.eeprom.specs.Chip.{Keeps}
 use Rattle.record_store.specs.Appends.{Appends, end_of}
 use Rattle.record_store.proofs.writer.Writer.fill.Given as goal
