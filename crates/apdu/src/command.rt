@@ -102,12 +102,12 @@ impl CommandApdu for Command {
         ensures octets { out.new.items ≡ spelling.part_octets self.now part }
         ensures part { (limit : ℕ)
             → IsWellFormed self.now → table.IsBuilt (table.kind_of self.now.operation) → part + 1 < spelling.part_count self.now
-            → spelling.ReadsAs table.built_operations limit self.now (spelling.cut part (spelling.field_of self.now.operation)) out.new.items
+            → spelling.ReadsAs table.built_operations limit self.now (spelling.first_parts part (spelling.field_of self.now.operation)) out.new.items
             (form.part_on self.now.channel (table.kind_of self.now.operation) (spelling.part_at part (spelling.field_of self.now.operation))) }
         ensures last { (limit : ℕ)
             → IsWellFormed self.now → table.IsBuilt (table.kind_of self.now.operation) → part + 1 ≡ spelling.part_count self.now
             → spelling.IsTaken (table.has_secrets table.built_operations) limit self.now.operation
-            → spelling.ReadsAs table.built_operations limit self.now (spelling.cut part (spelling.field_of self.now.operation)) out.new.items
+            → spelling.ReadsAs table.built_operations limit self.now (spelling.first_parts part (spelling.field_of self.now.operation)) out.new.items
             (form.a_command self.now) }
     {
         write_at(self, part, out);

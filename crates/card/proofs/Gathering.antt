@@ -13,9 +13,7 @@ use Rattle.scql_model.specs.Records.{counter_record, user_record, counter_in, us
 use Rattle.scql_model.specs.Opens.{is_spelled, counter_stamp}
 use Rattle.scql_model.proofs.CreatingSlots.{no_user-counter}
 use Rattle.scql_model.proofs.LongerLists.{all-added}
-use Rattle.card.specs.declared.coding.Counter.{Counter}
 use Rattle.card.specs.Opening.{Gathers, HoldNone, counters_of}
-use Rattle.card.specs.Users.{next_of}
 use Rattle.card.proofs.ByStamp.{stamp_of}
 
 cons_option-append : {X : Type 0} (o : Option X) (xs ys : List X) → cons_option o (xs ++ ys) ≡ cons_option o xs ++ ys
@@ -124,17 +122,17 @@ none-second_user slots counters users octets u more g is twice = λ db holds val
     omega arith
 
 -- the counter is added, where it is the first
-pub counter-added : {T E : Type 0} (r : Result T E) (old new : Option Counter) (counter : Counter) (was now : List User) (octets : List ℕ) → counter_in octets ≡ Some (next_of counter)
-    → counter_record.fits (next_of counter) ≡ true → now ≡ was → OnOk r ((old ≡ None) × (new ≡ Some counter))
+pub counter-added : {T E : Type 0} (r : Result T E) (old new : Option ℕ) (counter : ℕ) (was now : List User) (octets : List ℕ) → counter_in octets ≡ Some counter
+    → counter_record.fits counter ≡ true → now ≡ was → OnOk r ((old ≡ None) × (new ≡ Some counter))
     → OnOk r ((slots : Slots) → Gathers slots (counters_of old) was → Gathers (slots ++ Some octets ∷ []) (counters_of new) now)
 counter-added (Err e) old new counter was now octets is fits same set = tt
 counter-added (Ok x) old new counter was now octets is fits same set = λ slots g.
-    rw (set.1, same) (gathers-counter slots was octets (next_of counter) (subst (λ (o : Option Counter). Gathers slots (counters_of o) was) set.0 g) is fits)
+    rw (set.1, same) (gathers-counter slots was octets counter (subst (λ (o : Option ℕ). Gathers slots (counters_of o) was) set.0 g) is fits)
 
-pub none-with_counter : (slots : Slots) (old : Option Counter) (users : List User) (octets : List ℕ) (next : ℕ) (more : Slots) → (old ≡ None → ⊥) → Gathers slots (counters_of old) users → counter_in octets ≡ Some next
+pub none-with_counter : (slots : Slots) (old : Option ℕ) (users : List User) (octets : List ℕ) (next : ℕ) (more : Slots) → (old ≡ None → ⊥) → Gathers slots (counters_of old) users → counter_in octets ≡ Some next
     → HoldNone (slots ++ Some octets ∷ more)
 none-with_counter slots None users octets next more some g is = absurd (some refl)
-none-with_counter slots (Some counter) users octets next more some g is = none-second_counter slots (next_of counter) users octets next more g is
+none-with_counter slots (Some counter) users octets next more some g is = none-second_counter slots counter users octets next more g is
 
 pub user-added : {T E : Type 0} (r : Result T E) (counters : List ℕ) (was now : List User) (octets : List ℕ) (u : User) → counter_in octets ≡ None → user_in octets ≡ Some u → user_record.fits u ≡ true
     → OnOk r (now ≡ put_in_order stamp_of u was) → OnOk r (count_by (has stamp_of u.stamp) was ≡ 0)

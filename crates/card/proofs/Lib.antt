@@ -3,7 +3,6 @@ mod BuiltLines
 mod ByStamp
 mod Gathering
 mod GatheringSlots
-mod IdleSteps
 pub mod Leaving
 mod NamesApart
 mod OpenedDatabase
@@ -11,9 +10,12 @@ mod OwnerSearch
 mod Performing
 mod Preparing
 mod Presenting
-mod SessionSet
+mod SeenSessions
 mod SlotCount
 mod SlotSearch
 pub mod Starting
+mod TakenForms
 pub mod Told
 mod TwoRecords
+mod UnreadSteps
+mod WrittenOctets

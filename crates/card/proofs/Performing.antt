@@ -6,7 +6,7 @@ use Rattle.std.specs.Option.{option_map_or, option_flatten}
 use Rattle.std.proofs.lemmas.Bool.{false≢true}
 use Rattle.std.proofs.lemmas.Option.{none-some}
 use Rattle.eeprom.specs.declared.EepromFault.{EepromFault}
-use Rattle.eeprom.specs.Chip.{Chip, Becomes}
+use Rattle.eeprom.specs.Chip.{Chip, Becomes, RisesAtMost}
 use Rattle.eeprom.specs.StoreOf.{Slots}
 use Rattle.eeprom.specs.Slots.{in_slot}
 use Rattle.record_store.specs.declared.refusal.StoreRefusal.{StoreRefusal}
@@ -32,26 +32,33 @@ use Rattle.scql_model.specs.WellFormed.{HasForm}
 use Rattle.scql_model.proofs.Acting.{IsActorOf-actor}
 use Rattle.scql_model.proofs.Naming.{user_stamped-slots}
 use Rattle.card.specs.Sessions.{proved_stamp, proved_user}
-use Rattle.card.specs.Adding.{IsAdded, AddedTo, LeavesAdded, HasBothRecords, HasNoRoom, IfCommitted}
+use Rattle.scql_model.specs.Edits.{Edit, making, of_user, octets_for}
+use Rattle.card.specs.Adding.{IsAdded, AddedTo, LeavesAdded, HasBothRecords, HasNoRoom, IfCommitted, octets_for_both}
 use Rattle.card.specs.Card.{Kept, IsReady, IsAt, committed_slots}
-use Rattle.card.specs.Answering.{Answers, LeavesOneOf, Performs, answer_to, committed_at_once}
+use Rattle.card.specs.Answering.{Answers, LeavesOneOf, Performs, answer_to, committed_at_once, octets_if_made}
 use Rattle.card.specs.Creating.{IsAddition}
 use Rattle.card.specs.declared.creating.Addition.{Addition}
 use Rattle.card.proofs.Added.{IsNow, created-added, created-full}
-use Rattle.card.proofs.Leaving.{unwritten_leaves}
+use Rattle.card.proofs.Leaving.{rises-none, unwritten_leaves}
+use Rattle.card.proofs.WrittenOctets.{octets_for-making_both}
 use Rattle.eeprom.proofs.Moments.{throughout-weaker}
 use Rattle.card.proofs.Told.{if_some-at}
 use Rattle.card.proofs.SlotCount.{length-committed}
 
 -- a command that writes nothing
-pub Performs-unwritten : (card new_card : Kept) (old new : Chip) (m : Machine) (answer : Answer) (result : Result StatusWord EepromFault) → IsReady card old → IsAt card old m → new ≡ old
-    → IfOk result (λ word. Answers answer (said word) new_card new) → Performs m answer result new_card old new
-Performs-unwritten card new_card old new m answer result ready at same step = record {
+pub Performs-unwritten : (card new_card : Kept) (old new : Chip) (m : Machine) (answer : Answer) (most : ℕ) (result : Result StatusWord EepromFault) → IsReady card old → IsAt card old m → new ≡ old
+    → IfOk result (λ word. Answers answer (said word) new_card new) → Performs m answer most result new_card old new
+Performs-unwritten card new_card old new m answer most result ready at same step = record {
   step = step;
   moments = unwritten_leaves card old new m answer.commits ready at same;
   unwritten = go result;
+  octets = risen result;
 }
   where
+    risen : (r : Result StatusWord EepromFault) → OnOk r (Becomes (RisesAtMost most) old.written new.written)
+    risen (Ok word) = rises-none most old new same
+    risen (Err fault) = tt
+
     go : (r : Result StatusWord EepromFault) → OnOk r (answer.commits ≡ [] → new ≡ old)
     go (Ok word) = λ none. same
     go (Err fault) = tt
@@ -69,11 +76,21 @@ IsAt-unwritten card old new m at same = record {
 }
 
 -- a refusal
-pub Performs-refused : (card : Kept) (old new : Chip) (m : Machine) (word : StatusWord) (outcome : Result Answer StatusWord) → IsReady card old → IsAt card old m → new ≡ old
-    → outcome ≡ Err word → Performs m (answered m outcome) (Ok word) card old new
-Performs-refused card old new m word outcome ready at same refused =
-    Performs-unwritten card card old new m (answered m outcome) (Ok word) ready at same
+pub Performs-refused : (card : Kept) (old new : Chip) (m : Machine) (most : ℕ) (word : StatusWord) (outcome : Result Answer StatusWord) → IsReady card old → IsAt card old m → new ≡ old
+    → outcome ≡ Err word → Performs m (answered m outcome) most (Ok word) card old new
+Performs-refused card old new m most word outcome ready at same refused =
+    Performs-unwritten card card old new m (answered m outcome) most (Ok word) ready at same
     (subst (λ (o : Result Answer StatusWord). Answers (answered m o) (said word) card new) (sym refused) (record { reply = refl; at = IsAt-unwritten card old new m at same }))
+
+-- a command from a machine that has committed the same
+pub Performs-from : (m next : Machine) (answer : Answer) (most : ℕ) (result : Result StatusWord EepromFault) (card : Kept) (old new : Chip) → next.committed ≡ m.committed
+    → Performs next answer most result card old new → Performs m answer most result card old new
+Performs-from m next answer most result card old new same performs = record {
+  step = performs.step;
+  moments = subst (λ (db : Database). LeavesOneOf (db ∷ answer.commits) old new) same performs.moments;
+  unwritten = performs.unwritten;
+  octets = performs.octets;
+}
 
 -- For whom a channel acts, by the stamp of its proved user.
 abbrev acting : Database → ℕ → Actor
@@ -209,6 +226,27 @@ module _ (card : Kept) (old : Chip) (m : Machine) (at : IsAt card old m) (ready 
             };
           })
 
+  -- the edits of the user
+  abbrev edits : List Edit
+  edits = making m.committed (of_user the_user)
+
+  made_now : (store : Held) (new : Chip) → is_some new.image ≡ is_some old.image → Becomes (HasBothRecords card.store store user_octets addition.counter_slot counter_octets) old.image new.image
+      → outcome ≡ Ok (with_user m.committed the_user)
+  made_now store new told written = go new.image refl
+    where
+      go : (image : Option (List ℕ)) → new.image ≡ image → outcome ≡ Ok (with_user m.committed the_user)
+      go None is_none = absurd (false≢true (sym (ap (λ (o : Option (List ℕ)). is_some o) is_none) ∙ (told ∙ is_told)))
+      go (Some now) is_now' = let w = written now is_now' in (is_now w.0 w.1 (contents store Committed now) w.2.1).2.ok
+
+  -- as many octets as the edits need
+  octets_now : (store : Held) (new : Chip) → is_some new.image ≡ is_some old.image → Becomes (HasBothRecords card.store store user_octets addition.counter_slot counter_octets) old.image new.image
+      → Becomes (RisesAtMost (octets_for_both user_octets counter_octets)) old.written new.written → Becomes (RisesAtMost (octets_if_made outcome edits)) old.written new.written
+  octets_now store new told written rises =
+      let user : user_octets ≡ user_record.spell the_user = ap user_record.spell is.user in
+      let both : octets_for_both user_octets counter_octets ≡ octets_for edits = ap (λ (octets : List ℕ). octets_for_both octets counter_octets) user ∙ sym (octets_for-making_both m.committed the_user (addition.user.stamp + 1)) in
+      let made : octets_if_made outcome edits ≡ octets_for edits = ap (λ (o : Result Database StatusWord). octets_if_made o edits) (made_now store new told written) in
+      subst (λ (most : ℕ). Becomes (RisesAtMost most) old.written new.written) (both ∙ sym made) rises
+
   -- something was committed
   not_idle : (store : Held) (new : Chip) → is_some new.image ≡ is_some old.image → Becomes (HasBothRecords card.store store user_octets addition.counter_slot counter_octets) old.image new.image
       → (answered m (committed_at_once m outcome)).commits ≡ [] → ⊥
@@ -236,12 +274,12 @@ module _ (card : Kept) (old : Chip) (m : Machine) (at : IsAt card old m) (ready 
   -- there was no room
   full_now : (store : Held) (new : Chip) → store.row_limit ≡ card.store.row_limit → IfCommitted card.store old.image (HasNoRoom card.store.chains.cells user_octets)
       → IfCommitted card.store old.image (λ slots. (new ≡ old) × ((image : List ℕ) → contents store Committed image ≡ contents card.store Committed image))
-      → Performs m (answered m (committed_at_once m outcome)) (Ok no_space) (record card { store = store }) old new
+      → Performs m (answered m (committed_at_once m outcome)) (octets_if_made outcome edits) (Ok no_space) (record card { store = store }) old new
   unfolding committed_slots
   full_now store new rows full unchanged =
       let same = of_slots (λ slots. (new ≡ old) × ((image : List ℕ) → contents store Committed image ≡ contents card.store Committed image)) unchanged in
       let refused : outcome ≡ Err no_space = go old.image refl in
-      Performs-unwritten card (record card { store = store }) old new m (answered m (committed_at_once m outcome)) (Ok no_space) ready at same.0
+      Performs-unwritten card (record card { store = store }) old new m (answered m (committed_at_once m outcome)) (octets_if_made outcome edits) (Ok no_space) ready at same.0
       (subst (λ (o : Result Database StatusWord). Answers (answered m (committed_at_once m o)) (said no_space) (record card { store = store }) new) (sym refused) (record {
         reply = refl;
         at = record {
@@ -275,17 +313,21 @@ pub Performs-added : (card : Kept) (store : Held) (old new : Chip) (m : Machine)
     → OnOk result (Becomes (HasBothRecords card.store store (user_record.spell addition.user) addition.counter_slot (counter_record.spell (addition.user.stamp + 1))) old.image new.image)
     → (IsErrOf result Full → IfCommitted card.store old.image (HasNoRoom card.store.chains.cells (user_record.spell addition.user)))
     → (IsErrOf result Full → IfCommitted card.store old.image (λ slots. (new ≡ old) × ((image : List ℕ) → contents store Committed image ≡ contents card.store Committed image)))
+    → OnOk result (Becomes (RisesAtMost (octets_for_both (user_record.spell addition.user) (counter_record.spell (addition.user.stamp + 1)))) old.written new.written)
     → LeavesAdded card.store (user_record.spell addition.user) addition.counter_slot (counter_record.spell (addition.user.stamp + 1)) old new
-    → Performs m (answered m (committed_at_once m (created m.committed who name profile secret))) (answer_to result) (record card { store = store }) old new
-Performs-added card store old new m at who name profile secret addition (Ok x) ready is there rows told written full unchanged moments = record {
+    → Performs m (answered m (committed_at_once m (created m.committed who name profile secret)))
+    (octets_if_made (created m.committed who name profile secret) (making m.committed (of_user (new_user m.committed who name profile secret)))) (answer_to result) (record card { store = store }) old new
+Performs-added card store old new m at who name profile secret addition (Ok x) ready is there rows told written full unchanged octets moments = record {
   step = done_now card old m at ready who name profile secret addition is there store new (rows (λ fault. cc)) told written;
   moments = leaves card old m at ready who name profile secret addition is there new moments;
   unwritten = λ idle. absurd (not_idle card old m at ready who name profile secret addition is there store new told written idle);
+  octets = octets_now card old m at ready who name profile secret addition is there store new told written octets;
 }
-Performs-added card store old new m at who name profile secret addition (Err Full) ready is there rows told written full unchanged moments =
+Performs-added card store old new m at who name profile secret addition (Err Full) ready is there rows told written full unchanged octets moments =
     full_now card old m at ready who name profile secret addition is there store new (rows (λ fault. cc)) (full refl) (unchanged refl)
-Performs-added card store old new m at who name profile secret addition (Err Fault) ready is there rows told written full unchanged moments = record {
+Performs-added card store old new m at who name profile secret addition (Err Fault) ready is there rows told written full unchanged octets moments = record {
   step = tt;
   moments = leaves card old m at ready who name profile secret addition is there new moments;
   unwritten = tt;
+  octets = tt;
 }

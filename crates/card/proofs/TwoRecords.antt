@@ -1,19 +1,19 @@
 -- Two records are put and committed together: what the slots are then, why the second has room, and what each moment leaves.
-use Rattle.std.proofs.Common.{◌≡◌, ◌⊎◌, ℕ, ◌<◌, ◌≤◌, List, length, get_or, Option, Some, None, option_map, refl, sym, ap, subst, ◌∙◌, inl, inr, arith}
+use Rattle.std.proofs.Common.{◌≡◌, ◌⊎◌, ℕ, ◌+◌, ◌*◌, ◌<◌, ◌≤◌, List, length, get_or, Option, Some, None, option_map, refl, sym, ap, subst, ◌∙◌, inl, inr, arith}
 use Rattle.std.specs.Prelude.{IfSome, is_some, option_and_then, slice_set, slice_index_or}
 use Rattle.std.proofs.lemmas.Bool.{false≢true}
 use Rattle.std.proofs.lemmas.Option.{none-some, same_Some}
 use Rattle.std.proofs.lemmas.List.{get_or-set_other, length-set}
 use Rattle.std.proofs.lemmas.List.Sums.{sum_by-set}
-use Rattle.eeprom.specs.Chip.{Chip, Becomes, Keeps}
-use Rattle.eeprom.specs.StoreOf.{Slots, Stored, store_of, cells_for}
+use Rattle.eeprom.specs.Chip.{Chip, Becomes, Keeps, RisesBy, RisesAtMost}
+use Rattle.eeprom.specs.StoreOf.{Slots, Stored, store_of, cell_size, cells_for}
 use Rattle.record_store.specs.Held.{Held, contents, stored, with_limit, record_at, StandsFor}
 use Rattle.eeprom.specs.StoreOf.{weight_of, cells_of}
 use Rattle.record_store.specs.Put.{IsPut, IsWithin, IsFull, weight_with}
 use Rattle.record_store.specs.Transaction.{Commits, IsCommitted}
 use Rattle.record_store.specs.declared.side.Side.TheVariants.{Committed, Working}
 use Rattle.eeprom.proofs.Moments.{throughout-then}
-use Rattle.card.specs.Adding.{IsAdded, AddedTo, IsStoreWith, LeavesAdded, HasBothRecords, IsAsLong, IfCommitted}
+use Rattle.card.specs.Adding.{IsAdded, AddedTo, IsStoreWith, LeavesAdded, HasBothRecords, IsAsLong, IfCommitted, octets_for_both}
 use Rattle.record_store.proofs.Weights.{store_of-stands}
 use Rattle.card.proofs.SlotCount.{length-committed}
 
@@ -155,3 +155,12 @@ both_written s0 s2 s3 added slot changed i0 i2 i3 put committed = λ now told.
       b.1,
       (c.2.stands, subst (λ (o : Option Slots). AddedTo s0.chains.cells added slot changed (contents s0 Committed b.0) o) (sym there) b.2.1),
     )
+
+-- how many octets two puts and their commit write
+pub octets_both : (added changed : List ℕ) (count : ℕ) (w0 w1 w2 w3 : Option ℕ) → Becomes (RisesBy (cell_size * cells_for (length added))) w0 w1 → Becomes (RisesBy (cell_size * cells_for (length changed))) w1 w2
+    → Becomes (RisesBy (4 + 6 * count)) w2 w3 → count ≤ 2 → Becomes (RisesAtMost (octets_for_both added changed)) w0 w3
+octets_both added changed count w0 w1 w2 w3 first second commit few = λ after told.
+    let c = commit after told in
+    let b = second c.0 c.1 in
+    let a = first b.0 b.1 in
+    (a.0, a.1, omega (arith, a.2, b.2, c.2, few))

@@ -1,12 +1,11 @@
 -- A record that is added and one that is changed, committed together.
-use Rattle.std.specs.Prelude.{◌≡◌, ◌⊎◌, ℕ, ◌+◌, ◌<◌, ◌≤◌, List, length, Option, Some, None, is_some, Result, OnOk, IsErrOf, IfSome, option_map, slice_set, slice_index_or}
-use Rattle.eeprom.specs.Chip.{Chip, Becomes, LeavesOf}
-use Rattle.record_store.specs.declared.refusal.StoreRefusal.{StoreRefusal}
-use Rattle.record_store.specs.declared.refusal.StoreRefusal.TheVariants.{Full, Fault}
+use Rattle.std.specs.Prelude.{◌≡◌, ◌⊎◌, ℕ, ◌+◌, ◌<◌, ◌≤◌, List, length, Option, Some, None, IfSome, option_map, slice_set, slice_index_or}
+use Rattle.eeprom.specs.Chip.{Chip, LeavesOf}
 use Rattle.eeprom.specs.StoreOf.{Slots, store_of, cells_for, longest_record}
 use Rattle.record_store.specs.Held.{Held, contents, stored, with_limit, StandsFor, IsOver}
 use Rattle.eeprom.specs.StoreOf.{weight_of}
 use Rattle.record_store.specs.declared.side.Side.TheVariants.{Committed}
+use Rattle.scql_model.specs.Edits.{octets_for_cells, octets_for_commit}
 
 -- A slot of these was empty, the records have room with the one that is added there, and the new slots have both records.
 pub record IsAdded (cells : ℕ) (added : List ℕ) (slot : ℕ) (changed : List ℕ) (slots new : Slots) : Type 0 where
@@ -56,13 +55,6 @@ pub record MayAdd (store : Held) (chip : Chip) (added : List ℕ) (slot : ℕ) (
   pub changed_size : (1 ≤ length changed) × (length changed ≤ longest_record)
   pub as_long : IfCommitted store chip.image (IsAsLong slot changed)
 
--- What becomes of a store and its EEPROM where both are to be committed: they are, or there was no room for the one that is added, or a device failed.
-pub record Adds (added : List ℕ) (slot : ℕ) (changed : List ℕ) (result : Result (Unit {0}) StoreRefusal) (old new : Held) (before after : Chip) : Type 0 where
-  pub written : OnOk result (Becomes (HasBothRecords old new added slot changed) before.image after.image)
-  pub told : OnOk result (is_some after.image ≡ is_some before.image)
-  pub full : IsErrOf result Full → IfCommitted old before.image (HasNoRoom old.chains.cells added)
-  pub stands : ¬ IsErrOf result Fault → IfSome after.image (StandsFor new)
-  pub cells : ¬ IsErrOf result Fault → new.chains.cells ≡ old.chains.cells
-  pub rows : ¬ IsErrOf result Fault → new.row_limit ≡ old.row_limit
-  pub still : after.still ≡ before.still
-  pub moments : LeavesAdded old added slot changed before after
+-- For both so many octets are written at most: 32 for each cell, and those of a commit with two entries.
+abbrev pub octets_for_both : List ℕ → List ℕ → ℕ
+octets_for_both added changed = octets_for_cells (cells_for (length added) + cells_for (length changed)) + octets_for_commit 2

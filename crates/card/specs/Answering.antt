@@ -1,7 +1,8 @@
 -- What an answer leaves.
 use Rattle.std.specs.Prelude.{◌≡◌, ◌⊎◌, ℕ, List, [], ◌∷◌, Option, Some, Result, Ok, Err, IfOk, OnOk, slice_set}
-use Rattle.eeprom.specs.Chip.{Chip, Leaves}
+use Rattle.eeprom.specs.Chip.{Chip, Becomes, Leaves, RisesAtMost}
 use Rattle.scql_model.specs.Database.{Database}
+use Rattle.scql_model.specs.Edits.{Edit, octets_for}
 use Rattle.scql_model.specs.Opens.{OpensToOneOf}
 use Rattle.eeprom.specs.declared.EepromFault.{EepromFault}
 use Rattle.scql_base.specs.declared.words.StatusWord.{StatusWord}
@@ -11,6 +12,7 @@ use Rattle.scql_base.specs.Words.{done, no_space}
 use Rattle.scql_model.specs.Replies as model
 use Rattle.scql_model.specs.Machine.{Machine, session_for}
 use Rattle.scql_model.specs.Replies.{said}
+use Rattle.scql_model.specs.Accepting.{channel_named, IsAsBefore}
 use Rattle.scql_model.specs.Step.{Answer}
 use Rattle.card.specs.Card.{Kept, IsAt}
 use Rattle.scql_base.specs.declared.cursor.Presented.{Presented}
@@ -24,11 +26,13 @@ pub record Answers (answer : Answer) (sent : model.Reply) (card : Kept) (chip : 
 abbrev pub LeavesOneOf : List Database → Chip → Chip → Type 0
 LeavesOneOf dbs old new = Leaves (OpensToOneOf dbs) old new
 
--- What a command does to a card and its EEPROM that are at a machine: the machine's answer, or a device failed. What commits nothing writes nothing.
-pub record Performs (m : Machine) (answer : Answer) (result : Result StatusWord EepromFault) (card : Kept) (old new : Chip) : Type 0 where
+-- What a command does to a card and its EEPROM that are at a machine: the machine's answer, or a device failed. What commits nothing writes nothing,
+-- and what is answered has written at most so many octets.
+pub record Performs (m : Machine) (answer : Answer) (most : ℕ) (result : Result StatusWord EepromFault) (card : Kept) (old new : Chip) : Type 0 where
   pub step : IfOk result (λ word. Answers answer (said word) card new)
   pub moments : LeavesOneOf (m.committed ∷ answer.commits) old new
   pub unwritten : OnOk result (answer.commits ≡ [] → new ≡ old)
+  pub octets : OnOk result (Becomes (RisesAtMost most) old.written new.written)
 
 -- the answer to a change of the store
 abbrev pub answer_to : Result (Unit {0}) StoreRefusal → Result StatusWord EepromFault
@@ -46,6 +50,15 @@ abbrev pub committed_at_once : Machine → Result Database StatusWord → Result
 committed_at_once m (Err word) = Err word
 committed_at_once m (Ok db) = Ok (record { reply = said done; machine = record m { committed = db }; commits = db ∷ [] })
 
--- a command is done, or the machine is as it was and nothing is committed
-abbrev pub IsDoneOrStays : Machine → Answer → Type 0
-IsDoneOrStays m answer = (answer.reply.word ≡ done) ⊎ ((answer.machine ≡ m) × (answer.commits ≡ []))
+-- at most so many octets are written for a change with these edits, and none where it is refused
+abbrev pub octets_if_made : Result Database StatusWord → List Edit → ℕ
+octets_if_made (Ok db) edits = octets_for edits
+octets_if_made (Err word) edits = 0
+
+-- what octets say is done, or nothing is committed and the machine is as it was, but that their channel may have lost the parts of a command
+abbrev pub IsDoneOrStays : Machine → List ℕ → Answer → Type 0
+IsDoneOrStays m octets answer = (answer.reply.word ≡ done) ⊎ ((answer.commits ≡ []) × IsAsBefore m (channel_named octets) answer.machine)
+
+-- card and EEPROM are at a machine as it was, but that this channel may have lost the parts of a command
+abbrev pub IsAtAsBefore : Kept → Chip → Machine → ℕ → Type 0
+IsAtAsBefore card chip m channel = (next : Machine) × IsAsBefore m channel next × IsAt card chip next

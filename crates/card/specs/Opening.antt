@@ -1,17 +1,15 @@
 -- What the slots of a card hold, as far as they were read.
-use Rattle.std.specs.Prelude.{◌≡◌, ℕ, ◌+◌, ◌*◌, true, List, [], ◌∷◌, Option, Some, None}
+use Rattle.std.specs.Prelude.{◌≡◌, ℕ, ◌+◌, ◌*◌, true, List, drop, [], ◌∷◌, Option, Some, None}
 use Rattle.std.specs.List.{list_all, filter_map, AllByRecursion}
 use Rattle.std.specs.BTreeMap.{BTreeMap, values}
-use Rattle.eeprom.specs.Chip.{RisesBy}
-use Rattle.eeprom.specs.StoreOf.{Slots}
+use Rattle.eeprom.specs.Chip.{Chip, LeavesOf, RisesBy}
+use Rattle.eeprom.specs.StoreOf.{Slots, image_size, number_at}
 use Rattle.eeprom.specs.Slots.{AreApart, in_order, in_slot}
 use Rattle.record_store.specs.Opening.{front_octets}
 use Rattle.scql_model.specs.Records.{counter_record, user_record, counter_in, user_in}
 use Rattle.scql_model.specs.Database.{Database, IsValid, weight}
 use Rattle.scql_model.specs.Opens.{Holds, is_spelled}
-use Rattle.card.specs.declared.coding.Counter.{Counter}
 use Rattle.scql_base.specs.declared.records.User.{User}
-use Rattle.card.specs.Users.{next_of}
 
 -- the users of a map, in its order
 abbrev pub users_of : BTreeMap ℕ User → List User
@@ -22,9 +20,9 @@ abbrev pub AreByStamp : List (ℕ × User) → Type 0
 AreByStamp entries = AllByRecursion (λ entry. entry.0 ≡ entry.1.stamp) entries
 
 -- the stamp that a counter gives next, where there is a counter
-abbrev pub counters_of : Option Counter → List ℕ
+abbrev pub counters_of : Option ℕ → List ℕ
 counters_of None = []
-counters_of (Some counter) = next_of counter ∷ []
+counters_of (Some next) = next ∷ []
 
 -- The records in these slots are these counters and these users, which rise; each is within its limits, and no two users have one stamp.
 pub record Gathers (slots : Slots) (found_counters : List ℕ) (found_users : List User) : Type 0 where
@@ -38,6 +36,10 @@ pub record Gathers (slots : Slots) (found_counters : List ℕ) (found_users : Li
 -- the slots hold no valid database
 abbrev pub HoldNone : Slots → Type 0
 HoldNone slots = (db : Database) → Holds slots db → IsValid db → ⊥
+
+-- At each moment what lies behind the image, by the number of cells in its header, is as it was.
+abbrev pub LeavesBehind : Chip → Chip → Type 0
+LeavesBehind old new = LeavesOf (λ was left. drop (image_size (number_at was 6)) left ≡ drop (image_size (number_at was 6)) was) old new
 
 -- So many octets are read where a card is opened at this database: those that begin its image, and as many as the cells of its records have.
 abbrev pub ReadsCard : Database → ℕ → ℕ → Type 0

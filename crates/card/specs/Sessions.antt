@@ -1,15 +1,26 @@
 -- The program's sessions, as the model's.
-use Rattle.std.specs.Prelude.{ℕ, List, Option, Some, None, map, option_map, option_and_then, if◌then◌else◌}
+use Rattle.std.specs.Prelude.{◌≡◌, ℕ, List, [], ◌∷◌, Option, Some, None, option_map, option_and_then, IfSome, if◌then◌else◌}
+use Rattle.std.specs.List.{AllByRecursion}
 use Rattle.scql_model.specs.Machine as machine
 use Rattle.scql_base.specs.declared.cursor.Presented.{Presented}
 use Rattle.card.specs.declared.session.Session.{Session}
 
--- no cursor and no chain is built yet
-abbrev pub session_seen : Session → machine.Session
-session_seen s = machine.session_for s.user
+-- a session with these parts of a command; no cursor is built yet
+abbrev pub session_seen : Option machine.Chain → Session → machine.Session
+session_seen chain s = record (machine.session_for s.user) { chain = chain }
 
-abbrev pub sessions_of : List (Option Session) → List (Option machine.Session)
-sessions_of sessions = map (option_map session_seen) sessions
+-- the sessions of the channels, each with the parts of a command that its channel has so far
+abbrev pub sessions_of : List (Option Session) → List (Option machine.Chain) → List (Option machine.Session)
+sessions_of [] chains = []
+sessions_of (session ∷ sessions) [] = []
+sessions_of (session ∷ sessions) (chain ∷ chains) = option_map (session_seen chain) session ∷ sessions_of sessions chains
+
+-- a session that reads nothing
+abbrev pub IsUnread : machine.Session → Type 0
+IsUnread s = s.reading ≡ machine.no_reading
+
+abbrev pub AreUnread : List (Option machine.Session) → Type 0
+AreUnread sessions = AllByRecursion (λ (s : Option machine.Session). IfSome s IsUnread) sessions
 
 -- the stamp of a session's user, where there is one that is proved
 abbrev pub proved_stamp : Presented → Option ℕ

@@ -1,13 +1,9 @@
--- The program's counter and users, as the model's.
-use Rattle.std.specs.Prelude.{ℕ, ◌==◌, Bool}
-use Rattle.card.specs.declared.coding.Counter.{Counter}
+-- Which users are looked for.
+use Rattle.std.specs.Prelude.{◌==◌, Bool}
 use Rattle.scql_base.specs.declared.User.{User}
 use Rattle.card.specs.declared.users.Wanted.{Wanted}
 use Rattle.card.specs.declared.users.Wanted.TheVariants.{Named, Stamped}
 use Rattle.scql_model.specs.Database.{is_named}
-
-abbrev pub next_of : Counter → ℕ
-next_of c = c.next
 
 -- whether a user is the one that is looked for
 abbrev pub is_wanted : Wanted → User → Bool

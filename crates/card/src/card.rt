@@ -1,6 +1,6 @@
 // The card: its store, its sessions, and the answer to a command.
-ghost use Rattle.std.specs.Prelude.{◌≡◌, ◌≢◌, ◌↔◌, ℕ, List, slice_get, ◌<◌, ◌≤◌, ◌+◌, ◌*◌, [], ◌∷◌, Some, None, true, false, map, is_some, length, option_map, IfSome, IfOk, OnOk, IsTrue, IsErrOf};
-ghost use Rattle.eeprom.specs.Chip.{Chip, Becomes};
+ghost use Rattle.std.specs.Prelude.{◌≡◌, ◌≢◌, ◌↔◌, ℕ, List, slice_get, ◌<◌, ◌≤◌, ◌+◌, ◌*◌, [], ◌∷◌, Some, None, true, false, map, is_some, length, drop, option_map, IfSome, IfOk, OnOk, IsTrue, IsErrOf};
+ghost use Rattle.eeprom.specs.Chip.{Chip, Becomes, Keeps, RisesAtMost};
 ghost use Rattle.eeprom.specs.Fault.{Counts, Rose};
 ghost use Rattle.eeprom.specs.StoreOf.{image_size, is_gate_open};
 ghost use Rattle.cell_store.specs.Reading.{ReadsAtMost};
@@ -16,14 +16,16 @@ ghost use Rattle.scql_base.specs.Words.{done, memory_failure};
 ghost use Rattle.scql_model.specs.Database.{Database, fresh};
 ghost use Rattle.eeprom.specs.Image.{overwrite};
 ghost use Rattle.card.specs.Card.{Kept, IsReady, IsAt, committed_slots, fresh_card};
-ghost use Rattle.card.specs.Answering.{Answers, IsDoneOrStays, LeavesOneOf, Performs, answer_to, committed_at_once, with_session_for};
+ghost use Rattle.card.specs.Answering.{Answers, IsAtAsBefore, IsDoneOrStays, LeavesOneOf, Performs, answer_to, committed_at_once, octets_if_made, with_session_for};
 ghost use Rattle.card.specs.Creating.{IsAddition, IsCounter};
 ghost use Rattle.card.specs.Making.{LeavesMade};
-ghost use Rattle.card.specs.Opening.{ReadsCard};
+ghost use Rattle.card.specs.Opening.{LeavesBehind, ReadsCard};
 ghost use Rattle.card.specs.Sessions.{proved_user, sessions_of};
 ghost use Rattle.scql_base.specs.declared.operation.Operation.TheVariants as operation;
-ghost use Rattle.scql_model.specs.Creating.{created};
-ghost use Rattle.scql_model.specs.Sessions.{AreIdle};
+ghost use Rattle.scql_model.specs.Bound.{octets_bound, octets_carried_out, octets_changed, or_nothing};
+ghost use Rattle.scql_model.specs.Creating.{created, new_user};
+ghost use Rattle.scql_model.specs.Edits.{making, of_user};
+ghost use Rattle.scql_model.specs.Accepting.{channel_named};
 ghost use Rattle.scql_model.specs.Operations.{IsBuilt, kind_of};
 ghost use Rattle.scql_model.specs.WellFormed.{HasForm, IsWellFormed};
 ghost use Rattle.scql_base.specs.declared.words.Actor.{Actor};
@@ -31,14 +33,15 @@ ghost use Rattle.scql_base.specs.declared.words.Profile.{Profile};
 ghost use Rattle.std.specs.Option.{option_flatten};
 
 use crate::adding::add_and_change;
-use crate::coding::{Counter, encode_user, owner};
 use crate::creating::{Addition, Prepared, prepare_user};
 use crate::opening::{Opened, open_records};
 use crate::outcome::Outcome;
 use crate::session::Session;
-use crate::users::{Wanted, find_user};
+use crate::users::{Wanted, find_user, owner};
 use crate::validity::are_valid;
-use apdu::{CommandApdu, Reply};
+use apdu::Reply;
+use apdu_chain::{Chains, Taken};
+use catalog_codec::{Counter, Record};
 use eeprom::{Eeprom, EepromFault};
 use record_store::{FormatRefusal, OpenRefusal, RecordOctets, Store, StoreRefusal};
 use scql_base::{Actor, Command, Name, Octets, Operation, Presented, Profile, StatusWord};
@@ -50,6 +53,7 @@ use std::marker::Model;
 pub struct Card {
     store: Store,
     sessions: [Option<Session>; 4],
+    chains: Chains,
     live: bool,
 }
 
@@ -60,9 +64,9 @@ impl Model for Card {
 
     ghost Value = { Kept };
 
-    ghost view = { λ card. record { store = card.store; sessions = sessions_of card.sessions; live = card.live } };
+    ghost view = { λ card. record { store = card.store; sessions = sessions_of card.sessions card.chains; live = card.live } };
 
-    ghost invariant = { λ card. length card.sessions ≡ 4 };
+    ghost invariant = { λ card. (length card.sessions ≡ 4) × (length card.chains ≡ 4) };
 }
 
 impl Card {
@@ -73,6 +77,7 @@ impl Card {
         ensures image { OnOk result ((B.chip bench.new).image ≡ option_map (λ image. overwrite image 0 (fresh_card n)) (B.chip bench.old).image) }
         ensures fresh { OnOk result (IfSome (B.chip bench.new).image (λ image. Opens image (fresh n))) }
         ensures still { (B.chip bench.new).still ≡ (B.chip bench.old).still }
+        ensures behind { Keeps (drop (image_size n)) (B.chip bench.old) (B.chip bench.new) }
         ensures moments { LeavesMade n (B.chip bench.old) (B.chip bench.new) }
         ensures too_small { IsErrOf result FormatRefusal.TooSmall ↔ ((B.chip bench.old).still.size < image_size n) }
         ensures unchanged { IsErrOf result FormatRefusal.TooSmall → bench.new ≡ bench.old }
@@ -83,7 +88,7 @@ impl Card {
         let mut counter = RecordOctets::new();
         Counter { next: 2 }.encode(&mut counter);
         let mut user = RecordOctets::new();
-        encode_user(&owner(), &mut user);
+        owner().encode(&mut user);
         Store::format(bench, n, &counter, &user)
     }
 
@@ -101,6 +106,7 @@ impl Card {
         ensures not_a_card { IsErrOf result OpenRefusal.NotACard → IfSome (B.chip bench.old).image (λ image. (db : Database) → Opens image db → ⊥) }
         // A power loss leaves an image that opens as before, also where it is refused; and where the gate is closed nothing is written.
         ensures recovers { Recovers is_open_fault B.chip B.faults bench.old bench.new result }
+        ensures behind { LeavesBehind (B.chip bench.old) (B.chip bench.new) }
         ensures fault { IsErrOf result OpenRefusal.Fault → Rose (B.faults bench.old) (B.faults bench.new) }
         ensures quiet { ¬ IsErrOf result OpenRefusal.Fault → B.faults bench.new ≡ B.faults bench.old }
         ensures never_falls { B.faults bench.old ≤ B.faults bench.new }
@@ -112,6 +118,7 @@ impl Card {
         Ok(Card {
             store,
             sessions: first_sessions(),
+            chains: Chains::new(),
             live: true,
         })
     }
@@ -134,9 +141,14 @@ impl Card {
         // What commits nothing writes nothing.
         ensures unwritten { (m : machine.Machine) → IsAt self.old (B.chip bench.old) m → result ≡ Outcome.Replied
             → (stepping.step m command.now).commits ≡ [] → B.chip bench.new ≡ B.chip bench.old }
-        // So a refused command writes nothing, and leaves all as it was.
+        // No more octets are written than the step's bound.
+        ensures octets_written { (m : machine.Machine) → IsAt self.old (B.chip bench.old) m → result ≡ Outcome.Replied
+            → Becomes (RisesAtMost (octets_bound m command.now)) (B.chip bench.old).written (B.chip bench.new).written }
+        // Nothing is written behind the image, at no moment.
+        ensures behind { Keeps (drop (image_size self.old.store.chains.cells)) (B.chip bench.old) (B.chip bench.new) }
+        // So a refused command writes nothing, and leaves all as it was, but that its channel may have lost the parts of a command.
         ensures refused { (m : machine.Machine) → IsAt self.old (B.chip bench.old) m → result ≡ Outcome.Replied → reply.new.word ≢ done
-            → (B.chip bench.new ≡ B.chip bench.old) × IsAt self.new (B.chip bench.new) m }
+            → (B.chip bench.new ≡ B.chip bench.old) × IsAtAsBefore self.new (B.chip bench.new) m (channel_named command.now) }
     {
         reply.body.clear();
         match self.word_of(bench, command) {
@@ -166,6 +178,7 @@ impl Card {
         ensures ready { (chip : Chip) → IsReady self.old chip → IsReady self.new chip }
     {
         self.sessions = first_sessions();
+        self.chains.clear();
     }
 
     fn word_of<B: Eeprom>(
@@ -175,16 +188,18 @@ impl Card {
     ) -> Result<StatusWord, EepromFault>
         requires ready { IsReady self.old (B.chip bench.old) }
         ensures performs { (m : machine.Machine) → IsAt self.old (B.chip bench.old) m
-            → Performs m (stepping.step m command.now) result self.new (B.chip bench.old) (B.chip bench.new) }
+            → Performs m (stepping.step m command.now) (octets_bound m command.now) result self.new (B.chip bench.old) (B.chip bench.new) }
         ensures ready { OnOk result (IsReady self.new (B.chip bench.new)) }
         ensures cause { Counts (B.faults bench.old) (B.faults bench.new) result }
-        ensures still { (B.chip bench.new).still ≡ (B.chip bench.old).still }
+        ensures behind { Keeps (drop (image_size self.old.store.chains.cells)) (B.chip bench.old) (B.chip bench.new) }
         // None of the operations that are built answers another word than done where it changes the machine.
-        ensures done_or_stays { (m : machine.Machine) → IsAt self.old (B.chip bench.old) m → IsDoneOrStays m (stepping.step m command.now) }
+        ensures done_or_stays { (m : machine.Machine) → IsAt self.old (B.chip bench.old) m → IsDoneOrStays m command.now (stepping.step m command.now) }
     {
-        match Command::read(command, self.open_channels(), self.store.row_limit()) {
-            Err(word) => Ok(word),
-            Ok(command) => self.carry_out(bench, command),
+        let channels = self.open_channels();
+        match self.chains.take(command, channels, self.store.row_limit()) {
+            Taken::Refused { word } => Ok(word),
+            Taken::Kept => Ok(StatusWord::DONE),
+            Taken::Whole { command } => self.carry_out(bench, command),
         }
     }
 
@@ -196,12 +211,11 @@ impl Card {
         requires ready { IsReady self.old (B.chip bench.old) }
         requires formed { IsWellFormed command }
         requires built { IsBuilt (kind_of command.operation) }
-        requires idle { AreIdle self.old.sessions }
         ensures performs { (m : machine.Machine) → IsAt self.old (B.chip bench.old) m
-            → Performs m (stepping.answered m (stepping.carried_out m command)) result self.new (B.chip bench.old) (B.chip bench.new) }
+            → Performs m (stepping.answered m (stepping.carried_out m command)) (or_nothing (octets_carried_out m command)) result self.new (B.chip bench.old) (B.chip bench.new) }
         ensures ready { OnOk result (IsReady self.new (B.chip bench.new)) }
         ensures cause { Counts (B.faults bench.old) (B.faults bench.new) result }
-        ensures still { (B.chip bench.new).still ≡ (B.chip bench.old).still }
+        ensures behind { Keeps (drop (image_size self.old.store.chains.cells)) (B.chip bench.old) (B.chip bench.new) }
     {
         let channel = command.channel;
         match command.operation {
@@ -211,13 +225,12 @@ impl Card {
                 profile,
                 secret,
             } => self.create_user(bench, channel, &name, profile, &secret),
-            _ => Ok(StatusWord::INSTRUCTION_NOT_SUPPORTED),
+            _ => unreachable!(),
         }
     }
 
     fn open_channels(&self) -> [bool; 4]
-        ensures channels { result ≡ map is_some self.now.sessions }
-        ensures idle { AreIdle self.now.sessions }
+        ensures { result ≡ map is_some self.now.sessions }
     {
         let [first, second, third, fourth] = &self.sessions;
         [
@@ -246,7 +259,8 @@ impl Card {
             self.set_user(channel, None);
             return Ok(StatusWord::DONE);
         }
-        let Some(user) = find_user(&self.store, bench, Wanted::Named(name))? else {
+        let mut octets = RecordOctets::new();
+        let Some(user) = find_user(&self.store, bench, Wanted::Named(name), &mut octets)? else {
             return Ok(StatusWord::NOT_FOUND);
         };
         let proved = user.secret.as_slice().is_empty();
@@ -271,25 +285,35 @@ impl Card {
         requires ready { IsReady self.old (B.chip bench.old) }
         requires channel { channel < 4 }
         requires formed { HasForm (operation.CreateUser name.now profile secret.now) }
-        requires idle { AreIdle self.old.sessions }
         ensures performs { (m : machine.Machine) → IsAt self.old (B.chip bench.old) m
-            → Performs m (stepping.answered m (stepping.changed m channel (operation.CreateUser name.now profile secret.now))) result self.new (B.chip bench.old) (B.chip bench.new) }
+            → Performs m (stepping.answered m (stepping.changed m channel (operation.CreateUser name.now profile secret.now)))
+            (or_nothing (octets_changed m channel (operation.CreateUser name.now profile secret.now))) result self.new (B.chip bench.old) (B.chip bench.new) }
         ensures ready { OnOk result (IsReady self.new (B.chip bench.new)) }
         ensures cause { Counts (B.faults bench.old) (B.faults bench.new) result }
-        ensures still { (B.chip bench.new).still ≡ (B.chip bench.old).still }
+        ensures behind { Keeps (drop (image_size self.old.store.chains.cells)) (B.chip bench.old) (B.chip bench.new) }
     {
-        let actor = self.actor_of(bench, channel)?;
-        match prepare_user(&self.store, bench, actor, name, profile, secret)? {
+        let mut octets = RecordOctets::new();
+        let actor = self.actor_of(bench, channel, &mut octets)?;
+        match prepare_user(
+            &self.store,
+            bench,
+            actor,
+            name,
+            profile,
+            secret,
+            &mut octets,
+        )? {
             Prepared::Refused(word) => Ok(word),
-            Prepared::Ready(addition) => self.add_user(bench, &addition),
+            Prepared::Ready(addition) => self.add_user(bench, &addition, &mut octets),
         }
     }
 
-    // Commits the user that was prepared and the next stamp, where there is room.
+    // Commits the user that was prepared, spelled in `octets`, and the next stamp, where there is room.
     fn add_user<B: Eeprom>(
         &mut self,
         bench: &mut B,
         addition: &Addition,
+        octets: &mut RecordOctets,
     ) -> Result<StatusWord, EepromFault>
         requires ready { IsReady self.old (B.chip bench.old) }
         requires slot { addition.now.counter_slot < self.old.store.chains.cells }
@@ -297,20 +321,20 @@ impl Card {
         requires counter { IfSome (committed_slots self.old.store (B.chip bench.old).image) (IsCounter addition.now.counter_slot) }
         ensures performs { (m : machine.Machine) (actor : Actor) (name : List ℕ) (profile : Profile) (secret : List ℕ) → (at : IsAt self.old (B.chip bench.old) m)
             → IsAddition m.committed actor name profile secret at.slots addition.now
-            → Performs m (stepping.answered m (committed_at_once m (created m.committed actor name profile secret))) result self.new (B.chip bench.old) (B.chip bench.new) }
+            → Performs m (stepping.answered m (committed_at_once m (created m.committed actor name profile secret)))
+            (octets_if_made (created m.committed actor name profile secret) (making m.committed (of_user (new_user m.committed actor name profile secret)))) result self.new (B.chip bench.old) (B.chip bench.new) }
         ensures ready { OnOk result (IsReady self.new (B.chip bench.new)) }
         ensures cause { Counts (B.faults bench.old) (B.faults bench.new) result }
-        ensures still { (B.chip bench.new).still ≡ (B.chip bench.old).still }
+        ensures behind { Keeps (drop (image_size self.old.store.chains.cells)) (B.chip bench.old) (B.chip bench.new) }
     {
-        let mut user = RecordOctets::new();
-        encode_user(&addition.user, &mut user);
+        addition.user.encode(octets);
         let mut counter = RecordOctets::new();
         let next = addition.user.stamp + 1;
         Counter { next }.encode(&mut counter);
         let added = add_and_change(
             &mut self.store,
             bench,
-            &user,
+            octets,
             addition.counter_slot,
             &counter,
         );
@@ -318,7 +342,12 @@ impl Card {
     }
 
     // For whom a channel acts: its user where that one is proved, or nobody in particular.
-    fn actor_of<B: Eeprom>(&self, bench: &mut B, channel: u8) -> Result<Actor, EepromFault>
+    fn actor_of<B: Eeprom>(
+        &self,
+        bench: &mut B,
+        channel: u8,
+        octets: &mut RecordOctets,
+    ) -> Result<Actor, EepromFault>
         requires ready { IsReady self.now (B.chip bench.old) }
         requires channel { channel < 4 }
         ensures actor { (m : machine.Machine) → IsAt self.now (B.chip bench.old) m → IfOk result (λ actor. actor ≡ machine.actor m channel) }
@@ -328,7 +357,7 @@ impl Card {
         let Some(stamp) = self.proved_user(channel) else {
             return Ok(Actor::Public);
         };
-        match find_user(&self.store, bench, Wanted::Stamped(stamp))? {
+        match find_user(&self.store, bench, Wanted::Stamped(stamp), octets)? {
             Some(user) => Ok(Actor::User {
                 stamp: user.stamp,
                 profile: user.profile,
@@ -353,6 +382,7 @@ impl Card {
         ensures { self.new ≡ with_session_for self.old channel user }
     {
         self.sessions[channel as usize] = Some(Session { user });
+        self.chains.forget(channel);
     }
 }
 
@@ -369,7 +399,7 @@ fn answer_to(change: Result<(), StoreRefusal>) -> Result<StatusWord, EepromFault
 
 // Channel 0 alone is open, without a user.
 fn first_sessions() -> [Option<Session>; 4]
-    ensures { (db : Database) → sessions_of result ≡ (machine.start db).sessions }
+    ensures { (db : Database) → sessions_of result (None ∷ None ∷ None ∷ None ∷ []) ≡ (machine.start db).sessions }
 {
     [Some(Session { user: None }), None, None, None]
 }

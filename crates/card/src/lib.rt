@@ -3,9 +3,9 @@
 
 mod adding;
 mod card;
-mod coding;
 mod counter;
 mod creating;
+mod marks;
 mod opening;
 mod outcome;
 mod session;

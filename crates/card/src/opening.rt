@@ -13,7 +13,7 @@ ghost use Rattle.scql_base.specs.declared.records.User.{User};
 ghost use Rattle.scql_model.specs.Records as records;
 ghost use Rattle.card.specs.Opening.{AreByStamp, Gathers, HoldNone, counters_of, users_of};
 
-use crate::coding::{Counter, decode_user};
+use catalog_codec::{Counter, Record};
 use eeprom::Eeprom;
 use record_store::{OpenRefusal, Opening, RecordOctets, Store};
 use scql_base::User;
@@ -109,7 +109,7 @@ impl Found {
         if let Some(counter) = Counter::decode(octets) {
             return self.set_counter(counter);
         }
-        match decode_user(octets) {
+        match User::decode(octets) {
             Some(user) => add_user(&mut self.users, user),
             None => Err(OpenRefusal::NotACard),
         }

@@ -1,33 +1,35 @@
 -- With which database a run begins, and what a power loss leaves until its card is open.
-use Rattle.std.specs.Prelude.{◌≡◌, ℕ, ◌+◌, ◌*◌, ◌≤◌, List, Some, IsSome}
+use Rattle.std.specs.Prelude.{◌≡◌, ℕ, true, List, Some, IsSome}
 use Rattle.eeprom.specs.Chip.{Chip}
+use Rattle.eeprom.specs.Frame.{HasRoom}
 use Rattle.scql_model.specs.Database.{Database, fresh}
 use Rattle.scql_model.specs.Opens.{Opens}
 use Rattle.record_store.specs.Recovery.{KeepsStore}
 use Rattle.card.specs.Making.{LeavesMade, OpensToNone}
 use Rattle.card_cli.specs.declared.words.Form.{Form}
-use Rattle.card_cli.specs.declared.words.Form.TheVariants.{New, Apdu}
-use Rattle.card_cli.specs.Words.{form_in}
+use Rattle.card_cli.specs.declared.words.Form.TheVariants.{New}
+use Rattle.card_cli.specs.Words.{form_in, reads_lines}
 
 -- the EEPROM tells its image, which opens to this database
 abbrev pub IsOpenTo : Chip → Database → Type 0
 IsOpenTo chip db = (image : List ℕ) × (chip.image ≡ Some image) × Opens image db
 
--- A run of this form over an EEPROM that tells its image begins with this database: `new` with a fresh one, for which there is room, and `apdu` with the one to which the image opens.
+-- A run of this form over an EEPROM that tells its image begins with this database: `new` with a fresh one, for which there is room, and any other with the one to which the image opens.
 abbrev pub Begins : Form → Chip → Database → Type 0
-Begins (New n) chip db = IsSome chip.image × (70 * n + 34 ≤ chip.still.size) × (db ≡ fresh n)
-Begins Apdu chip db = IsOpenTo chip db
+Begins (New n) chip db = IsSome chip.image × HasRoom n chip × (db ≡ fresh n)
+Begins form chip db = IsOpenTo chip db
 
--- The words are of a form, and over this EEPROM their run begins with this database.
+-- The words are of a form that reads lines, and over this EEPROM their run begins with this database.
 pub record BeginsWith (words : List (List ℕ)) (chip : Chip) (db : Database) : Type 0 where
   pub form : Form
   pub asked : form_in words ≡ Some form
+  pub reads : reads_lines form ≡ true
   pub begins : Begins form chip db
 
 -- A run of this form asks for the card that is there, and the EEPROM tells an image that opens to no database.
 abbrev pub LacksCard : Form → Chip → Type 0
 LacksCard (New n) chip = ⊥
-LacksCard Apdu chip = (image : List ℕ) × (chip.image ≡ Some image) × OpensToNone image
+LacksCard form chip = (image : List ℕ) × (chip.image ≡ Some image) × OpensToNone image
 
 -- The words are of a form that asks for a card where there is none.
 pub record FindsNoCard (words : List (List ℕ)) (chip : Chip) : Type 0 where
@@ -38,7 +40,7 @@ pub record FindsNoCard (words : List (List ℕ)) (chip : Chip) : Type 0 where
 -- Until the card is open a power loss leaves what it leaves while a card is made; or, where one is there, what it leaves while that is opened.
 abbrev pub LeavesUntilOpen : Form → Chip → Chip → Type 0
 LeavesUntilOpen (New n) old opened = LeavesMade n old opened
-LeavesUntilOpen Apdu old opened = KeepsStore old opened
+LeavesUntilOpen form old opened = KeepsStore old opened
 
 -- The run ended before it read a line: the source is as it was, nothing was given, and the EEPROM is as it may be until the card is open.
 pub record EndsUnread {S : Type 0} (words : List (List ℕ)) (before after : S) (old new : Chip) : Type 0 where

@@ -5,7 +5,7 @@ use Rattle.eeprom.specs.Fault.{Rose}
 use Rattle.scql_model.specs.Machine.{Machine}
 use Rattle.scql_model.specs.Lines.{lines}
 use Rattle.card_cli.specs.declared.status.Status.{Status}
-use Rattle.card_cli.specs.declared.status.Status.TheVariants.{Done, Eeprom, ReadFault, WriteFault, TooLong}
+use Rattle.card_cli.specs.declared.status.Status.TheVariants.{Done, Eeprom, ReadFault, WriteFault, NotACard, NoMemory, TooLong, TooSmall}
 use Rattle.card_cli.specs.declared.stop.Stop.TheVariants as stop
 use Rattle.card_cli.specs.CutOff.{HasAnswered, StopsIn, OutletFails}
 
@@ -35,13 +35,21 @@ ends_input ReadFault = true
 ends_input WriteFault = true
 ends_input status = false
 
--- the ends of a run that came to read its input
-abbrev pub has_read : Status → Bool
-has_read Done = true
-has_read TooLong = true
-has_read ReadFault = true
-has_read WriteFault = true
-has_read status = false
+-- the ends of a run whose card didn't open
+abbrev pub ends_opening : Status → Bool
+ends_opening TooSmall = true
+ends_opening NotACard = true
+ends_opening NoMemory = true
+ends_opening Eeprom = true
+ends_opening status = false
+
+-- the ends that only a run has whose card was opened
+abbrev pub has_opened : Status → Bool
+has_opened Done = true
+has_opened TooLong = true
+has_opened ReadFault = true
+has_opened WriteFault = true
+has_opened status = false
 
 -- How a run of lines from a machine on ends, of whose input this is left, where the EEPROM's count of faults goes from one number to another: which lines were answered, and in which one a device failed.
 abbrev pub EndsAs : Status → ℕ → ℕ → Machine → List ℕ → List ℕ → Option (List ℕ) → Chip → Type 0

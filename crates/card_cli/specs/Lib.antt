@@ -5,6 +5,7 @@ pub mod FileChip
 pub mod Halting
 pub mod Keeping
 pub mod Line
+pub mod Migrating
 pub mod Moments
 pub mod Run
 pub mod RunState

@@ -1,10 +1,11 @@
 -- The words of the command line behind the file's name.
-use Rattle.std.specs.Prelude.{ℕ, ◌≤◌, ◌+◌, ◌-◌, ◌*◌, ◌==◌, nat_le, nat_lt, not, ◌&&◌, ◌||◌, Bool, List, [], ◌∷◌, length, Option, Some, None, option_map, option_and_then, if◌then◌else◌, codes}
+use Rattle.std.specs.Prelude.{ℕ, ◌≤◌, ◌+◌, ◌-◌, ◌*◌, ◌==◌, nat_le, nat_lt, not, ◌&&◌, ◌||◌, Bool, true, false, List, [], ◌∷◌, length, Option, Some, None, option_map, option_and_then, if◌then◌else◌, codes}
 use Rattle.std.specs.List.{fold, list_all}
+use Rattle.std.specs.Option.{option_map_or}
 use Rattle.std.specs.Char.{is_ascii_digit}
 use Rattle.std.specs.Str.{bytes_eq}
 use Rattle.card_cli.specs.declared.words.Form.{Form}
-use Rattle.card_cli.specs.declared.words.Form.TheVariants.{New, Apdu}
+use Rattle.card_cli.specs.declared.words.Form.TheVariants.{New, Apdu, Migrate}
 
 -- one to five decimal digits
 abbrev pub is_number : List ℕ → Bool
@@ -25,9 +26,9 @@ in_limits cells = if nat_lt cells 16 || nat_lt 2048 cells then None else Some ce
 abbrev pub cells_asked : List ℕ → Option ℕ
 cells_asked digits = option_and_then in_limits (decimal_in digits)
 
--- what the words ask for: `apdu`, or `new` and a number of cells
+-- what the words ask for: `apdu`, `migrate`, or `new` and a number of cells
 abbrev pub form_in : List (List ℕ) → Option Form
-form_in (word ∷ []) = if bytes_eq word (codes "apdu") then Some Apdu else None
+form_in (word ∷ []) = if bytes_eq word (codes "apdu") then Some Apdu else if bytes_eq word (codes "migrate") then Some Migrate else None
 form_in (word ∷ digits ∷ []) = if bytes_eq word (codes "new") then option_map New (cells_asked digits) else None
 form_in words = None
 
@@ -35,3 +36,12 @@ form_in words = None
 abbrev pub IsWithinLimits : Form → Type 0
 IsWithinLimits (New n) = (16 ≤ n) × (n ≤ 2048)
 IsWithinLimits form = Unit {0}
+
+-- the run of this form answers the lines of its input
+abbrev pub reads_lines : Form → Bool
+reads_lines Migrate = false
+reads_lines form = true
+
+-- the words ask for such a run
+abbrev pub ask_for_lines : List (List ℕ) → Bool
+ask_for_lines words = option_map_or reads_lines (form_in words) false

@@ -162,7 +162,7 @@ fn print_into(octets: &[u8], digits: &mut [u8])
 }
 
 // Giving, as the EEPROM of the bench tells it: each of its moments has how much had gone out.
-fn give<B: Bench>(bench: &mut B, text: &[u8]) -> Result<(), SinkFault>
+pub(crate) fn give<B: Bench>(bench: &mut B, text: &[u8]) -> Result<(), SinkFault>
     ensures text { OnOk result (Prints text.now (B.chip bench.old).still.given (B.chip bench.new).still.given) }
     ensures fails { OnErr result (IsCutShort text.now (B.chip bench.old).still.given (B.chip bench.new).still.given) }
     ensures image { (B.chip bench.new).image ≡ (B.chip bench.old).image }

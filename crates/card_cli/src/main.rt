@@ -7,6 +7,8 @@ mod fault_count;
 mod file_bench;
 mod input;
 mod line;
+mod migration;
+mod opening;
 mod run;
 mod standard_input;
 mod status;
@@ -76,7 +78,7 @@ fn hold_streams(rt: &HostRuntime) -> [io::Result<File>; 3] {
 
 const VERSION: &str = "card_cli 0.1.0";
 
-const HELP: &str = "usage: card_cli FILE (new N | apdu | term | check | load K SEED)
+const HELP: &str = "usage: card_cli FILE (new N | apdu | term | check | load K SEED | migrate)
 
 A relational database in a smart card, whose EEPROM is FILE.
 
@@ -85,8 +87,9 @@ apdu         answers each line of standard input, a command in hexadecimal
 term         runs each line of standard input, a statement
 check        counts what the card holds
 load K SEED  makes K inputs (0 to 1000) from SEED (0 to 65535) and runs them
+migrate      lets the rows of the card be longer: up to 1020 octets, not 240
 
-Of these, new and apdu are built.
+Of these, new, apdu and migrate are built.
 
 FILE is created by new alone. Exit status: 0 done, 1 refused, 2 usage,
 3 EEPROM fault, 4 read fault, 5 write fault, 6 not a card, 7 no memory,

@@ -1,26 +1,27 @@
 // The run of a card by the words of the command line: the program's one call.
-ghost use Rattle.std.specs.Prelude.{◌≡◌, ◌⊎◌, ◌↔◌, ◌<◌, ◌≤◌, ◌+◌, ◌*◌, ◌++◌, ℕ, List, [], Some, None, IsSome, true, false, map, take, length, OnOk, IfSome, IsErrOf};
+ghost use Rattle.std.specs.Prelude.{◌≡◌, ◌⊎◌, ◌↔◌, ◌<◌, ◌≤◌, ◌++◌, ℕ, List, [], Some, None, IsSome, true, false, map, take, length};
 ghost use Rattle.std.specs.String.{string_bytes};
 ghost use Rattle.eeprom.specs.Chip.{Becomes};
-ghost use Rattle.eeprom.specs.Fault.{Rose};
+ghost use Rattle.eeprom.specs.StoreOf.{image_size};
 ghost use Rattle.scql_model.specs.Database.{Database};
 ghost use Rattle.scql_model.specs.Machine.{start};
 ghost use Rattle.scql_model.specs.Lines.{lines, run_text};
 ghost use Rattle.record_store.specs.Recovery.{KeepsStore};
-ghost use Rattle.card.specs.Making.{OpensToNone};
-ghost use Rattle.card_cli.specs.Words.{form_in, IsWithinLimits};
+ghost use Rattle.card_cli.specs.Words.{form_in, ask_for_lines};
 ghost use Rattle.card_cli.specs.declared.stop.Stop.TheVariants as stop;
-ghost use Rattle.card_cli.specs.Beginning.{IsOpenTo, Begins, BeginsWith, LacksCard, FindsNoCard, LeavesUntilOpen, EndsUnread};
+ghost use Rattle.card_cli.specs.Beginning.{BeginsWith, FindsNoCard, EndsUnread};
 ghost use Rattle.card_cli.specs.CutOff.{HasAnswered, StopsIn, OutletFails};
-ghost use Rattle.card_cli.specs.Ends.{longest_input, has_read, AllFaults, EndsBy};
+ghost use Rattle.card_cli.specs.Ends.{longest_input, has_opened, AllFaults, EndsBy};
 ghost use Rattle.card_cli.specs.Run.{IsQuiet, AnswersAll, IsWithoutCard};
 ghost use Rattle.card_cli.specs.Moments.{IfGiven};
 ghost use Rattle.card_cli.specs.Keeping.{OpensAndRuns};
+ghost use Rattle.card_cli.specs.Migrating.{Migrates};
 
 use crate::input::answer_input;
+use crate::migration::run_migration;
+use crate::opening::open_card;
 use crate::status::Status;
 use crate::words::{Form, form_of};
-use card::{Card, FormatRefusal, OpenRefusal};
 use eeprom::{Bench, Source};
 use std::alloc::Global;
 
@@ -34,7 +35,7 @@ pub fn run_card<S: Source, B: Bench>(
     // The words are of no form.
     ensures usage { (result ≡ Status.Usage) ↔ (form_in (map string_bytes words.now) ≡ None) }
     // The EEPROM has too few octets for the cells that a new card is to have.
-    ensures too_small { (result ≡ Status.TooSmall) ↔ ((n : ℕ) × (form_in (map string_bytes words.now) ≡ Some (Form.New n)) × ((B.chip bench.old).still.size < 70 * n + 34)) }
+    ensures too_small { (result ≡ Status.TooSmall) ↔ ((n : ℕ) × (form_in (map string_bytes words.now) ≡ Some (Form.New n)) × ((B.chip bench.old).still.size < image_size n)) }
     // In both cases nothing is read, given or written.
     ensures untouched { (result ≡ Status.Usage) ⊎ (result ≡ Status.TooSmall) → (source.new ≡ source.old) × (bench.new ≡ bench.old) }
     // Without memory or a card no line is read and nothing is given, and an image that was to be opened has the store that it had.
@@ -44,10 +45,10 @@ pub fn run_card<S: Source, B: Bench>(
     // and then the run ends so, unless the EEPROM fails or there is no memory: nothing is read or given, and the image keeps what store it has.
     ensures no_card { FindsNoCard (map string_bytes words.now) (B.chip bench.old)
         → IsWithoutCard result × (source.new ≡ source.old) × KeepsStore (B.chip bench.old) (B.chip bench.new) }
-    // A run that reads its input has a database with which it began, where the image is told.
-    ensures begins { has_read result ≡ true → IsSome (B.chip bench.old).image → (db : Database) × BeginsWith (map string_bytes words.now) (B.chip bench.old) db }
-    // The input was read to its end, or more came than a run takes.
-    ensures done { result ≡ Status.Done → Becomes (λ input left. (left ≡ []) × (length input ≤ longest_input)) (S.left source.old) (S.left source.new) }
+    // A run over lines whose card was opened has a database with which it began, where the image is told.
+    ensures begins { ask_for_lines (map string_bytes words.now) ≡ true → has_opened result ≡ true → IsSome (B.chip bench.old).image → (db : Database) × BeginsWith (map string_bytes words.now) (B.chip bench.old) db }
+    // Its input was read to its end, or more came than a run takes.
+    ensures done { ask_for_lines (map string_bytes words.now) ≡ true → result ≡ Status.Done → Becomes (λ input left. (left ≡ []) × (length input ≤ longest_input)) (S.left source.old) (S.left source.new) }
     ensures too_long { result ≡ Status.TooLong → Becomes (λ input left. longest_input < length input) (S.left source.old) (S.left source.new) }
     ensures never_refused { ¬ result ≡ Status.Refused }
     // Each fault has its cause, and without one the counts stay.
@@ -81,40 +82,19 @@ pub fn run_card<S: Source, B: Bench>(
     ensures moments { EndsUnread (map string_bytes words.now) source.old source.new (B.chip bench.old) (B.chip bench.new)
         ⊎ ((db : Database) → (starts : BeginsWith (map string_bytes words.now) (B.chip bench.old) db) → IfGiven (B.chip bench.new)
         (Becomes (λ input left. OpensAndRuns starts.form db result (B.faults bench.old) (B.faults bench.new) input left (B.chip bench.old) (B.chip bench.new)) (S.left source.old) (S.left source.new))) }
+    // A run of `migrate` reads no line.
+    ensures migrate { form_in (map string_bytes words.now) ≡ Some Form.Migrate → Migrates result source.old source.new (B.chip bench.old) (B.chip bench.new)
+        (record { eeprom = B.faults bench.old; source = S.source_faults source.old; outlet = B.sink_faults bench.old })
+        (record { eeprom = B.faults bench.new; source = S.source_faults source.new; outlet = B.sink_faults bench.new }) }
 {
     let Some(form) = form_of(words) else {
         return Status::Usage;
     };
-    match prepare(form, bench) {
-        Err(FormatRefusal::TooSmall) => return Status::TooSmall,
-        Err(FormatRefusal::Fault) => return Status::Eeprom,
-        Ok(()) => {}
-    }
-    match Card::open(alloc, bench) {
-        Err(OpenRefusal::NoMemory) => Status::NoMemory,
-        Err(OpenRefusal::NotACard) => Status::NotACard,
-        Err(OpenRefusal::Fault) => Status::Eeprom,
-        Ok(mut card) => answer_input(&mut card, source, bench),
-    }
-}
-
-// Makes the card that the words ask for, where it isn't to be there already.
-fn prepare<B: Bench>(form: Form, bench: &mut B) -> Result<(), FormatRefusal>
-    requires { IsWithinLimits form }
-    ensures begins { OnOk result ((db : Database) → Begins form (B.chip bench.old) db → IsOpenTo (B.chip bench.new) db) }
-    ensures began { OnOk result ((db : Database) → IsOpenTo (B.chip bench.new) db → (first : Database) × Begins form (B.chip bench.old) first) }
-    ensures told { OnOk result (IsSome (B.chip bench.old).image → IsSome (B.chip bench.new).image) }
-    ensures lacks { OnOk result (IsSome (B.chip bench.old).image → IfSome (B.chip bench.new).image OpensToNone → LacksCard form (B.chip bench.old)) }
-    ensures leaves { LeavesUntilOpen form (B.chip bench.old) (B.chip bench.new) }
-    ensures still { (B.chip bench.new).still ≡ (B.chip bench.old).still }
-    ensures too_small { IsErrOf result FormatRefusal.TooSmall ↔ ((n : ℕ) × (form ≡ Form.New n) × ((B.chip bench.old).still.size < 70 * n + 34)) }
-    ensures unchanged { IsErrOf result FormatRefusal.TooSmall → bench.new ≡ bench.old }
-    ensures fault { IsErrOf result FormatRefusal.Fault → Rose (B.faults bench.old) (B.faults bench.new) }
-    ensures quiet { OnOk result (B.faults bench.new ≡ B.faults bench.old) }
-    ensures never_falls { B.faults bench.old ≤ B.faults bench.new }
-{
-    match form {
-        Form::New { cells } => Card::format(bench, cells),
-        Form::Apdu => Ok(()),
+    match open_card(alloc, form, bench) {
+        Err(status) => status,
+        Ok(mut card) => match form {
+            Form::Migrate => run_migration(bench),
+            Form::New { .. } | Form::Apdu => answer_input(&mut card, source, bench),
+        },
     }
 }

@@ -63,4 +63,4 @@ impl Status {
     }
 }
 
-const USAGE: &str = "usage: card_cli FILE (new N | apdu | term | check | load K SEED)";
+const USAGE: &str = "usage: card_cli FILE (new N | apdu | term | check | load K SEED | migrate)";

@@ -17,6 +17,8 @@ pub(crate) enum Form {
     New { cells: u16 },
     /// `apdu`: the card that is there answers the lines.
     Apdu,
+    /// `migrate`: the card that is there gets longer rows, and no line is read.
+    Migrate,
 }
 
 /// The form that the words are of.
@@ -25,6 +27,7 @@ pub(crate) fn form_of(words: &[String]) -> Option<Form>
 {
     match words {
         [word] if word.as_bytes() == b"apdu".as_slice() => Some(Form::Apdu),
+        [word] if word.as_bytes() == b"migrate".as_slice() => Some(Form::Migrate),
         [word, digits] if word.as_bytes() == b"new".as_slice() => {
             let cells = cells_of(digits.as_bytes())?;
             Some(Form::New { cells })

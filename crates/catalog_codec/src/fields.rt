@@ -5,7 +5,6 @@ ghost use Rattle.scql_base.specs.Row.{is_narrow};
 ghost use Rattle.scql_model.specs.Fields as fields;
 ghost use Rattle.scql_model.specs.Records as records;
 
-use crate::codes::{comparison_of, profile_of, subject_of};
 use scql_base::{Comparison, Name, Octets, Privileges, Profile, Subject};
 
 // A text: a length in one octet, and so many octets.
@@ -55,7 +54,7 @@ pub(crate) fn profile_at(octets: &[u8]) -> Option<(Profile, &[u8])>
     let [code, rest @ ..] = octets else {
         return None;
     };
-    let profile = profile_of(*code)?;
+    let profile = Profile::of(*code)?;
     Some((profile, rest))
 }
 
@@ -65,7 +64,7 @@ pub(crate) fn subject_at(octets: &[u8]) -> Option<(Subject, &[u8])>
     let [code, rest @ ..] = octets else {
         return None;
     };
-    let subject = subject_of(*code)?;
+    let subject = Subject::of(*code)?;
     Some((subject, rest))
 }
 
@@ -75,7 +74,7 @@ pub(crate) fn comparison_at(octets: &[u8]) -> Option<(Comparison, &[u8])>
     let [code, rest @ ..] = octets else {
         return None;
     };
-    let comparison = comparison_of(*code)?;
+    let comparison = Comparison::of(*code)?;
     Some((comparison, rest))
 }
 

@@ -1,7 +1,6 @@
 //! Records of a card in octets and back, of each kind: the counter of stamps, users, objects, grants and rows.
 #![tactic(auto)]
 
-mod codes;
 mod counter;
 mod counter_record;
 mod fields;

@@ -7,7 +7,6 @@ ghost use Rattle.scql_model.specs.Fields.{many_at, text_at};
 ghost use Rattle.scql_model.specs.Records as records;
 ghost use Rattle.catalog_codec.specs.Conditions.{condition};
 
-use crate::codes::comparison_code;
 use crate::fields::{comparison_at, name_at, value_at};
 use crate::writing::put_text;
 use cell_store::RecordOctets;
@@ -112,6 +111,6 @@ fn put_condition(out: &mut RecordOctets, entry: &Condition)
     ensures { out.new.items ≡ out.old.items ++ condition.spell entry.now }
 {
     put_text(out, entry.column.octets());
-    out.push(comparison_code(entry.comparison));
+    out.push(entry.comparison.code());
     put_text(out, entry.value.as_slice());
 }

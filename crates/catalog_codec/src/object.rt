@@ -3,7 +3,6 @@ ghost use Rattle.std.specs.Prelude.{◌≡◌, ◌∷◌, option_map};
 ghost use Rattle.scql_model.specs.Records.{object_from};
 
 use crate::Record;
-use crate::codes::subject_code;
 use crate::fields::{name_at, subject_at};
 use crate::lists::{columns_at, conditions_at, put_columns, put_conditions};
 use crate::writing::put_text;
@@ -59,7 +58,7 @@ impl Record for Object {
                 put_number(out, self.stamp);
                 put_number(out, self.owner);
                 put_text(out, self.name.octets());
-                out.push(subject_code(*subject));
+                out.push(subject.code());
             }
         }
     }

@@ -2,7 +2,6 @@
 ghost use Rattle.std.specs.Prelude.{◌≡◌};
 
 use crate::Record;
-use crate::codes::profile_code;
 use crate::fields::{name_at, profile_at, secret_at, tries_at};
 use crate::writing::put_text;
 use cell_store::RecordOctets;
@@ -47,7 +46,7 @@ impl Record for User {
         out.push(MARK);
         put_number(out, self.stamp);
         put_number(out, self.owner);
-        out.push(profile_code(self.profile));
+        out.push(self.profile.code());
         out.push(self.tries);
         put_text(out, self.name.octets());
         put_text(out, self.secret.as_slice());

@@ -1,8 +1,8 @@
 -- How many octets are read of a chain and of a record.
 use Rattle.std.proofs.Common.{◌≡◌, ℕ, ◌+◌, ◌*◌, ◌≤◌, List, length, Option, Some, None, IsSome, IfSome, refl, ap, arith, subst}
-use Rattle.eeprom.specs.Chip.{Becomes, RisesBy}
+use Rattle.eeprom.specs.Chip.{Becomes, RisesAtMost, RisesBy}
 use Rattle.eeprom.specs.StoreOf.{chain_of, cells_of, slot_of, longest_chain}
-use Rattle.cell_store.specs.Reading.{ReadsAtMost, ReadsCells, ReadsRecord}
+use Rattle.cell_store.specs.Reading.{ReadsCells, ReadsRecord}
 use Rattle.cell_store.specs.Walk.{Walked}
 use Rattle.cell_store.proofs.Chains.{cells-chain}
 use Rattle.cell_store.specs.Chains.{IsRecordChain}
@@ -18,13 +18,13 @@ reads-more step old mid new first next = λ after e.
     (start.0, start.1, omega (arith, last.2, start.2))
 
 -- so many octets at the most
-pub reads-less : (count most : ℕ) (old new : Option ℕ) → count ≤ most → Becomes (ReadsAtMost count) old new → Becomes (ReadsAtMost most) old new
+pub reads-less : (count most : ℕ) (old new : Option ℕ) → count ≤ most → Becomes (RisesAtMost count) old new → Becomes (RisesAtMost most) old new
 reads-less count most old new few read = λ after e. (let start = read after e in (start.0, start.1, omega (arith, start.2, few)))
 
-pub reads-whole : (cells most : ℕ) (old new : Option ℕ) → 32 * cells ≤ most → Becomes (ReadsCells cells) old new → Becomes (ReadsAtMost most) old new
+pub reads-whole : (cells most : ℕ) (old new : Option ℕ) → 32 * cells ≤ most → Becomes (ReadsCells cells) old new → Becomes (RisesAtMost most) old new
 reads-whole cells most old new few read = λ after e. (let start = read after e in (start.0, start.1, omega (arith, start.2, few)))
 
-pub reads-then : (cells count most : ℕ) (old mid new : Option ℕ) → 32 * cells + count ≤ most → Becomes (ReadsCells cells) old mid → Becomes (ReadsAtMost count) mid new → Becomes (ReadsAtMost most) old new
+pub reads-then : (cells count most : ℕ) (old mid new : Option ℕ) → 32 * cells + count ≤ most → Becomes (ReadsCells cells) old mid → Becomes (RisesAtMost count) mid new → Becomes (RisesAtMost most) old new
 reads-then cells count most old mid new few first next = λ after e.
     let last = next after e in
     let start = first last.0 last.1 in

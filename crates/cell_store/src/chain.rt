@@ -9,15 +9,15 @@ ghost use Rattle.eeprom.specs.StoreOf.{chain_of, payload_of, slot_of, record_in,
 ghost use Rattle.cell_store.specs.Chains.{IsRecordChain};
 ghost use Rattle.cell_store.specs.Reading.{Extends, ReadsCells, ReadsRecord};
 
-use crate::layout::{CELL, LARGEST, LINK, LONGEST, LONGEST_RECORD, cell_place, number_of};
+use crate::layout::{LARGEST_PAYLOAD, LINK_SIZE, number_of};
 use arrayvec::ArrayVec;
-use eeprom::{Eeprom, EepromFault};
+use eeprom::{CELL_SIZE, Eeprom, EepromFault, LONGEST_CHAIN, LONGEST_RECORD, cell_place};
 
 /// The octets of a record.
 pub type RecordOctets = ArrayVec<u8, LONGEST_RECORD>;
 
 /// The payload of the longest chain.
-pub type Payload = ArrayVec<u8, LARGEST>;
+pub type Payload = ArrayVec<u8, LARGEST_PAYLOAD>;
 
 /// Reads the record whose chain begins at `first`.
 pub fn read_record<B: Eeprom>(
@@ -56,7 +56,7 @@ fn read_payload<B: Eeprom>(
 {
     payload.clear();
     let mut cell = first;
-    for _step in 0..LONGEST {
+    for _step in 0..LONGEST_CHAIN {
         if cell as u32 >= 2 * cells as u32 {
             break;
         }
@@ -82,9 +82,9 @@ pub fn read_cell<B: Eeprom>(
     ensures octets_read { Becomes (ReadsCells 1) (B.octets_read bench.old) (B.octets_read bench.new) }
     ensures frame { Reads each_error B.chip B.faults bench.old bench.new result }
 {
-    let mut octets = [0; CELL];
+    let mut octets = [0; CELL_SIZE];
     bench.read(cell_place(cells, cell), &mut octets)?;
-    append(payload, &octets[LINK..]);
+    append(payload, &octets[LINK_SIZE..]);
     Ok(number_of(octets[0], octets[1]))
 }
 

@@ -2,21 +2,21 @@
 ghost use Rattle.std.specs.Prelude.{◌≡◌, ◌+◌, ◌*◌, ◌≤◌, ◌<◌, ◌++◌, ℕ, List, Some, length, IfSome, IfOk, IsErrOf, OnOk};
 ghost use Rattle.std.specs.List.{flat_map};
 ghost use Rattle.arrayvec.specs.ArrayVec.{array_vec_len};
-ghost use Rattle.eeprom.specs.Chip.{Becomes};
+ghost use Rattle.eeprom.specs.Chip.{Becomes, RisesAtMost};
 ghost use Rattle.eeprom.specs.Frame.{HasRoom, Reads};
 ghost use Rattle.eeprom.specs.StoreOf.{chain_of, number_at, cell_place, payload_of, cell_size, piece_size, longest_chain};
 ghost use Rattle.cell_store.specs.Cells.{cells_from, AreLinkedIn};
 ghost use Rattle.cell_store.specs.Claims.{TakesChain, HasRecord, HasNoRecord};
 ghost use Rattle.cell_store.specs.Claiming.{ClaimsCell, IsTakenCell, record_cells};
-ghost use Rattle.cell_store.specs.Reading.{Extends, ReadsAtMost, ReadsCells};
+ghost use Rattle.cell_store.specs.Reading.{Extends, ReadsCells};
 ghost use Rattle.cell_store.specs.Faults.{is_claim_fault};
 
 use crate::ClaimRefusal;
 use crate::chain::{Payload, read_cell};
-use crate::layout::{LONGEST_RECORD, NO_CELL, number_of};
+use crate::layout::number_of;
 use crate::marks::Marks;
 use crate::store::cells_for;
-use eeprom::Eeprom;
+use eeprom::{Eeprom, LONGEST_RECORD, NO_CELL};
 
 /// Claims the chain that begins at `first`, and answers how many cells it has: exactly those of its record. The payload of
 /// these cells is kept.
@@ -40,7 +40,7 @@ pub fn claim_cells<B: Eeprom>(
     ensures count { IfOk result (λ count. record_cells payload.new.items ≡ Some count) }
     ensures size { IfOk result (λ count. length payload.new.items ≡ piece_size * count) }
     ensures octets_read { IfOk result (λ count. Becomes (ReadsCells count) (B.octets_read bench.old) (B.octets_read bench.new)) }
-    ensures most_read { Becomes (ReadsAtMost (cell_size * longest_chain)) (B.octets_read bench.old) (B.octets_read bench.new) }
+    ensures most_read { Becomes (RisesAtMost (cell_size * longest_chain)) (B.octets_read bench.old) (B.octets_read bench.new) }
     ensures bad_chain { IsErrOf result ClaimRefusal.BadChain → IfSome (B.chip bench.old).image (HasNoRecord (cells_from cells used.old links.old) first) }
     ensures used { length used.new ≡ length used.old }
     ensures links { length links.new ≡ length links.old }
@@ -80,7 +80,7 @@ fn claim_cell<B: Eeprom>(
     ensures payload { OnOk result (IfSome (B.chip bench.old).image (λ image. payload.new.items ≡ payload.old.items ++ payload_of image cells cell)) }
     ensures appends { OnOk result (Extends piece_size payload.old.items payload.new.items) }
     ensures octets_read { OnOk result (Becomes (ReadsCells 1) (B.octets_read bench.old) (B.octets_read bench.new)) }
-    ensures most_read { Becomes (ReadsAtMost cell_size) (B.octets_read bench.old) (B.octets_read bench.new) }
+    ensures most_read { Becomes (RisesAtMost cell_size) (B.octets_read bench.old) (B.octets_read bench.new) }
     ensures taken { IsErrOf result ClaimRefusal.BadChain → IsTakenCell (cells_from cells used.old links.old) cell }
     ensures used { length used.new ≡ length used.old }
     ensures links { length links.new ≡ length links.old }

@@ -10,6 +10,7 @@ mod refusal;
 mod store;
 
 pub use chain::RecordOctets;
-pub use layout::{NO_CELL, number_of, octets_of};
+pub use eeprom::NO_CELL;
+pub use layout::{number_of, octets_of};
 pub use refusal::{CellRefusal, ClaimRefusal};
 pub use store::{CellStore, cells_for};

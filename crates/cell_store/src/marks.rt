@@ -5,7 +5,7 @@ ghost use Rattle.cell_store.specs.Cells.{link_in};
 ghost use Rattle.cell_store.specs.Chains.{AreLinked, AreMarked, with_unmarked};
 ghost use Rattle.cell_store.specs.Marks.{is_marked, IsFreeRun, IsLongest, IsLongestFrom, StaysMarked, unmarked};
 
-use crate::layout::LONGEST;
+use eeprom::LONGEST_CHAIN;
 use std::alloc::{AllocError, Global};
 use std::marker::Model;
 
@@ -118,7 +118,7 @@ pub fn unmark_chain(marks: &mut Marks, links: &[u16], first: u16)
     ensures count { length marks.new ≡ length marks.old }
 {
     let mut cell = first;
-    for _step in 0..LONGEST {
+    for _step in 0..LONGEST_CHAIN {
         if !marks.is_marked(cell) {
             return;
         }

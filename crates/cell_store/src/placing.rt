@@ -4,54 +4,54 @@ ghost use Rattle.arrayvec.specs.ArrayVec.{array_vec_len};
 ghost use Rattle.eeprom.specs.Chip.{Becomes, RisesBy};
 ghost use Rattle.eeprom.specs.Fault.{Counts};
 ghost use Rattle.eeprom.specs.Frame.{HasRoom};
-ghost use Rattle.eeprom.specs.StoreOf.{number_at, record_in, two_octets, cell_size, piece_size, longest_record, longest_chain};
+ghost use Rattle.eeprom.specs.StoreOf.{number_at, cells_for, record_in, two_octets, cell_size, piece_size, longest_record, longest_chain};
 ghost use Rattle.cell_store.specs.Marks.{IsFreeRun, unmarked};
 ghost use Rattle.cell_store.specs.Placed.{IsLaid, IsPlaced, KeepsMarked};
 ghost use Rattle.cell_store.specs.Cells.{StayLinked};
 ghost use Rattle.cell_store.specs.Runs as runs;
 
 use crate::chain::{Payload, append};
-use crate::layout::{LARGEST, LARGEST_RUN, NO_CELL, PIECE, cell_place, octets_of};
+use crate::layout::{LARGEST_RUN, octets_of};
 use crate::marks::{Marks, Run, unmark_chain};
+use crate::store::cells_for;
 use arrayvec::ArrayVec;
-use eeprom::{Eeprom, EepromFault};
+use eeprom::{Eeprom, EepromFault, NO_CELL, PIECE_SIZE, cell_place};
 
 /// The octets of the cells of the longest chain.
 type RunOctets = ArrayVec<u8, LARGEST_RUN>;
 
-/// The payload of a record, with what is left over empty.
-pub fn payload_of_record(octets: &[u8]) -> Payload
+/// Makes this the payload of a record: its length, its octets, and zeros to the end of its last cell.
+pub fn fill_payload(payload: &mut Payload, octets: &[u8])
     requires fits { length octets.now ≤ longest_record }
-    ensures number { number_at result.items 0 ≡ length octets.now }
-    ensures record { record_in result.items ≡ octets.now }
-    ensures size { length result.items ≡ piece_size * longest_chain }
+    ensures number { number_at payload.new.items 0 ≡ length octets.now }
+    ensures record { record_in payload.new.items ≡ octets.now }
+    ensures size { length payload.new.items ≡ piece_size * cells_for (length octets.now) }
 {
-    let mut payload = Payload::new();
-    append(&mut payload, &octets_of(octets.len() as u16));
-    append(&mut payload, octets);
-    append(&mut payload, &[0; LARGEST][..LARGEST - 2 - octets.len()]);
-    payload
+    payload.clear();
+    append(payload, &octets_of(octets.len() as u16));
+    append(payload, octets);
+    let whole = PIECE_SIZE * cells_for(octets.len()) as usize;
+    append(payload, &[0; PIECE_SIZE][..whole - 2 - octets.len()]);
 }
 
-/// The octets of a run's cells, which have the payload from a piece on, and come before the cell `after`.
-fn run_octets(run: Run, after: u16, payload: &[u8], piece: u16) -> RunOctets
+/// Makes these the octets of a run's cells, which have the payload from a piece on, and come before the cell `after`.
+fn fill_run(octets: &mut RunOctets, run: Run, after: u16, payload: &[u8], piece: u16)
     requires most { run.count ≤ longest_chain }
     requires there { run.cell + run.count ≤ 4096 }
     requires payload { piece_size * (piece + run.count) ≤ length payload.now }
-    ensures octets { result.items ≡ runs.run_octets run.cell run.count after payload.now piece }
-    ensures size { length result.items ≡ cell_size * run.count }
+    ensures octets { octets.new.items ≡ runs.run_octets run.cell run.count after payload.now piece }
+    ensures size { length octets.new.items ≡ cell_size * run.count }
 {
-    let mut octets = RunOctets::new();
+    octets.clear();
     for step in 0..run.count {
         let next = if step + 1 < run.count {
             run.cell + step + 1
         } else {
             after
         };
-        let place = PIECE * (piece as usize + step as usize);
-        push_cell(&mut octets, next, &payload[place..place + PIECE]);
+        let place = PIECE_SIZE * (piece as usize + step as usize);
+        push_cell(octets, next, &payload[place..place + PIECE_SIZE]);
     }
-    octets
 }
 
 /// A cell's octets behind those of others: the number of the next cell, and a piece of payload.
@@ -111,12 +111,13 @@ pub fn write_cells<B: Eeprom>(
     ensures moments { KeepsMarked marks.old cells (B.chip bench.old) (B.chip bench.new) }
     ensures cause { Counts (B.faults bench.old) (B.faults bench.new) result }
 {
+    let mut octets = RunOctets::new();
     let mut first = NO_CELL;
     let mut left = count;
     while left > 0 {
         let run = marks.find_run(left);
         left -= run.count;
-        let octets = run_octets(run, first, payload, left);
+        fill_run(&mut octets, run, first, payload, left);
         if let Err(fault) = bench.write(cell_place(cells, run.cell), octets.as_slice()) {
             unmark_chain(marks, links, first);
             return Err(fault);

@@ -1,6 +1,6 @@
 // The cells of an EEPROM, of which it is kept in memory which are used, and how these are linked.
 ghost use Rattle.std.specs.Prelude.{◌≡◌, ◌↔◌, ◌+◌, ◌*◌, ◌≤◌, ◌<◌, ℕ, List, false, Some, length, is_some, replicate, IfSome, IfOk, OnOk, IsErrOf};
-ghost use Rattle.eeprom.specs.Chip.{Becomes, RisesBy};
+ghost use Rattle.eeprom.specs.Chip.{Becomes, RisesAtMost, RisesBy};
 ghost use Rattle.eeprom.specs.Fault.{CountsFaults, each_error};
 ghost use Rattle.eeprom.specs.Frame.{HasRoom, Reads};
 ghost use Rattle.eeprom.specs.StoreOf.{slot_of, cell_size, longest_record, longest_chain};
@@ -11,16 +11,15 @@ ghost use Rattle.cell_store.specs.Cells.{all_free, freed, AreLinkedIn, IsUsedCha
 ghost use Rattle.cell_store.specs.Claims.{TakesChain, HasRecord, HasNoRecord};
 ghost use Rattle.cell_store.specs.Writing.{IsWritten, KeepsChains};
 ghost use Rattle.cell_store.specs.Placed.{KeepsMarked};
-ghost use Rattle.cell_store.specs.Reading.{ReadsAtMost, ReadsCells, ReadsRecord};
+ghost use Rattle.cell_store.specs.Reading.{ReadsCells, ReadsRecord};
 ghost use Rattle.cell_store.specs.Faults.{is_claim_fault, is_write_fault};
 
 use crate::chain::{Payload, RecordOctets, copy_record, read_record};
 use crate::claims::claim_cells;
-use crate::layout::{LONGEST, NO_CELL, PIECE};
 use crate::marks::{Marks, unmark_chain};
-use crate::placing::{payload_of_record, write_cells};
+use crate::placing::{fill_payload, write_cells};
 use crate::{CellRefusal, ClaimRefusal};
-use eeprom::{Eeprom, EepromFault};
+use eeprom::{Eeprom, EepromFault, LONGEST_CHAIN, NO_CELL, PIECE_SIZE};
 use std::alloc::{AllocError, Global};
 use std::marker::Model;
 
@@ -76,7 +75,7 @@ impl CellStore {
         ensures linked { OnOk result (IfSome (B.chip bench.old).image (λ image. AreLinkedIn self.old image → AreLinkedIn self.new image)) }
         ensures record { OnOk result (IfSome (B.chip bench.old).image (HasRecord self.new first)) }
         ensures octets_read { IfOk result (λ count. Becomes (ReadsCells count) (B.octets_read bench.old) (B.octets_read bench.new)) }
-        ensures most_read { Becomes (ReadsAtMost (cell_size * longest_chain)) (B.octets_read bench.old) (B.octets_read bench.new) }
+        ensures most_read { Becomes (RisesAtMost (cell_size * longest_chain)) (B.octets_read bench.old) (B.octets_read bench.new) }
         ensures bad_chain { IsErrOf result ClaimRefusal.BadChain → IfSome (B.chip bench.old).image (HasNoRecord self.old first) }
         ensures frame { Reads is_claim_fault B.chip B.faults bench.old bench.new result }
     {
@@ -100,7 +99,7 @@ impl CellStore {
         ensures some { OnOk result (1 ≤ length out.new.items) }
         ensures count { IfOk result (λ count. count ≡ image.cells_for (length out.new.items)) }
         ensures octets_read { IfOk result (λ count. Becomes (ReadsCells count) (B.octets_read bench.old) (B.octets_read bench.new)) }
-        ensures most_read { Becomes (ReadsAtMost (cell_size * longest_chain)) (B.octets_read bench.old) (B.octets_read bench.new) }
+        ensures most_read { Becomes (RisesAtMost (cell_size * longest_chain)) (B.octets_read bench.old) (B.octets_read bench.new) }
         ensures bad_chain { IsErrOf result ClaimRefusal.BadChain → IfSome (B.chip bench.old).image (HasNoRecord self.old first) }
         ensures frame { Reads is_claim_fault B.chip B.faults bench.old bench.new result }
     {
@@ -136,7 +135,8 @@ impl CellStore {
         if count > self.used.count_free() {
             return Err(CellRefusal::NoCell);
         }
-        let payload = payload_of_record(octets);
+        let mut payload = Payload::new();
+        fill_payload(&mut payload, octets);
         let first = write_cells(
             bench,
             self.cells,
@@ -190,13 +190,13 @@ impl CellStore {
         ensures most { result ≤ longest_chain }
     {
         let mut cell = first as usize;
-        for count in 0..LONGEST {
+        for count in 0..LONGEST_CHAIN {
             if cell >= self.links.len() {
                 return count;
             }
             cell = self.links[cell] as usize;
         }
-        LONGEST
+        LONGEST_CHAIN
     }
 }
 
@@ -205,5 +205,5 @@ pub fn cells_for(size: usize) -> u16
     requires most { size ≤ longest_record }
     ensures { result ≡ image.cells_for size }
 {
-    ((size + 31) / PIECE) as u16
+    ((size + 31) / PIECE_SIZE) as u16
 }

@@ -7,17 +7,10 @@ use Rattle.eeprom.specs.Image.{overwrite, IsTorn}
 use Rattle.eeprom.specs.StoreOf.{number_at, entries_at, journal_place, journal, is_entry, is_gate_open, written_directory, with_entries, directory, image_size}
 use Rattle.eeprom.specs.declared.entry.Entry.{Entry}
 use Rattle.journal.specs.Journal.{KeepsRest, TakesEntries, IsBetween, IsReplayed, KeepsDirectory}
-use Rattle.journal.specs.Redo.{IsOpenWith}
+use Rattle.journal.specs.Redo.{HasJournal, IsOpenWith}
+use Rattle.journal.specs.Writing.{AreJournal}
 use Rattle.journal.proofs.Outside.{torn-outside, torn-whole, alike-written, number-alike, entries-alike, gate-stays, directory-before, directory-behind, rest-gate, rest-body, rest-then}
-use Rattle.journal.proofs.Redoing.{HasJournal, directory-closed, directory-either, directory-open, journal-kept, gate-open}
-
--- the octets of a journal with these entries
-pub record AreJournal (n : ℕ) (entries : List Entry) (octets : List ℕ) : Type 0 where
-  pub few : length entries ≤ n
-  pub range : list_all (is_entry n) entries ≡ true
-  pub number : number_at octets 0 ≡ length entries
-  pub listed : entries_at octets 2 (length entries) ≡ entries
-  pub count : length octets ≡ 2 + 4 * length entries
+use Rattle.journal.proofs.Redoing.{directory-closed, directory-either, directory-open, journal-kept, gate-open}
 
 -- an image before the gate of a commit is opened: nothing but the journal was changed
 pub record IsJournaled (n : ℕ) (was left : List ℕ) : Type 0 where

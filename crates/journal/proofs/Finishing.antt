@@ -8,10 +8,11 @@ use Rattle.eeprom.specs.StoreOf.{image_size, journal_place, is_gate_open, writte
 use Rattle.eeprom.specs.declared.entry.Entry.{Entry}
 use Rattle.eeprom.proofs.Overwrite.{map-some}
 use Rattle.journal.specs.Journal.{TakesEntries, IsBetween, IsReplayed, KeepsDirectory}
-use Rattle.journal.specs.Redo.{IsOpenWith, IsRewritten}
-use Rattle.journal.proofs.Leaves.{at-told, write-leaves, leaves-weaker, leaves-then, leaves-last}
-use Rattle.journal.proofs.Redoing.{HasJournal, directory-closed, redo-keeps, closing-keeps, redo-done}
-use Rattle.journal.proofs.Committing.{AreJournal, IsJournaled, IsOpened, journaled-torn, journaled-between, journal-there, opening-between, opened, opened-between, opened-done}
+use Rattle.journal.specs.Redo.{HasJournal, IsOpenWith, IsRewritten}
+use Rattle.eeprom.proofs.Leaves.{at-told, write-leaves, leaves-weaker, leaves-then, leaves-last}
+use Rattle.journal.specs.Writing.{AreJournal}
+use Rattle.journal.proofs.Redoing.{directory-closed, redo-keeps, closing-keeps, redo-done}
+use Rattle.journal.proofs.Committing.{IsJournaled, IsOpened, journaled-torn, journaled-between, journal-there, opening-between, opened, opened-between, opened-done}
 
 -- what is known of whatever is told
 pub if-told : (P : List ℕ → Type 0) (image : Option (List ℕ)) → ((was : List ℕ) → image ≡ Some was → P was) → IfSome image P

@@ -1,7 +1,6 @@
 pub mod Committing
 pub mod Entries
 pub mod Finishing
-pub mod Leaves
 pub mod Outside
 pub mod Pushed
 pub mod Redoing

@@ -1,7 +1,6 @@
 -- Entries pushed at the end of a journal's octets, and taken from them.
-use Rattle.std.proofs.Common.{◌≡◌, ℕ, zero, suc, ◌+◌, ◌*◌, ◌/◌, ◌%◌, ◌<◌, ◌≤◌, List, [], ◌∷◌, ◌++◌, length, take, get_or, sym, refl, ap, ap₂, ◌∙◌, arith, append_assoc, add-zero, suc-add, get_or-append-add, length-append, Option, Some, None, IfSome, slice_range, false}
-use Rattle.std.proofs.Math.ListN.{set}
-use Rattle.std.proofs.lemmas.List.{get_or_append_left, take_more_set}
+use Rattle.std.proofs.Common.{◌≡◌, ℕ, zero, suc, ◌+◌, ◌*◌, ◌/◌, ◌%◌, ◌≤◌, List, [], ◌∷◌, ◌++◌, length, get_or, sym, refl, ap, ap₂, ◌∙◌, arith, append_assoc, add-zero, suc-add, get_or-append-add, length-append, Option, Some, None, IfSome, slice_range, false}
+use Rattle.std.proofs.lemmas.List.{get_or_append_left}
 use Rattle.std.specs.List.{list_all}
 use Rattle.eeprom.specs.StoreOf.{number_at, entries_at, two_octets, is_entry}
 use Rattle.eeprom.specs.declared.entry.Entry.{Entry}
@@ -57,12 +56,11 @@ entries-grown octets mid last count slot first entries a b size before =
     ap (λ (xs : List ℕ). entries_at xs 2 (count + 1)) (b ∙ ap (λ (xs : List ℕ). xs ++ two_octets first) a) ∙ entries-pushed octets count slot first entries size before
 
 -- one entry more is taken
-pub taken-more : (octets : List ℕ) (entries : List Entry) (i : ℕ) (entry : Entry) → i < length entries → take i entries ≡ entries_at octets 0 i → entry.slot ≡ number_at octets (4 * i) → entry.first ≡ number_at octets (4 * i + 2)
-    → take (i + 1) (set entries i entry) ≡ entries_at octets 0 (i + 1)
-taken-more octets entries i entry inside before slot first =
+pub taken-more : (octets : List ℕ) (entries : List Entry) (i : ℕ) (entry : Entry) → entries ≡ entries_at octets 0 i → entry.slot ≡ number_at octets (4 * i) → entry.first ≡ number_at octets (4 * i + 2)
+    → entries ++ entry ∷ [] ≡ entries_at octets 0 (i + 1)
+taken-more octets entries i entry before slot first =
     let place : 0 + 4 * i ≡ 4 * i = omega arith in
-    take_more_set entries i entry inside
-    ∙ ap₂ (λ (es : List Entry) (entry : Entry). es ++ entry ∷ []) before (ap₂ (λ (slot first : ℕ). record { slot = slot; first = first }) slot first)
+    ap₂ (λ (es : List Entry) (entry : Entry). es ++ entry ∷ []) before (ap₂ (λ (slot first : ℕ). record { slot = slot; first = first }) slot first)
     ∙ ap (λ (place : ℕ). entries_at octets 0 i ++ record { slot = number_at octets place; first = number_at octets (place + 2) } ∷ []) (sym place)
     ∙ sym (entries-more octets 0 i)
 

@@ -7,18 +7,17 @@ use Rattle.eeprom.specs.declared.entry.Entry.{Entry}
 use Rattle.eeprom.proofs.Places.{length-numbers_at, get_or-numbers_at}
 use Rattle.eeprom.proofs.Regions.{get-inside}
 use Rattle.journal.specs.Journal.{KeepsRest, IsReplayed, KeepsDirectory}
-use Rattle.journal.specs.Redo.{names, IsOpenWith, IsRewritten, IsRun, place_of}
-use Rattle.journal.specs.declared.run.Run.{Run}
+use Rattle.journal.specs.Redo.{HasJournal, IsOpenWith, IsRewritten, IsRun, Numbers, names, place_of}
 use Rattle.journal.proofs.Entries.{with-agree}
 use Rattle.journal.proofs.Outside.{SameOutside, torn-outside, torn-whole, alike-before, alike-behind, number-alike, journal-stays, range-stays, gate-stays, directory-behind, rest-gate, rest-body, rest-then}
 
 -- a torn write of a run
-pub rewritten-torn : (n : ℕ) (entries : List Entry) (run : Run) (was left : List ℕ) → image_size n ≤ length was → IsRun n entries run → IsTorn was (place_of run) (length run.octets.items) left → IsRewritten n entries was left
+pub rewritten-torn : (n : ℕ) (entries : List Entry) (run : Numbers) (was left : List ℕ) → image_size n ≤ length was → IsRun n entries run → IsTorn was (place_of run) (length run.octets) left → IsRewritten n entries was left
 rewritten-torn n entries run was left room is torn =
-    let size : length run.octets.items ≡ 2 * is.count = is.size in
+    let size : length run.octets ≡ 2 * is.count = is.size in
     let within : run.slot + is.count ≤ n = is.within in
-    let whole = torn-outside was left (32 + 2 * run.slot) (length run.octets.items) 32 (32 + 2 * n) (omega arith) (omega arith) (omega arith) torn in
-    let exact = torn-outside was left (32 + 2 * run.slot) (length run.octets.items) (32 + 2 * run.slot) (32 + 2 * (run.slot + is.count)) (omega arith) (omega arith) (omega arith) torn in
+    let whole = torn-outside was left (32 + 2 * run.slot) (length run.octets) 32 (32 + 2 * n) (omega arith) (omega arith) (omega arith) torn in
+    let exact = torn-outside was left (32 + 2 * run.slot) (length run.octets) (32 + 2 * run.slot) (32 + 2 * (run.slot + is.count)) (omega arith) (omega arith) (omega arith) torn in
     record {
       size = whole.size;
       before = whole.before;
@@ -69,11 +68,7 @@ rewritten-with n entries was left is = with-agree entries (written_directory lef
 abbrev in_force : Bool → Bool → List Entry → List ℕ → Option (List ℕ)
 in_force gate range entries written = if gate then (if range then Some (with_entries entries written) else None) else Some written
 
--- a journal that is in range, and has these entries
-pub record HasJournal (n : ℕ) (entries : List Entry) (image : List ℕ) : Type 0 where
-  pub range : is_in_range image n ≡ true
-  pub listed : journal image n ≡ entries
-
+-- behind an open gate a journal makes its entries those of the directory
 pub directory-open : (n : ℕ) (entries : List Entry) (image written : List ℕ) → is_gate_open image ≡ true → HasJournal n entries image → written_directory image n ≡ written → directory image n ≡ Some (with_entries entries written)
 directory-open n entries image written gate has is =
     ap (λ (gate : Bool). in_force gate (is_in_range image n) (journal image n) (written_directory image n)) gate

@@ -1,24 +1,24 @@
 -- Runs: the numbers of neighbouring slots, which wait to be written together.
-use Rattle.std.proofs.Common.{◌≡◌, inl, inr, ℕ, ◌+◌, ◌*◌, ◌<◌, ◌≤◌, ◌==◌, true, false, List, [], ◌++◌, length, take, get_or, Option, IfSome, refl, sym, ap, ◌∙◌, subst, arith, length-append, eq-eqb}
+use Rattle.std.proofs.Common.{◌≡◌, inl, inr, ℕ, ◌+◌, ◌*◌, ◌<◌, ◌≤◌, ◌==◌, true, false, List, ◌++◌, length, take, get_or, Option, option_map, IfSome, refl, sym, ap, ◌∙◌, subst, arith, length-append, eq-eqb}
 use Rattle.std.proofs.Math.ListN.{set}
 use Rattle.std.specs.List.{list_all}
 use Rattle.std.proofs.lemmas.Bool.{cases_Bool, and_parts, eqb-true, ltb-true}
+use Rattle.std.proofs.lemmas.List.{take_all}
 use Rattle.std.proofs.lemmas.List.Folds.{list_all_at, list_any_at}
 use Rattle.eeprom.specs.Chip.{Chip, Writes, Becomes, LeavesOf}
 use Rattle.eeprom.specs.Frame.{HasRoom}
 use Rattle.eeprom.specs.Image.{overwrite, IsTorn}
 use Rattle.eeprom.specs.StoreOf.{image_size, is_entry, two_octets, written_directory, with_entries}
 use Rattle.eeprom.specs.declared.entry.Entry.{Entry}
-use Rattle.eeprom.proofs.Overwrite.{overwrite-behind}
+use Rattle.eeprom.proofs.Overwrite.{map-some, overwrite-behind}
 use Rattle.eeprom.proofs.Regions.{length-overwrite}
-use Rattle.journal.specs.Redo.{names, IsRun, IsRewritten, place_of, promised}
-use Rattle.journal.specs.declared.run.Run.{Run}
+use Rattle.journal.specs.Redo.{IsRewritten, IsRun, Numbers, names, place_of, promised}
 use Rattle.journal.proofs.Entries.{number-set, with-more}
-use Rattle.journal.proofs.Leaves.{at-told, write-leaves, leaves-weaker, leaves-then, leaves-last}
+use Rattle.eeprom.proofs.Leaves.{at-told, write-leaves, leaves-weaker, leaves-then, leaves-last}
 use Rattle.journal.proofs.Redoing.{rewritten-torn, rewritten-then}
 
 -- a run that is written
-pub run-leaves : (n : ℕ) (entries : List Entry) (run : Run) (octets : List ℕ) (old new : Chip) → octets ≡ run.octets.items → IfSome old.past (λ past. length past ≡ old.clock) → IfSome old.image (λ image. length image ≡ old.still.size)
+pub run-leaves : (n : ℕ) (entries : List Entry) (run : Numbers) (octets : List ℕ) (old new : Chip) → octets ≡ run.octets → IfSome old.past (λ past. length past ≡ old.clock) → IfSome old.image (λ image. length image ≡ old.still.size)
     → Writes (place_of run) octets old new → HasRoom n old → IsRun n entries run → LeavesOf (IsRewritten n entries) old new
 run-leaves n entries run octets old new same clocked sized w room is =
     leaves-weaker old new (λ was left. IsTorn was (place_of run) (length octets) left) (IsRewritten n entries)
@@ -45,11 +45,11 @@ pub entry-named : (entries : List Entry) (i : ℕ) (d : Entry) → i < length en
 entry-named entries i d inside = list_any_at (λ entry. entry.slot == (get_or entries i d).slot) entries i d inside (eq-eqb (get_or entries i d).slot (get_or entries i d).slot refl)
 
 -- a run with one number more
-pub run-pushed : (n : ℕ) (entries : List Entry) (run pushed : Run) (slot first : ℕ) → IsRun n entries run → length run.octets.items + 2 * run.slot ≡ 2 * slot → slot < n → names entries slot ≡ true
-    → pushed.octets.items ≡ run.octets.items ++ two_octets first → pushed.slot ≡ run.slot → IsRun n entries pushed
+pub run-pushed : (n : ℕ) (entries : List Entry) (run pushed : Numbers) (slot first : ℕ) → IsRun n entries run → length run.octets + 2 * run.slot ≡ 2 * slot → slot < n → names entries slot ≡ true
+    → pushed.octets ≡ run.octets ++ two_octets first → pushed.slot ≡ run.slot → IsRun n entries pushed
 run-pushed n entries run pushed slot first is next within named items same =
     let size = is.size in
-    let more : length pushed.octets.items ≡ length run.octets.items + 2 = ap (λ (xs : List ℕ). length xs) items ∙ length-append run.octets.items (two_octets first) in
+    let more : length pushed.octets ≡ length run.octets + 2 = ap (λ (xs : List ℕ). length xs) items ∙ length-append run.octets (two_octets first) in
     let last : run.slot + is.count ≡ slot = omega arith in
     record {
       count = is.count + 1;
@@ -65,29 +65,29 @@ run-pushed n entries run pushed slot first is next within named items same =
     below-last k slot end f last below = grind arith
 
 -- the image that it promises
-promised-pushed : (run pushed : Run) (slot first : ℕ) (image : List ℕ) → length run.octets.items + 2 * run.slot ≡ 2 * slot → pushed.octets.items ≡ run.octets.items ++ two_octets first → pushed.slot ≡ run.slot
+promised-pushed : (run pushed : Numbers) (slot first : ℕ) (image : List ℕ) → length run.octets + 2 * run.slot ≡ 2 * slot → pushed.octets ≡ run.octets ++ two_octets first → pushed.slot ≡ run.slot
     → promised pushed image ≡ overwrite (promised run image) (32 + 2 * slot) (two_octets first)
 promised-pushed run pushed slot first image next items same =
-    let place : 32 + 2 * run.slot + length run.octets.items ≡ 32 + 2 * slot = omega arith in
-    ap (λ (slot : ℕ). overwrite image (32 + 2 * slot) pushed.octets.items) same
+    let place : 32 + 2 * run.slot + length run.octets ≡ 32 + 2 * slot = omega arith in
+    ap (λ (slot : ℕ). overwrite image (32 + 2 * slot) pushed.octets) same
     ∙ ap (λ (octets : List ℕ). overwrite image (32 + 2 * run.slot) octets) items
-    ∙ sym (overwrite-behind image (32 + 2 * run.slot) run.octets.items (two_octets first))
+    ∙ sym (overwrite-behind image (32 + 2 * run.slot) run.octets (two_octets first))
     ∙ ap (λ (place : ℕ). overwrite (promised run image) place (two_octets first)) place
 
-pub directory-pushed : (n : ℕ) (entries : List Entry) (run pushed : Run) (slot first : ℕ) (image : List ℕ) → IsRun n entries run → image_size n ≤ length image → length run.octets.items + 2 * run.slot ≡ 2 * slot → slot < n
-    → pushed.octets.items ≡ run.octets.items ++ two_octets first → pushed.slot ≡ run.slot → written_directory (promised pushed image) n ≡ set (written_directory (promised run image) n) slot first
+pub directory-pushed : (n : ℕ) (entries : List Entry) (run pushed : Numbers) (slot first : ℕ) (image : List ℕ) → IsRun n entries run → image_size n ≤ length image → length run.octets + 2 * run.slot ≡ 2 * slot → slot < n
+    → pushed.octets ≡ run.octets ++ two_octets first → pushed.slot ≡ run.slot → written_directory (promised pushed image) n ≡ set (written_directory (promised run image) n) slot first
 directory-pushed n entries run pushed slot first image is room next within items same =
     let size = is.size in
     let end = is.within in
-    let whole : length (promised run image) ≡ length image = length-overwrite image (32 + 2 * run.slot) run.octets.items (omega arith) in
+    let whole : length (promised run image) ≡ length image = length-overwrite image (32 + 2 * run.slot) run.octets (omega arith) in
     ap (λ (xs : List ℕ). written_directory xs n) (promised-pushed run pushed slot first image next items same)
     ∙ number-set (promised run image) n slot first (32 + 2 * slot) within (omega arith) refl
 
 -- one entry more
-pub written-more : (n : ℕ) (entries : List Entry) (i : ℕ) (d : Entry) (run mid pushed : Run) (old between new : Chip) → i < length entries → list_all (is_entry n) entries ≡ true
+pub written-more : (n : ℕ) (entries : List Entry) (i : ℕ) (d : Entry) (run mid pushed : Numbers) (old between new : Chip) → i < length entries → list_all (is_entry n) entries ≡ true
     → IfSome new.image (λ image. length image ≡ new.still.size) → HasRoom n new
-    → IsRun n entries mid → length mid.octets.items + 2 * mid.slot ≡ 2 * (get_or entries i d).slot
-    → pushed.octets.items ≡ mid.octets.items ++ two_octets (get_or entries i d).first → pushed.slot ≡ mid.slot
+    → IsRun n entries mid → length mid.octets + 2 * mid.slot ≡ 2 * (get_or entries i d).slot
+    → pushed.octets ≡ mid.octets ++ two_octets (get_or entries i d).first → pushed.slot ≡ mid.slot
     → Becomes (λ was now. written_directory (promised run now) n ≡ with_entries (take i entries) (written_directory was n)) old.image between.image
     → Becomes (λ was now. promised mid now ≡ promised run was) between.image new.image
     → Becomes (λ was now. written_directory (promised pushed now) n ≡ with_entries (take (i + 1) entries) (written_directory was n)) old.image new.image
@@ -103,6 +103,15 @@ written-more n entries i d run mid pushed old between new inside all sized room 
           ∙ sym (with-more entries i d (written_directory a.0 n) inside),
     )
 
+-- the last run
+pub run-done : (n i : ℕ) (entries : List Entry) (run : Numbers) (old mid new : Option (List ℕ)) → length entries ≤ i → Becomes (λ was now. written_directory (promised run now) n ≡ with_entries (take i entries) (written_directory was n)) old mid
+    → new ≡ option_map (promised run) mid → Becomes (λ was now. written_directory now n ≡ with_entries entries (written_directory was n)) old new
+run-done n i entries run old mid new all before last after told =
+    let from = map-some (promised run) mid after (sym last ∙ told) in
+    let a = before from.0 from.1 in
+    let whole : take i entries ≡ entries = take_all i entries all in
+    (a.0, a.1, ap (λ (xs : List ℕ). written_directory xs n) from.2 ∙ a.2 ∙ ap (λ (es : List Entry). with_entries es (written_directory a.0 n)) whole)
+
 pub octets-more : (old between new : Option ℕ) (waits mids pushes i : ℕ) → pushes ≡ mids + 2 → Becomes (λ before after. after + waits ≡ before + 2 * i) old between → Becomes (λ before after. after + mids ≡ before + waits) between new
     → Becomes (λ before after. after + pushes ≡ before + 2 * (i + 1)) old new
 octets-more old between new waits mids pushes i more before now after told =
@@ -110,17 +119,6 @@ octets-more old between new waits mids pushes i more before now after told =
     let a = before b.0 b.1 in
     (a.0, a.1, omega (arith, a.2, b.2))
 
--- a run is there before the first entry, and has room for one number more
-pub run-empty : (n : ℕ) (entries : List Entry) (run : Run) → run.octets.items ≡ [] → run.slot ≡ 0 → IsRun n entries run
-run-empty n entries run none at = record {
-  count = 0;
-  size = ap (λ (xs : List ℕ). length xs) none;
-  within = omega (arith, at);
-  named = λ slot from below. absurd (omega (arith, from, below));
-}
-
-pub run-room : (n : ℕ) (entries : List Entry) (run : Run) (slot : ℕ) → n ≤ 2048 → IsRun n entries run → length run.octets.items + 2 * run.slot ≡ 2 * slot → slot < n → length run.octets.items + 2 ≤ 4096
-run-room n entries run slot few is next within = omega arith
-
-pub run-next : (n : ℕ) (entries : List Entry) (run mid : Run) (slot : ℕ) → IsRun n entries run → ((count : ℕ) → length run.octets.items ≡ 2 * count → length mid.octets.items + 2 * mid.slot ≡ 2 * slot) → length mid.octets.items + 2 * mid.slot ≡ 2 * slot
+-- the numbers that are there, and those of the next slot
+pub run-next : (n : ℕ) (entries : List Entry) (run mid : Numbers) (slot : ℕ) → IsRun n entries run → ((count : ℕ) → length run.octets ≡ 2 * count → length mid.octets + 2 * mid.slot ≡ 2 * slot) → length mid.octets + 2 * mid.slot ≡ 2 * slot
 run-next n entries run mid slot is next = next is.count is.size

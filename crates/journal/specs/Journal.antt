@@ -1,5 +1,5 @@
 -- What a commit and a replay make of an image, and what a power loss may leave of it.
-use Rattle.std.specs.Prelude.{◌≡◌, ◌⊎◌, ℕ, ◌+◌, ◌≤◌, false, List, length, take, drop, slice_range, Some}
+use Rattle.std.specs.Prelude.{◌≡◌, ◌⊎◌, ℕ, false, List, length, take, drop, slice_range, Some}
 use Rattle.eeprom.specs.StoreOf.{front_size, written_directory, directory, with_entries, is_gate_open}
 use Rattle.eeprom.specs.declared.entry.Entry.{Entry}
 
@@ -31,7 +31,3 @@ pub record IsReplayed (n : ℕ) (was now : List ℕ) : Type 0 where
 pub record KeepsDirectory (n : ℕ) (was left : List ℕ) : Type 0 where
   pub rest : KeepsRest n was left
   pub same : directory left n ≡ directory was n
-
--- a count rises by at most so many
-abbrev pub RisesAtMost : ℕ → ℕ → ℕ → Type 0
-RisesAtMost most before after = after ≤ before + most

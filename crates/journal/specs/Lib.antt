@@ -1,3 +1,4 @@
 pub mod Faults
 pub mod Journal
 pub mod Redo
+pub mod Writing

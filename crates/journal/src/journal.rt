@@ -1,18 +1,22 @@
 // The journal: commits of entries, and replays after a power loss.
 ghost use Rattle.std.specs.Prelude.{◌≡◌, ◌+◌, ◌*◌, ◌≤◌, ◌<◌, ℕ, List, Some, None, true, false, IsTrue, length, is_some, IfSome, IfOk, OnOk, IsErrOf};
 ghost use Rattle.std.specs.List.{list_all};
-ghost use Rattle.eeprom.specs.Chip.{Becomes, RisesBy, LeavesOf};
+ghost use Rattle.eeprom.specs.Chip.{Becomes, RisesAtMost, RisesBy, LeavesOf};
 ghost use Rattle.eeprom.specs.Fault.{Counts, CountsFaults, each_error};
 ghost use Rattle.eeprom.specs.Frame.{HasRoom, Reads};
 ghost use Rattle.eeprom.specs.StoreOf.{most_cells, is_entry, is_gate_open, directory, number_at, entries_at, journal_place};
 ghost use Rattle.journal.specs.Faults.{is_replay_fault};
-ghost use Rattle.journal.specs.Journal.{TakesEntries, IsBetween, IsReplayed, KeepsDirectory, RisesAtMost};
+ghost use Rattle.journal.specs.Journal.{TakesEntries, IsBetween, IsReplayed, KeepsDirectory};
 
 use crate::ReplayRefusal;
-use crate::layout::{EMPTY, GATE, LARGEST_ENTRIES, MOST_CELLS, OPEN, journal_place};
-use crate::octets::{are_entries, journal_octets, take_entries};
+use crate::octets::Entries;
+use crate::reading::read_journal;
 use crate::redo::redo;
-use eeprom::{Eeprom, EepromFault, Entry};
+use crate::writing::write_journal;
+use eeprom::{Eeprom, EepromFault, Entry, GATE_PLACE};
+
+/// The octet of an open gate.
+const OPEN: [u8; 1] = [1];
 
 /// The redo journal of an image in format 2, with its gate and its directory.
 pub struct Journal;
@@ -38,10 +42,8 @@ impl Journal {
         ensures octets_read { B.octets_read bench.new ≡ B.octets_read bench.old }
         ensures cause { Counts (B.faults bench.old) (B.faults bench.new) result }
     {
-        let journal = journal_octets(entries);
-        let octets = journal.as_slice();
-        bench.write(journal_place(cells), octets)?;
-        bench.write(GATE, &OPEN)?;
+        write_journal(bench, cells, entries)?;
+        bench.write(GATE_PLACE, &OPEN)?;
         redo(bench, cells, entries)
     }
 
@@ -64,9 +66,10 @@ impl Journal {
         if !is_open(bench)? {
             return Ok(());
         }
-        let count = read_count(bench, cells)?;
-        let mut entries = [EMPTY; MOST_CELLS];
-        redo_journal(bench, cells, &mut entries[..count as usize])
+        let mut entries = Entries::new();
+        read_journal(bench, cells, &mut entries)?;
+        redo(bench, cells, entries.as_slice())?;
+        Ok(())
     }
 }
 
@@ -78,77 +81,6 @@ fn is_open<B: Eeprom>(bench: &mut B) -> Result<bool, EepromFault>
     ensures frame { Reads each_error B.chip B.faults bench.old bench.new result }
 {
     let mut gate = [0; 1];
-    bench.read(GATE, &mut gate)?;
+    bench.read(GATE_PLACE, &mut gate)?;
     Ok(gate[0] % 2 == 1)
-}
-
-/// Reads how many entries the journal has, where they are at most as many as there are slots.
-fn read_count<B: Eeprom>(bench: &mut B, cells: u16) -> Result<u16, ReplayRefusal>
-    requires room { HasRoom cells (B.chip bench.old) }
-    ensures count { IfOk result (λ count. IfSome (B.chip bench.old).image (λ image. count ≡ number_at image (journal_place cells))) }
-    ensures few { IfOk result (λ count. count ≤ cells) }
-    ensures bad_journal { IsErrOf result ReplayRefusal.BadJournal
-        → IfSome (B.chip bench.old).image (λ image. cells < number_at image (journal_place cells)) }
-    ensures octets_read { Becomes (RisesBy 2) (B.octets_read bench.old) (B.octets_read bench.new) }
-    ensures frame { Reads is_replay_fault B.chip B.faults bench.old bench.new result }
-{
-    let mut number = [0; 2];
-    bench.read(journal_place(cells), &mut number)?;
-    let count = u16::from_be_bytes(number);
-    if count > cells {
-        return Err(ReplayRefusal::BadJournal);
-    }
-    Ok(count)
-}
-
-/// Reads so many entries of the journal, where each is in range, and does what the open gate asks for.
-fn redo_journal<B: Eeprom>(
-    bench: &mut B,
-    cells: u16,
-    entries: &mut [Entry],
-) -> Result<(), ReplayRefusal>
-    requires many { cells ≤ 2048 }
-    requires few { length entries.old ≤ cells }
-    requires gate { IfSome (B.chip bench.old).image (λ image. is_gate_open image ≡ true) }
-    requires count { IfSome (B.chip bench.old).image (λ image. length entries.old ≡ number_at image (journal_place cells)) }
-    requires room { HasRoom cells (B.chip bench.old) }
-    ensures done { OnOk result (Becomes (IsReplayed cells) (B.chip bench.old).image (B.chip bench.new).image) }
-    ensures told { OnOk result (is_some (B.chip bench.new).image ≡ is_some (B.chip bench.old).image) }
-    ensures still { (B.chip bench.new).still ≡ (B.chip bench.old).still }
-    ensures moments { LeavesOf (KeepsDirectory cells) (B.chip bench.old) (B.chip bench.new) }
-    ensures bad_journal { IsErrOf result ReplayRefusal.BadJournal
-        → (B.chip bench.new ≡ B.chip bench.old) × IfSome (B.chip bench.old).image (λ image. directory image cells ≡ None) }
-    ensures octets_read { Becomes (RisesBy (4 * length entries.old)) (B.octets_read bench.old) (B.octets_read bench.new) }
-    ensures octets_written { OnOk result (Becomes (RisesBy (1 + 2 * length entries.old)) (B.chip bench.old).written (B.chip bench.new).written) }
-    ensures cause { CountsFaults is_replay_fault (B.faults bench.old) (B.faults bench.new) result }
-{
-    read_entries(bench, cells, entries)?;
-    redo(bench, cells, entries)?;
-    Ok(())
-}
-
-/// Reads so many entries of the journal, where each is in range.
-fn read_entries<B: Eeprom>(
-    bench: &mut B,
-    cells: u16,
-    entries: &mut [Entry],
-) -> Result<(), ReplayRefusal>
-    requires many { cells ≤ 2048 }
-    requires few { length entries.old ≤ cells }
-    requires room { HasRoom cells (B.chip bench.old) }
-    ensures entries { OnOk result (IfSome (B.chip bench.old).image (λ image. entries.new ≡ entries_at image (journal_place cells + 2) (length entries.old))) }
-    ensures range { OnOk result (list_all (is_entry cells) entries.new ≡ true) }
-    ensures bad_journal { IsErrOf result ReplayRefusal.BadJournal
-        → IfSome (B.chip bench.old).image (λ image. list_all (is_entry cells) (entries_at image (journal_place cells + 2) (length entries.old)) ≡ false) }
-    ensures octets_read { Becomes (RisesBy (4 * length entries.old)) (B.octets_read bench.old) (B.octets_read bench.new) }
-    ensures frame { Reads is_replay_fault B.chip B.faults bench.old bench.new result }
-{
-    let mut octets = [0; LARGEST_ENTRIES];
-    let octets = &mut octets[..4 * entries.len()];
-    bench.read(journal_place(cells) + 2, octets)?;
-    take_entries(octets, entries);
-    if !are_entries(entries, cells) {
-        return Err(ReplayRefusal::BadJournal);
-    }
-    Ok(())
 }

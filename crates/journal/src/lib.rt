@@ -2,11 +2,12 @@
 #![tactic(auto)]
 
 mod journal;
-mod layout;
 mod octets;
+mod reading;
 mod redo;
 mod refusal;
 mod run;
+mod writing;
 
 pub use eeprom::Entry;
 pub use journal::Journal;

@@ -1,38 +1,54 @@
 // The octets of a journal: the number of its entries in two octets, and each entry in four.
-ghost use Rattle.std.specs.Prelude.{◌≡◌, ◌+◌, ◌*◌, ◌≤◌, ◌++◌, true, false, length, IfSome, IfNone, MatchOption};
+ghost use Rattle.std.specs.Prelude.{◌≡◌, ◌+◌, ◌*◌, ◌≤◌, [], ◌++◌, true, false, length, IfSome, IfNone, MatchOption};
 ghost use Rattle.std.specs.List.{list_all};
 ghost use Rattle.eeprom.specs.StoreOf.{number_at, entries_at, two_octets};
 ghost use Rattle.eeprom.specs.StoreOf as image;
 
-use crate::layout::{LARGEST_JOURNAL, NO_CELL};
 use arrayvec::ArrayVec;
-use eeprom::Entry;
+use eeprom::{Entry, MOST_CELLS, NO_CELL};
 
-pub type JournalOctets = ArrayVec<u8, LARGEST_JOURNAL>;
+/// How many entries the largest journal has, how many octets these have, and how many with their number.
+pub const MOST_ENTRIES: usize = MOST_CELLS as usize;
 
-/// The octets of a journal with these entries.
-pub fn journal_octets(entries: &[Entry]) -> JournalOctets
+pub const LARGEST_ENTRIES: usize = 4 * MOST_ENTRIES;
+
+pub const LARGEST_JOURNAL: usize = 2 + LARGEST_ENTRIES;
+
+/// Most commits have few entries: at most so many, of so many octets with their number, and of so many in the directory.
+pub const FEW_ENTRIES: usize = 8;
+
+pub const SMALL_JOURNAL: usize = 2 + 4 * FEW_ENTRIES;
+
+pub const SMALL_RUN: usize = 2 * FEW_ENTRIES;
+
+pub type Entries = ArrayVec<Entry, MOST_ENTRIES>;
+
+/// Makes these the octets of a journal with these entries, where there are none yet.
+pub fn push_journal<const CAP: usize>(octets: &mut ArrayVec<u8, CAP>, entries: &[Entry])
+    requires none { octets.old.items ≡ [] }
     requires few { length entries.now ≤ 2048 }
-    ensures number { number_at result.items 0 ≡ length entries.now }
-    ensures entries { entries_at result.items 2 (length entries.now) ≡ entries.now }
-    ensures count { length result.items ≡ 2 + 4 * length entries.now }
+    requires fits { 2 + 4 * length entries.now ≤ CAP }
+    ensures number { number_at octets.new.items 0 ≡ length entries.now }
+    ensures entries { entries_at octets.new.items 2 (length entries.now) ≡ entries.now }
+    ensures count { length octets.new.items ≡ 2 + 4 * length entries.now }
 {
-    let mut octets = JournalOctets::new();
-    push_number(&mut octets, entries.len() as u16);
+    push_number(octets, entries.len() as u16);
     for entry in entries {
-        push_number(&mut octets, entry.slot);
-        push_number(&mut octets, entry.first);
+        push_number(octets, entry.slot);
+        push_number(octets, entry.first);
     }
-    octets
 }
 
-/// Takes the entries of these octets.
-pub fn take_entries(octets: &[u8], entries: &mut [Entry])
-    requires size { length octets.now ≡ 4 * length entries.old }
-    ensures entries { entries.new ≡ entries_at octets.now 0 (length entries.old) }
+/// Makes these the so many entries of octets.
+pub fn take_entries(octets: &[u8], count: u16, entries: &mut Entries)
+    requires few { count ≤ 2048 }
+    requires size { length octets.now ≡ 4 * count }
+    ensures entries { entries.new.items ≡ entries_at octets.now 0 count }
+    ensures count { length entries.new.items ≡ count }
 {
-    for index in 0..entries.len() {
-        entries[index] = entry_at(octets, 4 * index);
+    entries.clear();
+    for index in 0..count as usize {
+        entries.push(entry_at(octets, 4 * index));
     }
 }
 

@@ -1,16 +1,20 @@
 // What an open gate asks for: the entries of the journal are made those of the directory, and then the gate is closed.
-ghost use Rattle.std.specs.Prelude.{◌≡◌, ◌+◌, ◌*◌, ◌≤◌, IsTrue, length, is_some, IfSome, OnOk};
+ghost use Rattle.std.specs.Prelude.{◌≡◌, ◌+◌, ◌*◌, ◌≤◌, [], IsTrue, length, is_some, IfSome, OnOk};
 ghost use Rattle.std.specs.List.{list_all};
 ghost use Rattle.eeprom.specs.Chip.{Becomes, RisesBy, LeavesOf};
 ghost use Rattle.eeprom.specs.Fault.{Counts};
 ghost use Rattle.eeprom.specs.Frame.{HasRoom};
-ghost use Rattle.eeprom.specs.StoreOf.{is_entry, written_directory, with_entries};
+ghost use Rattle.eeprom.specs.StoreOf.{is_entry};
 ghost use Rattle.journal.specs.Journal.{IsReplayed, KeepsDirectory};
-ghost use Rattle.journal.specs.Redo.{IsOpenWith, IsRewritten};
+ghost use Rattle.journal.specs.Redo.{IsOpenWith, WritesEntries};
 
-use crate::layout::{CLOSED, GATE};
+use crate::octets::{FEW_ENTRIES, SMALL_RUN};
 use crate::run::Run;
-use eeprom::{Eeprom, EepromFault, Entry};
+use arrayvec::ArrayVec;
+use eeprom::{Eeprom, EepromFault, Entry, GATE_PLACE, LARGEST_DIRECTORY};
+
+/// The octet of a closed gate.
+const CLOSED: [u8; 1] = [0];
 
 /// Makes the entries of the journal those of the directory, and closes the gate. They are the same however often it is begun.
 pub fn redo<B: Eeprom>(bench: &mut B, cells: u16, entries: &[Entry]) -> Result<(), EepromFault>
@@ -28,26 +32,47 @@ pub fn redo<B: Eeprom>(bench: &mut B, cells: u16, entries: &[Entry]) -> Result<(
     ensures cause { Counts (B.faults bench.old) (B.faults bench.new) result }
 {
     write_entries(bench, cells, entries)?;
-    bench.write(GATE, &CLOSED)
+    bench.write(GATE_PLACE, &CLOSED)
 }
 
 /// Writes the entries into the directory, those of neighbouring slots together.
 fn write_entries<B: Eeprom>(bench: &mut B, cells: u16, entries: &[Entry]) -> Result<(), EepromFault>
     requires many { cells ≤ 2048 }
+    requires few { length entries.now ≤ cells }
     requires entries { IsTrue (list_all (is_entry cells) entries.now) }
     requires room { HasRoom cells (B.chip bench.old) }
-    ensures written { OnOk result (Becomes (λ was now. written_directory now cells ≡ with_entries entries.now (written_directory was cells))
-        (B.chip bench.old).image (B.chip bench.new).image) }
-    ensures told { OnOk result (is_some (B.chip bench.new).image ≡ is_some (B.chip bench.old).image) }
-    ensures still { (B.chip bench.new).still ≡ (B.chip bench.old).still }
-    ensures moments { LeavesOf (IsRewritten cells entries.now) (B.chip bench.old) (B.chip bench.new) }
-    ensures octets_written { OnOk result (Becomes (RisesBy (2 * length entries.now)) (B.chip bench.old).written (B.chip bench.new).written) }
+    ensures entries { WritesEntries cells entries.now (B.chip bench.old) (B.chip bench.new) result }
     ensures octets_read { B.octets_read bench.new ≡ B.octets_read bench.old }
     ensures cause { Counts (B.faults bench.old) (B.faults bench.new) result }
 {
-    let mut run = Run::at(0);
+    if entries.len() <= FEW_ENTRIES {
+        let octets = ArrayVec::<u8, SMALL_RUN>::new();
+        write_runs(bench, cells, entries, &mut Run::new(octets))
+    } else {
+        let octets = ArrayVec::<u8, LARGEST_DIRECTORY>::new();
+        write_runs(bench, cells, entries, &mut Run::new(octets))
+    }
+}
+
+/// Writes the entries into the directory, one run after another, of which this is the first.
+fn write_runs<B: Eeprom, const CAP: usize>(
+    bench: &mut B,
+    cells: u16,
+    entries: &[Entry],
+    run: &mut Run<CAP>,
+) -> Result<(), EepromFault>
+    requires many { cells ≤ 2048 }
+    requires fits { 2 * length entries.now ≤ CAP }
+    requires entries { IsTrue (list_all (is_entry cells) entries.now) }
+    requires first { run.old.slot ≡ 0 }
+    requires none { run.old.octets ≡ [] }
+    requires room { HasRoom cells (B.chip bench.old) }
+    ensures entries { WritesEntries cells entries.now (B.chip bench.old) (B.chip bench.new) result }
+    ensures octets_read { B.octets_read bench.new ≡ B.octets_read bench.old }
+    ensures cause { Counts (B.faults bench.old) (B.faults bench.new) result }
+{
     for entry in entries {
-        run = run.up_to(bench, entry.slot)?;
+        run.go_to(bench, entry.slot)?;
         run.push(entry.first);
     }
     run.write(bench)

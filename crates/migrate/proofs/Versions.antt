@@ -1,12 +1,9 @@
 -- What the writes of a migration leave of an image's store.
-use Rattle.std.proofs.Common.{◌≡◌, ◌⊎◌, inl, inr, ℕ, ◌+◌, ◌*◌, ◌<◌, ◌≤◌, ◌%◌, ◌==◌, ◌||◌, ◌&&◌, Bool, true, false, if◌then◌else◌, List, [], ◌∷◌, length, take, drop, get_or, slice_index, Option, Some, None, IfSome, option_map, option_and_then, sym, refl, ap, ◌∙◌, subst, arith, get_or-take, get_or-drop}
-use Rattle.std.proofs.lemmas.Bool.{cases_Bool}
+use Rattle.std.proofs.Common.{◌≡◌, inl, inr, ℕ, ◌+◌, ◌<◌, ◌≤◌, ◌%◌, ◌==◌, Bool, true, false, if◌then◌else◌, List, [], ◌∷◌, length, take, drop, get_or, slice_index, Option, Some, None, option_map, option_and_then, sym, refl, ap, ◌∙◌, subst, arith, get_or-take, get_or-drop}
+use Rattle.std.proofs.lemmas.Bool.{cases_Bool, false≢true}
 use Rattle.std.proofs.lemmas.List.{take-take, drop-take}
-use Rattle.std.proofs.lemmas.Option.{same_Some}
-use Rattle.eeprom.specs.Chip.{Chip, Writes, Becomes, LeavesOf}
 use Rattle.eeprom.specs.Image.{overwrite, IsTorn}
 use Rattle.eeprom.specs.StoreOf.{Slots, Stored, starts_with_magic, has_header, has_version, number_at, row_limit, is_gate_open, slots_at, directory, store_of}
-use Rattle.eeprom.proofs.Leaves.{at-told, write-leaves, leaves-weaker, leaves-then, leaves-last}
 use Rattle.eeprom.proofs.Regions.{length-overwrite, take-overwrite, drop-overwrite, get-before, get-inside, get-behind}
 use Rattle.eeprom.proofs.SameFrom.{drop-from, in-force-from}
 use Rattle.migrate.specs.Migration.{has_even_version, KeepsRest, with_limit, IsMigrated, IsBetween}
@@ -182,6 +179,11 @@ migrated was mid is =
     let odd : has_even_version (overwrite mid 5 (1 ∷ [])) ≡ false = ap (λ (octet : ℕ). octet % 2 == 0) octet in
     record {
       rest = version-rests was mid (1 ∷ []) refl is;
+      octets = λ even. record {
+        version = octet;
+        limit_high = version-octet mid (1 ∷ []) 9 refl is.room (omega arith) ∙ is.high;
+        limit_low = version-octet mid (1 ∷ []) 10 refl is.room (omega arith) ∙ is.low;
+      };
       store = version-odd was mid (1 ∷ []) refl is odd;
     }
 
@@ -192,5 +194,6 @@ between-none was = record { rest = rest-none was; one = inl refl }
 pub migrated-none : (was : List ℕ) → has_even_version was ≡ false → IsMigrated was was
 migrated-none was odd = record {
   rest = rest-none was;
+  octets = λ even. absurd (false≢true (sym odd ∙ even));
   store = ap (λ (limit : ℕ). store_with limit was) (limit-odd was odd) ∙ store-limit was 1020;
 }

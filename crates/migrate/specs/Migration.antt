@@ -1,5 +1,6 @@
 -- What a migration makes of an image, and what a power loss may leave of it.
-use Rattle.std.specs.Prelude.{◌≡◌, ◌⊎◌, ℕ, ◌%◌, ◌==◌, Bool, List, length, take, drop, slice_index, slice_range, option_map}
+use Rattle.std.specs.Prelude.{◌≡◌, ◌⊎◌, ℕ, ◌%◌, ◌==◌, Bool, true, List, length, take, drop, slice_index, slice_range, option_map}
+use Rattle.eeprom.specs.declared.layout.TheConstants.{MIGRATED_ROW_LIMIT}
 use Rattle.eeprom.specs.StoreOf.{Stored, store_of}
 
 -- an even version says that the card wasn't migrated
@@ -17,12 +18,19 @@ pub record KeepsRest (was left : List ℕ) : Type 0 where
 abbrev pub with_limit : ℕ → Stored → Stored
 with_limit limit stored = record stored { row_limit = limit }
 
--- after a migration the store is the one from before, with the longer rows
+-- the version of a migrated card is 01, and behind the gate the row limit is repeated
+pub record HasLongRows (now : List ℕ) : Type 0 where
+  pub version : slice_index now 5 ≡ 0x01
+  pub limit_high : slice_index now 9 ≡ 0x03
+  pub limit_low : slice_index now 10 ≡ 0xFC
+
+-- after a migration the store is the one from before, with the longer rows; and where the version was even it is that of a migrated card
 pub record IsMigrated (was now : List ℕ) : Type 0 where
   pub rest : KeepsRest was now
-  pub store : store_of now ≡ option_map (with_limit 1020) (store_of was)
+  pub octets : has_even_version was ≡ true → HasLongRows now
+  pub store : store_of now ≡ option_map (with_limit MIGRATED_ROW_LIMIT) (store_of was)
 
 -- during a migration the store is the one from before, or the one with the longer rows
 pub record IsBetween (was left : List ℕ) : Type 0 where
   pub rest : KeepsRest was left
-  pub one : (store_of left ≡ store_of was) ⊎ (store_of left ≡ option_map (with_limit 1020) (store_of was))
+  pub one : (store_of left ≡ store_of was) ⊎ (store_of left ≡ option_map (with_limit MIGRATED_ROW_LIMIT) (store_of was))

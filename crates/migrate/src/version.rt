@@ -6,27 +6,25 @@ ghost use Rattle.eeprom.specs.Frame.{HasRoom, Reads};
 ghost use Rattle.eeprom.specs.StoreOf.{fewest_cells, row_limit};
 ghost use Rattle.migrate.specs.Migration.{IsMigrated, IsBetween, has_even_version};
 
-use eeprom::{Eeprom, EepromFault};
+use eeprom::{Eeprom, EepromFault, GATE_PLACE, MIGRATED_ROW_LIMIT, ROW_LIMIT};
 
 /// Where the version is, whose octet is odd on a migrated card.
 const VERSION: usize = 5;
 
 const MIGRATED: [u8; 1] = [1];
 
-/// Where a migrated card repeats its row limit, which is 1,020.
-const LIMIT: usize = 9;
-
-const MIGRATED_LIMIT: [u8; 2] = [0x03, 0xFC];
+/// Where a migrated card repeats its row limit, behind the gate.
+const LIMIT: usize = GATE_PLACE + 1;
 
 /// Makes 1,020 octets the row limit of a card, and answers whether it was 240 before. Where it is 1,020 already nothing is written.
 /// Whenever power is lost the image has the slots from before, with the one row limit or the other.
 /// The image begins with at least 1,154 octets, the size of the smallest card.
 pub fn migrate<B: Eeprom>(bench: &mut B) -> Result<bool, EepromFault>
     requires room { HasRoom fewest_cells (B.chip bench.old) }
-    ensures migrates { IfOk result (λ migrates. IfSome (B.chip bench.old).image (λ image. migrates ≡ (row_limit image == 240))) }
+    ensures migrates { IfOk result (λ migrates. IfSome (B.chip bench.old).image (λ image. migrates ≡ (row_limit image == ROW_LIMIT))) }
     ensures done { OnOk result (Becomes IsMigrated (B.chip bench.old).image (B.chip bench.new).image) }
     ensures told { OnOk result (is_some (B.chip bench.new).image ≡ is_some (B.chip bench.old).image) }
-    ensures already { (image : List ℕ) → (B.chip bench.old).image ≡ Some image → row_limit image ≡ 1020 → B.chip bench.new ≡ B.chip bench.old }
+    ensures already { (image : List ℕ) → (B.chip bench.old).image ≡ Some image → row_limit image ≡ MIGRATED_ROW_LIMIT → B.chip bench.new ≡ B.chip bench.old }
     ensures still { (B.chip bench.new).still ≡ (B.chip bench.old).still }
     ensures moments { LeavesOf IsBetween (B.chip bench.old) (B.chip bench.new) }
     ensures octets_written { IfOk result (λ migrates. Becomes (RisesBy (if migrates then 3 else 0)) (B.chip bench.old).written (B.chip bench.new).written) }
@@ -64,6 +62,6 @@ fn write_version<B: Eeprom>(bench: &mut B) -> Result<(), EepromFault>
     ensures octets_read { B.octets_read bench.new ≡ B.octets_read bench.old }
     ensures cause { Counts (B.faults bench.old) (B.faults bench.new) result }
 {
-    bench.write(LIMIT, &MIGRATED_LIMIT)?;
+    bench.write(LIMIT, &MIGRATED_ROW_LIMIT.to_be_bytes())?;
     bench.write(VERSION, &MIGRATED)
 }

@@ -1,54 +1,28 @@
 -- Entries for the slots that have another chain now.
-use Rattle.std.proofs.Common.{◌≡◌, ◌⊎◌, inl, inr, ℕ, zero, suc, ◌+◌, ◌*◌, ◌<◌, ◌≤◌, ◌≢◌, ◌==◌, ◌||◌, if◌then◌else◌, true, false, Bool, List, [], ◌∷◌, ◌++◌, length, take, drop, set, slice_index, nat_lt, sym, refl, ap, ap₂, ◌∙◌, arith, subst, length-append}
+use Rattle.std.proofs.Common.{◌≡◌, ◌⊎◌, inl, inr, ℕ, zero, suc, ◌+◌, ◌*◌, ◌<◌, ◌≤◌, ◌≢◌, ◌==◌, ◌||◌, if◌then◌else◌, true, false, Bool, List, [], ◌∷◌, ◌++◌, length, set, slice_index, nat_lt, sym, refl, ap, ◌∙◌, true≢false, eqb-true, arith, subst, length-append, eq-eqb}
 use Rattle.std.specs.List.{list_all}
+use Rattle.std.proofs.lemmas.Bool.{cases_Bool, or_cases}
 use Rattle.std.proofs.lemmas.Bool.Decides.{nat_tests}
+use Rattle.std.proofs.lemmas.Grind.{same_number_lists}
+use Rattle.std.proofs.lemmas.List.{length-set, get_or-set_same, get_or-set_other}
 use Rattle.std.proofs.lemmas.List.Folds.{list_all-append}
 use Rattle.eeprom.specs.StoreOf.{is_entry, with_entries, no_cell}
 use Rattle.eeprom.specs.declared.entry.Entry.{Entry}
+use Rattle.cell_store.specs.Cells.{Cells}
+use Rattle.cell_store.specs.Chains.{is_among}
+use Rattle.record_store.specs.Held.{Held}
+use Rattle.record_store.specs.Put.{emptied}
 use Rattle.record_store.specs.Slots.{AreFirsts, changed}
+use Rattle.record_store.specs.Sound.{IsSound}
+use Rattle.record_store.specs.Touched.{SameOutside}
+use Rattle.record_store.specs.Transaction.{begun_from, entries}
+use Rattle.record_store.proofs.Putting.{set-again}
+use Rattle.record_store.proofs.Sides.{same-or-other}
+use Rattle.record_store.proofs.Touching.{among-last, none-last}
 
 with_entries-more : (entries : List Entry) (entry : Entry) (firsts : List ℕ) → with_entries (entries ++ entry ∷ []) firsts ≡ set (with_entries entries firsts) entry.slot entry.first
 with_entries-more [] entry firsts = refl
 with_entries-more (e ∷ entries) entry firsts = with_entries-more entries entry (set firsts e.slot e.first)
-
--- of the slots so far the working chains, and of the others the committed ones
-abbrev pub half_way : ℕ → List ℕ → List ℕ → List ℕ
-half_way slot committed working = take slot working ++ drop slot committed
-
-half_way-same : (slot : ℕ) (committed working : List ℕ) → slot < length committed → slot < length working → slice_index working slot ≡ slice_index committed slot → half_way (suc slot) committed working ≡ half_way slot committed working
-half_way-same slot [] working inside within same = absurd (omega arith)
-half_way-same slot (x ∷ committed) [] inside within same = absurd (omega arith)
-half_way-same zero (x ∷ committed) (y ∷ working) inside within same = ap (λ (y : ℕ). y ∷ committed) same
-half_way-same (suc slot) (x ∷ committed) (y ∷ working) inside within same = ap (λ (rest : List ℕ). y ∷ rest) (half_way-same slot committed working (omega arith) (omega arith) same)
-
-half_way-set : (slot : ℕ) (committed working : List ℕ) → slot < length committed → slot < length working → set (half_way slot committed working) slot (slice_index working slot) ≡ half_way (suc slot) committed working
-half_way-set slot [] working inside within = absurd (omega arith)
-half_way-set slot (x ∷ committed) [] inside within = absurd (omega arith)
-half_way-set zero (x ∷ committed) (y ∷ working) inside within = refl
-half_way-set (suc slot) (x ∷ committed) (y ∷ working) inside within = ap (λ (rest : List ℕ). y ∷ rest) (half_way-set slot committed working (omega arith) (omega arith))
-
-pub half_way-end : (committed working : List ℕ) → length working ≡ length committed → half_way (length committed) committed working ≡ working
-half_way-end [] [] count = refl
-half_way-end [] (y ∷ working) count = absurd (omega arith)
-half_way-end (x ∷ committed) [] count = absurd (omega arith)
-half_way-end (x ∷ committed) (y ∷ working) count = ap (λ (rest : List ℕ). y ∷ rest) (half_way-end committed working (omega arith))
-
--- how many of the slots so far have another chain
-abbrev pub changed_to : ℕ → List ℕ → List ℕ → ℕ
-changed_to slot committed working = changed (take slot committed) (take slot working)
-
-changed-more : (slot : ℕ) (committed working : List ℕ) → slot < length committed → slot < length working
-    → changed_to (suc slot) committed working ≡ changed_to slot committed working + (if slice_index working slot == slice_index committed slot then 0 else 1)
-changed-more slot [] working inside within = absurd (omega arith)
-changed-more slot (x ∷ committed) [] inside within = absurd (omega arith)
-changed-more zero (x ∷ committed) (y ∷ working) inside within = omega arith
-changed-more (suc slot) (x ∷ committed) (y ∷ working) inside within = omega (arith, changed-more slot committed working (omega arith) (omega arith))
-
-pub changed-end : (committed working : List ℕ) → length working ≡ length committed → changed_to (length committed) committed working ≡ changed committed working
-changed-end [] [] count = refl
-changed-end [] (y ∷ working) count = absurd (omega arith)
-changed-end (x ∷ committed) [] count = absurd (omega arith)
-changed-end (x ∷ committed) (y ∷ working) count = ap (λ (rest : ℕ). (if y == x then 0 else 1) + rest) (changed-end committed working (omega arith))
 
 first-at : (n : ℕ) (firsts : List ℕ) (slot : ℕ) → slot < length firsts → AreFirsts n firsts → (slice_index firsts slot < 2 * n) ⊎ (slice_index firsts slot ≡ no_cell)
 first-at n [] slot inside are = absurd (omega arith)
@@ -68,47 +42,100 @@ entry-in_range n slot first inside (inr none) =
     or-true true = refl
     or-true false = refl
 
--- the entries so far
-pub record SoFar (committed working : List ℕ) (slot : ℕ) (entries : List Entry) : Type 0 where
-  pub are : with_entries entries committed ≡ half_way slot committed working
+-- a store has no entry for slots that are as they were
+pub changed-same : (firsts : List ℕ) → changed firsts firsts ≡ 0
+changed-same [] = refl
+changed-same (first ∷ firsts) = rw (eq-eqb first first refl, changed-same firsts) refl
+
+-- one more where a slot has another chain then
+changed-one : (committed now : List ℕ) (slot first : ℕ) → slot < length committed → length now ≡ length committed → slice_index now slot ≡ slice_index committed slot → first ≢ slice_index committed slot → changed committed (set now slot first) ≡ changed committed now + 1
+changed-one [] now slot first inside count same other = absurd (omega arith)
+changed-one (old ∷ committed) [] slot first inside count same other = absurd (omega arith)
+changed-one (old ∷ committed) (next ∷ now) zero first inside count same other =
+    let alike : (next == old) ≡ true = eq-eqb next old same in
+    let unlike : (first == old) ≡ false = grind (arith, nat_tests, other) in
+    rw (alike, unlike) (omega arith)
+changed-one (old ∷ committed) (next ∷ now) (suc slot) first inside count same other = omega (arith, changed-one committed now slot first (omega arith) (omega (arith, count)) same other)
+
+-- the entries of these slots
+pub record SoFar (committed working slots : List ℕ) (entries : List Entry) : Type 0 where
+  pub size : length (with_entries entries committed) ≡ length committed
+  pub named : (slot : ℕ) → is_among slot slots ≡ true → slice_index (with_entries entries committed) slot ≡ slice_index working slot
+  pub others : (slot : ℕ) → is_among slot slots ≡ false → slice_index (with_entries entries committed) slot ≡ slice_index committed slot
   pub range : AreFirsts (length working) working → list_all (is_entry (length working)) entries ≡ true
-  pub count : length entries ≡ changed_to slot committed working
-  pub few : length entries ≤ slot
+  pub count : length entries ≡ changed committed (with_entries entries committed)
+  pub few : length entries ≤ length slots
 
-pub so_far-none : (committed working : List ℕ) → SoFar committed working 0 []
-so_far-none committed working = record { are = refl; range = λ _. refl; count = refl; few = omega arith }
+pub so_far-none : (committed working : List ℕ) → SoFar committed working [] []
+so_far-none committed working = record { size = refl; named = λ slot here. absurd (true≢false (sym here)); others = λ slot none. refl; range = λ _. refl; count = sym (changed-same committed); few = omega arith }
 
-pub so_far-same : (committed working : List ℕ) (slot : ℕ) (entries : List Entry) → slot < length committed → length working ≡ length committed → slice_index working slot ≡ slice_index committed slot → SoFar committed working slot entries
-    → SoFar committed working (slot + 1) entries
-so_far-same committed working slot entries inside count same s = subst (λ (k : ℕ). SoFar committed working k entries) (omega arith) next
+-- what holds of one slot more
+last-slot : (slots : List ℕ) (last : ℕ) (P : ℕ → Type 0) → ((slot : ℕ) → is_among slot slots ≡ true → P slot) → P last → (slot : ℕ) → is_among slot (slots ++ last ∷ []) ≡ true → P slot
+last-slot slots last P before now slot here = elim (or_cases (is_among slot slots) (slot == last) (sym (among-last slot last slots) ∙ here)) [
+  | inl earlier ↦ before slot earlier
+  | inr same ↦ subst P (sym (eqb-true slot last same)) now
+]
+
+pub so_far-same : (committed working slots : List ℕ) (slot : ℕ) (entries : List Entry) → is_among slot slots ≡ false → slice_index working slot ≡ slice_index committed slot → SoFar committed working slots entries → SoFar committed working (slots ++ slot ∷ []) entries
+so_far-same committed working slots slot entries new same s = record {
+  size = s.size;
+  named = last-slot slots slot (λ slot. slice_index (with_entries entries committed) slot ≡ slice_index working slot) s.named (s.others slot new ∙ sym same);
+  others = λ at none. s.others at (none-last at slot slots none).0;
+  range = s.range;
+  count = s.count;
+  few = omega (arith, s.few, length-append slots (slot ∷ []));
+}
+
+pub so_far-more : (committed working slots : List ℕ) (slot first : ℕ) (entries : List Entry) → slot < length committed → length working ≡ length committed → is_among slot slots ≡ false → first ≡ slice_index working slot → first ≢ slice_index committed slot → SoFar committed working slots entries
+    → SoFar committed working (slots ++ slot ∷ []) (entries ++ record { slot = slot; first = first } ∷ [])
+so_far-more committed working slots slot first entries inside size new is other s =
+    let entry : Entry = record { slot = slot; first = first } in
+    let now : List ℕ = with_entries entries committed in
+    let then_is : with_entries (entries ++ entry ∷ []) committed ≡ set now slot first = with_entries-more entries entry committed in
+    let here : slot < length now = omega (arith, inside, s.size) in
+    let named : (at : ℕ) → is_among at (slots ++ slot ∷ []) ≡ true → slice_index (set now slot first) at ≡ slice_index working at =
+    λ at among. (elim (same-or-other at slot) [
+      | inl same ↦ rw same (get_or-set_same now slot first 0 here ∙ is)
+      | inr apart ↦ get_or-set_other now slot at first 0 apart ∙ last-slot slots slot (λ at. at ≢ slot → slice_index now at ≡ slice_index working at) (λ at earlier _. s.named at earlier) (λ wrong. absurd (wrong refl)) at among apart
+    ]) in
+    record {
+      size = ap (length {A = ℕ}) then_is ∙ (length-set now slot first ∙ s.size);
+      named = λ at among. ap (λ (firsts : List ℕ). slice_index firsts at) then_is ∙ named at among;
+      others = λ at none. (let apart = none-last at slot slots none in ap (λ (firsts : List ℕ). slice_index firsts at) then_is ∙ (get_or-set_other now slot at first 0 apart.1 ∙ s.others at apart.0));
+      range = λ are.
+          let within : slot < length working = omega (arith, inside, size) in
+          let one : is_entry (length working) entry ≡ true = entry-in_range (length working) slot first within (subst (λ (first : ℕ). (first < 2 * length working) ⊎ (first ≡ no_cell)) (sym is) (first-at (length working) working slot within are)) in
+          rw (list_all-append (is_entry (length working)) entries (entry ∷ []), s.range are, one) refl;
+      count = length-append entries (entry ∷ []) ∙ (omega (arith, s.count, changed-one committed now slot first inside s.size (s.others slot new) other, ap (changed committed) then_is));
+      few = omega (arith, s.few, length-append entries (entry ∷ []), length-append slots (slot ∷ []));
+    }
+
+-- with these slots all are done, where the chains are the same in all others
+pub so_far-end : (committed working slots : List ℕ) (entries : List Entry) → length working ≡ length committed → SameOutside slots working committed → SoFar committed working slots entries → with_entries entries committed ≡ working
+so_far-end committed working slots entries size others s = same_number_lists (with_entries entries committed) working (s.size ∙ sym size) (λ slot inside. elim (cases_Bool (is_among slot slots)) [
+  | inl here ↦ s.named slot here
+  | inr none ↦ s.others slot none ∙ sym (others slot none)
+])
+
+-- and at most one more where one slot changes
+pub changed-set : (committed working : List ℕ) (slot first : ℕ) → changed committed (set working slot first) ≤ changed committed working + 1
+changed-set [] working slot first = omega arith
+changed-set (old ∷ committed) [] slot first = omega arith
+changed-set (old ∷ committed) (next ∷ working) zero first = one (first == old) (next == old) (changed committed working)
   where
-    next : SoFar committed working (suc slot) entries
-    next =
-        let more = changed-more slot committed working inside (omega (arith, count, inside)) in
-        let equal : (slice_index working slot == slice_index committed slot) ≡ true = grind (arith, nat_tests, same) in
-        record {
-          are = s.are ∙ sym (half_way-same slot committed working inside (omega (arith, count, inside)) same);
-          range = s.range;
-          count = omega (arith, s.count, rw equal at more);
-          few = omega (arith, s.few);
-        }
+    one : (a b : Bool) (rest : ℕ) → (if a then 0 else 1) + rest ≤ ((if b then 0 else 1) + rest) + 1
+    one true true rest = omega arith
+    one true false rest = omega arith
+    one false true rest = omega arith
+    one false false rest = omega arith
+changed-set (old ∷ committed) (next ∷ working) (suc slot) first = omega (arith, changed-set committed working slot first)
 
-pub so_far-more : (committed working : List ℕ) (slot first : ℕ) (entries : List Entry) → slot < length committed → length working ≡ length committed → first ≡ slice_index working slot → first ≢ slice_index committed slot → SoFar committed working slot entries
-    → SoFar committed working (slot + 1) (entries ++ record { slot = slot; first = first } ∷ [])
-so_far-more committed working slot first entries inside count is other s = subst (λ (k : ℕ). SoFar committed working k (entries ++ record { slot = slot; first = first } ∷ [])) (omega arith) next
-  where
-    next : SoFar committed working (suc slot) (entries ++ record { slot = slot; first = first } ∷ [])
-    next =
-        let within : slot < length working = omega (arith, count, inside) in
-        let more = changed-more slot committed working inside within in
-        let unequal : (slice_index working slot == slice_index committed slot) ≡ false = grind (arith, nat_tests, is, other) in
-        let entry : Entry = record { slot = slot; first = first } in
-        let size = length-append entries (entry ∷ []) in
-        record {
-          are = with_entries-more entries entry committed ∙ (ap₂ (λ (firsts : List ℕ) (first : ℕ). set firsts slot first) s.are is ∙ half_way-set slot committed working inside within);
-          range = λ are.
-              let one : is_entry (length working) entry ≡ true = entry-in_range (length working) slot first within (subst (λ (first : ℕ). (first < 2 * length working) ⊎ (first ≡ no_cell)) (sym is) (first-at (length working) working slot within are)) in
-              rw (list_all-append (is_entry (length working)) entries (entry ∷ []), s.range are, one) refl;
-          count = omega (arith, size, s.count, rw unequal at more);
-          few = omega (arith, size, s.few);
-        }
+pub entries-begun : (held : Held) → entries (begun_from held) ≡ 0
+entries-begun held = changed-same held.committed
+
+pub entries-emptied : (held new : Held) (slot : ℕ) (used : List Bool) → IsSound new → held.begun ≡ true → new ≡ emptied held slot used → entries new ≤ entries held + 1
+entries-emptied held new slot used sound begun is = rw (is, begun) (changed-set held.committed held.working slot 65535)
+
+pub entries-filled : (held mid : Held) (chains : Cells) (octets : List ℕ) (slot first : ℕ) (used : List Bool) → held.begun ≡ true → mid ≡ emptied held slot used → entries (record mid { chains = chains; working = set mid.working slot first; first_octets = octets }) ≤ entries held + 1
+entries-filled held mid chains octets slot first used begun is =
+    rw (is, begun, set-again held.working slot 65535 first) (changed-set held.committed held.working slot first)

@@ -2,17 +2,19 @@
 use Rattle.std.proofs.Common.{◌≡◌, ◌⊎◌, inl, inr, ℕ, ◌+◌, ◌*◌, ◌≤◌, ◌==◌, if◌then◌else◌, true, false, Bool, List, [], ◌∷◌, length, Option, Some, None, IsSome, IfSome, sym, refl, ap, ◌∙◌, arith, subst}
 use Rattle.std.specs.List.{list_all}
 use Rattle.eeprom.specs.Chip.{Chip, Becomes, LeavesOf}
-use Rattle.eeprom.specs.StoreOf.{Slots, slots_at, is_entry, is_gate_open, directory, written_directory, with_entries, store_of}
+use Rattle.eeprom.specs.StoreOf.{front_size, Slots, slots_at, is_entry, is_gate_open, directory, written_directory, with_entries, store_of}
 use Rattle.eeprom.specs.declared.entry.Entry.{Entry}
+use Rattle.eeprom.proofs.SameFrom.{slots-from}
 use Rattle.eeprom.proofs.Regions.{same-magic, same-cells, same-header, same-limit}
 use Rattle.cell_store.specs.Marks.{StaysMarked}
 use Rattle.journal.specs.Journal.{IsBetween, TakesEntries}
-use Rattle.record_store.specs.Held.{Held, StandsFor, firsts, contents, stored}
+use Rattle.record_store.specs.Held.{Held, StandsFor, AreKept, firsts, contents, stored}
 use Rattle.record_store.specs.Slots.{AreFirsts, changed}
 use Rattle.record_store.specs.Sound.{AreChains, IsSound}
 use Rattle.record_store.specs.Transaction.{IsCommitted, Commits}
 use Rattle.record_store.specs.declared.side.Side.TheVariants.{Committed, Working}
-use Rattle.record_store.proofs.Replaying.{rest-front, slots-alike, store-alike}
+use Rattle.record_store.proofs.FirstOctets.{both-sides}
+use Rattle.record_store.proofs.Replaying.{rest-front, store-alike}
 use Rattle.record_store.proofs.SameSlots.{links-beside}
 use Rattle.record_store.proofs.Sides.{after_commit}
 
@@ -103,7 +105,9 @@ committed-image held entries used was now ready fewer stands t =
     let working = working-firsts held ready.begun in
     let written : written_directory now n ≡ held.working = t.written ∙ (ap (with_entries entries) begins.directory ∙ ready.entries_are) in
     let in_force : directory now n ≡ Some (firsts held Working) = rw (t.closed, written, working) refl in
-    let alike : slots_at now n held.working ≡ contents held Working was = slots-alike now was n held.working ready.sound.range.many t.rest.cells ∙ ap (slots_at was n) (sym working) in
+    let alike : slots_at now n held.working ≡ contents held Working was = slots-from (front_size n) n now was held.working (omega arith) t.rest.cells ∙ ap (slots_at was n) (sym working) in
+    let octets : AreKept held.first_octets held.working (slots_at now n held.working) =
+    both-sides held.first_octets (firsts held Working) held.working (contents held Working was) (slots_at now n held.working) (sym working) alike stands.working_octets in
     let there : IsSome (slots_at now n held.working) = subst (λ (o : Option Slots). IsSome o) (sym alike) stands.working in
     record {
       store = store-alike n held.row_limit was now (Some (firsts held Working)) ready.sound.range.many begins.front begins.header begins.cells begins.rows t.rest in_force;
@@ -119,6 +123,8 @@ committed-image held entries used was now ready fewer stands t =
         links = record { each = λ cell is. stands.links.each cell (fewer cell is) ∙ sym (links-beside now was n cell t.rest.cells) };
         committed = there;
         working = there;
+        committed_octets = octets;
+        working_octets = octets;
       };
     }
 

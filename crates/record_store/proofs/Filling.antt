@@ -1,6 +1,6 @@
 -- A slot of a store in memory that is emptied and filled again, and a transaction that ends.
-use Rattle.std.proofs.Common.{◌≡◌, ◌≢◌, inl, inr, ℕ, ◌+◌, ◌<◌, ◌≤◌, ◌&&◌, not, Bool, true, false, List, [], length, set, get_or, slice_index, Option, Some, None, IfSome, sym, refl, ap, ◌∙◌, arith, subst, true≢false}
-use Rattle.std.proofs.lemmas.List.{get_or-set_same}
+use Rattle.std.proofs.Common.{◌≡◌, ◌≢◌, inl, inr, ℕ, ◌+◌, ◌*◌, ◌<◌, ◌≤◌, ◌&&◌, not, Bool, true, false, List, [], length, set, get_or, slice_index, Option, Some, None, IfSome, sym, refl, ap, ◌∙◌, arith, subst, true≢false}
+use Rattle.std.proofs.lemmas.List.{get_or-set_same, length-set}
 use Rattle.eeprom.specs.Chip.{Chip, Becomes, Keeps}
 use Rattle.eeprom.specs.StoreOf.{store_of}
 use Rattle.cell_store.specs.Cells.{Cells, cells_from, IsUsedChain, freed, link_in}
@@ -89,15 +89,15 @@ room held mid used slot weight count e =
 pub room-enough : (held mid : Held) (used : List Bool) (slot weight count : ℕ) → Emptied held mid used slot weight count → count ≤ unmarked mid.chains.used
 room-enough held mid used slot weight count e = omega (arith, (room held mid used slot weight count e).free, e.fits)
 
-pub filled-sound : (held mid : Held) (used : List Bool) (slot weight count first : ℕ) (new : Cells) → Emptied held mid used slot weight count → TakesChain mid.chains new first count
-    → IsSound (record mid { chains = new; working = set mid.working slot first })
-filled-sound held mid used slot weight count first new e takes =
+pub filled-sound : (held mid : Held) (used : List Bool) (slot weight count first octet : ℕ) (new : Cells) → Emptied held mid used slot weight count → TakesChain mid.chains new first count
+    → IsSound (record mid { chains = new; working = set mid.working slot first; first_octets = set mid.first_octets first octet })
+filled-sound held mid used slot weight count first octet new e takes =
     let r = room held mid used slot weight count e in
     let cells : mid.chains.cells ≡ held.chains.cells = ap (λ (h : Held). h.chains.cells) e.is in
     let begun : mid.begun ≡ true = ap (λ (h : Held). h.begun) e.is ∙ e.begun in
     let empty : slice_index mid.working slot ≡ 65535 = ap (λ (h : Held). slice_index h.working slot) e.is ∙ get_or-set_same held.working slot 65535 0 (omega (arith, e.inside, e.sound.working_count)) in
-    let done = sound-put mid slot first count new.used new.links e.mid_sound begun (omega (arith, e.inside, cells)) empty (put_in-takes mid new first count takes) (omega (arith, r.cells, e.fits, cells)) in
-    subst (λ (n : ℕ). IsSound (record mid { chains = cells_from n new.used new.links; working = set mid.working slot first })) (sym takes.cells) done
+    let done = sound-put mid slot first count new.used new.links (set mid.first_octets first octet) e.mid_sound (length-set mid.first_octets first octet) begun (omega (arith, e.inside, cells)) empty (put_in-takes mid new first count takes) (omega (arith, r.cells, e.fits, cells)) in
+    subst (λ (n : ℕ). IsSound (record mid { chains = cells_from n new.used new.links; working = set mid.working slot first; first_octets = set mid.first_octets first octet })) (sym takes.cells) done
 
 -- a write that failed left the chains as they were
 pub failed-sound : (held : Held) (new : Cells) → IsSound held → KeepsChains held.chains new → IsSound (with_cells held new)
@@ -109,6 +109,7 @@ failed-sound held new sound keeps =
       rows = sound.rows;
       committed_count = sound.committed_count;
       working_count = sound.working_count;
+      octets_count = sound.octets_count;
       sides = record {
         committed = k.committed;
         working = k.working;
@@ -121,31 +122,31 @@ failed-sound held new sound keeps =
     subst (λ (n : ℕ). IsSound (with_cells held (cells_from n new.used new.links))) (sym keeps.cells) (subst (λ (used : List Bool). IsSound (with_cells held (cells_from held.chains.cells used new.links))) (sym keeps.used) at)
 
 -- the record is there then
-put-into : (held mid : Held) (used : List Bool) (slot first count : ℕ) (new : Cells) (octets was now : List ℕ) → IsSound held → held.begun ≡ true → slot < held.chains.cells → StaysMarked used held.chains.used → mid ≡ emptied held slot used → IsSound mid
-    → IsSound (record mid { chains = new; working = set mid.working slot first })
+put-into : (held mid : Held) (used : List Bool) (slot first count octet : ℕ) (new : Cells) (octets was now : List ℕ) → first < 2 * held.chains.cells → octet ≡ slice_index octets 0 → IsSound held → held.begun ≡ true → slot < held.chains.cells → StaysMarked used held.chains.used → mid ≡ emptied held slot used → IsSound mid
+    → IsSound (record mid { chains = new; working = set mid.working slot first; first_octets = set mid.first_octets first octet })
     → StandsFor held was → TakesChain mid.chains new first count → IsWritten mid.chains new first octets was now
-    → IsPut held (record mid { chains = new; working = set mid.working slot first }) slot octets was now
-put-into held mid used slot first count new octets was now sound begun inside fewer is =
+    → IsPut held (record mid { chains = new; working = set mid.working slot first; first_octets = set mid.first_octets first octet }) slot octets was now
+put-into held mid used slot first count octet new octets was now there octet_is sound begun inside fewer is =
     subst (λ (mid : Held). IsSound mid → IsSound (filled mid) → StandsFor held was → TakesChain mid.chains new first count → IsWritten mid.chains new first octets was now → IsPut held (filled mid) slot octets was now) (sym is)
     (λ mid_sound next_sound stands takes written.
     let cells : new.cells ≡ held.chains.cells = takes.cells in
-    let next : IsSound (put_into (emptied held slot used) slot first new.used new.links) = subst (λ (n : ℕ). IsSound (record held { chains = cells_from n new.used new.links; working = set (set held.working slot 65535) slot first })) cells next_sound in
+    let next : IsSound (put_into (emptied held slot used) slot first new.used new.links (set held.first_octets first octet)) = subst (λ (n : ℕ). IsSound (record held { chains = cells_from n new.used new.links; working = set (set held.working slot 65535) slot first; first_octets = set held.first_octets first octet })) cells next_sound in
     let same : new ≡ cells_from held.chains.cells new.used new.links = ap (λ (n : ℕ). cells_from n new.used new.links) cells in
-    let put = put-emptied held slot first count used new.used new.links octets was now sound mid_sound next begun inside fewer stands
+    let put = put-emptied held slot first count used new.used new.links (set held.first_octets first octet) octets was now sound mid_sound next (record { inside = there; kept_is = ap (set held.first_octets first) octet_is }) begun inside fewer stands
     (subst (λ (new : Cells). TakesChain (emptied held slot used).chains new first count) same takes) (subst (λ (new : Cells). IsWritten (emptied held slot used).chains new first octets was now) same written) in
-    subst (λ (n : ℕ). IsPut held (record held { chains = cells_from n new.used new.links; working = set (set held.working slot 65535) slot first }) slot octets was now) (sym cells) put)
+    subst (λ (n : ℕ). IsPut held (record held { chains = cells_from n new.used new.links; working = set (set held.working slot 65535) slot first; first_octets = set held.first_octets first octet }) slot octets was now) (sym cells) put)
   where
     filled : Held → Held
-    filled mid = record mid { chains = new; working = set mid.working slot first }
+    filled mid = record mid { chains = new; working = set mid.working slot first; first_octets = set mid.first_octets first octet }
 
-pub filled-becomes : (held mid : Held) (used : List Bool) (slot weight count first : ℕ) (new : Cells) (octets : List ℕ) (old now : Option (List ℕ)) → Emptied held mid used slot weight count → IfSome old (StandsFor held) → TakesChain mid.chains new first count
+pub filled-becomes : (held mid : Held) (used : List Bool) (slot weight count first octet : ℕ) (new : Cells) (octets : List ℕ) (old now : Option (List ℕ)) → first < 2 * held.chains.cells → octet ≡ slice_index octets 0 → Emptied held mid used slot weight count → IfSome old (StandsFor held) → TakesChain mid.chains new first count
     → Becomes (IsWritten mid.chains new first octets) old now
-    → Becomes (IsPut held (record mid { chains = new; working = set mid.working slot first }) slot octets) old now
-filled-becomes held mid used slot weight count first new octets old now e stands takes written = λ image told.
+    → Becomes (IsPut held (record mid { chains = new; working = set mid.working slot first; first_octets = set mid.first_octets first octet }) slot octets) old now
+filled-becomes held mid used slot weight count first octet new octets old now inside octet_is e stands takes written = λ image told.
     let from = written image told in
     let there : StandsFor held from.0 = rw (from.1) at stands in
-    let next = filled-sound held mid used slot weight count first new e takes in
-    (from.0, from.1, put-into held mid used slot first count new octets from.0 image e.sound e.begun e.inside e.fewer e.is e.mid_sound next there takes from.2)
+    let next = filled-sound held mid used slot weight count first octet new e takes in
+    (from.0, from.1, put-into held mid used slot first count octet new octets from.0 image inside octet_is e.sound e.begun e.inside e.fewer e.is e.mid_sound next there takes from.2)
 
 -- at each moment of the writing the store of the image is as it was
 pub filled-keeps : (held mid : Held) (used marks : List Bool) (slot weight count n : ℕ) (old new : Chip) → Emptied held mid used slot weight count → IfSome old.image (StandsFor held) → marks ≡ mid.chains.used → n ≡ mid.chains.cells → KeepsMarked marks n old new → Keeps store_of old new
@@ -172,14 +173,14 @@ pub commit-sound : (held : Held) (new : Cells) (working : List ℕ) (replaced ke
     → ((chains : List (List ℕ)) → AreUsedChains held.chains replaced chains → (cell : ℕ) → is_marked new.used cell ≡ true → AreReplaced replaced kept chains (length replaced) cell → ⊥)
     → ((chains : List (List ℕ)) → AreUsedChains held.chains replaced chains → (cell : ℕ) → is_marked held.chains.used cell ≡ true → ¬ (AreReplaced replaced kept chains (length replaced) cell) → is_marked new.used cell ≡ true)
     → StaysMarked new.used held.chains.used → length new.used ≡ length held.chains.used
-    → IsSound (record { chains = new; row_limit = held.row_limit; committed = working; working = held.working; begun = false })
+    → IsSound (record held { chains = new; committed = working; begun = false })
 commit-sound held new working replaced others sound begun first second cells links working_is freed rest fewer size =
     let frees : Frees held replaced others new.used = record { freed = freed; others = rest; fewer = fewer; count_is = size } in
     let at = subst (λ (others : List ℕ). Frees held held.committed others new.used) second (subst (λ (replaced : List ℕ). Frees held replaced others new.used) first frees) in
-    let done = same-cells (λ (h : Held). IsSound (record { chains = h.chains; row_limit = h.row_limit; committed = h.working; working = h.working; begun = false })) held new cells links
+    let done = same-cells (λ (h : Held). IsSound (record h { committed = h.working; begun = false })) held new cells links
     (sound-committed held new.used sound begun at) in
-    subst (λ (working : List ℕ). IsSound (record { chains = new; row_limit = held.row_limit; committed = working; working = held.working; begun = false })) (sym working_is) done
+    subst (λ (working : List ℕ). IsSound (record held { chains = new; committed = working; begun = false })) (sym working_is) done
 
-pub commit-view : (held : Held) (new : Cells) (limit : ℕ) (committed working : List ℕ) → new.cells ≡ held.chains.cells → new.links ≡ held.chains.links → limit ≡ held.row_limit → committed ≡ held.working → working ≡ held.working
-    → record { chains = new; row_limit = limit; committed = committed; working = working; begun = false } ≡ after_commit held new.used
-commit-view held new limit committed working cells links limit_is committed_is working_is = rw (cells, links, limit_is, committed_is, working_is) refl
+pub commit-view : (held : Held) (new : Cells) (limit : ℕ) (committed working octets : List ℕ) → new.cells ≡ held.chains.cells → new.links ≡ held.chains.links → limit ≡ held.row_limit → committed ≡ held.working → working ≡ held.working → octets ≡ held.first_octets
+    → record { chains = new; row_limit = limit; committed = committed; working = working; begun = false; first_octets = octets } ≡ after_commit held new.used
+commit-view held new limit committed working octets cells links limit_is committed_is working_is octets_is = rw (cells, links, limit_is, committed_is, working_is, octets_is) refl

@@ -6,7 +6,9 @@ use Rattle.eeprom.specs.Chip.{Chip, Writes, Keeps}
 use Rattle.eeprom.specs.Image.{overwrite, IsTorn}
 use Rattle.eeprom.specs.StoreOf.{starts_with_magic, store_of, fresh_store}
 use Rattle.record_store.specs.FreshImage.{magic, HasOldStore, LeavesCleared, LeavesFormatted}
+use Rattle.eeprom.proofs.Leaves.{write-leaves}
 use Rattle.eeprom.proofs.Moments.{write-throughout, throughout-then, throughout-weaker}
+use Rattle.record_store.proofs.Keeping.{keeps-leaves}
 
 pub Keeps-then : {A : Type 0} (look : List ℕ → A) (old mid new : Chip) → Keeps look old mid → Keeps look mid new → Keeps look old new
 Keeps-then look old mid new first second = record {
@@ -30,14 +32,8 @@ take-torn image left at count behind within torn = ap (take 4) torn.is
 pub Keeps-write : (at : ℕ) (octets : List ℕ) (old new : Chip) → 4 ≤ at → at + length octets ≤ old.still.size → IfSome old.image (λ image. length image ≡ old.still.size)
     → IfSome old.past (λ past. length past ≡ old.clock) → Writes at octets old new → Keeps (take 4) old new
 Keeps-write at octets old new behind room sized clocked w =
-    let all = write-throughout at octets old new (λ g left. (g ≡ old.still.mark) × (was : List ℕ) × (old.image ≡ Some was) × (take 4 left ≡ take 4 was)) clocked w
-    (λ image left told torn. (refl, image, told, take-torn image left at (length octets) behind (omega (arith, size image told)) torn)) in
-    record {
-      still = w.still;
-      image = λ now told. (let n = all.now now told in (n.1, n.2, n.3));
-      later = w.later;
-      only = all.only;
-    }
+    keeps-leaves (take 4) (λ was left. IsTorn was at (length octets) left) old new w.still
+    (λ was left told torn. take-torn was left at (length octets) behind (omega (arith, size was told)) torn) (write-leaves at octets old new clocked w)
   where
     size : (image : List ℕ) → old.image ≡ Some image → length image ≡ old.still.size
     size image told = subst (λ (o : Option (List ℕ)). IfSome o (λ image. length image ≡ old.still.size)) told sized

@@ -5,9 +5,12 @@ pub mod Commit
 pub mod DirectoryRead
 pub mod Emptying
 pub mod Filling
+pub mod FirstOctets
 pub mod FreshStore
 pub mod Fronts
 pub mod HeaderRead
+pub mod InUse
+pub mod Keeping
 pub mod OpeningSlots
 pub mod Putting
 pub mod Records
@@ -16,5 +19,7 @@ pub mod Replacing
 pub mod Replaying
 pub mod SameSlots
 pub mod Sides
+pub mod Touching
+pub mod Transacting
 pub mod Weighing
 pub mod Weights

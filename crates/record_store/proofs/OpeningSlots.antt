@@ -1,10 +1,10 @@
 -- A slot more of a store that is being opened, and the store once all slots were claimed.
-use Rattle.std.proofs.Common.{◌≡◌, ℕ, ◌+◌, ◌*◌, ◌<◌, ◌≤◌, ◌≢◌, ◌||◌, inl, Bool, true, false, List, [], ◌∷◌, ◌++◌, length, length-append, map, take, drop, get_or, nat_le, Option, Some, None, IfSome, Result, Ok, Err, IfOk, OnOk, option_map, sym, refl, ap, ◌∙◌, arith, subst}
+use Rattle.std.proofs.Common.{◌≡◌, ℕ, ◌+◌, ◌*◌, ◌<◌, ◌≤◌, ◌≢◌, ◌||◌, inl, Bool, true, false, List, [], ◌∷◌, ◌++◌, length, length-append, map, take, drop, get_or, nat_le, Option, Some, None, IsSome, IfSome, Result, Ok, Err, IfOk, OnOk, option_map, sym, refl, ap, ◌∙◌, arith, subst}
 use Rattle.std.specs.List.{list_all}
 use Rattle.std.proofs.lemmas.Bool.Decides.{nat_tests}
 use Rattle.std.proofs.lemmas.List.{map-append, take-map, take_all, take_more}
 use Rattle.std.proofs.lemmas.List.Folds.{list_all-append}
-use Rattle.std.proofs.lemmas.Option.{same_Some}
+use Rattle.std.proofs.lemmas.Option.{same_Some, none-some}
 use Rattle.eeprom.specs.Chip.{Chip, Becomes, RisesBy}
 use Rattle.eeprom.specs.StoreOf.{Slots, Stored, chain_of, chains_of, is_record, slot_of, slots_at, store_of, is_gate_open, written_directory, are_apart, cells_for, cells_of, weight_of}
 use Rattle.cell_store.specs.Cells.{Cells, AreLinkedIn, all_free}
@@ -14,11 +14,12 @@ use Rattle.cell_store.proofs.Chains.{chain-empty, chains-push, chains-take}
 use Rattle.cell_store.proofs.Placements.{nowhere}
 use Rattle.record_store.specs.Header.{IsHeaderOf}
 use Rattle.record_store.specs.declared.header.Header.{Header}
-use Rattle.record_store.specs.Held.{Held, IsOver, IsRowLimit, contents, stored, with_limit, StandsFor}
-use Rattle.record_store.specs.Opening.{HeldSoFar, IsOverSoFar, StandsSoFar, IsSoundSoFar, TakesSlot, IsSlot, ReadsStore, front_octets, slots_so_far, slot_with}
+use Rattle.record_store.specs.Held.{Held, IsOver, IsRowLimit, AreKept, contents, stored, with_limit, StandsFor}
+use Rattle.record_store.specs.Opening.{HeldSoFar, IsOverSoFar, StandsSoFar, IsSoundSoFar, TakesSlot, IsSlot, ReadsStore, front_octets, slots_so_far, slot_with, with_octet}
 use Rattle.record_store.specs.Sound.{Claimed, IsSound, cells_in}
 use Rattle.record_store.specs.declared.side.Side.TheVariants.{Committed}
 use Rattle.record_store.proofs.ClaimedSlots.{all_free-range, claimed-start, linked-start, Claims, cells-more, claims-so_far, claims-record, claims-refused, claims-over, claimed-more, distinct-more, marked-claimed, takes-range}
+use Rattle.record_store.proofs.FirstOctets.{both-sides, octets-more, length-with_octet, first-free, first-apart, slots-count}
 use Rattle.record_store.proofs.Weights.{limited, store-begins, slots-chains, some-slots, header-room, cells-chains, chains-told}
 
 -- so many octets were read until then
@@ -33,13 +34,13 @@ pub record IsOpening (held : HeldSoFar) (slot cells : ℕ) (chip : Chip) (before
   pub few : held.weight ≤ held.chains.cells
   pub read : Becomes (ReadsSoFar held) before now
 
--- these cells, row limit and first cells, with so many slots claimed and so many cells in their chains
-abbrev pub held_of : Cells → ℕ → List ℕ → ℕ → ℕ → HeldSoFar
-held_of store limit firsts claimed weight = record { chains = store; row_limit = limit; firsts = firsts; claimed = claimed; weight = weight }
+-- these cells, row limit, first cells and first octets, with so many slots claimed and so many cells in their chains
+abbrev pub held_of : Cells → ℕ → List ℕ → ℕ → ℕ → List ℕ → HeldSoFar
+held_of store limit firsts claimed weight octets = record { chains = store; row_limit = limit; firsts = firsts; claimed = claimed; weight = weight; first_octets = octets }
 
--- one slot more is claimed, whose chain has so many cells
-abbrev pub with_slot : HeldSoFar → Cells → ℕ → HeldSoFar
-with_slot held new count = held_of new held.row_limit held.firsts (held.claimed + 1) (held.weight + count)
+-- one slot more is claimed, whose chain has so many cells and whose record has these octets
+abbrev pub with_slot : HeldSoFar → Cells → ℕ → List ℕ → HeldSoFar
+with_slot held new count octets = held_of new held.row_limit held.firsts (held.claimed + 1) (held.weight + count) (with_octet held.first_octets (get_or held.firsts held.claimed 0) octets)
 
 slots-push : (image : List ℕ) (n : ℕ) (xs : List ℕ) (first : ℕ) (chains : List (List ℕ)) (chain : List ℕ) (slots : Slots) (entry : Option (List ℕ)) → chains_of image n xs ≡ Some chains → list_all (is_record image n) chains ≡ true → slots ≡ map (slot_of image n) chains
     → chain_of image n (2 * n) first ≡ Some chain → is_record image n chain ≡ true → slot_of image n chain ≡ entry → are_apart n (chains ++ chain ∷ []) ≡ true → slots_at image n (xs ++ first ∷ []) ≡ Some (slots ++ entry ∷ [])
@@ -48,24 +49,26 @@ slots-push image n xs first chains chain slots entry of records are there is ent
     (ap (λ (slots : Slots). Some slots) (map-append (slot_of image n) chains (chain ∷ []) ∙ (ap (λ (before : Slots). before ++ slot_of image n chain ∷ []) (sym are) ∙ ap (λ (entry : Option (List ℕ)). slots ++ entry ∷ []) entry_is)))
 
 -- before the first slot
-pub sound-begun : (n limit : ℕ) (firsts : List ℕ) (store : Cells) → store ≡ all_free n → 16 ≤ n → n ≤ 2048 → IsRowLimit limit → length firsts ≡ n → IsSoundSoFar (held_of store limit firsts 0 0)
-sound-begun n limit firsts store is few many rows count = subst (λ (store : Cells). IsSoundSoFar (held_of store limit firsts 0 0)) (sym is) (record {
+pub sound-begun : (n limit : ℕ) (firsts octets : List ℕ) (store : Cells) → store ≡ all_free n → 16 ≤ n → n ≤ 2048 → IsRowLimit limit → length firsts ≡ n → length octets ≡ 2 * n → IsSoundSoFar (held_of store limit firsts 0 0 octets)
+sound-begun n limit firsts octets store is few many rows count size = subst (λ (store : Cells). IsSoundSoFar (held_of store limit firsts 0 0 octets)) (sym is) (record {
   range = all_free-range n few many;
   rows = rows;
   count = count;
+  octets_count = size;
   claimed = omega arith;
   chains = claimed-start n firsts;
 })
 
-pub stands-begun : (header : Header) (firsts : List ℕ) (store : Cells) (image : Option (List ℕ)) → store ≡ all_free header.cells → IfSome image (λ image. IsHeaderOf image (record header { is_open = false })) → IfSome image (λ image. firsts ≡ written_directory image header.cells)
-    → IfSome image (StandsSoFar (held_of store header.row_limit firsts 0 0))
-stands-begun header firsts store None is begins there = tt
-stands-begun header firsts store (Some image) is begins there =
+pub stands-begun : (header : Header) (firsts octets : List ℕ) (store : Cells) (image : Option (List ℕ)) → store ≡ all_free header.cells → IfSome image (λ image. IsHeaderOf image (record header { is_open = false })) → IfSome image (λ image. firsts ≡ written_directory image header.cells)
+    → IfSome image (StandsSoFar (held_of store header.row_limit firsts 0 0 octets))
+stands-begun header firsts octets store None is begins there = tt
+stands-begun header firsts octets store (Some image) is begins there =
     let none : nat_le 0 header.cells ≡ true = grind (arith, nat_tests) in
-    subst (λ (store : Cells). StandsSoFar (held_of store header.row_limit firsts 0 0) image) (sym is) (record {
+    subst (λ (store : Cells). StandsSoFar (held_of store header.row_limit firsts 0 0 octets) image) (sym is) (record {
       begins = record { front = begins.front; header = begins.fields; cells = begins.cells; rows = begins.limit; closed = begins.gate; directory = sym there };
       links = linked-start header.cells image;
       claimed = rw none refl;
+      octets = λ slot inside. absurd (omega (arith, inside));
     })
 
 -- the chains in memory are those of the image, with their records
@@ -96,7 +99,7 @@ apart-more held chain count sound free count_is fits =
 
 -- the slots with the one that is claimed
 next-slots : (held : HeldSoFar) (new : Cells) (count : ℕ) (octets image : List ℕ) (slots : Slots) → IsSoundSoFar held → held.claimed < held.chains.cells → TakesSlot (Some image) held.chains new (get_or held.firsts held.claimed 0) octets count
-    → held.weight + count ≤ held.chains.cells → StandsSoFar held image → slots_so_far held image ≡ Some slots → slots_so_far (with_slot held new count) image ≡ Some (slots ++ slot_with octets ∷ [])
+    → held.weight + count ≤ held.chains.cells → StandsSoFar held image → slots_so_far held image ≡ Some slots → slots_so_far (with_slot held new count octets) image ≡ Some (slots ++ slot_with octets ∷ [])
 next-slots held new count octets image slots sound left takes fits stands before =
     let n = held.chains.cells in
     let first : ℕ = get_or held.firsts held.claimed 0 in
@@ -108,17 +111,33 @@ next-slots held new count octets image slots sound left takes fits stands before
     (subst (λ (firsts : List ℕ). slots_at image n firsts ≡ Some (slots ++ slot_with octets ∷ [])) (sym more) pushed)
 
 pub slots-next : (held : HeldSoFar) (new : Cells) (count : ℕ) (octets : List ℕ) (image : Option (List ℕ)) → IsSoundSoFar held → held.claimed < held.chains.cells → TakesSlot image held.chains new (get_or held.firsts held.claimed 0) octets count
-    → held.weight + count ≤ held.chains.cells → IfSome image (StandsSoFar held) → IfSome image (λ image. slots_so_far (with_slot held new count) image ≡ option_map (λ slots. slots ++ slot_with octets ∷ []) (slots_so_far held image))
+    → held.weight + count ≤ held.chains.cells → IfSome image (StandsSoFar held) → IfSome image (λ image. slots_so_far (with_slot held new count octets) image ≡ option_map (λ slots. slots ++ slot_with octets ∷ []) (slots_so_far held image))
 slots-next held new count octets None sound left takes fits stands = tt
 slots-next held new count octets (Some image) sound left takes fits stands =
     let slots = some-slots (slots_so_far held image) stands.claimed in
     next-slots held new count octets image slots.0 sound left takes fits stands slots.1 ∙ ap (λ (slots : Option Slots). option_map (λ slots. slots ++ slot_with octets ∷ []) slots) (sym slots.1)
 
+-- an empty slot begins nowhere, and one with a record at a cell
+slot-nowhere : (image : List ℕ) (n first : ℕ) (octets chain : List ℕ) → chain_of image n (2 * n) first ≡ Some chain → slot_of image n chain ≡ slot_with octets → octets ≡ [] → first ≡ 65535
+slot-nowhere image n first octets [] of is none = chain-empty image n (2 * n) first of
+slot-nowhere image n first octets (cell ∷ chain) of is none = absurd (let wrong : slot_of image n (cell ∷ chain) ≡ None = is ∙ ap slot_with none in none-some _ (sym wrong))
+
+slot-some : (image : List ℕ) (n : ℕ) (octets chain : List ℕ) → slot_of image n chain ≡ slot_with octets → 1 ≤ length octets → 1 ≤ length chain
+slot-some image n [] chain is some = absurd (omega (arith, some))
+slot-some image n (octet ∷ octets) [] is some = absurd (none-some (octet ∷ octets) is)
+slot-some image n (octet ∷ octets) (cell ∷ chain) is some = omega arith
+
+pub octets-inside : (old new : Cells) (first count : ℕ) (octets : List ℕ) → TakesChain old new first count → count ≡ cells_of (slot_with octets) → 1 ≤ length octets → first < length new.links
+octets-inside old new first count [] takes is some = absurd (omega (arith, some))
+octets-inside old new first count (octet ∷ octets) takes is some = (first-free new.links old.used first takes.chain takes.linked takes.free (omega (arith, is, takes.count_is))).1
+
 pub stands-next : (held : HeldSoFar) (new : Cells) (count : ℕ) (octets : List ℕ) (image : Option (List ℕ)) → IsSoundSoFar held → held.claimed < held.chains.cells → TakesSlot image held.chains new (get_or held.firsts held.claimed 0) octets count
-    → IfSome image (λ image. AreLinkedIn held.chains image → AreLinkedIn new image) → held.weight + count ≤ held.chains.cells → IfSome image (StandsSoFar held) → IfSome image (StandsSoFar (with_slot held new count))
+    → IfSome image (λ image. AreLinkedIn held.chains image → AreLinkedIn new image) → held.weight + count ≤ held.chains.cells → IfSome image (StandsSoFar held) → IfSome image (StandsSoFar (with_slot held new count octets))
 stands-next held new count octets None sound left takes links fits stands = tt
 stands-next held new count octets (Some image) sound left takes links fits stands =
     let slots = some-slots (slots_so_far held image) stands.claimed in
+    let first : ℕ = get_or held.firsts held.claimed 0 in
+    let there = next-slots held new count octets image slots.0 sound left takes fits stands slots.1 in
     record {
       begins = record {
         front = stands.begins.front;
@@ -129,14 +148,26 @@ stands-next held new count octets (Some image) sound left takes links fits stand
         directory = ap (written_directory image) takes.chain.cells ∙ stands.begins.directory;
       };
       links = links stands.links;
-      claimed = rw (next-slots held new count octets image slots.0 sound left takes fits stands slots.1) refl;
+      claimed = rw there refl;
+      octets = both-sides (with_octet held.first_octets first octets) (take held.claimed held.firsts ++ first ∷ []) (take (held.claimed + 1) held.firsts) (Some (slots.0 ++ slot_with octets ∷ [])) (slots_so_far (with_slot held new count octets) image)
+          (take_more held.firsts held.claimed 0 (omega (arith, left, sound.count))) there
+          (octets-more held.first_octets (take held.claimed held.firsts) slots.0 first octets (slots-count image held.chains.cells (take held.claimed held.firsts) slots.0 slots.1) (slot-nowhere image held.chains.cells first octets takes.chain.chain takes.told.of takes.told.slot)
+          (λ some. (let free = first-free new.links held.chains.used first takes.chain.chain takes.chain.linked takes.chain.free (slot-some image held.chains.cells octets takes.chain.chain takes.told.slot some) in
+          let inside : first < 2 * held.chains.cells = omega (arith, free.1, takes.chain.links_count, sound.range.links_count) in
+          let small : first < 65535 = omega (arith, inside, sound.range.many) in (
+            omega (arith, inside, sound.octets_count),
+            small,
+            first-apart held.chains.links (take held.claimed held.firsts) sound.chains.slots.chains held.chains.used first sound.chains.slots.has.are (marked-claimed held.chains (take held.claimed held.firsts) sound.chains.slots) free.0 small,
+          )))
+          (subst (AreKept held.first_octets (take held.claimed held.firsts)) slots.1 stands.octets));
     }
 
-pub sound-next : (held : HeldSoFar) (new : Cells) (count : ℕ) → IsSoundSoFar held → held.claimed < held.chains.cells → TakesChain held.chains new (get_or held.firsts held.claimed 0) count → held.weight + count ≤ held.chains.cells → IsSoundSoFar (with_slot held new count)
-sound-next held new count sound left takes fits = record {
+pub sound-next : (held : HeldSoFar) (new : Cells) (count : ℕ) (octets : List ℕ) → IsSoundSoFar held → held.claimed < held.chains.cells → TakesChain held.chains new (get_or held.firsts held.claimed 0) count → held.weight + count ≤ held.chains.cells → IsSoundSoFar (with_slot held new count octets)
+sound-next held new count octets sound left takes fits = record {
   range = takes-range held.chains new (get_or held.firsts held.claimed 0) count takes sound.range;
   rows = sound.rows;
   count = sound.count ∙ sym takes.cells;
+  octets_count = length-with_octet held.first_octets (get_or held.firsts held.claimed 0) octets ∙ (sound.octets_count ∙ ap (λ (n : ℕ). 2 * n) (sym takes.cells));
   claimed = rw (takes.cells) (omega (arith, left));
   chains = claimed-more held.chains new held.firsts held.weight count held.claimed sound.range (omega (arith, left, sound.count)) takes fits sound.chains;
 }
@@ -182,8 +213,21 @@ weight-finished held image slots sound all stands there =
     let whole : take held.claimed held.firsts ≡ held.firsts = take_all held.claimed held.firsts (omega (arith, all, sound.count)) in
     weight-held held image slots sound stands (ap (slots_at image held.chains.cells) whole ∙ there)
 
+-- the store that is held then
+abbrev pub finished : HeldSoFar → List ℕ → Held
+finished held working = record { chains = held.chains; row_limit = held.row_limit; committed = held.firsts; working = working; begun = false; first_octets = held.first_octets }
+
+pub stands-finished : (held : HeldSoFar) (working image : List ℕ) → length held.firsts ≡ held.chains.cells → held.claimed ≡ held.chains.cells → StandsSoFar held image → StandsFor (finished held working) image
+stands-finished held working image count all stands =
+    let whole : take held.claimed held.firsts ≡ held.firsts = take_all held.claimed held.firsts (omega (arith, all, count)) in
+    let same : slots_at image held.chains.cells held.firsts ≡ slots_so_far held image = ap (slots_at image held.chains.cells) (sym whole) in
+    let there : IsSome (slots_at image held.chains.cells held.firsts) = subst (λ (o : Option Slots). IsSome o) (sym same) stands.claimed in
+    let octets : AreKept held.first_octets held.firsts (slots_at image held.chains.cells held.firsts) =
+    both-sides held.first_octets (take held.claimed held.firsts) held.firsts (slots_so_far held image) (slots_at image held.chains.cells held.firsts) (sym whole) same stands.octets in
+    record { begins = stands.begins; links = stands.links; committed = there; working = there; committed_octets = octets; working_octets = octets }
+
 pub sound-finished : (held : HeldSoFar) (working : List ℕ) → IsSoundSoFar held → held.claimed ≡ held.chains.cells → length working ≡ held.chains.cells
-    → IsSound (record { chains = held.chains; row_limit = held.row_limit; committed = held.firsts; working = working; begun = false })
+    → IsSound (finished held working)
 sound-finished held working sound all count =
     let c : Claimed held.chains held.firsts = subst (Claimed held.chains) (take_all held.claimed held.firsts (omega (arith, all, sound.count))) sound.chains.slots in
     record {
@@ -191,6 +235,7 @@ sound-finished held working sound all count =
       rows = sound.rows;
       committed_count = sound.count;
       working_count = count;
+      octets_count = sound.octets_count;
       sides = record { committed = c.chains; working = c.chains; committed_has = c.has; working_has = c.has; beside = λ slot. inl refl; used = λ cell. c.used cell ∙ sym (both (is_among cell (cells_in c.chains))) };
     }
   where

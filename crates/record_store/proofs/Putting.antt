@@ -1,5 +1,5 @@
 -- A record put into a slot: the store of the image stays, and the slot has the record.
-use Rattle.std.proofs.Common.{◌≡◌, inl, inr, ℕ, zero, suc, ◌+◌, ◌*◌, ◌<◌, ◌≤◌, ◌==◌, ◌&&◌, ◌||◌, not, Bool, true, false, cond, List, [], ◌∷◌, ◌++◌, length, take, drop, set, get_or, map, slice_index, slice_range, sum_by, nat_le, Option, Some, None, IsSome, IfSome, option_map, sym, refl, ap, ◌∙◌, arith, subst, le-leb, get_or-take, take-take, length-append}
+use Rattle.std.proofs.Common.{◌≡◌, ℕ, zero, suc, ◌+◌, ◌*◌, ◌<◌, ◌≤◌, ◌==◌, ◌&&◌, ◌||◌, not, Bool, true, false, cond, List, [], ◌∷◌, ◌++◌, length, take, drop, set, get_or, map, slice_index, slice_range, sum_by, nat_le, Option, Some, None, IsSome, IfSome, option_map, sym, refl, ap, ◌∙◌, arith, subst, le-leb, get_or-take, take-take, length-append}
 use Rattle.std.specs.List.{list_all}
 use Rattle.std.proofs.lemmas.Bool.{and_parts}
 use Rattle.std.proofs.lemmas.List.{drop-take, length-map}
@@ -7,8 +7,8 @@ use Rattle.std.proofs.lemmas.Option.{same_Some}
 use Rattle.std.proofs.lemmas.List.Sums.{sum_by-cons, sum_by-set}
 use Rattle.eeprom.specs.Chip.{Chip, Keeps}
 use Rattle.eeprom.specs.StoreOf.{longest_chain, Slots, chain_of, chains_of, cells_for, cells_of, is_record, slot_of, slots_at, are_apart, is_gate_open, written_directory, store_of}
-use Rattle.cell_store.specs.Cells.{cells_from, AreLinkedIn}
-use Rattle.cell_store.specs.Chains.{is_among, steps}
+use Rattle.cell_store.specs.Cells.{cells_from, link_in, AreLinkedIn}
+use Rattle.cell_store.specs.Chains.{AreLinked, is_among, steps}
 use Rattle.cell_store.specs.Claims.{TakesChain}
 use Rattle.cell_store.specs.Marks.{StaysMarked, is_marked, marked, unmarked}
 use Rattle.cell_store.specs.Placed.{Keeping, KeepsMarked}
@@ -20,12 +20,14 @@ use Rattle.cell_store.proofs.Linking.{steps-end}
 use Rattle.cell_store.proofs.Marking.{marked-all, unmarked-set}
 use Rattle.cell_store.proofs.Placements.{nowhere}
 use Rattle.eeprom.proofs.Regions.{SameFront, same-magic, same-cells, same-header, same-limit, numbers-agree}
-use Rattle.record_store.specs.Held.{Held, BeginsAs, StandsFor, firsts, contents, with_limit}
+use Rattle.record_store.specs.Held.{Held, BeginsAs, StandsFor, AreKept, firsts, contents, with_limit}
 use Rattle.record_store.specs.Put.{IsPut, emptied, weight_with, IsFull, IsWithin}
 use Rattle.record_store.specs.Slots.{steps_without}
 use Rattle.record_store.specs.Sound.{IsSound, AreChains, cells_in}
 use Rattle.record_store.specs.declared.side.Side.{Side}
 use Rattle.record_store.specs.declared.side.Side.TheVariants.{Committed, Working}
+use Rattle.record_store.proofs.FirstOctets.{both-sides, octets-same, octets-emptied, octets-put, first-free, side-apart, slots-count}
+use Rattle.record_store.proofs.Keeping.{keeps-leaves}
 use Rattle.record_store.proofs.Replacing.{marked-chains, all-marked-same, replaced}
 use Rattle.record_store.proofs.SameSlots.{slots-same}
 use Rattle.record_store.proofs.Sides.{put_into, small-links, length-put, length-chains}
@@ -85,15 +87,7 @@ keeps-store held marks n old new cells used sound stands keeps =
     λ left was keeping. subst (λ (n : ℕ). Keeping held.chains.used n left was) cells (subst (λ (marks : List Bool). Keeping marks n left was) used keeping) in
     let kept : (left was : List ℕ) → old.image ≡ Some was → Keeping marks n left was → store_of left ≡ store_of was =
     λ left was told keeping. store-kept held left was sound (rw told at stands) (keeping_is left was keeping) in
-    record {
-      still = keeps.still;
-      image = λ now told. (let at = keeps.moments.now now told in (at.1, at.2, kept now at.1 at.2 at.3));
-      later = keeps.moments.later;
-      only = λ t g left since there. elim (keeps.moments.only t g left since there) [
-        | inl before ↦ inl before
-        | inr at ↦ inr (at.0, at.1, at.2, kept left at.1 at.2 at.3)
-      ];
-    }
+    keeps-leaves store_of (λ was left. Keeping marks n left was) old new keeps.still (λ was left told keeping. kept left was told keeping) keeps.moments
 
 -- one slot has another chain, and the others are as they were
 refilled : (held next : Held) (slot first : ℕ) (chain was now : List ℕ) (slots : Slots) → IsSound held → IsSound next → next.chains.cells ≡ held.chains.cells → firsts next Working ≡ set (firsts held Working) slot first → StandsFor held was → AreLinkedIn next.chains now
@@ -113,7 +107,7 @@ refilled held next slot first chain was now slots sound next_sound same_cells sa
     ap (λ (n : ℕ). slots_at now n (firsts next Working)) same_cells ∙ (ap (λ (firsts : List ℕ). slots_at now n firsts) same_firsts
     ∙ rw (r.of, r.records, apart_set, r.slots) (ap (λ (slots : Slots). Some (set slots slot (slot_of now n chain))) (sym told.is)))
 
-set-again : {A : Type 0} (xs : List A) (i : ℕ) (a b : A) → set (set xs i a) i b ≡ set xs i b
+pub set-again : {A : Type 0} (xs : List A) (i : ℕ) (a b : A) → set (set xs i a) i b ≡ set xs i b
 set-again [] i a b = refl
 set-again (x ∷ xs) zero a b = refl
 set-again (x ∷ xs) (suc i) a b = ap (λ (rest : List _). x ∷ rest) (set-again xs i a b)
@@ -140,17 +134,29 @@ stands-emptied held slot used image sound next_sound begun inside fewer stands =
         links = links;
         committed = stands.committed;
         working = subst (λ (o : Option Slots). IsSome o) (sym there) refl;
+        committed_octets = stands.committed_octets;
+        working_octets = both-sides held.first_octets (set (firsts held Working) slot 65535) (firsts (emptied held slot used) Working) (Some (set slots.0 slot None)) (contents (emptied held slot used) Working image) next_is there
+            (octets-emptied held.first_octets (firsts held Working) slots.0 slot within (slots-count image n (firsts held Working) slots.0 slots.1) (subst (AreKept held.first_octets (firsts held Working)) slots.1 stands.working_octets));
       };
       committed = refl;
       working = there ∙ ap (λ (o : Option Slots). option_map (λ slots. set slots slot None) o) (sym slots.1);
     }
 
+-- the first octet of a record is kept for a cell
+pub record PutsOctet (held : Held) (first : ℕ) (octets kept : List ℕ) : Type 0 where
+  pub inside : first < 2 * held.chains.cells
+  pub kept_is : kept ≡ set held.first_octets first (slice_index octets 0)
+
+long-chain : (links : List ℕ) (first : ℕ) (chain : List ℕ) → first < 65535 → AreLinked (link_in links) (length links) first chain → 1 ≤ length chain
+long-chain links first [] some linked = absurd (omega (arith, some, linked))
+long-chain links first (cell ∷ chain) some linked = omega arith
+
 -- a record is put into a slot that is empty
-pub put-done : (held : Held) (slot first count : ℕ) (used : List Bool) (links octets was now : List ℕ) → IsSound held → IsSound (put_into held slot first used links) → held.begun ≡ true → slot < held.chains.cells → StandsFor held was
-    → TakesChain held.chains (cells_from held.chains.cells used links) first count → IsWritten held.chains (cells_from held.chains.cells used links) first octets was now → IsPut held (put_into held slot first used links) slot octets was now
-put-done held slot first count used links octets was now sound next_sound begun inside stands takes w =
+pub put-done : (held : Held) (slot first count : ℕ) (used : List Bool) (links kept octets was now : List ℕ) → IsSound held → IsSound (put_into held slot first used links kept) → PutsOctet held first octets kept → held.begun ≡ true → slot < held.chains.cells → StandsFor held was
+    → TakesChain held.chains (cells_from held.chains.cells used links) first count → IsWritten held.chains (cells_from held.chains.cells used links) first octets was now → IsPut held (put_into held slot first used links kept) slot octets was now
+put-done held slot first count used links kept octets was now sound next_sound puts begun inside stands takes w =
     let n = held.chains.cells in
-    let next : Held = put_into held slot first used links in
+    let next : Held = put_into held slot first used links kept in
     let slots = some-slots (contents held Working was) stands.working in
     let working_is : firsts held Working ≡ held.working = rw begun refl in
     let next_is : firsts next Working ≡ set (firsts held Working) slot first = rw begun refl in
@@ -158,6 +164,8 @@ put-done held slot first count used links octets was now sound next_sound begun 
     let reads = w.reads takes.chain takes.linked in
     let linked = w.links stands.links in
     let there = refilled held next slot first takes.chain was now slots.0 sound next_sound refl next_is stands linked w.keeping within reads.0.of reads.0.is slots.1 in
+    let some : first < 65535 = omega (arith, puts.inside, sound.range.many) in
+    let free = first-free links held.chains.used first takes.chain takes.linked takes.free (long-chain links first takes.chain some takes.linked) in
     let working : contents next Working now ≡ Some (set slots.0 slot (Some octets)) = there ∙ ap (λ (entry : Option (List ℕ)). Some (set slots.0 slot entry)) reads.1 in
     let committed = side-kept held Committed now was sound stands stands.committed w.keeping in
     record {
@@ -166,18 +174,24 @@ put-done held slot first count used links octets was now sound next_sound begun 
         links = linked;
         committed = subst (λ (o : Option Slots). IsSome o) (sym committed) stands.committed;
         working = subst (λ (o : Option Slots). IsSome o) (sym working) refl;
+        committed_octets = subst (λ (kept : List ℕ). AreKept kept held.committed (contents next Committed now)) (sym puts.kept_is)
+            (octets-same held.first_octets held.committed (contents held Committed was) (contents next Committed now) first (slice_index octets 0) (side-apart held Committed first sound free.0 some) committed stands.committed_octets);
+        working_octets = subst (λ (kept : List ℕ). AreKept kept (firsts next Working) (contents next Working now)) (sym puts.kept_is)
+            (both-sides (set held.first_octets first (slice_index octets 0)) (set (firsts held Working) slot first) (firsts next Working) (Some (set slots.0 slot (Some octets))) (contents next Working now) next_is working
+            (octets-put held.first_octets (firsts held Working) slots.0 slot first (slice_index octets 0) octets within (slots-count was n (firsts held Working) slots.0 slots.1) (omega (arith, puts.inside, sound.octets_count)) some refl
+            (side-apart held Working first sound free.0 some) (subst (AreKept held.first_octets (firsts held Working)) slots.1 stands.working_octets)));
       };
       committed = committed;
       working = working ∙ ap (λ (o : Option Slots). option_map (λ slots. set slots slot (Some octets)) o) (sym slots.1);
     }
 
 -- both, one after the other
-pub put-emptied : (held : Held) (slot first count : ℕ) (less used : List Bool) (links octets was now : List ℕ) → IsSound held → IsSound (emptied held slot less) → IsSound (put_into (emptied held slot less) slot first used links) → held.begun ≡ true → slot < held.chains.cells → StaysMarked less held.chains.used
+pub put-emptied : (held : Held) (slot first count : ℕ) (less used : List Bool) (links kept octets was now : List ℕ) → IsSound held → IsSound (emptied held slot less) → IsSound (put_into (emptied held slot less) slot first used links kept) → PutsOctet held first octets kept → held.begun ≡ true → slot < held.chains.cells → StaysMarked less held.chains.used
     → StandsFor held was → TakesChain (emptied held slot less).chains (cells_from held.chains.cells used links) first count → IsWritten (emptied held slot less).chains (cells_from held.chains.cells used links) first octets was now
-    → IsPut held (put_into (emptied held slot less) slot first used links) slot octets was now
-put-emptied held slot first count less used links octets was now sound mid_sound next_sound begun inside fewer stands takes w =
+    → IsPut held (put_into (emptied held slot less) slot first used links kept) slot octets was now
+put-emptied held slot first count less used links kept octets was now sound mid_sound next_sound puts begun inside fewer stands takes w =
     let e = stands-emptied held slot less was sound mid_sound begun inside fewer stands in
-    let p = put-done (emptied held slot less) slot first count used links octets was now mid_sound next_sound begun inside e.stands takes w in
+    let p = put-done (emptied held slot less) slot first count used links kept octets was now mid_sound next_sound (record { inside = puts.inside; kept_is = puts.kept_is }) begun inside e.stands takes w in
     record {
       stands = p.stands;
       committed = p.committed ∙ e.committed;
@@ -237,7 +251,7 @@ put-over held slot weight octets (Some image) sound begun stands inside is over 
     told-weight held slot octets image (λ w. held.chains.cells < w) sound begun stands inside (omega (arith, is, over)) (contents held Working image) refl
 
 -- there are enough free cells for it, whatever the image tells
-count-marked : (cells : List ℕ) (marks : List Bool) → ((cell : ℕ) → is_marked marks cell ≡ true → is_among cell cells ≡ true) → marked marks ≤ length cells
+pub count-marked : (cells : List ℕ) (marks : List Bool) → ((cell : ℕ) → is_marked marks cell ≡ true → is_among cell cells ≡ true) → marked marks ≤ length cells
 count-marked [] marks among = omega (arith, none marks (λ cell is. among cell is))
   where
     none : (marks : List Bool) → ((cell : ℕ) → is_marked marks cell ≡ true → false ≡ true) → marked marks ≡ 0

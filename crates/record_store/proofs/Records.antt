@@ -52,7 +52,7 @@ pub chain-entry : (image : List ℕ) (n : ℕ) (firsts : List ℕ) (slot : ℕ) 
     → ChainOf image n (slice_index firsts slot) (option_and_then (λ slots. slice_index_or slots slot None) (slots_at image n firsts))
 chain-entry image n firsts slot inside h = entry-at image n firsts slot inside (chains_of image n firsts) refl h
 
-contents-there : (held : Held) (side : Side) (image : List ℕ) → StandsFor held image → IsSome (contents held side image)
+pub contents-there : (held : Held) (side : Side) (image : List ℕ) → StandsFor held image → IsSome (contents held side image)
 contents-there held side image stands = elim side as (λ side. IsSome (contents held side image)) [ Committed ↦ stands.committed | Working ↦ stands.working ]
 
 -- a slot that begins at a cell has the record of its chain

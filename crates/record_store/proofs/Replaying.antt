@@ -1,26 +1,18 @@
 -- A journal is replayed: the image has the store that it had.
-use Rattle.std.proofs.Common.{◌≡◌, inl, inr, is_some, true≢false, arith, ℕ, ◌+◌, ◌*◌, ◌≤◌, true, false, List, drop, Option, Some, None, option_map, option_and_then, IfSome, sym, refl, ap, ◌∙◌, subst}
+use Rattle.std.proofs.Common.{◌≡◌, is_some, true≢false, arith, ℕ, ◌*◌, ◌≤◌, true, false, List, Option, Some, None, option_map, option_and_then, IfSome, sym, refl, ap, ◌∙◌, subst}
 use Rattle.std.proofs.lemmas.Option.{same_Some}
 use Rattle.eeprom.specs.Chip.{Chip, Becomes, Keeps, LeavesOf, RisesBy}
-use Rattle.eeprom.specs.StoreOf.{Slots, starts_with_magic, has_header, number_at, row_limit, slots_at, is_gate_open, directory, store_of}
+use Rattle.eeprom.specs.StoreOf.{front_size, starts_with_magic, has_header, number_at, row_limit, slots_at, is_gate_open, directory, store_of}
 use Rattle.eeprom.proofs.Regions.{SameFront, same-magic, same-cells, same-header, same-limit}
+use Rattle.eeprom.proofs.SameFrom.{slots-from}
 use Rattle.journal.specs.Journal.{KeepsRest, KeepsDirectory, IsReplayed}
 use Rattle.record_store.specs.Header.{IsHeaderOf}
 use Rattle.record_store.specs.Opening.{front_octets}
 use Rattle.record_store.specs.declared.header.Header.{Header}
-use Rattle.record_store.proofs.SameSlots.{slots-beside}
+use Rattle.record_store.proofs.Keeping.{keeps-leaves}
 
 pub rest-front : (n : ℕ) (was left : List ℕ) → KeepsRest n was left → SameFront left was
 rest-front n was left rest = record { size = rest.size; front = rest.front; behind_gate = rest.behind_gate }
-
--- the slots at the same first cells are the same, where all is as it was from the cells on
-pub slots-alike : (left was : List ℕ) (n : ℕ) (firsts : List ℕ) → n ≤ 2048 → drop (34 + 6 * n) left ≡ drop (34 + 6 * n) was → slots_at left n firsts ≡ slots_at was n firsts
-slots-alike left was n firsts few same = alike (slots_at left n firsts) (slots_at was n firsts) refl refl
-  where
-    alike : (a b : Option Slots) → slots_at left n firsts ≡ a → slots_at was n firsts ≡ b → slots_at left n firsts ≡ slots_at was n firsts
-    alike a (Some slots) at-left at-was = slots-beside left was n firsts slots few same at-was ∙ sym at-was
-    alike (Some slots) None at-left at-was = at-left ∙ sym (slots-beside was left n firsts slots few (sym same) at-left)
-    alike None None at-left at-was = at-left ∙ sym at-was
 
 -- the store of an image with such a front is that of its directory
 pub store-of-directory : (image : List ℕ) (n limit : ℕ) → starts_with_magic image ≡ true → has_header image ≡ true → number_at image 6 ≡ n → row_limit image ≡ limit
@@ -37,7 +29,7 @@ store-alike n limit was left firsts few magic header number is rest directory_is
   where
     each : (firsts : Option (List ℕ)) → option_and_then (slots_at left n) firsts ≡ option_and_then (slots_at was n) firsts
     each None = refl
-    each (Some firsts) = slots-alike left was n firsts few rest.cells
+    each (Some firsts) = slots-from (front_size n) n left was firsts (omega arith) rest.cells
 
 pub store-replayed : (header : Header) (was left : List ℕ) → header.cells ≤ 2048 → IsHeaderOf was header → KeepsDirectory header.cells was left → store_of left ≡ store_of was
 store-replayed header was left few h keeps =
@@ -59,15 +51,7 @@ told-image : (P : List ℕ → Type 0) (o : Option (List ℕ)) (image : List ℕ
 told-image P o image told holds = subst (λ (o : Option (List ℕ)). IfSome o P) told holds
 
 pub replay-keeps : (header : Header) (old new : Chip) → header.cells ≤ 2048 → IfSome old.image (λ image. IsHeaderOf image header) → new.still ≡ old.still → LeavesOf (KeepsDirectory header.cells) old new → Keeps store_of old new
-replay-keeps header old new few begins still leaves = record {
-  still = still;
-  image = λ now told. (let at = leaves.now now told in (at.1, at.2, same now at.1 at.2 at.3));
-  later = leaves.later;
-  only = λ t g left since there. elim (leaves.only t g left since there) [
-    | inl before ↦ inl before
-    | inr at ↦ inr (at.0, at.1, at.2, same left at.1 at.2 at.3)
-  ];
-}
+replay-keeps header old new few begins still leaves = keeps-leaves store_of (KeepsDirectory header.cells) old new still (λ was left told keeps. same left was told keeps) leaves
   where
     same : (left was : List ℕ) → old.image ≡ Some was → KeepsDirectory header.cells was left → store_of left ≡ store_of was
     same left was told keeps = store-replayed header was left few (told-image (λ image. IsHeaderOf image header) old.image was told begins) keeps

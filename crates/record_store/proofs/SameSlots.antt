@@ -4,7 +4,6 @@ use Rattle.std.specs.List.{list_all, AllByRecursion}
 use Rattle.eeprom.specs.StoreOf.{Slots, chains_of, cell_place, number_at, is_record, slot_of, slots_at, are_apart}
 use Rattle.cell_store.specs.Placed.{SameCell}
 use Rattle.cell_store.proofs.SameChains.{SameChain, chains-same, record-same, slot-same}
-use Rattle.record_store.proofs.Weights.{slots-chains}
 
 pub records-same : (left was : List ℕ) (n : ℕ) (chains : List (List ℕ)) → AllByRecursion (SameChain left was n) chains → list_all (is_record left n) chains ≡ list_all (is_record was n) chains
 records-same left was n [] same = refl
@@ -34,18 +33,5 @@ cell-beside left was n cell same =
       payload = ap (λ (xs : List ℕ). take ((cell_place n cell + 32) - (cell_place n cell + 2)) xs) (rw from at (drops (32 * cell + 2)));
     }
 
-chain-beside : (left was : List ℕ) (n : ℕ) (chain : List ℕ) → drop (34 + 6 * n) left ≡ drop (34 + 6 * n) was → SameChain left was n chain
-chain-beside left was n [] same = tt
-chain-beside left was n (cell ∷ chain) same = (cell-beside left was n cell same, chain-beside left was n chain same)
-
-chains-beside : (left was : List ℕ) (n : ℕ) (chains : List (List ℕ)) → drop (34 + 6 * n) left ≡ drop (34 + 6 * n) was → AllByRecursion (SameChain left was n) chains
-chains-beside left was n [] same = tt
-chains-beside left was n (chain ∷ chains) same = (chain-beside left was n chain same, chains-beside left was n chains same)
-
 pub links-beside : (left was : List ℕ) (n cell : ℕ) → drop (34 + 6 * n) left ≡ drop (34 + 6 * n) was → number_at left (cell_place n cell) ≡ number_at was (cell_place n cell)
 links-beside left was n cell same = (cell-beside left was n cell same).link
-
-pub slots-beside : (left was : List ℕ) (n : ℕ) (firsts : List ℕ) (slots : Slots) → n ≤ 2048 → drop (34 + 6 * n) left ≡ drop (34 + 6 * n) was → slots_at was n firsts ≡ Some slots → slots_at left n firsts ≡ Some slots
-slots-beside left was n firsts slots few same h =
-    let c = slots-chains was n firsts slots h in
-    slots-same left was n firsts slots c.chains few c.of c.records c.apart c.is (chains-beside left was n c.chains same)

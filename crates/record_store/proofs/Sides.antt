@@ -17,9 +17,9 @@ use Rattle.record_store.specs.Slots.{AreUsedChains, AreReplaced}
 use Rattle.record_store.specs.Sound.{AreChains, AreBeside, HasChains, KeepsSides, IsSound, cells_in}
 use Rattle.record_store.specs.declared.side.Side.TheVariants.{Working}
 
--- a record was put, whose chain begins at this cell
-abbrev pub put_into : Held → ℕ → ℕ → List Bool → List ℕ → Held
-put_into held slot first used links = record held { chains = record held.chains { used = used; links = links }; working = slice_set held.working slot first }
+-- a record was put, whose chain begins at this cell, and these first octets are kept
+abbrev pub put_into : Held → ℕ → ℕ → List Bool → List ℕ → List ℕ → Held
+put_into held slot first used links octets = record held { chains = record held.chains { used = used; links = links }; working = slice_set held.working slot first; first_octets = octets }
 
 -- tests that are each true where the other is
 same-test : (a b : Bool) → (a ≡ true → b ≡ true) → (b ≡ true → a ≡ true) → a ≡ b
@@ -256,6 +256,7 @@ sound-emptied held slot used sound begun inside size e = record {
   rows = sound.rows;
   committed_count = sound.committed_count;
   working_count = length-set held.working slot 65535 ∙ sound.working_count;
+  octets_count = sound.octets_count;
   sides = record {
     committed = k.committed;
     working = set k.working slot [];
@@ -312,13 +313,14 @@ empty-chain link size (x ∷ chain) few linked = absurd (omega (arith, linked.1)
 free-cell : (used : List Bool) (chain : List ℕ) (cell : ℕ) → AllByRecursion (λ cell. is_marked used cell ≡ false) chain → is_among cell chain ≡ true → is_marked used cell ≡ false
 free-cell used chain cell free here = among-all (λ cell. is_marked used cell ≡ false) chain free cell here
 
-pub sound-put : (held : Held) (slot first count : ℕ) (used : List Bool) (links : List ℕ) (sound : IsSound held) → held.begun ≡ true → slot < held.chains.cells → slice_index held.working slot ≡ 65535 → PutIn held used links first count
-    → length (cells_in sound.sides.working) + count ≤ held.chains.cells → IsSound (put_into held slot first used links)
-sound-put held slot first count used links sound begun inside empty p fits = record {
+pub sound-put : (held : Held) (slot first count : ℕ) (used : List Bool) (links octets : List ℕ) (sound : IsSound held) → length octets ≡ length held.first_octets → held.begun ≡ true → slot < held.chains.cells → slice_index held.working slot ≡ 65535 → PutIn held used links first count
+    → length (cells_in sound.sides.working) + count ≤ held.chains.cells → IsSound (put_into held slot first used links octets)
+sound-put held slot first count used links octets sound octets_count begun inside empty p fits = record {
   range = record { few = sound.range.few; many = sound.range.many; used_count = ap (length {A = Bool}) p.used ∙ (length-with_marked held.chains.used p.chain ∙ sound.range.used_count); links_count = p.size ∙ sound.range.links_count };
   rows = sound.rows;
   committed_count = sound.committed_count;
   working_count = length-set held.working slot first ∙ sound.working_count;
+  octets_count = octets_count ∙ sound.octets_count;
   sides = record {
     committed = k.committed;
     working = set k.working slot p.chain;
@@ -345,7 +347,7 @@ sound-put held slot first count used links sound begun inside empty p fits = rec
     working_is : firsts held Working ≡ held.working
     working_is = rw begun refl
 
-    firsts_are : firsts (put_into held slot first used links) Working ≡ set held.working slot first
+    firsts_are : firsts (put_into held slot first used links octets) Working ≡ set held.working slot first
     firsts_are = rw begun refl
 
     there : slot < length k.working
@@ -412,7 +414,7 @@ rolled_back held used = record held { chains = record held.chains { used = used 
 
 -- it was committed: the working records are now those that are committed, and the gate is closed
 abbrev pub after_commit : Held → List Bool → Held
-after_commit held used = record { chains = record held.chains { used = used }; row_limit = held.row_limit; committed = held.working; working = held.working; begun = false }
+after_commit held used = record held { chains = record held.chains { used = used }; committed = held.working; begun = false }
 
 pub sound-committed : (held : Held) (used : List Bool) (sound : IsSound held) → held.begun ≡ true → Frees held held.committed held.working used → IsSound (after_commit held used)
 sound-committed held used sound begun f = record {
@@ -420,6 +422,7 @@ sound-committed held used sound begun f = record {
   rows = sound.rows;
   committed_count = sound.working_count;
   working_count = sound.working_count;
+  octets_count = sound.octets_count;
   sides = record {
     committed = k.working;
     working = k.working;
@@ -468,6 +471,7 @@ sound-rolled_back held used sound begun f = record {
   rows = sound.rows;
   committed_count = sound.committed_count;
   working_count = sound.working_count;
+  octets_count = sound.octets_count;
   sides = record {
     committed = k.committed;
     working = k.committed;

@@ -16,7 +16,7 @@ use Rattle.record_store.specs.Weighed.{walk, IsWeighed}
 use Rattle.record_store.specs.declared.side.Side.{Side}
 use Rattle.record_store.specs.declared.side.Side.TheVariants.{Committed, Working}
 use Rattle.record_store.proofs.Filling.{Emptied, with_cells, filled-sound, failed-sound}
-use Rattle.record_store.proofs.OpeningSlots.{sound-finished}
+use Rattle.record_store.proofs.OpeningSlots.{finished, sound-finished}
 use Rattle.record_store.proofs.Putting.{walk-emptied}
 use Rattle.record_store.proofs.Sides.{chains-stay, small-links}
 use Rattle.record_store.proofs.Weights.{side-chains, walk-chains, weight-is, weight-most}
@@ -58,7 +58,7 @@ walk-stay held side links sound size stay =
     ∙ sym (walk-chains held.chains.links (firsts held side) s.chains few s.has.are)
 
 pub weighed-finished : (held : HeldSoFar) (working : List ℕ) → IsSoundSoFar held → held.claimed ≡ held.chains.cells → length working ≡ held.chains.cells
-    → IsWeighed (record { chains = held.chains; row_limit = held.row_limit; committed = held.firsts; working = working; begun = false }) held.weight held.weight
+    → IsWeighed (finished held working) held.weight held.weight
 weighed-finished held working sound all count =
     let whole : take held.claimed held.firsts ≡ held.firsts = take_all held.claimed held.firsts (omega (arith, all, sound.count)) in
     let walked = walk-chains held.chains.links (take held.claimed held.firsts) sound.chains.slots.chains (omega (arith, sound.range.links_count, sound.range.many)) sound.chains.slots.has.are in
@@ -77,10 +77,10 @@ weighed-emptied held committed working slot weight new w next begun inside links
     }
 
 -- it was filled again
-pub weighed-filled : (held mid : Held) (used : List Bool) (slot weight count first committed working : ℕ) (new : Cells) → Emptied held mid used slot weight count → TakesChain mid.chains new first count → IsWeighed mid committed working
-    → IsWeighed (record mid { chains = new; working = set mid.working slot first }) committed (weight + count)
-weighed-filled held mid used slot weight count first committed working new e takes w = record {
-  sound = filled-sound held mid used slot weight count first new e takes;
+pub weighed-filled : (held mid : Held) (used : List Bool) (slot weight count first octet committed working : ℕ) (new : Cells) → Emptied held mid used slot weight count → TakesChain mid.chains new first count → IsWeighed mid committed working
+    → IsWeighed (record mid { chains = new; working = set mid.working slot first; first_octets = set mid.first_octets first octet }) committed (weight + count)
+weighed-filled held mid used slot weight count first octet committed working new e takes w = record {
+  sound = filled-sound held mid used slot weight count first octet new e takes;
   committed_is = w.committed_is ∙ sym (walk-stay mid Committed new.links mid_sound takes.links_count takes.stay);
   working_is = rw begun walked;
 }
@@ -123,15 +123,16 @@ weighed-failed held new committed working w keeps = record {
 
 -- a transaction was committed
 pub weighed-committed : (held : Held) (new : Cells) (firsts_now : List ℕ) (committed working : ℕ) → IsWeighed held committed working → held.begun ≡ true → new.links ≡ held.chains.links → firsts_now ≡ held.working
-    → IsSound (record { chains = new; row_limit = held.row_limit; committed = firsts_now; working = held.working; begun = false })
-    → IsWeighed (record { chains = new; row_limit = held.row_limit; committed = firsts_now; working = held.working; begun = false }) working working
+    → IsSound (record held { chains = new; committed = firsts_now; begun = false })
+    → IsWeighed (record held { chains = new; committed = firsts_now; begun = false }) working working
 weighed-committed held new firsts_now committed working w begun links same sound =
     let is : working ≡ walk held.chains.links held.working = w.working_is ∙ ap (λ (firsts : List ℕ). sum_by (steps held.chains.links longest_chain) firsts) (working-firsts held begun) in
     let now : working ≡ walk new.links firsts_now = rw (links, same) is in
     record { sound = sound; committed_is = now; working_is = now }
 
 -- it was rolled back
-pub weighed-rolled_back : (held : Held) (new : Cells) (committed working : ℕ) → IsWeighed held committed working → new.links ≡ held.chains.links → IsSound (record held { chains = new; begun = false }) → IsWeighed (record held { chains = new; begun = false }) committed committed
-weighed-rolled_back held new committed working w links sound =
+pub weighed-rolled_back : (held : Held) (new : Cells) (firsts_now : List ℕ) (committed working : ℕ) → IsWeighed held committed working → new.links ≡ held.chains.links → IsSound (record held { chains = new; working = firsts_now; begun = false })
+    → IsWeighed (record held { chains = new; working = firsts_now; begun = false }) committed committed
+weighed-rolled_back held new firsts_now committed working w links sound =
     let now : committed ≡ walk new.links held.committed = rw links (w.committed_is) in
     record { sound = sound; committed_is = now; working_is = now }

@@ -3,10 +3,12 @@ pub mod Faults
 pub mod FreshImage
 pub mod Header
 pub mod Held
+pub mod Kept
 pub mod Opening
 pub mod Put
 pub mod Recovery
 pub mod Slots
 pub mod Sound
+pub mod Touched
 pub mod Transaction
 pub mod Weighed

@@ -1,26 +1,32 @@
 -- A store that is being opened: its slots are claimed one after another.
-use Rattle.std.specs.Prelude.{◌≡◌, ℕ, ◌+◌, ◌*◌, ◌≤◌, true, List, [], ◌∷◌, length, take, Option, Some, None, IsSome, IfSome}
+use Rattle.std.specs.Prelude.{◌≡◌, ℕ, ◌+◌, ◌*◌, ◌≤◌, true, List, [], ◌∷◌, length, take, slice_set, Option, Some, None, IsSome, IfSome}
 use Rattle.eeprom.specs.Chip.{Chip, RisesBy}
 use Rattle.eeprom.specs.Frame.{HasRoom}
 use Rattle.eeprom.specs.StoreOf.{Slots, slots_at, chain_of, is_record, slot_of, weight_of, cell_size, longest_chain, most_cells}
 use Rattle.cell_store.specs.Cells.{Cells, IsInRange, AreLinkedIn}
 use Rattle.cell_store.specs.Claims.{TakesChain}
-use Rattle.record_store.specs.Held.{BeginsAs, IsRowLimit}
+use Rattle.record_store.specs.Held.{BeginsAs, IsRowLimit, AreKept}
 use Rattle.record_store.specs.Sound.{Claimed, cells_in}
 
 -- the cells and the chains of them; how many octets a row may have; for each slot the first cell of its chain; how many
--- slots were claimed, and how many cells their chains have
+-- slots were claimed, and how many cells their chains have; and for each cell that one of them begins at the first octet of its record
 pub record HeldSoFar : Type 0 where
   pub chains : Cells
   pub row_limit : ℕ
   pub firsts : List ℕ
   pub claimed : ℕ
   pub weight : ℕ
+  pub first_octets : List ℕ
 
 -- the slot with these octets as its record; without octets it is empty
 abbrev pub slot_with : List ℕ → Option (List ℕ)
 slot_with [] = None
 slot_with (octet ∷ octets) = Some (octet ∷ octets)
+
+-- the octets with the first one of a record kept for a cell; an empty slot has none
+abbrev pub with_octet : List ℕ → ℕ → List ℕ → List ℕ
+with_octet kept first [] = kept
+with_octet kept first (octet ∷ octets) = slice_set kept first octet
 
 -- the records of the slots that were claimed
 abbrev pub slots_so_far : HeldSoFar → List ℕ → Option Slots
@@ -31,6 +37,7 @@ pub record StandsSoFar (held : HeldSoFar) (image : List ℕ) : Type 0 where
   pub begins : BeginsAs held.chains.cells held.row_limit held.firsts image
   pub links : AreLinkedIn held.chains image
   pub claimed : IsSome (slots_so_far held image)
+  pub octets : AreKept held.first_octets (take held.claimed held.firsts) (slots_so_far held image)
 
 -- the EEPROM has room for the store, and its image, where told, has what was opened so far
 pub record IsOverSoFar (held : HeldSoFar) (chip : Chip) : Type 0 where
@@ -58,6 +65,7 @@ pub record IsSoundSoFar (held : HeldSoFar) : Type 0 where
   pub range : IsInRange held.chains
   pub rows : IsRowLimit held.row_limit
   pub count : length held.firsts ≡ held.chains.cells
+  pub octets_count : length held.first_octets ≡ 2 * held.chains.cells
   pub claimed : held.claimed ≤ held.chains.cells
   pub chains : ClaimedSoFar held.chains (take held.claimed held.firsts) held.weight
 

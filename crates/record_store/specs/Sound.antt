@@ -1,5 +1,5 @@
 -- What holds of each store in memory, whatever an EEPROM tells: which chains its slots have, and that no other cells are used.
-use Rattle.std.specs.Prelude.{◌≡◌, ◌⊎◌, ℕ, ◌≤◌, ◌||◌, true, false, List, [], ◌∷◌, length, get_or, slice_index}
+use Rattle.std.specs.Prelude.{◌≡◌, ◌⊎◌, ℕ, ◌*◌, ◌≤◌, ◌||◌, true, false, List, [], ◌∷◌, length, get_or, slice_index}
 use Rattle.std.specs.List.{flat_map}
 use Rattle.eeprom.specs.StoreOf.{is_distinct, longest_chain}
 use Rattle.cell_store.specs.Cells.{Cells, IsInRange, link_in}
@@ -43,6 +43,7 @@ pub record IsSound (held : Held) : Type 0 where
   pub rows : IsRowLimit held.row_limit
   pub committed_count : length held.committed ≡ held.chains.cells
   pub working_count : length held.working ≡ held.chains.cells
+  pub octets_count : length held.first_octets ≡ 2 * held.chains.cells
   pub sides : KeepsSides held
 
 -- the slots that begin at these cells have chains, whose cells are used, and no others

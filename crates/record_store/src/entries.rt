@@ -1,30 +1,29 @@
 // The entries of a commit: the slots whose chains it changes.
 ghost use Rattle.std.specs.Prelude.{◌≡◌, ◌≤◌, true, length};
 ghost use Rattle.std.specs.List.{list_all};
-ghost use Rattle.eeprom.specs.StoreOf.{is_entry, with_entries, most_cells};
+ghost use Rattle.std.specs.Vec.{vec_capacity};
+ghost use Rattle.eeprom.specs.StoreOf.{is_entry, with_entries};
 ghost use Rattle.record_store.specs.Slots.{AreFirsts, changed};
+ghost use Rattle.record_store.specs.Touched.{AreSlots, SameOutside};
 
-use crate::layout::MOST_CELLS;
-use arrayvec::ArrayVec;
 use journal::Entry;
 
-pub type Entries = ArrayVec<Entry, MOST_CELLS>;
-
-/// An entry for each slot in which another chain begins now.
-pub fn entries_of(committed: &[u16], working: &[u16]) -> Entries
-    requires few { length committed.now ≤ most_cells }
+/// Takes an entry for each of these slots in which another chain begins now. In all other slots the chains are the same.
+pub fn take_entries(entries: &mut Vec<Entry>, slots: &[u16], committed: &[u16], working: &[u16])
+    requires slots { AreSlots (length committed.now) slots.now }
     requires count { length working.now ≡ length committed.now }
-    ensures entries { with_entries result.items committed.now ≡ working.now }
-    ensures range { AreFirsts (length working.now) working.now → list_all (is_entry (length working.now)) result.items ≡ true }
-    ensures count { length result.items ≡ changed committed.now working.now }
+    requires others { SameOutside slots.now working.now committed.now }
+    requires room { length committed.now ≤ vec_capacity entries.old }
+    ensures entries { with_entries entries.new.items committed.now ≡ working.now }
+    ensures range { AreFirsts (length working.now) working.now → list_all (is_entry (length working.now)) entries.new.items ≡ true }
+    ensures count { length entries.new.items ≡ changed committed.now working.now }
+    ensures room { vec_capacity entries.new ≡ vec_capacity entries.old }
 {
-    let mut entries = Entries::new();
-    for slot in 0..committed.len() {
-        let first = working[slot];
-        if first != committed[slot] {
-            let slot = slot as u16;
-            entries.push(Entry { slot, first });
+    entries.clear();
+    for slot in slots {
+        let first = working[*slot as usize];
+        if first != committed[*slot as usize] {
+            entries.push_reserved(Entry { slot: *slot, first });
         }
     }
-    entries
 }

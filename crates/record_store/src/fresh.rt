@@ -1,5 +1,5 @@
 // Formatting: a new store of two records.
-ghost use Rattle.std.specs.Prelude.{◌≡◌, ◌+◌, ◌*◌, ◌-◌, ◌≤◌, ◌<◌, ◌↔◌, length, take, drop, false, Some, option_map, OnOk, IsErrOf, IfSome};
+ghost use Rattle.std.specs.Prelude.{◌≡◌, ℕ, ◌+◌, ◌*◌, ◌-◌, ◌≤◌, ◌<◌, ◌↔◌, length, take, drop, false, Some, option_map, OnOk, IsErrOf, IfSome};
 ghost use Rattle.eeprom.specs.Chip.{Keeps};
 ghost use Rattle.eeprom.specs.Fault.{Counts, CountsFaults};
 ghost use Rattle.eeprom.specs.Frame.{HasRoom};
@@ -9,11 +9,11 @@ ghost use Rattle.record_store.specs.Appends.{Appends, end_of};
 ghost use Rattle.record_store.specs.Faults.{is_format_fault};
 ghost use Rattle.record_store.specs.FreshImage.{LeavesFormatted, LeavesCleared, fresh_image, fresh_body, fresh_header, fresh_directory, fresh_cell};
 
-use crate::layout::{FORMAT, MAGIC, image_size};
+use crate::layout::{FORMAT, MAGIC};
 use crate::writer::Writer;
 use crate::{FormatRefusal, Store};
 use cell_store::octets_of;
-use eeprom::{Eeprom, EepromFault};
+use eeprom::{Eeprom, EepromFault, image_size};
 
 impl Store {
     /// Makes a new store, which has these two records in its first slots.
@@ -33,6 +33,7 @@ impl Store {
         ensures formatted { OnOk result (IfSome (B.chip bench.new).image (λ image. store_of image ≡ Some (fresh_store cells first.now second.now))) }
         ensures still { (B.chip bench.new).still ≡ (B.chip bench.old).still }
         ensures moments { LeavesFormatted cells first.now second.now (B.chip bench.old) (B.chip bench.new) }
+        ensures behind { Keeps (drop (image_size cells)) (B.chip bench.old) (B.chip bench.new) }
         ensures too_small { IsErrOf result FormatRefusal.TooSmall ↔ ((B.chip bench.old).still.size < image_size cells) }
         ensures unchanged { IsErrOf result FormatRefusal.TooSmall → bench.new ≡ bench.old }
         ensures cause { CountsFaults is_format_fault (B.faults bench.old) (B.faults bench.new) result }
@@ -54,6 +55,7 @@ fn clear_front<B: Eeprom>(bench: &mut B) -> Result<(), EepromFault>
     ensures rest { OnOk result (option_map (λ image. drop 4 image) (B.chip bench.new).image ≡ option_map (λ image. drop 4 image) (B.chip bench.old).image) }
     ensures still { (B.chip bench.new).still ≡ (B.chip bench.old).still }
     ensures moments { LeavesCleared (B.chip bench.old) (B.chip bench.new) }
+    ensures behind { (limit : ℕ) → 4 ≤ limit → Keeps (drop limit) (B.chip bench.old) (B.chip bench.new) }
     ensures cause { Counts (B.faults bench.old) (B.faults bench.new) result }
 {
     let mut front = [0; 4];
@@ -79,6 +81,7 @@ fn write_body<B: Eeprom>(
     ensures image { OnOk result
         ((B.chip bench.new).image ≡ option_map (λ image. overwrite image 4 (fresh_body cells first.now second.now)) (B.chip bench.old).image) }
     ensures front { Keeps (take 4) (B.chip bench.old) (B.chip bench.new) }
+    ensures behind { Keeps (drop (image_size cells)) (B.chip bench.old) (B.chip bench.new) }
     ensures cause { Counts (B.faults bench.old) (B.faults bench.new) result }
 {
     let mut writer = Writer::new(4);
@@ -100,6 +103,7 @@ fn write_header<B: Eeprom>(
     ensures appends { OnOk result (Appends (fresh_header cells) writer.old writer.new (B.chip bench.old) (B.chip bench.new)) }
     ensures behind { OnOk result (4 ≤ writer.new.at) }
     ensures front { Keeps (take 4) (B.chip bench.old) (B.chip bench.new) }
+    ensures after { (limit : ℕ) → end_of writer.old + 28 ≤ limit → Keeps (drop limit) (B.chip bench.old) (B.chip bench.new) }
     ensures cause { Counts (B.faults bench.old) (B.faults bench.new) result }
 {
     let [high, low] = octets_of(cells);
@@ -118,6 +122,7 @@ fn write_directory<B: Eeprom>(
     ensures appends { OnOk result (Appends (fresh_directory cells) writer.old writer.new (B.chip bench.old) (B.chip bench.new)) }
     ensures behind { OnOk result (4 ≤ writer.new.at) }
     ensures front { Keeps (take 4) (B.chip bench.old) (B.chip bench.new) }
+    ensures after { (limit : ℕ) → end_of writer.old + (6 * cells + 2) ≤ limit → Keeps (drop limit) (B.chip bench.old) (B.chip bench.new) }
     ensures cause { Counts (B.faults bench.old) (B.faults bench.new) result }
 {
     let count = cells as usize;
@@ -137,6 +142,7 @@ fn write_cell<B: Eeprom>(
     ensures appends { OnOk result (Appends (fresh_cell octets.now) writer.old writer.new (B.chip bench.old) (B.chip bench.new)) }
     ensures behind { OnOk result (4 ≤ writer.new.at) }
     ensures front { Keeps (take 4) (B.chip bench.old) (B.chip bench.new) }
+    ensures after { (limit : ℕ) → end_of writer.old + 32 ≤ limit → Keeps (drop limit) (B.chip bench.old) (B.chip bench.new) }
     ensures cause { Counts (B.faults bench.old) (B.faults bench.new) result }
 {
     writer.append(bench, &[0xFF, 0xFF, 0, octets.len() as u8])?;

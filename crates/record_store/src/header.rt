@@ -1,18 +1,18 @@
 // What an image says of its store: its header and its directory.
 ghost use Rattle.std.specs.Prelude.{◌≡◌, ◌+◌, ◌*◌, ◌%◌, ◌<◌, ◌==◌, ◌&&◌, if◌then◌else◌, Some, None, length, is_some, slice_index, IfSome, IfOk, OnOk, IsErrOf};
-ghost use Rattle.eeprom.specs.Chip.{Becomes, RisesBy};
+ghost use Rattle.eeprom.specs.Chip.{Becomes, RisesBy, RisesAtMost};
 ghost use Rattle.eeprom.specs.Frame.{Reads};
 ghost use Rattle.eeprom.specs.StoreOf.{store_of, number_at, numbers_at, row_limit, is_gate_open, written_directory};
-ghost use Rattle.cell_store.specs.Reading.{ReadsAtMost};
 ghost use Rattle.record_store.specs.Header.{begins_store, IsHeader, IsHeaderOf};
 ghost use Rattle.record_store.specs.Faults.{is_open_fault};
 
 use crate::OpenRefusal;
-use crate::layout::{
-    DIRECTORY, FORMAT, LARGEST_DIRECTORY, MIGRATED_ROW_LIMIT, ROW_LIMIT, image_size,
-};
+use crate::layout::FORMAT;
 use cell_store::{number_of, octets_of};
-use eeprom::Eeprom;
+use eeprom::{
+    Eeprom, FEWEST_CELLS, HEADER_SIZE, LARGEST_DIRECTORY, MIGRATED_ROW_LIMIT, MOST_CELLS,
+    ROW_LIMIT, image_size,
+};
 use std::alloc::{AllocError, Global};
 
 /// How many octets of an image say whether it has a store, of which size and with which rows.
@@ -34,7 +34,7 @@ pub fn read_header<B: Eeprom>(bench: &mut B) -> Result<Header, OpenRefusal>
     ensures header { IfOk result (λ header. IfSome (B.chip bench.old).image (λ image. IsHeaderOf image header)) }
     ensures not_a_card { IsErrOf result OpenRefusal.NotACard → IfSome (B.chip bench.old).image (λ image. store_of image ≡ None) }
     ensures octets_read { OnOk result (Becomes (RisesBy 11) (B.octets_read bench.old) (B.octets_read bench.new)) }
-    ensures most_read { Becomes (ReadsAtMost 11) (B.octets_read bench.old) (B.octets_read bench.new) }
+    ensures most_read { Becomes (RisesAtMost 11) (B.octets_read bench.old) (B.octets_read bench.new) }
     ensures no_memory_taken { ¬ (IsErrOf result OpenRefusal.NoMemory) }
     ensures frame { Reads is_open_fault B.chip B.faults bench.old bench.new result }
 {
@@ -71,7 +71,7 @@ fn header_of(octets: &[u8; FRONT], size: usize) -> Option<Header>
         return None;
     };
     let cells = number_of(*high, *low);
-    if cells < 16 || cells > 2048 || size < image_size(cells) {
+    if cells < FEWEST_CELLS || cells > MOST_CELLS || size < image_size(cells) {
         return None;
     }
     Some(Header {
@@ -106,12 +106,12 @@ pub fn read_directory<B: Eeprom>(
     ensures count { IfOk result (λ firsts. length firsts.items ≡ header.cells) }
     ensures a_card { ¬ (IsErrOf result OpenRefusal.NotACard) }
     ensures octets_read { OnOk result (Becomes (RisesBy (2 * header.cells)) (B.octets_read bench.old) (B.octets_read bench.new)) }
-    ensures most_read { Becomes (ReadsAtMost (2 * header.cells)) (B.octets_read bench.old) (B.octets_read bench.new) }
+    ensures most_read { Becomes (RisesAtMost (2 * header.cells)) (B.octets_read bench.old) (B.octets_read bench.new) }
     ensures frame { Reads is_open_fault B.chip B.faults bench.old bench.new result }
 {
     let mut octets = [0; LARGEST_DIRECTORY];
     let directory = &mut octets[..2 * header.cells as usize];
-    bench.read(DIRECTORY, directory)?;
+    bench.read(HEADER_SIZE, directory)?;
     Ok(numbers_of(alloc, directory, header.cells)?)
 }
 

@@ -2,6 +2,8 @@
 #![tactic(auto)]
 
 mod entries;
+mod first_octets;
+mod found;
 mod fresh;
 mod header;
 mod layout;
@@ -10,9 +12,11 @@ mod refusal;
 mod side;
 mod slots;
 mod store;
+mod touched;
 mod writer;
 
 pub use cell_store::RecordOctets;
+pub use found::Found;
 pub use opening::Opening;
 pub use refusal::{FormatRefusal, OpenRefusal, StoreRefusal};
 pub use side::Side;

@@ -1,10 +1,10 @@
 // A store that is being opened: its slots are claimed one after another, so that it is opened only where each has the chain of a
 // record or none, and no cell is in two chains.
 ghost use Rattle.std.specs.Prelude.{◌≡◌, ◌≢◌, ◌+◌, ◌*◌, ◌≤◌, ◌<◌, ◌++◌, false, [], ◌∷◌, None, length, is_some, option_map, IfSome, IfOk, IsErrOf, OnOk};
-ghost use Rattle.eeprom.specs.Chip.{Becomes, RisesBy};
+ghost use Rattle.eeprom.specs.Chip.{Becomes, RisesBy, RisesAtMost};
 ghost use Rattle.eeprom.specs.Frame.{HasRoom, Reads};
 ghost use Rattle.eeprom.specs.StoreOf.{store_of, is_gate_open, cells_of, cell_size, longest_chain, most_cells};
-ghost use Rattle.cell_store.specs.Reading.{ReadsAtMost, ReadsCells};
+ghost use Rattle.cell_store.specs.Reading.{ReadsCells};
 ghost use Rattle.cell_store.specs.Claims.{HasNoRecord};
 ghost use Rattle.cell_store.specs.Cells.{AreLinkedIn};
 ghost use Rattle.cell_store.specs.Faults.{is_claim_fault};
@@ -14,10 +14,12 @@ ghost use Rattle.record_store.specs.Header.{IsHeader, IsHeaderOf};
 ghost use Rattle.record_store.specs.Recovery.{Recovers};
 
 use crate::OpenRefusal;
+use crate::first_octets::keep_octet;
 use crate::header::{Header, read_directory, read_header};
-use cell_store::{CellStore, ClaimRefusal, NO_CELL, RecordOctets};
-use eeprom::Eeprom;
-use journal::Journal;
+use crate::touched::Touched;
+use cell_store::{CellStore, ClaimRefusal, RecordOctets};
+use eeprom::{Eeprom, NO_CELL};
+use journal::{Entry, Journal};
 use std::alloc::Global;
 use std::marker::Model;
 
@@ -29,25 +31,31 @@ pub struct Opening {
     pub(crate) row_limit: u16,
     pub(crate) committed: Vec<u16>,
     pub(crate) working: Vec<u16>,
+    /// For each cell that the chain of a claimed slot begins at, the first octet of its record.
+    pub(crate) first_octets: Vec<u8>,
+    /// The memory of transactions.
+    pub(crate) touched: Touched,
+    pub(crate) entries: Vec<Entry>,
     /// How many slots were claimed, and how many cells their chains have.
     pub(crate) claimed: u16,
     pub(crate) weight: u16,
 }
 
 impl Model for Opening {
-    ghost use Rattle.std.specs.Prelude.{◌≡◌, length};
+    ghost use Rattle.std.specs.Prelude.{◌≡◌};
+    ghost use Rattle.std.specs.Vec.{vec_capacity};
+    ghost use Rattle.record_store.specs.Kept.{HasMemory};
     ghost use Rattle.record_store.specs.Opening.{HeldSoFar, IsSoundSoFar};
 
     ghost Value = { HeldSoFar };
 
-    ghost view = { λ opening. record { chains = opening.chains; row_limit = opening.row_limit; firsts = opening.committed.items; claimed = opening.claimed; weight = opening.weight } };
+    ghost view = { λ opening. record { chains = opening.chains; row_limit = opening.row_limit; firsts = opening.committed.items; claimed = opening.claimed; weight = opening.weight; first_octets = opening.first_octets.items } };
 
-    ghost invariant = { λ opening. (length opening.working.items ≡ opening.chains.cells) × IsSoundSoFar (record { chains = opening.chains; row_limit = opening.row_limit; firsts = opening.committed.items; claimed = opening.claimed; weight = opening.weight }) };
+    ghost invariant = { λ opening. (opening.working.items ≡ opening.committed.items) × HasMemory opening.chains.cells opening.touched (vec_capacity opening.entries) × IsSoundSoFar (record { chains = opening.chains; row_limit = opening.row_limit; firsts = opening.committed.items; claimed = opening.claimed; weight = opening.weight; first_octets = opening.first_octets.items }) };
 }
 
 impl Opening {
-    /// Begins to open the store of an image. A journal behind an open gate is replayed. The memory of both directories and of the
-    /// cells is taken here.
+    /// Begins to open the store of an image. A journal behind an open gate is replayed. All memory of the store is taken here.
     pub fn new<B: Eeprom>(alloc: Global, bench: &mut B) -> Result<Opening, OpenRefusal>
         ensures begins { IfOk result (λ opening. opening.claimed ≡ 0) }
         ensures weight { IfOk result (λ opening. opening.weight ≡ 0) }
@@ -55,7 +63,7 @@ impl Opening {
         ensures told { OnOk result (is_some (B.chip bench.new).image ≡ is_some (B.chip bench.old).image) }
         ensures octets_read { IfOk result (λ opening. IfSome (B.chip bench.old).image (λ image. is_gate_open image ≡ false
             → Becomes (RisesBy (front_octets opening.chains.cells)) (B.octets_read bench.old) (B.octets_read bench.new))) }
-        ensures most_read { Becomes (ReadsAtMost (front_octets most_cells + journal_octets most_cells)) (B.octets_read bench.old) (B.octets_read bench.new) }
+        ensures most_read { Becomes (RisesAtMost (front_octets most_cells + journal_octets most_cells)) (B.octets_read bench.old) (B.octets_read bench.new) }
         ensures not_a_card { IsErrOf result OpenRefusal.NotACard → IfSome (B.chip bench.old).image (λ image. store_of image ≡ None) }
         ensures frame { Recovers is_open_fault B.chip B.faults bench.old bench.new result }
     {
@@ -63,12 +71,18 @@ impl Opening {
         close_gate(bench, header)?;
         let committed = read_directory(alloc, bench, header)?;
         let working = Vec::from_slice(alloc, committed.as_slice())?;
+        let first_octets = vec![in alloc; 0u8; 2 * header.cells as usize]?;
+        let touched = Touched::with_room(alloc, header.cells)?;
+        let entries = Vec::with_capacity(alloc, header.cells as usize)?;
         let chains = CellStore::with_room(alloc, header.cells)?;
         Ok(Opening {
             chains,
             row_limit: header.row_limit,
             committed,
             working,
+            first_octets,
+            touched,
+            entries,
             claimed: 0,
             weight: 0,
         })
@@ -107,7 +121,7 @@ impl Opening {
         ensures few { IfOk result (λ next. next.weight ≤ next.chains.cells) }
         ensures cells { IfOk result (λ next. next.chains.cells ≡ self.chains.cells) }
         ensures octets_read { OnOk result (Becomes (ReadsCells (cells_of (slot_with out.new.items))) (B.octets_read bench.old) (B.octets_read bench.new)) }
-        ensures most_read { Becomes (ReadsAtMost (cell_size * longest_chain)) (B.octets_read bench.old) (B.octets_read bench.new) }
+        ensures most_read { Becomes (RisesAtMost (cell_size * longest_chain)) (B.octets_read bench.old) (B.octets_read bench.new) }
         ensures no_memory_taken { ¬ (IsErrOf result OpenRefusal.NoMemory) }
         ensures not_a_card { IsErrOf result OpenRefusal.NotACard → IfSome (B.chip bench.old).image (λ image. store_of image ≡ None) }
         ensures frame { Reads is_open_fault B.chip B.faults bench.old bench.new result }
@@ -117,19 +131,27 @@ impl Opening {
             row_limit,
             committed,
             working,
+            mut first_octets,
+            touched,
+            entries,
             claimed,
             weight,
         } = self;
-        let count = claim_slot(&mut chains, bench, committed[claimed as usize], out)?;
+        let first = committed[claimed as usize];
+        let count = claim_slot(&mut chains, bench, first, out)?;
         let weight = weight + count;
         if weight > chains.cells() {
             return Err(OpenRefusal::NotACard);
         }
+        keep_octet(&mut first_octets, first, out.as_slice());
         Ok(Opening {
             chains,
             row_limit,
             committed,
             working,
+            first_octets,
+            touched,
+            entries,
             claimed: claimed + 1,
             weight,
         })
@@ -143,7 +165,7 @@ fn close_gate<B: Eeprom>(bench: &mut B, header: Header) -> Result<(), OpenRefusa
     ensures header { OnOk result (IfSome (B.chip bench.new).image (λ image. IsHeaderOf image (record header { is_open = false }))) }
     ensures told { OnOk result (is_some (B.chip bench.new).image ≡ is_some (B.chip bench.old).image) }
     ensures octets_read { OnOk result (header.is_open ≡ false → B.octets_read bench.new ≡ B.octets_read bench.old) }
-    ensures most_read { Becomes (ReadsAtMost (journal_octets header.cells)) (B.octets_read bench.old) (B.octets_read bench.new) }
+    ensures most_read { Becomes (RisesAtMost (journal_octets header.cells)) (B.octets_read bench.old) (B.octets_read bench.new) }
     ensures not_a_card { IsErrOf result OpenRefusal.NotACard → IfSome (B.chip bench.old).image (λ image. store_of image ≡ None) }
     ensures frame { Recovers is_open_fault B.chip B.faults bench.old bench.new result }
 {
@@ -166,7 +188,7 @@ fn claim_slot<B: Eeprom>(
     ensures linked { OnOk result (IfSome (B.chip bench.old).image (λ image. AreLinkedIn chains.old image → AreLinkedIn chains.new image)) }
     ensures count { IfOk result (λ count. count ≡ cells_of (slot_with out.new.items)) }
     ensures octets_read { IfOk result (λ count. Becomes (ReadsCells count) (B.octets_read bench.old) (B.octets_read bench.new)) }
-    ensures most_read { Becomes (ReadsAtMost (cell_size * longest_chain)) (B.octets_read bench.old) (B.octets_read bench.new) }
+    ensures most_read { Becomes (RisesAtMost (cell_size * longest_chain)) (B.octets_read bench.old) (B.octets_read bench.new) }
     ensures bad_chain { IsErrOf result ClaimRefusal.BadChain → (first ≢ 65535) × IfSome (B.chip bench.old).image (HasNoRecord chains.old first) }
     ensures frame { Reads is_claim_fault B.chip B.faults bench.old bench.new result }
 {

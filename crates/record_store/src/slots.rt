@@ -1,13 +1,18 @@
 // Slots by the first cells of their chains: an empty one, and chains that others replace.
 ghost use Rattle.std.specs.Prelude.{◌≡◌, ◌≤◌, ◌<◌, ℕ, List, true, if◌then◌else◌, length, is_some, slice_index, Some, None, IfSome, IfNone, All};
 ghost use Rattle.cell_store.specs.Marks.{StaysMarked, is_marked};
+ghost use Rattle.record_store.specs.Kept.{AreEmptyBehind};
 ghost use Rattle.record_store.specs.Slots.{AreUsedChains, AreReplaced};
+ghost use Rattle.record_store.specs.Touched.{AreSlots, SameOutside};
 
-use cell_store::{CellStore, NO_CELL};
+use cell_store::CellStore;
+use eeprom::NO_CELL;
 
-/// Frees the chains in whose place others are kept.
-pub fn free_replaced(cells: &mut CellStore, replaced: &[u16], kept: &[u16])
+/// Frees the chains of these slots in whose place others are kept. In all other slots the chains are the same.
+pub fn free_replaced(cells: &mut CellStore, slots: &[u16], replaced: &[u16], kept: &[u16])
+    requires slots { AreSlots (length replaced.now) slots.now }
     requires count { length kept.now ≡ length replaced.now }
+    requires others { SameOutside slots.now replaced.now kept.now }
     ensures freed { (chains : List (List ℕ)) → AreUsedChains cells.old replaced.now chains
         → (cell : ℕ) → is_marked cells.new.used cell ≡ true → AreReplaced replaced.now kept.now chains (length replaced.now) cell → ⊥ }
     ensures others { (chains : List (List ℕ)) → AreUsedChains cells.old replaced.now chains
@@ -17,10 +22,23 @@ pub fn free_replaced(cells: &mut CellStore, replaced: &[u16], kept: &[u16])
     ensures fewer { StaysMarked cells.new.used cells.old.used }
     ensures count { length cells.new.used ≡ length cells.old.used }
 {
-    for slot in 0..replaced.len() {
-        if replaced[slot] != kept[slot] {
-            cells.free_chain(replaced[slot]);
+    for slot in slots {
+        let first = replaced[*slot as usize];
+        if first != kept[*slot as usize] {
+            cells.free_chain(first);
         }
+    }
+}
+
+/// Copies the first cells of these slots. In all other slots they are the same.
+pub fn copy_slots(slots: &[u16], from: &[u16], to: &mut Vec<u16>)
+    requires slots { AreSlots (length from.now) slots.now }
+    requires count { length to.old.items ≡ length from.now }
+    requires others { SameOutside slots.now to.old.items from.now }
+    ensures { to.new.items ≡ from.now }
+{
+    for slot in slots {
+        to[*slot as usize] = from[*slot as usize];
     }
 }
 
@@ -51,6 +69,21 @@ pub fn search_from(named: Option<u16>, found: u16, from: u16) -> u16
         Some(_) => from,
         None => found,
     }
+}
+
+/// Behind so many slots no chain begins.
+pub fn slots_in_use(firsts: &[u16]) -> u16
+    requires few { length firsts.now ≤ 2048 }
+    ensures most { result ≤ length firsts.now }
+    ensures empty { AreEmptyBehind result firsts.now }
+{
+    let mut count = 0;
+    for slot in 0..firsts.len() {
+        if firsts[slot] != NO_CELL {
+            count = slot as u16 + 1;
+        }
+    }
+    count
 }
 
 /// The first slot from one on whose chain begins nowhere.

@@ -1,29 +1,31 @@
 // A store of records, of which a directory in memory knows where each begins.
-ghost use Rattle.std.specs.Prelude.{◌≡◌, ◌+◌, ◌*◌, ◌≤◌, ◌<◌, ℕ, List, Some, None, false, IsTrue, IsSome, if◌then◌else◌, length, slice_index, is_some, IfSome, IfOk, IsErrOf, OnOk, OnErr};
-ghost use Rattle.eeprom.specs.Chip.{Becomes, RisesBy, Keeps};
+ghost use Rattle.std.specs.Prelude.{◌≡◌, ◌↔◌, ◌+◌, ◌*◌, ◌≤◌, ◌<◌, ℕ, List, Some, None, false, IsTrue, IsSome, if◌then◌else◌, length, drop, slice_index, is_some, IfSome, IfOk, IsErrOf, OnOk, OnErr};
+ghost use Rattle.eeprom.specs.Chip.{Becomes, RisesBy, RisesAtMost, Keeps};
 ghost use Rattle.eeprom.specs.Fault.{Counts, CountsFaults, each_error};
 ghost use Rattle.eeprom.specs.Frame.{Reads};
-ghost use Rattle.eeprom.specs.StoreOf.{Slots, Stored, store_of, is_gate_open, cell_size, longest_record};
+ghost use Rattle.eeprom.specs.StoreOf.{no_cell, Slots, Stored, store_of, is_gate_open, cell_size, longest_record};
 ghost use Rattle.eeprom.specs.StoreOf as image;
-ghost use Rattle.record_store.specs.Held.{firsts, contents, stored, record_at, StandsFor, IsOver, IsRowLimit};
+ghost use Rattle.record_store.specs.Held.{firsts, contents, stored, record_at, first_octet, StandsFor, IsOver, IsRowLimit};
 ghost use Rattle.record_store.specs.Opening.{StandsSoFar, ReadsStore, most_octets, slots_so_far};
 ghost use Rattle.record_store.specs.Faults.{is_open_fault, is_put_fault};
 ghost use Rattle.record_store.specs.Recovery.{Recovers};
 ghost use Rattle.eeprom.specs.StoreOf.{weight_of};
 ghost use Rattle.record_store.specs.Put.{IsPut, IsRemoved, IsFull, IsWithin, emptied};
-ghost use Rattle.record_store.specs.Slots.{changed, steps_without};
+ghost use Rattle.record_store.specs.Slots.{steps_without};
 ghost use Rattle.cell_store.specs.Marks.{StaysMarked};
-ghost use Rattle.cell_store.specs.Reading.{ReadsAtMost, ReadsRecord};
-ghost use Rattle.record_store.specs.Transaction.{begun_from, IsCommitted, Commits};
+ghost use Rattle.cell_store.specs.Reading.{ReadsRecord};
+ghost use Rattle.record_store.specs.Transaction.{begun_from, entries, IsCommitted, Commits};
+ghost use Rattle.record_store.specs.declared.side.Side.{Side};
 ghost use Rattle.record_store.specs.declared.side.Side.TheVariants.{Committed, Working};
 
-use crate::entries::entries_of;
+use crate::entries::take_entries;
 use crate::opening::Opening;
-use crate::slots::{free_replaced, named_or_empty, search_from};
+use crate::slots::{copy_slots, free_replaced, named_or_empty, search_from, slots_in_use};
+use crate::touched::Touched;
 use crate::{OpenRefusal, Side, StoreRefusal};
-use cell_store::{CellRefusal, CellStore, NO_CELL, RecordOctets, cells_for};
-use eeprom::{Eeprom, EepromFault};
-use journal::Journal;
+use cell_store::{CellRefusal, CellStore, RecordOctets, cells_for};
+use eeprom::{Eeprom, EepromFault, NO_CELL};
+use journal::{Entry, Journal};
 use std::alloc::Global;
 use std::marker::Model;
 
@@ -35,22 +37,31 @@ pub struct Store {
     committed: Vec<u16>,
     working: Vec<u16>,
     begun: bool,
+    /// For each cell that the chain of a record begins at, the first octet of the record.
+    first_octets: Vec<u8>,
     /// How many cells the records of each side have.
     committed_weight: u16,
     working_weight: u16,
+    /// Behind so many slots all are empty on both sides.
+    slots_in_use: u16,
     /// From where an empty slot is searched.
     next_slot: u16,
+    /// The slots that a transaction touched: in all others both sides have the same chains.
+    touched: Touched,
+    /// The entries of a commit, of which only the memory is kept.
+    entries: Vec<Entry>,
 }
 
 impl Model for Store {
+    ghost use Rattle.std.specs.Vec.{vec_capacity};
     ghost use Rattle.record_store.specs.Held.{Held};
-    ghost use Rattle.record_store.specs.Weighed.{IsWeighed};
+    ghost use Rattle.record_store.specs.Kept.{IsKept};
 
     ghost Value = { Held };
 
-    ghost view = { λ store. record { chains = store.chains; row_limit = store.row_limit; committed = store.committed.items; working = store.working.items; begun = store.begun } };
+    ghost view = { λ store. record { chains = store.chains; row_limit = store.row_limit; committed = store.committed.items; working = store.working.items; begun = store.begun; first_octets = store.first_octets.items } };
 
-    ghost invariant = { λ store. IsWeighed (record { chains = store.chains; row_limit = store.row_limit; committed = store.committed.items; working = store.working.items; begun = store.begun }) store.committed_weight store.working_weight };
+    ghost invariant = { λ store. IsKept (record { chains = store.chains; row_limit = store.row_limit; committed = store.committed.items; working = store.working.items; begun = store.begun; first_octets = store.first_octets.items }) store.committed_weight store.working_weight store.slots_in_use store.touched (vec_capacity store.entries) };
 }
 
 impl Opening {
@@ -64,15 +75,20 @@ impl Opening {
         ensures idle { result.begun ≡ false }
         ensures cells { result.chains.cells ≡ self.chains.cells }
     {
+        let slots_in_use = slots_in_use(self.committed.as_slice());
         Store {
             chains: self.chains,
             row_limit: self.row_limit,
             committed: self.committed,
             working: self.working,
             begun: false,
+            first_octets: self.first_octets,
             committed_weight: self.weight,
             working_weight: self.weight,
+            slots_in_use,
             next_slot: 0,
+            touched: self.touched,
+            entries: self.entries,
         }
     }
 }
@@ -87,7 +103,7 @@ impl Store {
         ensures idle { IfOk result (λ store. store.begun ≡ false) }
         ensures octets_read { IfOk result (λ store. IfSome (B.chip bench.old).image (λ image. (was : Stored) → store_of image ≡ Some was → is_gate_open image ≡ false
             → Becomes (ReadsStore store.chains.cells was.slots) (B.octets_read bench.old) (B.octets_read bench.new))) }
-        ensures most_read { Becomes (ReadsAtMost most_octets) (B.octets_read bench.old) (B.octets_read bench.new) }
+        ensures most_read { Becomes (RisesAtMost most_octets) (B.octets_read bench.old) (B.octets_read bench.new) }
         ensures not_a_card { IsErrOf result OpenRefusal.NotACard → IfSome (B.chip bench.old).image (λ image. store_of image ≡ None) }
         ensures frame { Recovers is_open_fault B.chip B.faults bench.old bench.new result }
     {
@@ -135,6 +151,27 @@ impl Store {
         }
     }
 
+    /// How many slots at the front may have a record: all behind these are empty on both sides.
+    pub fn slots_in_use(&self) -> u16
+        ensures most { result ≤ self.now.chains.cells }
+        ensures empty { (image : List ℕ) (side : Side) (slot : ℕ) → StandsFor self.now image → result ≤ slot → record_at self.now side slot image ≡ None }
+    {
+        self.slots_in_use
+    }
+
+    /// The first octet of the record of a slot, which says its kind. Nothing is read.
+    pub fn kind(&self, side: Side, slot: u16) -> Option<u8>
+        requires slot { slot < self.now.chains.cells }
+        ensures kind { (image : List ℕ) → StandsFor self.now image → result ≡ first_octet (record_at self.now side slot image) }
+        ensures empty { (result ≡ None) ↔ (slice_index (firsts self.now side) slot ≡ no_cell) }
+    {
+        let first = self.first_cell(side, slot);
+        if first == NO_CELL {
+            return None;
+        }
+        Some(self.first_octets[first as usize])
+    }
+
     /// Reads the record of a slot, and answers whether there is one.
     pub fn get<B: Eeprom>(
         &self,
@@ -167,8 +204,8 @@ impl Store {
         ensures stands { (image : List ℕ) → StandsFor self.old image → StandsFor self.new image }
         ensures starts { (image : List ℕ) → contents self.new Working image ≡ contents self.old Committed image }
         ensures committed { (image : List ℕ) → contents self.new Committed image ≡ contents self.old Committed image }
+        ensures no_entries { entries self.new ≡ 0 }
     {
-        self.working.copy_from_slice(self.committed.as_slice());
         self.begun = true;
     }
 
@@ -197,7 +234,9 @@ impl Store {
         ensures cells { OnOk result (self.new.chains.cells ≡ self.old.chains.cells) }
         ensures rows { OnOk result (self.new.row_limit ≡ self.old.row_limit) }
         ensures octets_written { OnOk result (Becomes (RisesBy (cell_size * image.cells_for (length octets.now))) (B.chip bench.old).written (B.chip bench.new).written) }
+        ensures entries { OnOk result (entries self.new ≤ entries self.old + 1) }
         ensures moments { Keeps store_of (B.chip bench.old) (B.chip bench.new) }
+        ensures behind { Keeps (drop (image.image_size self.old.chains.cells)) (B.chip bench.old) (B.chip bench.new) }
         ensures cause { CountsFaults is_put_fault (B.faults bench.old) (B.faults bench.new) result }
     {
         let next = self.next_slot;
@@ -213,8 +252,11 @@ impl Store {
         self.remove(slot);
         match self.chains.write_chain(bench, octets) {
             Ok(first) => {
+                self.touched.touch(slot);
                 self.working[slot as usize] = first;
+                self.first_octets[first as usize] = octets[0];
                 self.working_weight = weight + count;
+                self.slots_in_use = self.slots_in_use.max(slot + 1);
                 self.next_slot = search_from(named, slot, next);
                 Ok(slot)
             }
@@ -234,8 +276,10 @@ impl Store {
         ensures rows { self.new.row_limit ≡ self.old.row_limit }
         ensures emptied { self.new ≡ emptied self.old slot self.new.chains.used }
         ensures fewer { StaysMarked self.new.chains.used self.old.chains.used }
+        ensures entries { entries self.new ≤ entries self.old + 1 }
     {
         let weight = self.weight_without(slot);
+        self.touched.touch(slot);
         let first = self.working[slot as usize];
         if first != self.committed[slot as usize] {
             self.chains.free_chain(first);
@@ -267,18 +311,18 @@ impl Store {
         ensures told { OnOk result (is_some (B.chip bench.new).image ≡ is_some (B.chip bench.old).image) }
         ensures done { OnOk result (Becomes (IsCommitted self.old self.new) (B.chip bench.old).image (B.chip bench.new).image) }
         ensures moments { Commits self.old (B.chip bench.old) (B.chip bench.new) }
-        ensures octets_written { OnOk result (Becomes (RisesBy (4 + 6 * changed self.old.committed self.old.working)) (B.chip bench.old).written (B.chip bench.new).written) }
+        ensures behind { Keeps (drop (image.image_size self.old.chains.cells)) (B.chip bench.old) (B.chip bench.new) }
+        ensures octets_written { OnOk result (Becomes (RisesBy (4 + 6 * entries self.old)) (B.chip bench.old).written (B.chip bench.new).written) }
         ensures unchanged { OnErr result (self.new ≡ self.old) }
         ensures cause { Counts (B.faults bench.old) (B.faults bench.new) result }
     {
-        let entries = entries_of(self.committed.as_slice(), self.working.as_slice());
-        Journal::commit(bench, self.chains.cells(), entries.as_slice())?;
-        free_replaced(
-            &mut self.chains,
-            self.committed.as_slice(),
-            self.working.as_slice(),
-        );
-        self.committed.copy_from_slice(self.working.as_slice());
+        let slots = self.touched.slots();
+        let working = self.working.as_slice();
+        take_entries(&mut self.entries, slots, self.committed.as_slice(), working);
+        Journal::commit(bench, self.chains.cells(), self.entries.as_slice())?;
+        free_replaced(&mut self.chains, slots, self.committed.as_slice(), working);
+        copy_slots(slots, working, &mut self.committed);
+        self.touched.clear();
         self.committed_weight = self.working_weight;
         self.begun = false;
         Ok(())
@@ -293,8 +337,11 @@ impl Store {
         ensures stands { (image : List ℕ) → StandsFor self.old image → StandsFor self.new image }
         ensures committed { (image : List ℕ) → contents self.new Committed image ≡ contents self.old Committed image }
     {
-        let replaced = self.working.as_slice();
-        free_replaced(&mut self.chains, replaced, self.committed.as_slice());
+        let slots = self.touched.slots();
+        let committed = self.committed.as_slice();
+        free_replaced(&mut self.chains, slots, self.working.as_slice(), committed);
+        copy_slots(slots, committed, &mut self.working);
+        self.touched.clear();
         self.working_weight = self.committed_weight;
         self.begun = false;
     }

@@ -1,5 +1,5 @@
 // Octets that are written one behind another, in few and large writes, behind the first four of an image.
-ghost use Rattle.std.specs.Prelude.{◌≡◌, ◌+◌, ◌≤◌, ◌<◌, [], ◌∷◌, length, take, replicate, OnOk};
+ghost use Rattle.std.specs.Prelude.{◌≡◌, ◌+◌, ◌≤◌, ◌<◌, ℕ, [], ◌∷◌, length, take, drop, replicate, OnOk};
 ghost use Rattle.eeprom.specs.Chip.{Keeps};
 ghost use Rattle.eeprom.specs.Fault.{Counts};
 ghost use Rattle.record_store.specs.Appends.{Appends, end_of, promised};
@@ -37,6 +37,7 @@ impl Writer {
         ensures empty { OnOk result (self.new.pending.items ≡ []) }
         ensures behind { OnOk result (4 ≤ self.new.at) }
         ensures front { Keeps (take 4) (B.chip bench.old) (B.chip bench.new) }
+        ensures after { (limit : ℕ) → end_of self.old ≤ limit → Keeps (drop limit) (B.chip bench.old) (B.chip bench.new) }
         ensures cause { Counts (B.faults bench.old) (B.faults bench.new) result }
     {
         bench.write(self.at, self.pending.as_slice())?;
@@ -52,6 +53,7 @@ impl Writer {
         ensures appends { OnOk result (Appends [] self.old self.new (B.chip bench.old) (B.chip bench.new)) }
         ensures behind { OnOk result (4 ≤ self.new.at) }
         ensures front { Keeps (take 4) (B.chip bench.old) (B.chip bench.new) }
+        ensures after { (limit : ℕ) → end_of self.old ≤ limit → Keeps (drop limit) (B.chip bench.old) (B.chip bench.new) }
         ensures cause { Counts (B.faults bench.old) (B.faults bench.new) result }
     {
         if self.pending.is_full() {
@@ -66,6 +68,7 @@ impl Writer {
         ensures appends { OnOk result (Appends (octet ∷ []) self.old self.new (B.chip bench.old) (B.chip bench.new)) }
         ensures behind { OnOk result (4 ≤ self.new.at) }
         ensures front { Keeps (take 4) (B.chip bench.old) (B.chip bench.new) }
+        ensures after { (limit : ℕ) → end_of self.old + 1 ≤ limit → Keeps (drop limit) (B.chip bench.old) (B.chip bench.new) }
         ensures cause { Counts (B.faults bench.old) (B.faults bench.new) result }
     {
         self.make_room(bench)?;
@@ -80,6 +83,7 @@ impl Writer {
         ensures appends { OnOk result (Appends octets.now self.old self.new (B.chip bench.old) (B.chip bench.new)) }
         ensures behind { OnOk result (4 ≤ self.new.at) }
         ensures front { Keeps (take 4) (B.chip bench.old) (B.chip bench.new) }
+        ensures after { (limit : ℕ) → end_of self.old + length octets.now ≤ limit → Keeps (drop limit) (B.chip bench.old) (B.chip bench.new) }
         ensures cause { Counts (B.faults bench.old) (B.faults bench.new) result }
     {
         for octet in octets {
@@ -100,6 +104,7 @@ impl Writer {
         ensures appends { OnOk result (Appends (replicate count octet) self.old self.new (B.chip bench.old) (B.chip bench.new)) }
         ensures behind { OnOk result (4 ≤ self.new.at) }
         ensures front { Keeps (take 4) (B.chip bench.old) (B.chip bench.new) }
+        ensures after { (limit : ℕ) → end_of self.old + count ≤ limit → Keeps (drop limit) (B.chip bench.old) (B.chip bench.new) }
         ensures cause { Counts (B.faults bench.old) (B.faults bench.new) result }
     {
         for _step in 0..count {

@@ -1,13 +1,13 @@
 // Rows in octets.
-ghost use Rattle.std.specs.Prelude.{◌≡◌, ◌≤◌, Some, true, IfSome, length};
+ghost use Rattle.std.specs.Prelude.{◌≡◌, ◌≤◌, Some, true, [], IfSome, length, option_map};
 ghost use Rattle.eeprom.specs.StoreOf.{longest_record};
 ghost use Rattle.scql_base.specs.declared.records.RowRecord.{RowRecord};
-ghost use Rattle.scql_model.specs.Records.{row_record};
+ghost use Rattle.scql_model.specs.Records.{row_record, values_to_the_end};
 ghost use Rattle.row_codec.specs.Rows as rows;
 
 use crate::{number_at, put, put_number};
 use cell_store::RecordOctets;
-use scql_base::{Params, Row, RowRecord};
+use scql_base::{Row, RowRecord};
 
 const MARK: u8 = 0x06;
 
@@ -40,22 +40,14 @@ fn row_in(octets: &[u8]) -> Option<RowRecord>
     };
     let (stamp, rest) = number_at(octets)?;
     let (table, rest) = number_at(rest)?;
-    let values = Params::read(rest)?;
-    let row = row_of(values)?;
+    let row = row_to_the_end(rest)?;
     Some(RowRecord { stamp, table, row })
 }
 
-// The row of these values.
-fn row_of(values: Params<'_>) -> Option<Row>
-    ensures { result ≡ rows.row_of values.entry }
+// The row that octets spell to their end, which has at least one value.
+fn row_to_the_end(octets: &[u8]) -> Option<Row>
+    ensures { option_map (λ row. (row, [])) result ≡ values_to_the_end.read octets.now }
 {
-    let mut row = Row::new();
-    let mut rest = values;
-    while let Some((value, after)) = rest.split_first() {
-        let Ok(()) = row.push(value) else {
-            return None;
-        };
-        rest = after;
-    }
+    let row = Row::read(octets)?;
     if row.len() == 0 { None } else { Some(row) }
 }

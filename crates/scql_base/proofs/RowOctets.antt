@@ -1,15 +1,16 @@
 -- A row as one run of octets: it splits into the values that it spells, and a value more is its spelling more.
-use Rattle.std.proofs.Common.{◌≡◌, ℕ, ◌+◌, ◌<◌, ◌≤◌, List, [], ◌∷◌, ◌++◌, length, Some, Ok, Err, refl, sym, ◌∙◌, ap, arith, append-nil}
-use Rattle.std.specs.List.{flat_map}
+use Rattle.std.proofs.Common.{◌≡◌, ℕ, ◌+◌, ◌<◌, ◌≤◌, List, [], ◌∷◌, ◌++◌, length, nat_le, Bool, true, false, ◌&&◌, Some, None, Ok, Err, refl, sym, ◌∙◌, ap, arith, append-nil}
+use Rattle.std.specs.List.{flat_map, list_all}
 use Rattle.std.proofs.lemmas.Bool.{le-leb, lt-ltb, le-ltb, ne_eqb, and_from}
+use Rattle.std.proofs.lemmas.Bool.Decides.{nat_tests}
 use Rattle.std.proofs.lemmas.Grind.{flat_map-append}
 use Rattle.std.proofs.lemmas.List.{length-append}
 use Rattle.std.proofs.lemmas.List.Folds.{list_all-append}
 use Rattle.std.proofs.lemmas.List.Sums.{sum_by-append, sum_by-cons}
 use Rattle.scql_base.specs.declared.row_refusal.RowRefusal.TheVariants.{TooWide}
 use Rattle.scql_base.specs.Strings.{spelled, params_of, strings_of}
-use Rattle.scql_base.specs.Row.{IsRow, is_narrow, row_size, with_value}
-use Rattle.scql_base.proofs.Splitting.{params_of-again}
+use Rattle.scql_base.specs.Row.{IsRow, is_narrow, row_from, row_size, with_value}
+use Rattle.scql_base.proofs.Splitting.{AreParams-from_params_of, params_of-again}
 
 pub strings_of-spelled : (values : List (List ℕ)) → strings_of (flat_map spelled values) ≡ values
 strings_of-spelled values = rw (params_of-again values) refl
@@ -40,6 +41,36 @@ pub strings_of-longer : (octets longer value : List ℕ) (values : List (List �
     → strings_of longer ≡ values ++ value ∷ []
 strings_of-longer octets longer value values is more =
     ap strings_of (longer_run octets longer value values is more) ∙ strings_of-spelled (values ++ value ∷ [])
+
+lt-leb : (a b : ℕ) → b < a → nat_le a b ≡ false
+lt-leb a b above = grind (arith, nat_tests)
+
+and-false : (b : Bool) → (b && false) ≡ false
+and-false true = refl
+and-false false = refl
+
+-- values that octets split into, as a row
+pub row_from-values : (octets : List ℕ) (values : List (List ℕ)) → params_of octets ≡ Some values → length octets ≡ row_size values
+row_from-values octets values is = ap length (AreParams-from_params_of values octets is) ∙ row_size-spelled values
+
+pub row_from-row : (octets : List ℕ) (values : List (List ℕ)) → params_of octets ≡ Some values → length values ≤ 15 → length octets ≤ 1020 → list_all is_narrow values ≡ true → row_from octets ≡ Some values
+row_from-row octets values is few short narrow =
+    let size : row_size values ≤ 1020 = omega (arith, row_from-values octets values is) in
+    rw (is, le-leb (length values) 15 few, narrow, le-leb (row_size values) 1020 size) refl
+
+pub row_from-many : (octets : List ℕ) (values : List (List ℕ)) → params_of octets ≡ Some values → 15 < length values → row_from octets ≡ None
+row_from-many octets values is many = rw (is, lt-leb (length values) 15 many) refl
+
+pub row_from-wide : (octets : List ℕ) (values : List (List ℕ)) → params_of octets ≡ Some values → list_all is_narrow values ≡ false → row_from octets ≡ None
+row_from-wide octets values is wide = rw (is, wide, and-false (nat_le (length values) 15)) refl
+
+pub row_from-long : (octets : List ℕ) (values : List (List ℕ)) → params_of octets ≡ Some values → 1020 < length octets → row_from octets ≡ None
+row_from-long octets values is long =
+    let size : 1020 < row_size values = omega (arith, row_from-values octets values is) in
+    rw (is, lt-leb (row_size values) 1020 size, and-false (nat_le (length values) 15 && list_all is_narrow values)) refl
+
+pub IsRow-read : (octets : List ℕ) (values : List (List ℕ)) → params_of octets ≡ Some values → length values ≤ 15 → length octets ≤ 1020 → list_all is_narrow values ≡ true → IsRow values
+IsRow-read octets values is few short narrow = record { count = few; widths = narrow; size = omega (arith, row_from-values octets values is) }
 
 -- the row with a value more, where it has room
 pub IsRow-longer : (values : List (List ℕ)) (value : List ℕ) → IsRow values → (length values ≡ 15 → ⊥) → length value ≤ 200

@@ -3,6 +3,7 @@
 
 mod blank;
 mod changes;
+mod codes;
 mod condition;
 mod conditions;
 mod cursor;

@@ -1,8 +1,8 @@
 // Rows of values.
 ghost use Rattle.std.specs.Prelude.{◌≡◌, ◌<◌, ◌≤◌, ◌+◌, ◌↔◌, [], ◌∷◌, ◌++◌, Ok, Err, IsSome, OnErr, OnOk, IfErr, length, option_copied, slice_get};
-ghost use Rattle.std.specs.List.{flat_map};
+ghost use Rattle.std.specs.List.{flat_map, list_all};
 ghost use Rattle.scql_base.specs.Strings.{spelled};
-ghost use Rattle.scql_base.specs.Row.{IsRow, row_size, with_value};
+ghost use Rattle.scql_base.specs.Row.{IsRow, is_narrow, row_from, row_size, with_value};
 ghost use Rattle.scql_base.specs.declared.row.TheConstants.Row.{LARGEST, LONGEST_VALUE};
 
 use crate::RowRefusal;
@@ -52,6 +52,21 @@ impl Row {
             octets: ArrayVec::new(),
             count: 0,
         }
+    }
+
+    /// The row that these octets spell, where they split into values that are a row. They are taken over as one run.
+    pub fn read(octets: &[u8]) -> Option<Row>
+        ensures { result ≡ row_from octets.now }
+    {
+        let values = Params::read(octets)?;
+        let count = values.count();
+        if count > Row::MOST || octets.len() > Row::LARGEST || !are_narrow(values) {
+            return None;
+        }
+        let mut run = ArrayVec::new();
+        let fits = run.try_extend_from_slice(octets).is_ok();
+        prove!(fits);
+        Some(Row { octets: run, count })
     }
 
     /// How many values there are.
@@ -117,6 +132,20 @@ impl Row {
             count: self.count,
         }
     }
+}
+
+// Whether none of these values is too long for a row.
+fn are_narrow(values: Params<'_>) -> bool
+    ensures { result ≡ list_all is_narrow values.entry }
+{
+    let mut rest = values;
+    while let Some((value, after)) = rest.split_first() {
+        if value.len() > Row::LONGEST_VALUE {
+            return false;
+        }
+        rest = after;
+    }
+    true
 }
 
 // Puts a value behind others: its length in one octet, and its octets.

@@ -1,201 +1,85 @@
--- Which words answers have: 6282 comes of a cursor without a further row, 63CX of a wrong secret, and refusals have other words.
-use Rattle.std.proofs.Common.{◌≡◌, ◌⊎◌, ◌≤◌, ◌<◌, ◌+◌, ◌-◌, ◌==◌, ◌/◌, ◌%◌, ℕ, zero, suc, Bool, true, false, ◌&&◌, ◌||◌, nat_le, nat_lt, List, [], ◌∷◌, ◌++◌, length, drop, map, Option, Some, None, option_map, Result, Ok, Err, not, is_some, if◌then◌else◌, refl, sym, ap, subst, ◌∙◌, inl, inr, arith, lit≤}
-use Rattle.std.specs.Prelude.{IfSome, slice_get}
-use Rattle.std.specs.List.{list_any, concat}
+-- 6282 comes exactly of a cursor without a further row, and 63CX exactly of a wrong secret; and what they change.
+use Rattle.std.proofs.Common.{◌≡◌, ◌⊎◌, ◌-◌, ◌==◌, ℕ, Bool, true, false, List, [], ◌∷◌, drop, Option, Some, None, option_map, Result, Ok, Err, not, is_some, if◌then◌else◌, refl, sym, ap, subst, ◌∙◌, inl, inr}
+use Rattle.std.specs.Prelude.{IfSome}
 use Rattle.std.specs.Option.{option_map_or}
 use Rattle.std.specs.Result.{result_ok}
 use Rattle.std.specs.Str.{bytes_eq}
-use Rattle.std.proofs.lemmas.Bool.{false≢true, leb-true, ltb-true, le-leb}
+use Rattle.std.proofs.lemmas.Bool.{ne_eqb, false≢true}
 use Rattle.scql_base.specs.declared.words.StatusWord.{StatusWord}
 use Rattle.scql_base.specs.declared.words.Actor.{Actor}
 use Rattle.scql_base.specs.declared.cursor.Cursor.{Cursor}
 use Rattle.scql_base.specs.declared.cursor.Place.{Place}
 use Rattle.scql_base.specs.declared.cursor.Presented.{Presented}
 use Rattle.scql_base.specs.declared.cursor.Place.TheVariants.{NotOpen, At, End}
-use Rattle.scql_base.specs.declared.condition.Condition.{Condition}
 use Rattle.scql_base.specs.declared.records.User.{User}
-use Rattle.scql_base.specs.declared.records.Object.{Object}
-use Rattle.scql_base.specs.declared.records.ObjectKind.{ObjectKind}
-use Rattle.scql_base.specs.declared.records.ObjectKind.TheVariants.{Table, View, Dictionary}
 use Rattle.scql_base.specs.declared.operation.Command.{Command}
 use Rattle.scql_base.specs.declared.operation.Line.{Line}
-use Rattle.scql_base.specs.declared.operation.Takes.{Takes}
 use Rattle.scql_base.specs.declared.operation.Operation.{Operation}
-use Rattle.scql_base.specs.declared.operation.Operation.TheVariants.{CreateTable, CreateView, CreateDictionary, DropTable, DropView, Grant, Revoke, Insert, Update, Delete, CreateUser, DeleteUser, Begin, Commit, Rollback, PresentUser, Verify, OpenChannel, CloseChannel}
-use Rattle.scql_base.specs.Row.{row_size}
-use Rattle.scql_base.specs.Words.{done, end_reached, in_four_bits, tries_left, in_sw2, more_left, wrong_le, wrong_length, wrong_data, wrong_parameters, class_not_supported, secure_messaging_not_supported, instruction_not_supported, chaining_not_supported, authentication_blocked, channel_not_supported, conditions_not_satisfied, function_not_supported, not_found, record_not_found, security_not_satisfied, already_exists, no_space}
+use Rattle.scql_base.specs.declared.operation.Operation.TheVariants.{DeleteUser, Begin, Commit, Rollback, PresentUser, Verify, OpenChannel, CloseChannel}
+use Rattle.scql_base.specs.Words.{end_reached, tries_left, authentication_blocked, conditions_not_satisfied, not_found, record_not_found}
 use Rattle.scql_model.specs.Replies.{Reply}
 use Rattle.scql_model.specs.Refusals.{◌>>=◌, or_refused, provided}
-use Rattle.scql_model.specs.Database.{Database, public_name, user_named, user_stamped, is_table, are_among}
-use Rattle.scql_model.specs.Rules.{may_have_view}
-use Rattle.scql_model.specs.Matching.{Columns, Values}
-use Rattle.scql_model.specs.Machine.{Machine, Session, Reading, Transaction, Chain, new_session, session_for, open_channels, base, actor, session_of}
-use Rattle.scql_model.specs.Sessions.{with_session, changing_session, command_chain, cursor_of, reading_of, reading_so, without_chain, user_of, presented, is_channel_open, least_closed, without_user}
+use Rattle.scql_model.specs.Database.{Database, user_stamped}
+use Rattle.scql_model.specs.Machine.{Machine, Session, Reading, Transaction, open_channels, base, actor, session_of}
+use Rattle.scql_model.specs.Sessions.{with_session, changing_session, command_chain, reading_of, reading_so, without_chain, user_of}
 use Rattle.scql_model.specs.Transactions.{own_transaction, waits, is_kept_waiting}
-use Rattle.scql_model.specs.Operations.{kind_of, has_instruction, has_secrets, is_for_channel, line_of, comes_in_parts}
-use Rattle.scql_model.specs.Parameters.{operation_in}
-use Rattle.scql_model.specs.Form.{Form, refused, refused_on, part_on, a_command, Tail, class_of, is_chained, is_open, channel_of, channel_asked, line_on, tail_of, taken_in, parts_of, formed_on, formed, part_in, command_in, takes_case, is_case_3, data_in, form_of}
-use Rattle.scql_model.specs.Objects.{StampedRow, columns_of}
-use Rattle.scql_model.specs.ReadingCommands.{ReadingCommand, declare, open_cursor, next, fetch, fetch_next, get_response, reading_command, Move, or_stays, rest_word, fitting, row_octets, wanted_of, named_among}
+use Rattle.scql_model.specs.Operations.{kind_of}
+use Rattle.scql_model.specs.Form.{Form, refused, refused_on, part_on, a_command, form_of}
+use Rattle.scql_model.specs.Objects.{StampedRow}
+use Rattle.scql_model.specs.ReadingCommands.{ReadingCommand, declare, open_cursor, next, fetch, fetch_next, get_response, reading_command, Move, or_stays, fitting, row_octets, named_among}
 use Rattle.scql_model.specs.Moves.{selected, is_opened, opened, rows_under, first_row, row_behind, row_at, moved_to, went_to, gave_next, gave, gave_more, moved, move_of}
-use Rattle.scql_model.specs.Rights.{select_privilege, insert_privilege, update_privilege, delete_privilege, owns, holds, seen_named, seen_stamped}
-use Rattle.scql_model.specs.Edits.{Edit, applied}
-use Rattle.scql_model.specs.Defining.{makes_objects, of_kind, is_table_or_view, has_view, new_object, owned_by, named_anew, object_created, view_created, table_dropped, view_dropped}
-use Rattle.scql_model.specs.Granting.{grantee_named, grant_to, privileges_granted, privileges_revoked}
-use Rattle.scql_model.specs.Writing.{Assignment, record_at_cursor, row_after, written_through, row_inserted, row_updated, row_deleted}
-use Rattle.scql_model.specs.Creating.{may_create, is_taken}
-use Rattle.scql_model.specs.Users.{owns_user, is_needed, user_added, user_deleted}
-use Rattle.scql_base.specs.declared.words.Profile.{Profile}
-use Rattle.scql_model.specs.Changing.{edits_of, lacks_room, with_edits}
+use Rattle.scql_model.specs.Rights.{seen_named}
 use Rattle.scql_model.specs.Accepting.{channel_named, ended_at, EndsCursor, CostsTry}
-use Rattle.scql_model.specs.Step.{Answer, answered, reading_done, changed_to, changed, user_and_sessions_deleted, session_named, secret_right, secret_wrong, verified, channel_opened, channel_closed, operated, carried_out, stepped, step_by}
+use Rattle.scql_model.specs.Step.{Answer, answered, reading_done, changed, session_named, secret_right, secret_wrong, verified, operated, carried_out, stepped, step_by}
 use Rattle.scql_model.proofs.ChangingSessions.{changing_session-set}
 use Rattle.scql_model.proofs.FormedCommands.{refused-not, not_refused, not_unless}
 use Rattle.scql_model.proofs.FormedParts.{read_on, IfSome-read_on-named}
 use Rattle.scql_model.proofs.ReadingSteps.{ended-user, ended-actor, ended-reading}
+use Rattle.std.proofs.lemmas.Option.{same_Some}
+use Rattle.scql_model.specs.Answering.{IsTriesLeft, AreCommand, FindsNone, ComesToEnd, ComparesWrong}
+use Rattle.scql_model.proofs.ReadingSteps.{stepped-reading}
+use Rattle.scql_model.proofs.RefusalWords.{IsPlain, plain-done, plain-rest, end-not_try, plain-refusal, Gives, behind, or_word, if_word, asked, there, gives-selected, gives-rows, gives-opened, gives-fitting, gives-named_among, Plain, plain-changed, plain-deleted, gives-session_named, plain-opened, plain-closed, RefusedSo, refused-form_of}
 
--- Numbers of words.
-four_bits : (n : ℕ) → in_four_bits n ≤ 15
-four_bits n = go (nat_lt n 16) refl
-  where
-    go : (b : Bool) → nat_lt n 16 ≡ b → (if b then n else 15) ≤ 15
-    go true is = omega (arith, ltb-true n 16 is)
-    go false is = omega arith
-
-one_octet : (n : ℕ) → in_sw2 n ≤ 255
-one_octet n = go (nat_lt n 256) refl
-  where
-    go : (b : Bool) → nat_lt n 256 ≡ b → (if b then n else 0) ≤ 255
-    go true is = omega (arith, ltb-true n 256 is)
-    go false is = omega arith
-
-abbrev number : StatusWord → ℕ
-number w = w.word
-
--- neither 6282 nor 63CX
-abbrev IsPlain : StatusWord → Type 0
-IsPlain w = (w ≡ end_reached → ⊥) × ((n : ℕ) → w ≡ tries_left n → ⊥)
-
-plain-high : (w : StatusWord) → 25552 ≤ w.word → IsPlain w
-plain-high w high = (λ is. omega (arith, high, ap number is), λ n is. omega (arith, high, ap number is, four_bits n))
-
-plain-low : (w : StatusWord) → w.word < 25218 → IsPlain w
-plain-low w low = (λ is. omega (arith, low, ap number is), λ n is. omega (arith, low, ap number is, four_bits n))
-
-plain-done : IsPlain done
-plain-done = plain-high done (lit≤ tt)
-
-plain-rest : (rest : List ℕ) → IsPlain (rest_word rest)
-plain-rest [] = plain-done
-plain-rest (octet ∷ octets) = plain-low (more_left (length (octet ∷ octets))) (omega (arith, one_octet (length (octet ∷ octets))))
-
-end-not_try : (n : ℕ) → end_reached ≡ tries_left n → ⊥
-end-not_try n is = omega (arith, ap number is)
-
--- the words of refusals
-abbrev Refuses : StatusWord → Type 0
-Refuses w = nat_le 25600 w.word ≡ true
-
-plain-refusal : (w : StatusWord) → Refuses w → IsPlain w
-plain-refusal w is = plain-high w (omega (arith, leb-true 25600 w.word is))
-
-refuses-wrong_le : (n : ℕ) → Refuses (wrong_le n)
-refuses-wrong_le n = le-leb 25600 (27648 + in_sw2 n) (omega arith)
-
--- An outcome is so, or a refusal.
-abbrev Gives : {A : Type 0} → (A → Type 0) → Result A StatusWord → Type 0
-Gives P (Ok x) = P x
-Gives P (Err word) = Refuses word
-
-abbrev Anything : {A : Type 0} → A → Type 0
-Anything x = Unit {0}
-
-behind : {A B : Type 0} (P : B → Type 0) (r : Result A StatusWord) (f : A → Result B StatusWord) → Gives Anything r → ((x : A) → r ≡ Ok x → Gives P (f x)) → Gives P (r >>= f)
-behind P (Ok x) f gives each = each x refl
-behind P (Err word) f gives each = gives
-
-or_word : {A : Type 0} (o : Option A) (word : StatusWord) → Refuses word → Gives Anything (or_refused o word)
-or_word None word is = is
-or_word (Some x) word is = tt
-
-if_word : (test : Bool) (word : StatusWord) → Refuses word → Gives Anything (provided test word)
-if_word true word is = tt
-if_word false word is = is
-
--- what is asked of a command, and what there has to be
-asked : {B : Type 0} (P : B → Type 0) (test : Bool) (word : StatusWord) (f : Unit {0} → Result B StatusWord) → Refuses word → Gives P (f tt) → Gives P (provided test word >>= f)
-asked P true word f is gives = gives
-asked P false word f is gives = is
-
-there : {A B : Type 0} (P : B → Type 0) (o : Option A) (word : StatusWord) (f : A → Result B StatusWord) → Refuses word → ((x : A) → Gives P (f x)) → Gives P (or_refused o word >>= f)
-there P None word f is each = is
-there P (Some x) word f is each = each x
-
--- Reading.
-gives-selected : (db : Database) (actor : Actor) (o : Object) → Gives Anything (selected db actor o)
-gives-selected db actor o = asked Anything (holds db actor o select_privilege) security_not_satisfied _ refl tt
-
-gives-rows : (db : Database) (actor : Actor) (c : Cursor) → Gives Anything (rows_under db actor c)
-gives-rows db actor c =
-    behind Anything (or_refused (seen_stamped db actor c.object) not_found) _ (or_word (seen_stamped db actor c.object) not_found refl) (λ o _.
-    behind Anything (selected db actor o) _ (gives-selected db actor o) (λ _ _. tt))
-
-gives-opened : (cursor : Option Cursor) → Gives Anything (opened cursor)
-gives-opened cursor =
-    behind Anything (or_refused cursor conditions_not_satisfied) _ (or_word cursor conditions_not_satisfied refl) (λ c _.
-    behind Anything (provided (is_opened c.place) conditions_not_satisfied) _ (if_word (is_opened c.place) conditions_not_satisfied refl) (λ _ _. tt))
-
-opened-is : (cursor : Option Cursor) (c : Cursor) → opened cursor ≡ Ok c → cursor ≡ Some c
-opened-is None c is = refused-not conditions_not_satisfied c is
-opened-is (Some d) c is = go (is_opened d.place) is
-  where
-    go : (b : Bool) → (provided b conditions_not_satisfied >>= λ _. Ok d) ≡ Ok c → Some d ≡ Some c
-    go true is = ap result_ok is
-    go false is = refused-not conditions_not_satisfied c is
-
-gives-fitting : (le : ℕ) (octets : List ℕ) → Gives Anything (fitting le octets)
-gives-fitting le octets = go (nat_le (length octets) le || le == 256)
-  where
-    go : (b : Bool) → Gives Anything (if b then Ok octets else Err (wrong_le (length octets)))
-    go true = tt
-    go false = refuses-wrong_le (length octets)
-
-gives-named_among : (columns named : Columns) (conditions : List Condition) → Gives Anything (named_among columns named conditions)
-gives-named_among columns named conditions = if_word (are_among named columns && are_among (map (λ (c : Condition). c.column) conditions) columns) not_found refl
-
--- a move to a cursor's end
-record Ends (db : Database) (actor : Actor) (reading : Reading) (move : Move Reading) : Type 0 where
+-- A move to a cursor's end.
+record Ends (db : Database) (actor : Actor) (reading : Reading) (command : ReadingCommand) (move : Move Reading) : Type 0 where
   cursor : Cursor
   stood : reading.cursor ≡ Some cursor
   rows : List StampedRow
   listed : rows_under db actor cursor ≡ Ok rows
-  none : (rows ≡ []) ⊎ (row_behind cursor.place rows ≡ None)
+  none : FindsNone command cursor.place rows
   is : move ≡ moved_to End cursor end_reached
 
-module _ (db : Database) (actor : Actor) (reading : Reading) where
+-- an opened cursor was declared
+opened-parts : (cursor : Option Cursor) (c : Cursor) → opened cursor ≡ Ok c → (cursor ≡ Some c) × (is_opened c.place ≡ true)
+opened-parts None c is = refused-not conditions_not_satisfied c is
+opened-parts (Some d) c is = go (is_opened d.place) refl is
+  where
+    go : (b : Bool) → is_opened d.place ≡ b → (provided b conditions_not_satisfied >>= λ _. Ok d) ≡ Ok c → (Some d ≡ Some c) × (is_opened c.place ≡ true)
+    go true at is = (ap result_ok is, ap (λ (c : Cursor). is_opened c.place) (sym (same_Some d c (ap result_ok is))) ∙ at)
+    go false at is = refused-not conditions_not_satisfied c is
+
+module _ (db : Database) (actor : Actor) (reading : Reading) (command : ReadingCommand) where
   abbrev Tells : Move Reading → Type 0
-  Tells move = IsPlain move.reply.word ⊎ Ends db actor reading move
+  Tells move = IsPlain move.reply.word ⊎ Ends db actor reading command move
 
-  tells-went_to : (c : Cursor) (rows : List StampedRow) (found : Option StampedRow) → reading.cursor ≡ Some c → rows_under db actor c ≡ Ok rows
-      → (found ≡ None → (rows ≡ []) ⊎ (row_behind c.place rows ≡ None)) → Tells (went_to c found)
-  tells-went_to c rows None stood listed none = inr (record { cursor = c; stood = stood; rows = rows; listed = listed; none = none refl; is = refl })
-  tells-went_to c rows (Some r) stood listed none = inl plain-done
+  abbrev Ended : Cursor → List StampedRow → Type 0
+  Ended c rows = (reading.cursor ≡ Some c) × ((rows_under db actor c ≡ Ok rows) × FindsNone command c.place rows)
 
-  no_first : (rows : List StampedRow) → first_row rows ≡ None → rows ≡ []
-  no_first [] is = refl
-  no_first (r ∷ rows) is = absurd cc
+  ends : (c : Cursor) (rows : List StampedRow) → Ended c rows → Tells (moved_to End c end_reached)
+  ends c rows ended = inr (record { cursor = c; stood = ended.0; rows = rows; listed = ended.1.0; none = ended.1.1; is = refl })
 
-  tells-gave_next : (c : Cursor) (le : ℕ) (rows : List StampedRow) (found : Option StampedRow) → reading.cursor ≡ Some c → rows_under db actor c ≡ Ok rows
-      → row_behind c.place rows ≡ found → Gives Tells (gave_next c le found)
-  tells-gave_next c le rows None stood listed is = inr (record { cursor = c; stood = stood; rows = rows; listed = listed; none = inr is; is = refl })
-  tells-gave_next c le rows (Some r) stood listed is = behind Tells (fitting le (row_octets r.values)) _ (gives-fitting le (row_octets r.values)) (λ octets _. inl (plain-rest (drop le octets)))
+  tells-went_to : (c : Cursor) (rows : List StampedRow) (found : Option StampedRow) → (found ≡ None → Ended c rows) → Tells (went_to c found)
+  tells-went_to c rows None ended = ends c rows (ended refl)
+  tells-went_to c rows (Some r) ended = inl plain-done
 
-  tells-gave : (c : Cursor) (le : ℕ) (rows : List StampedRow) (place : Place) → reading.cursor ≡ Some c → rows_under db actor c ≡ Ok rows
-      → c.place ≡ place → Gives Tells (gave c le place rows)
-  tells-gave c le rows NotOpen stood listed is = refl
-  tells-gave c le rows End stood listed is =
-      inr (record { cursor = c; stood = stood; rows = rows; listed = listed; none = inr (ap (λ (place : Place). row_behind place rows) is); is = refl })
-  tells-gave c le rows (At stamp) stood listed is =
+  tells-gave_next : (c : Cursor) (le : ℕ) (rows : List StampedRow) (found : Option StampedRow) → (found ≡ None → Ended c rows) → Gives Tells (gave_next c le found)
+  tells-gave_next c le rows None ended = ends c rows (ended refl)
+  tells-gave_next c le rows (Some r) ended = behind Tells (fitting le (row_octets r.values)) _ (gives-fitting le (row_octets r.values)) (λ octets _. inl (plain-rest (drop le octets)))
+
+  tells-gave : (c : Cursor) (le : ℕ) (rows : List StampedRow) (place : Place) → (place ≡ End → Ended c rows) → Gives Tells (gave c le place rows)
+  tells-gave c le rows NotOpen ended = refl
+  tells-gave c le rows End ended = ends c rows (ended refl)
+  tells-gave c le rows (At stamp) ended =
       behind Tells (or_refused (row_at stamp rows) record_not_found) _ (or_word (row_at stamp rows) record_not_found refl) (λ r _.
       behind Tells (fitting le (row_octets r.values)) _ (gives-fitting le (row_octets r.values)) (λ octets _. inl (plain-rest (drop le octets))))
 
@@ -203,186 +87,64 @@ module _ (db : Database) (actor : Actor) (reading : Reading) where
   tells-gave_more c le [] = refl
   tells-gave_more c le (octet ∷ octets) = inl (plain-rest (drop le (octet ∷ octets)))
 
-  tells-moved : (command : ReadingCommand) → Gives Tells (moved db actor reading command)
-  tells-moved (declare object columns conditions) =
-      behind Tells (or_refused (seen_named db actor object) not_found) _ (or_word (seen_named db actor object) not_found refl) (λ o _.
-      behind Tells (selected db actor o) _ (gives-selected db actor o) (λ contents _.
-      behind Tells (named_among contents.columns columns conditions) _ (gives-named_among contents.columns columns conditions) (λ _ _. inl plain-done)))
-  tells-moved open_cursor =
-      behind Tells (or_refused reading.cursor conditions_not_satisfied) _ (or_word reading.cursor conditions_not_satisfied refl) (λ c at.
-      behind Tells (rows_under db actor c) _ (gives-rows db actor c) (λ rows listed.
-      tells-went_to c rows (first_row rows) (not_refused reading.cursor conditions_not_satisfied c at) listed (λ none. inl (no_first rows none))))
-  tells-moved next =
-      behind Tells (opened reading.cursor) _ (gives-opened reading.cursor) (λ c at.
-      behind Tells (rows_under db actor c) _ (gives-rows db actor c) (λ rows listed.
-      tells-went_to c rows (row_behind c.place rows) (opened-is reading.cursor c at) listed inr))
-  tells-moved (fetch le) =
-      behind Tells (opened reading.cursor) _ (gives-opened reading.cursor) (λ c at.
-      behind Tells (rows_under db actor c) _ (gives-rows db actor c) (λ rows listed.
-      tells-gave c le rows c.place (opened-is reading.cursor c at) listed refl))
-  tells-moved (fetch_next le) =
-      behind Tells (opened reading.cursor) _ (gives-opened reading.cursor) (λ c at.
-      behind Tells (rows_under db actor c) _ (gives-rows db actor c) (λ rows listed.
-      tells-gave_next c le rows (row_behind c.place rows) (opened-is reading.cursor c at) listed refl))
-  tells-moved (get_response le) =
-      behind Tells (or_refused reading.cursor conditions_not_satisfied) _ (or_word reading.cursor conditions_not_satisfied refl) (λ c _.
-      behind Tells (rows_under db actor c) _ (gives-rows db actor c) (λ _ _. tells-gave_more c le reading.pending))
+no_first : (rows : List StampedRow) → first_row rows ≡ None → rows ≡ []
+no_first [] is = refl
+no_first (r ∷ rows) is = absurd cc
 
--- Changing commands.
-gives-owned_by : (actor : Actor) (found : Option Object) → Gives Anything (owned_by actor found)
-gives-owned_by actor found = there Anything found not_found _ refl (λ o. asked Anything (owns actor o) security_not_satisfied _ refl tt)
+tells-moved : (db : Database) (actor : Actor) (reading : Reading) (command : ReadingCommand) → Gives (Tells db actor reading command) (moved db actor reading command)
+tells-moved db actor reading (declare object columns conditions) =
+    let P = Tells db actor reading (declare object columns conditions) in
+    behind P (or_refused (seen_named db actor object) not_found) _ (or_word (seen_named db actor object) not_found refl) (λ o _.
+    behind P (selected db actor o) _ (gives-selected db actor o) (λ contents _.
+    behind P (named_among contents.columns columns conditions) _ (gives-named_among contents.columns columns conditions) (λ _ _. inl plain-done)))
+tells-moved db actor reading open_cursor =
+    let P = Tells db actor reading open_cursor in
+    behind P (or_refused reading.cursor conditions_not_satisfied) _ (or_word reading.cursor conditions_not_satisfied refl) (λ c at.
+    behind P (rows_under db actor c) _ (gives-rows db actor c) (λ rows listed.
+    tells-went_to db actor reading open_cursor c rows (first_row rows) (λ none. (not_refused reading.cursor conditions_not_satisfied c at, (listed, no_first rows none)))))
+tells-moved db actor reading next =
+    let P = Tells db actor reading next in
+    behind P (opened reading.cursor) _ (gives-opened reading.cursor) (λ c at.
+    behind P (rows_under db actor c) _ (gives-rows db actor c) (λ rows listed.
+    let parts = opened-parts reading.cursor c at in
+    tells-went_to db actor reading next c rows (row_behind c.place rows) (λ none. (parts.0, (listed, record { opened = parts.1; none = none })))))
+tells-moved db actor reading (fetch le) =
+    let P = Tells db actor reading (fetch le) in
+    behind P (opened reading.cursor) _ (gives-opened reading.cursor) (λ c at.
+    behind P (rows_under db actor c) _ (gives-rows db actor c) (λ rows listed.
+    tells-gave db actor reading (fetch le) c le rows c.place (λ ended. ((opened-parts reading.cursor c at).0, (listed, ended)))))
+tells-moved db actor reading (fetch_next le) =
+    let P = Tells db actor reading (fetch_next le) in
+    behind P (opened reading.cursor) _ (gives-opened reading.cursor) (λ c at.
+    behind P (rows_under db actor c) _ (gives-rows db actor c) (λ rows listed.
+    let parts = opened-parts reading.cursor c at in
+    tells-gave_next db actor reading (fetch_next le) c le rows (row_behind c.place rows) (λ none. (parts.0, (listed, record { opened = parts.1; none = none })))))
+tells-moved db actor reading (get_response le) =
+    let P = Tells db actor reading (get_response le) in
+    behind P (or_refused reading.cursor conditions_not_satisfied) _ (or_word reading.cursor conditions_not_satisfied refl) (λ c _.
+    behind P (rows_under db actor c) _ (gives-rows db actor c) (λ _ _. tells-gave_more db actor reading (get_response le) c le reading.pending))
 
-gives-named_anew : (db : Database) (o : Object) → Gives Anything (named_anew db o)
-gives-named_anew db o = asked Anything (not (list_any (λ (other : Object). bytes_eq o.name other.name) db.objects)) already_exists _ refl tt
-
-gives-object_created : (db : Database) (actor : Actor) (name : List ℕ) (kind : ObjectKind) → Gives Anything (object_created db actor name kind)
-unfolding object_created
-gives-object_created db actor name kind = asked Anything (makes_objects actor) security_not_satisfied _ refl (gives-named_anew db (new_object db actor name kind))
-
-gives-view_created : (db : Database) (actor : Actor) (name base_name : List ℕ) (columns : Columns) (conditions : List Condition) → Gives Anything (view_created db actor name base_name columns conditions)
-unfolding view_created
-gives-view_created db actor name base_name columns conditions =
-    asked Anything (makes_objects actor) security_not_satisfied _ refl
-    (behind Anything (owned_by actor (of_kind is_table_or_view (seen_named db actor base_name))) _ (gives-owned_by actor (of_kind is_table_or_view (seen_named db actor base_name))) (λ o _.
-    asked Anything (may_have_view db.objects o) conditions_not_satisfied _ refl
-    (behind Anything (named_among (columns_of o.kind) columns conditions) _ (gives-named_among (columns_of o.kind) columns conditions) (λ _ _.
-    gives-named_anew db (new_object db actor name (View o.stamp (wanted_of (columns_of o.kind) columns) conditions))))))
-
-gives-table_dropped : (db : Database) (actor : Actor) (name : List ℕ) → Gives Anything (table_dropped db actor name)
-unfolding table_dropped
-gives-table_dropped db actor name =
-    behind Anything (owned_by actor (of_kind is_table (seen_named db actor name))) _ (gives-owned_by actor (of_kind is_table (seen_named db actor name))) (λ o _.
-    asked Anything (not (has_view db o)) conditions_not_satisfied _ refl tt)
-
-gives-view_dropped : (db : Database) (actor : Actor) (name : List ℕ) → Gives Anything (view_dropped db actor name)
-unfolding view_dropped
-gives-view_dropped db actor name =
-    behind Anything (owned_by actor (of_kind (λ kind. not (is_table kind)) (seen_named db actor name))) _ (gives-owned_by actor (of_kind (λ kind. not (is_table kind)) (seen_named db actor name))) (λ o _.
-    asked Anything (not (has_view db o)) conditions_not_satisfied _ refl tt)
-
-gives-granted : (db : Database) (actor : Actor) (privileges : ℕ) (name grantee : List ℕ) → Gives Anything (privileges_granted db actor privileges name grantee)
-unfolding privileges_granted
-gives-granted db actor privileges name grantee =
-    behind Anything (owned_by actor (seen_named db actor name)) _ (gives-owned_by actor (seen_named db actor name)) (λ o _.
-    there Anything (grantee_named db grantee) not_found _ refl (λ _. tt))
-
-gives-revoked : (db : Database) (actor : Actor) (privileges : ℕ) (name grantee : List ℕ) → Gives Anything (privileges_revoked db actor privileges name grantee)
-unfolding privileges_revoked
-gives-revoked db actor privileges name grantee =
-    behind Anything (owned_by actor (seen_named db actor name)) _ (gives-owned_by actor (seen_named db actor name)) (λ o _.
-    there Anything (grantee_named db grantee) not_found _ refl (λ to.
-    there Anything (grant_to db o to) not_found _ refl (λ _. tt)))
-
-gives-inserted : (db : Database) (actor : Actor) (name : List ℕ) (values : Values) → Gives Anything (row_inserted db actor name values)
-unfolding row_inserted
-gives-inserted db actor name values =
-    there Anything (of_kind is_table (seen_named db actor name)) not_found _ refl (λ o.
-    asked Anything (holds db actor o insert_privilege) security_not_satisfied _ refl
-    (asked Anything (length values == length (columns_of o.kind)) wrong_data _ refl tt))
-
-gives-written_through : (db : Database) (actor : Actor) (privilege : ℕ) (c : Cursor) → Gives Anything (written_through db actor privilege c)
-gives-written_through db actor privilege c =
-    there Anything (seen_stamped db actor c.object) not_found _ refl (λ o.
-    asked Anything (is_table_or_view o.kind) conditions_not_satisfied _ refl
-    (asked Anything (holds db actor o privilege) security_not_satisfied _ refl tt))
-
-gives-updated : (db : Database) (actor : Actor) (cursor : Option Cursor) (assignments : List Assignment) → Gives Anything (row_updated db actor cursor assignments)
-unfolding row_updated
-gives-updated db actor cursor assignments =
-    behind Anything (opened cursor) _ (gives-opened cursor) (λ c _.
-    behind Anything (written_through db actor update_privilege c) _ (gives-written_through db actor update_privilege c) (λ o _.
-    asked Anything (are_among (map (λ (a : Assignment). a.0) assignments) (columns_of o.kind)) not_found _ refl
-    (there Anything (record_at_cursor db c) record_not_found _ refl (λ r.
-    asked Anything (nat_le (row_size (row_after db assignments r).row) db.limit) wrong_data _ refl tt))))
-
-gives-deleted : (db : Database) (actor : Actor) (cursor : Option Cursor) → Gives Anything (row_deleted db actor cursor)
-unfolding row_deleted
-gives-deleted db actor cursor =
-    behind Anything (opened cursor) _ (gives-opened cursor) (λ c _.
-    behind Anything (written_through db actor delete_privilege c) _ (gives-written_through db actor delete_privilege c) (λ _ _.
-    there Anything (record_at_cursor db c) record_not_found _ refl (λ _. tt)))
-
-gives-user_added : (db : Database) (actor : Actor) (name : List ℕ) (profile : Profile) (secret : List ℕ) → Gives Anything (user_added db actor name profile secret)
-unfolding user_added
-gives-user_added db actor name profile secret =
-    asked Anything (may_create actor profile) security_not_satisfied _ refl (asked Anything (not (is_taken db name)) already_exists _ refl tt)
-
-gives-user_deleted : (db : Database) (actor : Actor) (name : List ℕ) → Gives Anything (user_deleted db actor name)
-unfolding user_deleted
-gives-user_deleted db actor name =
-    there Anything (user_named db.users name) not_found _ refl (λ u.
-    asked Anything (owns_user actor u) security_not_satisfied _ refl
-    (asked Anything (not (is_needed db u)) conditions_not_satisfied _ refl tt))
-
-gives-edits_of : (db : Database) (actor : Actor) (cursor : Option Cursor) (operation : Operation) → Gives Anything (edits_of db actor cursor operation)
-unfolding edits_of
-gives-edits_of db actor cursor (CreateTable name columns) = gives-object_created db actor name (Table columns)
-gives-edits_of db actor cursor (CreateView name base columns conditions) = gives-view_created db actor name base columns conditions
-gives-edits_of db actor cursor (CreateDictionary name subject) = gives-object_created db actor name (Dictionary subject)
-gives-edits_of db actor cursor (DropTable name) = gives-table_dropped db actor name
-gives-edits_of db actor cursor (DropView name) = gives-view_dropped db actor name
-gives-edits_of db actor cursor (Grant privileges object grantee) = gives-granted db actor privileges object grantee
-gives-edits_of db actor cursor (Revoke privileges object grantee) = gives-revoked db actor privileges object grantee
-gives-edits_of db actor cursor (Insert table row) = gives-inserted db actor table row
-gives-edits_of db actor cursor (Update changes) = gives-updated db actor cursor changes
-gives-edits_of db actor cursor Delete = gives-deleted db actor cursor
-gives-edits_of db actor cursor (CreateUser name profile secret) = gives-user_added db actor name profile secret
-gives-edits_of db actor cursor (DeleteUser name) = gives-user_deleted db actor name
-gives-edits_of db actor cursor operation = refl
-
-gives-with_edits : (db : Database) (edits : List Edit) → Gives Anything (with_edits db edits)
-gives-with_edits db edits = go (lacks_room db edits)
-  where
-    go : (b : Bool) → Gives Anything (if b then Err no_space else Ok (applied db edits))
-    go true = refl
-    go false = tt
-
--- Operations that don't read.
-abbrev Plain : Answer → Type 0
-Plain answer = IsPlain answer.reply.word
-
-plain-changed : (m : Machine) (channel : ℕ) (operation : Operation) → Gives Plain (changed m channel operation)
-plain-changed m channel operation =
-    behind Plain (edits_of (base m channel) (actor m channel) (cursor_of m channel) operation) _ (gives-edits_of (base m channel) (actor m channel) (cursor_of m channel) operation) (λ edits _.
-    behind Plain (with_edits (base m channel) edits) _ (gives-with_edits (base m channel) edits) (λ db _. go edits db (own_transaction m.transaction channel)))
-  where
-    go : (edits : List Edit) (db : Database) (t : Option Transaction) → Plain (changed_to m channel edits db t)
-    go edits db None = plain-done
-    go edits db (Some t) = plain-done
-
-plain-deleted : (m : Machine) (channel : ℕ) (name : List ℕ) → Gives Plain (user_and_sessions_deleted m channel name)
-plain-deleted m channel name = go (changed m channel (DeleteUser name)) (plain-changed m channel (DeleteUser name))
-  where
-    go : (r : Result Answer StatusWord) → Gives Plain r
-        → Gives Plain (r >>= λ (answer : Answer). or_refused (user_named (base m channel).users name) not_found >>= λ (u : User). Ok (record answer { machine = without_user answer.machine u.stamp }))
-    go (Err word) plain = plain
-    go (Ok answer) plain = behind Plain (or_refused (user_named (base m channel).users name) not_found) _ (or_word (user_named (base m channel).users name) not_found refl) (λ _ _. plain)
-
-gives-session_named : (db : Database) (name : List ℕ) → Gives Anything (session_named db name)
-gives-session_named db name = go (bytes_eq name public_name)
-  where
-    go : (b : Bool) → Gives Anything (if b then Ok new_session else (or_refused (user_named db.users name) not_found >>= λ u. Ok (session_for (Some (presented u)))))
-    go true = tt
-    go false = behind Anything (or_refused (user_named db.users name) not_found) _ (or_word (user_named db.users name) not_found refl) (λ _ _. tt)
-
-plain-opened : (m : Machine) (channel number : ℕ) → Gives Plain (channel_opened m channel number)
-plain-opened m channel zero = behind Plain (or_refused (least_closed m) function_not_supported) _ (or_word (least_closed m) function_not_supported refl) (λ _ _. plain-done)
-plain-opened m channel (suc n) = asked Plain (not (is_channel_open m (suc n))) conditions_not_satisfied _ refl plain-done
-
-plain-closed : (m : Machine) (channel number : ℕ) → Gives Plain (channel_closed m channel number)
-plain-closed m channel number =
-    asked Plain (is_channel_open m number) channel_not_supported _ refl
-    (asked Plain (not (is_some (own_transaction m.transaction number))) conditions_not_satisfied _ refl plain-done)
+-- which of the two that is
+no_row : (command : ReadingCommand) (place : Place) (rows : List StampedRow) → FindsNone command place rows → (rows ≡ []) ⊎ (row_behind place rows ≡ None)
+no_row (declare object columns conditions) place rows none = absurd none
+no_row open_cursor place rows none = inl none
+no_row next place rows none = inr none.none
+no_row (fetch le) place rows none = inr (ap (λ (place : Place). row_behind place rows) none)
+no_row (fetch_next le) place rows none = inr none.none
+no_row (get_response le) place rows none = absurd none
 
 -- What an answer says of the machine before the command.
-abbrev Answers : Machine → ℕ → Answer → Type 0
-Answers m channel answer = IsPlain answer.reply.word ⊎ (EndsCursor m channel answer ⊎ CostsTry m channel answer)
+abbrev Answers : Machine → Command → Answer → Type 0
+Answers m c answer = IsPlain answer.reply.word ⊎ ((ComesToEnd m c × EndsCursor m c.channel answer) ⊎ (ComparesWrong m c × CostsTry m c.channel answer))
 
-plain-answers : (m : Machine) (channel : ℕ) (r : Result Answer StatusWord) → Gives Plain r → Gives (Answers m channel) r
-plain-answers m channel (Ok answer) plain = inl plain
-plain-answers m channel (Err word) is = is
+plain-answers : (m : Machine) (c : Command) (r : Result Answer StatusWord) → Gives Plain r → Gives (Answers m c) r
+plain-answers m c (Ok answer) plain = inl plain
+plain-answers m c (Err word) is = is
 
-module _ (m : Machine) (channel : ℕ) where
+module _ (m : Machine) (c : Command) where
+  abbrev channel : ℕ
+  channel = c.channel
+
   abbrev ended : Machine
   ended = changing_session without_chain m channel
 
@@ -395,169 +157,203 @@ module _ (m : Machine) (channel : ℕ) where
       go None = refl
       go (Some s) = refl
 
-  answers-reading : (command : ReadingCommand) → Answers m channel (reading_done ended channel command)
+  answers-reading : (command : ReadingCommand) → reading_command c.operation c.le ≡ Some command → Answers m c (reading_done ended channel command)
   unfolding move_of
-  answers-reading command =
+  answers-reading command reads =
       go (moved (base m channel) (actor ended channel) (reading_of ended channel) command) (tells-moved (base m channel) (actor ended channel) (reading_of ended channel) command)
     where
-      go : (r : Result (Move Reading) StatusWord) → Gives (Tells (base m channel) (actor ended channel) (reading_of ended channel)) r
-          → Answers m channel (record {
+      go : (r : Result (Move Reading) StatusWord) → Gives (Tells (base m channel) (actor ended channel) (reading_of ended channel) command) r
+          → Answers m c (record {
             reply = (or_stays (reading_of ended channel) r).reply;
             machine = changing_session (reading_so (or_stays (reading_of ended channel) r).after) ended channel;
             commits = [];
           })
       go (Err word) is = inl (plain-refusal word is)
       go (Ok move) (inl plain) = inl plain
-      go (Ok move) (inr ends) = inr (inl (record {
-        cursor = ends.cursor;
-        stood = sym (ap (λ (reading : Reading). reading.cursor) (ended-reading m channel)) ∙ ends.stood;
-        rows = ends.rows;
-        listed = ap (λ (who : Actor). rows_under (base m channel) who ends.cursor) (sym (ended-actor m channel)) ∙ ends.listed;
-        none = ends.none;
-        reply = ap (λ (move : Move Reading). move.reply) ends.is;
-        machine = ap (λ (move : Move Reading). changing_session (reading_so move.after) ended channel) ends.is ∙ came_to_end ends.cursor;
-        commits = refl;
-      }))
+      go (Ok move) (inr ends) =
+          let stood = sym (ap (λ (reading : Reading). reading.cursor) (ended-reading m channel)) ∙ ends.stood in
+          let listed = ap (λ (who : Actor). rows_under (base m channel) who ends.cursor) (sym (ended-actor m channel)) ∙ ends.listed in
+          inr (inl (
+            record { reading = command; reads = reads; cursor = ends.cursor; stood = stood; rows = ends.rows; listed = listed; none = ends.none },
+            record {
+              cursor = ends.cursor;
+              stood = stood;
+              rows = ends.rows;
+              listed = listed;
+              none = no_row command ends.cursor.place ends.rows ends.none;
+              reply = ap (λ (move : Move Reading). move.reply) ends.is;
+              machine = ap (λ (move : Move Reading). changing_session (reading_so move.after) ended channel) ends.is ∙ came_to_end ends.cursor;
+              commits = refl;
+            },
+          ))
 
-  answers-verified : (secret : List ℕ) → Gives (Answers m channel) (verified ended channel secret)
-  answers-verified secret =
-      behind (Answers m channel) (or_refused (user_of ended channel) conditions_not_satisfied) _ (or_word (user_of ended channel) conditions_not_satisfied refl) (λ p at.
-      behind (Answers m channel) (provided (not p.proved) conditions_not_satisfied) _ (if_word (not p.proved) conditions_not_satisfied refl) (λ _ _.
-      behind (Answers m channel) (or_refused (user_stamped m.committed.users p.stamp) conditions_not_satisfied) _ (or_word (user_stamped m.committed.users p.stamp) conditions_not_satisfied refl) (λ u stored.
-      behind (Answers m channel) (provided (not (u.tries == 0)) authentication_blocked) _ (if_word (not (u.tries == 0)) authentication_blocked refl) (λ x had.
+  answers-verified : (secret : List ℕ) → c.operation ≡ Verify secret → m.transaction ≡ None → Gives (Answers m c) (verified ended channel secret)
+  answers-verified secret verifies outside =
+      behind (Answers m c) (or_refused (user_of ended channel) conditions_not_satisfied) _ (or_word (user_of ended channel) conditions_not_satisfied refl) (λ p at.
+      behind (Answers m c) (provided (not p.proved) conditions_not_satisfied) _ (if_word (not p.proved) conditions_not_satisfied refl) (λ y unproved.
+      behind (Answers m c) (or_refused (user_stamped m.committed.users p.stamp) conditions_not_satisfied) _ (or_word (user_stamped m.committed.users p.stamp) conditions_not_satisfied refl) (λ u stored.
+      behind (Answers m c) (provided (not (u.tries == 0)) authentication_blocked) _ (if_word (not (u.tries == 0)) authentication_blocked refl) (λ x had.
       go p u (sym (ended-user m channel) ∙ not_refused (user_of ended channel) conditions_not_satisfied p at)
+      (not-true p.proved (not_unless (not p.proved) conditions_not_satisfied y unproved))
       (not_refused (user_stamped m.committed.users p.stamp) conditions_not_satisfied u stored)
-      (not_unless (not (u.tries == 0)) authentication_blocked x had) (bytes_eq secret u.secret)))))
+      (not_unless (not (u.tries == 0)) authentication_blocked x had) (bytes_eq secret u.secret) refl))))
     where
-      go : (p : Presented) (u : User) → user_of m channel ≡ Some p → user_stamped m.committed.users p.stamp ≡ Some u → not (u.tries == 0) ≡ true
-          → (b : Bool) → Answers m channel (if b then secret_right ended channel u else secret_wrong ended u)
-      go p u at stored had true = inl plain-done
-      go p u at stored had false = inr (inr (record {
-        who = p;
-        presented = at;
-        user = u;
-        stored = stored;
-        had_tries = λ none. false≢true (ap (λ (n : ℕ). not (n == 0)) (sym none) ∙ had);
-        reply = refl;
-        machine = refl;
-        commits = refl;
-      }))
+      not-true : (b : Bool) → not b ≡ true → b ≡ false
+      not-true true is = absurd (false≢true is)
+      not-true false is = refl
 
-  answers-operated : (operation : Operation) → Gives (Answers m channel) (operated ended channel operation)
-  answers-operated Begin = plain-answers m channel (operated ended channel Begin) (asked Plain (not (is_some m.transaction)) conditions_not_satisfied _ refl plain-done)
-  answers-operated Commit = plain-answers m channel (operated ended channel Commit) (there Plain (own_transaction m.transaction channel) conditions_not_satisfied _ refl (λ _. plain-done))
-  answers-operated Rollback = plain-answers m channel (operated ended channel Rollback) (there Plain (own_transaction m.transaction channel) conditions_not_satisfied _ refl (λ _. plain-done))
-  answers-operated (PresentUser name) =
-      plain-answers m channel (operated ended channel (PresentUser name)) (behind Plain (session_named (base m channel) name) _ (gives-session_named (base m channel) name) (λ _ _. plain-done))
-  answers-operated (DeleteUser name) = plain-answers m channel (operated ended channel (DeleteUser name)) (plain-deleted ended channel name)
-  answers-operated (Verify secret) = answers-verified secret
-  answers-operated (OpenChannel number) = plain-answers m channel (operated ended channel (OpenChannel number)) (plain-opened ended channel number)
-  answers-operated (CloseChannel number) = plain-answers m channel (operated ended channel (CloseChannel number)) (plain-closed ended channel (if number == 0 then channel else number))
-  answers-operated operation = plain-answers m channel (changed ended channel operation) (plain-changed ended channel operation)
+      go : (p : Presented) (u : User) → user_of m channel ≡ Some p → p.proved ≡ false → user_stamped m.committed.users p.stamp ≡ Some u → not (u.tries == 0) ≡ true
+          → (b : Bool) → bytes_eq secret u.secret ≡ b → Answers m c (if b then secret_right ended channel u else secret_wrong ended u)
+      go p u at unproved stored had true is = inl plain-done
+      go p u at unproved stored had false is =
+          let had_tries = λ (none : u.tries ≡ 0). false≢true (ap (λ (n : ℕ). not (n == 0)) (sym none) ∙ had) in
+          inr (inr (
+            record {
+              secret = secret;
+              verifies = verifies;
+              outside = outside;
+              who = p;
+              presented = at;
+              unproved = unproved;
+              user = u;
+              stored = stored;
+              had_tries = had_tries;
+              wrong = is;
+            },
+            record { who = p; presented = at; user = u; stored = stored; had_tries = had_tries; reply = refl; machine = refl; commits = refl },
+          ))
 
-answers-carried_out : (m : Machine) (c : Command) → Gives (Answers m c.channel) (carried_out (changing_session without_chain m c.channel) c)
-answers-carried_out m c =
-    asked (Answers m c.channel) (not (is_kept_waiting (waits (kind_of c.operation)) m.transaction c.channel)) conditions_not_satisfied _ refl (either (reading_command c.operation c.le))
+  -- VERIFY waits for every transaction
+  answers-operated : (operation : Operation) → c.operation ≡ operation → is_kept_waiting (waits (kind_of operation)) m.transaction channel ≡ false
+      → Gives (Answers m c) (operated ended channel operation)
+  answers-operated Begin is free = plain-answers m c (operated ended channel Begin) (asked Plain (not (is_some m.transaction)) conditions_not_satisfied _ refl plain-done)
+  answers-operated Commit is free = plain-answers m c (operated ended channel Commit) (there Plain (own_transaction m.transaction channel) conditions_not_satisfied _ refl (λ _. plain-done))
+  answers-operated Rollback is free = plain-answers m c (operated ended channel Rollback) (there Plain (own_transaction m.transaction channel) conditions_not_satisfied _ refl (λ _. plain-done))
+  answers-operated (PresentUser name) is free =
+      plain-answers m c (operated ended channel (PresentUser name)) (behind Plain (session_named (base m channel) name) _ (gives-session_named (base m channel) name) (λ _ _. plain-done))
+  answers-operated (DeleteUser name) is free = plain-answers m c (operated ended channel (DeleteUser name)) (plain-deleted ended channel name)
+  answers-operated (Verify secret) is free = answers-verified secret is (without_transaction m.transaction free)
+    where
+      without_transaction : (t : Option Transaction) → is_kept_waiting (waits (kind_of (Verify secret))) t channel ≡ false → t ≡ None
+      without_transaction None free = refl
+      without_transaction (Some t) free = absurd (false≢true (sym free))
+  answers-operated (OpenChannel number) is free = plain-answers m c (operated ended channel (OpenChannel number)) (plain-opened ended channel number)
+  answers-operated (CloseChannel number) is free = plain-answers m c (operated ended channel (CloseChannel number)) (plain-closed ended channel (if number == 0 then channel else number))
+  answers-operated operation is free = plain-answers m c (changed ended channel operation) (plain-changed ended channel operation)
+
+answers-carried_out : (m : Machine) (c : Command) → Gives (Answers m c) (carried_out (changing_session without_chain m c.channel) c)
+answers-carried_out m c = free (is_kept_waiting (waits (kind_of c.operation)) m.transaction c.channel) refl
   where
-    either : (command : Option ReadingCommand)
-        → Gives (Answers m c.channel) (option_map_or (λ command. Ok (reading_done (changing_session without_chain m c.channel) c.channel command)) command (operated (changing_session without_chain m c.channel) c.channel c.operation))
-    either None = answers-operated m c.channel c.operation
-    either (Some command) = answers-reading m c.channel command
+    either : (command : Option ReadingCommand) → reading_command c.operation c.le ≡ command → is_kept_waiting (waits (kind_of c.operation)) m.transaction c.channel ≡ false
+        → Gives (Answers m c) (option_map_or (λ command. Ok (reading_done (changing_session without_chain m c.channel) c.channel command)) command (operated (changing_session without_chain m c.channel) c.channel c.operation))
+    either None reads free = answers-operated m c c.operation refl free
+    either (Some command) reads free = answers-reading m c command reads
 
--- Octets that are refused.
-abbrev RefusedSo : Form → Type 0
-RefusedSo (refused word) = Refuses word
-RefusedSo (refused_on channel word) = Refuses word
-RefusedSo (part_on channel kind part) = Unit {0}
-RefusedSo (a_command c) = Unit {0}
+    free : (b : Bool) → is_kept_waiting (waits (kind_of c.operation)) m.transaction c.channel ≡ b
+        → Gives (Answers m c) (provided (not b) conditions_not_satisfied >>= λ _.
+        option_map_or (λ command. Ok (reading_done (changing_session without_chain m c.channel) c.channel command)) (reading_command c.operation c.le) (operated (changing_session without_chain m c.channel) c.channel c.operation))
+    free true is = refl
+    free false is = either (reading_command c.operation c.le) refl is
 
-gives-class_of : (cla : ℕ) → Gives Anything (class_of cla)
-gives-class_of cla = go (not (cla / 32 == 0)) (not (cla / 4 % 4 == 0))
+-- A step: its answer is plain, or that of a command.
+abbrev AnswersTo : Machine → Form → Answer → Type 0
+AnswersTo m form answer = IsPlain answer.reply.word ⊎ ((c : Command) × ((form ≡ a_command c) × Answers m c answer))
+
+answers-answered : (m before : Machine) (c : Command) (r : Result Answer StatusWord) → Gives (Answers m c) r → Answers m c (answered before r)
+answers-answered m before c (Ok answer) gives = gives
+answers-answered m before c (Err word) is = inl (plain-refusal word is)
+
+answers-stepped : (m : Machine) (form : Form) → RefusedSo form → AnswersTo m form (stepped m form)
+answers-stepped m (refused word) is = inl (plain-refusal word is)
+answers-stepped m (refused_on number word) is = inl (plain-refusal word is)
+answers-stepped m (part_on number kind part) is = inl plain-done
+answers-stepped m (a_command c) is =
+    inr (c, (refl, answers-answered m (changing_session without_chain m c.channel) c (carried_out (changing_session without_chain m c.channel) c) (answers-carried_out m c)))
+
+module _ (table : List Line) (m : Machine) (octets : List ℕ) where
+  abbrev form : Form
+  form = form_of table octets (open_channels m) (command_chain m) m.committed.limit
+
+  answers-step_by : AnswersTo m form (step_by table m octets)
+  unfolding step_by
+  answers-step_by = answers-stepped m form (refused-form_of table octets (open_channels m) (command_chain m) m.committed.limit)
+
+  on_channel : (c : Command) → form ≡ a_command c → c.channel ≡ channel_named octets
+  on_channel c read = subst (λ (form : Form). IfSome (read_on form) (λ channel. channel ≡ channel_named octets)) read (IfSome-read_on-named table octets (open_channels m) (command_chain m) m.committed.limit)
+
+  -- 6282, and why it came
+  step-came : (step_by table m octets).reply.word ≡ end_reached → (c : Command) × ((form ≡ a_command c) × (ComesToEnd m c × EndsCursor m c.channel (step_by table m octets)))
+  step-came is = go answers-step_by
+    where
+      go : AnswersTo m form (step_by table m octets) → (c : Command) × ((form ≡ a_command c) × (ComesToEnd m c × EndsCursor m c.channel (step_by table m octets)))
+      go (inl plain) = absurd (plain.0 is)
+      go (inr (c, (read, inl plain))) = absurd (plain.0 is)
+      go (inr (c, (read, inr (inl ends)))) = (c, (read, ends))
+      go (inr (c, (read, inr (inr costs)))) = absurd (end-not_try (costs.1.user.tries - 1) (sym is ∙ ap (λ (reply : Reply). reply.word) costs.1.reply))
+
+  pub step-ends : (step_by table m octets).reply.word ≡ end_reached → EndsCursor m (channel_named octets) (step_by table m octets)
+  step-ends is =
+      let came = step-came is in
+      subst (λ (channel : ℕ). EndsCursor m channel (step_by table m octets)) (on_channel came.0 came.1.0) came.1.1.1
+
+  -- 63CX, and why it came
+  step-tried : (n : ℕ) → (step_by table m octets).reply.word ≡ tries_left n → (c : Command) × ((form ≡ a_command c) × (ComparesWrong m c × CostsTry m c.channel (step_by table m octets)))
+  step-tried n is = go answers-step_by
+    where
+      go : AnswersTo m form (step_by table m octets) → (c : Command) × ((form ≡ a_command c) × (ComparesWrong m c × CostsTry m c.channel (step_by table m octets)))
+      go (inl plain) = absurd (plain.1 n is)
+      go (inr (c, (read, inl plain))) = absurd (plain.1 n is)
+      go (inr (c, (read, inr (inl ends)))) = absurd (end-not_try n (sym (ap (λ (reply : Reply). reply.word) ends.1.reply) ∙ is))
+      go (inr (c, (read, inr (inr costs)))) = (c, (read, costs))
+
+  pub step-costs : (n : ℕ) → (step_by table m octets).reply.word ≡ tries_left n → CostsTry m (channel_named octets) (step_by table m octets)
+  step-costs n is =
+      let tried = step-tried n is in
+      subst (λ (channel : ℕ). CostsTry m channel (step_by table m octets)) (on_channel tried.0 tried.1.0) tried.1.1.1
+
+  -- and nothing else has these answers
+  pub step-comes_to_end : (step_by table m octets).reply.word ≡ end_reached → AreCommand table m octets ComesToEnd
+  step-comes_to_end is = let came = step-came is in record { command = came.0; read = came.1.0; is = came.1.1.0 }
+
+  pub step-compares_wrong : IsTriesLeft (step_by table m octets).reply.word → AreCommand table m octets ComparesWrong
+  step-compares_wrong (n, is) = let tried = step-tried n is in record { command = tried.0; read = tried.1.0; is = tried.1.1.0 }
+
+-- The other way: a command that comes to the end, or compares a wrong secret, is answered so.
+moved-none : (db : Database) (actor : Actor) (reading : Reading) (command : ReadingCommand) (c : Cursor) (rows : List StampedRow) → reading.cursor ≡ Some c → rows_under db actor c ≡ Ok rows
+    → FindsNone command c.place rows → moved db actor reading command ≡ Ok (moved_to End c end_reached)
+moved-none db actor reading (declare object columns conditions) c rows stood listed none = absurd none
+moved-none db actor reading open_cursor c rows stood listed none = rw (stood, listed, none) refl
+moved-none db actor reading next c rows stood listed none = rw (stood, none.opened, listed, none.none) refl
+moved-none db actor reading (fetch le) c rows stood listed none = rw (stood, none, listed) refl
+moved-none db actor reading (fetch_next le) c rows stood listed none = rw (stood, none.opened, listed, none.none) refl
+moved-none db actor reading (get_response le) c rows stood listed none = absurd none
+
+stepped-comes_to_end : (m : Machine) (c : Command) → ComesToEnd m c → (stepped m (a_command c)).reply.word ≡ end_reached
+unfolding move_of
+stepped-comes_to_end m c comes =
+    ap (λ (answer : Answer). answer.reply.word) (stepped-reading m c comes.reading comes.reads)
+    ∙ ap (λ (move : Result (Move Reading) StatusWord). (or_stays (reading_of (ended m c) c.channel) move).reply.word)
+    (moved-none (base m c.channel) (actor (ended m c) c.channel) (reading_of (ended m c) c.channel) comes.reading comes.cursor comes.rows
+    (ap (λ (reading : Reading). reading.cursor) (ended-reading m c.channel) ∙ comes.stood)
+    (ap (λ (who : Actor). rows_under (base m c.channel) who comes.cursor) (ended-actor m c.channel) ∙ comes.listed) comes.none)
+
+carried_out-verifies : (m : Machine) (c : Command) (secret : List ℕ) → c.operation ≡ Verify secret → m.transaction ≡ None → carried_out m c ≡ verified m c.channel secret
+carried_out-verifies m c secret verifies outside = rw (verifies, outside) refl
+
+stepped-compares_wrong : (m : Machine) (c : Command) (wrong : ComparesWrong m c) → (stepped m (a_command c)).reply.word ≡ tries_left (wrong.user.tries - 1)
+stepped-compares_wrong m c wrong =
+    ap (λ (outcome : Result Answer StatusWord). (answered (ended m c) outcome).reply.word) (carried_out-verifies (ended m c) c wrong.secret wrong.verifies wrong.outside ∙ compares)
   where
-    go : (other secure : Bool) → Gives {A = Unit {0}} Anything (if other then Err class_not_supported else if secure then Err secure_messaging_not_supported else Ok tt)
-    go true secure = refl
-    go false true = refl
-    go false false = tt
+    left : not (wrong.user.tries == 0) ≡ true
+    left = ap not (ne_eqb wrong.user.tries 0 wrong.had_tries)
 
-gives-channel_of : (cla : ℕ) (channels : List Bool) → Gives Anything (channel_of cla channels)
-gives-channel_of cla channels = go (is_open (slice_get channels (cla % 4)))
-  where
-    go : (b : Bool) → Gives Anything (if b then Ok (cla % 4) else Err channel_not_supported)
-    go true = tt
-    go false = refl
+    compares : verified (ended m c) c.channel wrong.secret ≡ Ok (secret_wrong (ended m c) wrong.user)
+    compares = rw (ended-user m c.channel, wrong.presented, wrong.unproved, wrong.stored, left, wrong.wrong) refl
 
-refused-formed : (r : Result ℕ StatusWord) (f : ℕ → Result Form StatusWord) → Gives Anything r → ((channel : ℕ) → Gives RefusedSo (f channel)) → RefusedSo (formed r f)
-refused-formed (Err word) f gives each = gives
-refused-formed (Ok channel) f gives each = go (f channel) (each channel)
-  where
-    go : (r : Result Form StatusWord) → Gives RefusedSo r → RefusedSo (formed_on channel r)
-    go (Err word) is = is
-    go (Ok form) is = is
-
-refused-form_of : (table : List Line) (octets : List ℕ) (channels : List Bool) (chain : ℕ → Option Chain) (limit : ℕ) → RefusedSo (form_of table octets channels chain limit)
-unfolding form_of
-refused-form_of table [] channels chain limit = refl
-refused-form_of table (cla ∷ []) channels chain limit = refl
-refused-form_of table (cla ∷ ins ∷ []) channels chain limit = refl
-refused-form_of table (cla ∷ ins ∷ p1 ∷ []) channels chain limit = refl
-refused-form_of table (cla ∷ ins ∷ p1 ∷ p2 ∷ after) channels chain limit =
-    refused-formed (channel_asked table cla ins channels) _
-    (behind Anything (class_of cla) _ (gives-class_of cla) (λ _ _.
-    asked Anything (has_instruction table ins) instruction_not_supported _ refl (gives-channel_of cla channels)))
-    (λ channel.
-    behind RefusedSo (line_on table channel ins p1 p2) _ (gives-line channel) (λ line _.
-    behind RefusedSo (taken_in line.takes (is_chained cla) after) _ (gives-taken line.takes) (λ tail _. go (is_chained cla) channel line tail)))
-  where
-    gives-line : (channel : ℕ) → Gives Anything (line_on table channel ins p1 p2)
-    gives-line channel =
-        there Anything (line_of table ins p1 p2) wrong_parameters _ refl (λ line.
-        asked Anything (is_for_channel channel line.kind) wrong_parameters _ refl tt)
-
-    gives-taken : (takes : Takes) → Gives Anything (taken_in takes (is_chained cla) after)
-    gives-taken takes =
-        there Anything (tail_of after) wrong_length _ refl (λ tail.
-        asked Anything (takes_case takes tail && (not (is_chained cla) || is_case_3 tail)) wrong_length _ refl tt)
-
-    go : (more : Bool) (channel : ℕ) (line : Line) (tail : Tail)
-        → Gives RefusedSo (if more then part_in channel line.kind (parts_of line.kind (chain channel)) tail else command_in (has_secrets table) channel line.kind limit (parts_of line.kind (chain channel)) tail)
-    go true channel line tail =
-        asked RefusedSo (comes_in_parts line.kind) chaining_not_supported _ refl
-        (asked RefusedSo (not (length (parts_of line.kind (chain channel)) == 4)) wrong_length _ refl tt)
-    go false channel line tail =
-        there RefusedSo (operation_in (has_secrets table) line.kind limit (concat (parts_of line.kind (chain channel)) ++ data_in tail)) wrong_data _ refl (λ _. tt)
-
--- A step.
-answers-answered : (m before : Machine) (channel : ℕ) (r : Result Answer StatusWord) → Gives (Answers m channel) r → Answers m channel (answered before r)
-answers-answered m before channel (Ok answer) gives = gives
-answers-answered m before channel (Err word) is = inl (plain-refusal word is)
-
-answers-stepped : (m : Machine) (octets : List ℕ) (form : Form) → IfSome (read_on form) (λ channel. channel ≡ channel_named octets) → RefusedSo form → Answers m (channel_named octets) (stepped m form)
-answers-stepped m octets (refused word) named is = inl (plain-refusal word is)
-answers-stepped m octets (refused_on channel word) named is = inl (plain-refusal word is)
-answers-stepped m octets (part_on channel kind part) named is = inl plain-done
-answers-stepped m octets (a_command c) named is =
-    subst (λ (channel : ℕ). Answers m channel (stepped m (a_command c))) named
-    (answers-answered m (changing_session without_chain m c.channel) c.channel (carried_out (changing_session without_chain m c.channel) c) (answers-carried_out m c))
-
-answers-step_by : (table : List Line) (m : Machine) (octets : List ℕ) → Answers m (channel_named octets) (step_by table m octets)
+pub end-step : (table : List Line) (m : Machine) (octets : List ℕ) → AreCommand table m octets ComesToEnd → (step_by table m octets).reply.word ≡ end_reached
 unfolding step_by
-answers-step_by table m octets =
-    answers-stepped m octets (form_of table octets (open_channels m) (command_chain m) m.committed.limit)
-    (IfSome-read_on-named table octets (open_channels m) (command_chain m) m.committed.limit)
-    (refused-form_of table octets (open_channels m) (command_chain m) m.committed.limit)
+end-step table m octets are = ap (λ (form : Form). (stepped m form).reply.word) are.read ∙ stepped-comes_to_end m are.command are.is
 
-pub step-ends : (table : List Line) (m : Machine) (octets : List ℕ) → (step_by table m octets).reply.word ≡ end_reached → EndsCursor m (channel_named octets) (step_by table m octets)
-step-ends table m octets is = go (answers-step_by table m octets)
-  where
-    go : Answers m (channel_named octets) (step_by table m octets) → EndsCursor m (channel_named octets) (step_by table m octets)
-    go (inl plain) = absurd (plain.0 is)
-    go (inr (inl ends)) = ends
-    go (inr (inr costs)) = absurd (end-not_try (costs.user.tries - 1) (sym is ∙ ap (λ (reply : Reply). reply.word) costs.reply))
-
-pub step-costs : (table : List Line) (m : Machine) (octets : List ℕ) (n : ℕ) → (step_by table m octets).reply.word ≡ tries_left n → CostsTry m (channel_named octets) (step_by table m octets)
-step-costs table m octets n is = go (answers-step_by table m octets)
-  where
-    go : Answers m (channel_named octets) (step_by table m octets) → CostsTry m (channel_named octets) (step_by table m octets)
-    go (inl plain) = absurd (plain.1 n is)
-    go (inr (inl ends)) = absurd (end-not_try n (sym (ap (λ (reply : Reply). reply.word) ends.reply) ∙ is))
-    go (inr (inr costs)) = costs
+pub try-step : (table : List Line) (m : Machine) (octets : List ℕ) → AreCommand table m octets ComparesWrong → IsTriesLeft (step_by table m octets).reply.word
+unfolding step_by
+try-step table m octets are = (are.is.user.tries - 1, ap (λ (form : Form). (stepped m form).reply.word) are.read ∙ stepped-compares_wrong m are.command are.is)

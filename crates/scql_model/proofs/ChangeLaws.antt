@@ -14,26 +14,22 @@ use Rattle.scql_base.specs.declared.operation.Operation.{Operation}
 use Rattle.scql_base.specs.declared.operation.Operation.TheVariants.{CreateTable, CreateView, CreateDictionary, DropTable, DropView, Grant, Revoke, Insert, Update, Delete, CreateUser, DeleteUser}
 use Rattle.scql_base.specs.Words.{no_space, instruction_not_supported}
 use Rattle.scql_model.specs.Database.{Database}
-use Rattle.scql_model.specs.Creating.{may_create, is_taken, created, is_overfull, stamps_end}
+use Rattle.scql_model.specs.Creating.{created, is_overfull, stamps_end, user_added}
 use Rattle.scql_model.specs.Moves.{opened}
 use Rattle.scql_model.specs.Refusals.{◌>>=◌, or_refused, provided}
 use Rattle.scql_model.specs.Edits.{Edit, applied}
 use Rattle.scql_model.specs.Defining.{owned_by, named_anew, object_created, view_created, table_dropped, view_dropped}
 use Rattle.scql_model.specs.Granting.{privileges_granted, privileges_revoked}
 use Rattle.scql_model.specs.Writing.{Assignment, row_inserted, written_through, row_updated, row_deleted}
-use Rattle.scql_model.specs.Users.{user_added, user_deleted}
+use Rattle.scql_model.specs.Users.{user_deleted}
 use Rattle.scql_model.specs.Changing.{edits_of, takes_stamp, lacks_room, with_edits, change_of}
 use Rattle.scql_model.proofs.EditLaws.{applied-cells, applied-limit}
 
 -- CREATE USER is what `created` says, whatever the cursor.
 pub change_of-CreateUser : (db : Database) (actor : Actor) (cursor : Option Cursor) (name : List ℕ) (profile : Profile) (secret : List ℕ)
     → change_of db actor cursor (CreateUser name profile secret) ≡ created db actor name profile secret
-unfolding change_of edits_of user_added
-change_of-CreateUser db actor cursor name profile secret =
-    elim (cases_Bool (may_create actor profile)) [
-      | inl t ↦ elim (cases_Bool (is_taken db name)) [ inl u ↦ rw (t, u) refl | inr f ↦ rw (t, f) refl ]
-      | inr f ↦ rw f refl
-    ]
+unfolding change_of edits_of
+change_of-CreateUser db actor cursor name profile secret = refl
 
 -- A refusal changes nothing, and what has edits is their database or a full card.
 pub change_of-refused : (db : Database) (actor : Actor) (cursor : Option Cursor) (operation : Operation) (word : StatusWord)
@@ -57,7 +53,7 @@ pub record AreMade (db : Database) (edits : List Edit) (new : Database) : Type 0
 same_Ok : {A : Type 0} (x y : A) → (let o : Result A StatusWord = Ok x in o) ≡ Ok y → x ≡ y
 same_Ok x y is = same_Some x y (ap result_ok is)
 
-AreMade-with_edits : (db : Database) (edits : List Edit) (new : Database) → with_edits db edits ≡ Ok new → AreMade db edits new
+pub AreMade-with_edits : (db : Database) (edits : List Edit) (new : Database) → with_edits db edits ≡ Ok new → AreMade db edits new
 AreMade-with_edits db edits new ok =
     elim (cases_Bool (lacks_room db edits)) [
       | inl t ↦ absurd (let wrong : Err no_space ≡ Ok new = rw t at ok in cc)
@@ -166,7 +162,6 @@ unfolding row_deleted
 deleted-not_full db actor cursor = search (refusals, opened-not_full, written_through-not_full)
 
 user_added-not_full : (db : Database) (actor : Actor) (name : List ℕ) (profile : Profile) (secret : List ℕ) → IsNotFull (user_added db actor name profile secret)
-unfolding user_added
 user_added-not_full db actor name profile secret = search refusals
 
 user_deleted-not_full : (db : Database) (actor : Actor) (name : List ℕ) → IsNotFull (user_deleted db actor name)

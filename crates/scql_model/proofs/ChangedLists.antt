@@ -8,6 +8,7 @@ use Rattle.std.proofs.lemmas.Option.{none-some, same_Some}
 use Rattle.std.proofs.lemmas.List.Filters.{sum_by-filter_both}
 use Rattle.std.proofs.lemmas.List.Sums.{sum_by-cons}
 use Rattle.eeprom.specs.Slots.{Rises, replaced, without}
+use Rattle.eeprom.proofs.InOrder.{all-filter}
 
 -- what stands in a place then has the key of what stood there
 key-replaced : {X : Type 0} (key : X → ℕ) (x y : X) → key (if eqb (key y) (key x) then x else y) ≡ key y
@@ -87,11 +88,11 @@ found-replaced h key x k (y ∷ ys) same =
       | inr e ↦ rw e (elim (cases_Bool (eqb (key y) k)) [ inl u ↦ rw u refl | inr f ↦ rw f rest ])
     ]
 
-each-weaker : {X : Type 0} (P Q : X → Type 0) (xs : List X) → ((x : X) → P x → Q x) → AllByRecursion P xs → AllByRecursion Q xs
+pub each-weaker : {X : Type 0} (P Q : X → Type 0) (xs : List X) → ((x : X) → P x → Q x) → AllByRecursion P xs → AllByRecursion Q xs
 each-weaker P Q [] more all = tt
 each-weaker P Q (x ∷ xs) more all = (more x all.0, each-weaker P Q xs more all.1)
 
-found-each : {X : Type 0} (P : X → Type 0) (q : X → Bool) (xs : List X) (x : X) → AllByRecursion P xs → find q xs ≡ Some x → P x
+pub found-each : {X : Type 0} (P : X → Type 0) (q : X → Bool) (xs : List X) (x : X) → AllByRecursion P xs → find q xs ≡ Some x → P x
 found-each P q [] x all found = absurd (none-some x found)
 found-each P q (y ∷ ys) x all found =
     elim (cases_Bool (q y)) [ inl t ↦ subst P (same_Some y x (rw t at found)) all.0 | inr e ↦ found-each P q ys x all.1 (rw e at found) ]
@@ -148,8 +149,7 @@ sum_by-filter p c xs = let both = sum_by-filter_both p (λ x. not (p x)) (λ x. 
 pub Rises-filter : {X : Type 0} (p : X → Bool) (key : X → ℕ) (xs : List X) → Rises key xs → Rises key (filter p xs)
 Rises-filter p key [] rises = tt
 Rises-filter p key (x ∷ xs) rises =
-    elim (cases_Bool (p x)) [ inl t ↦ rw t (above p key (key x) xs rises.0, Rises-filter p key xs rises.1) | inr e ↦ rw e (Rises-filter p key xs rises.1) ]
-  where
-    above : {X : Type 0} (p : X → Bool) (key : X → ℕ) (k : ℕ) (xs : List X) → AllByRecursion (λ z. k < key z) xs → AllByRecursion (λ z. k < key z) (filter p xs)
-    above p key k [] all = tt
-    above p key k (x ∷ xs) all = elim (cases_Bool (p x)) [ inl t ↦ rw t (all.0, above p key k xs all.1) | inr e ↦ rw e (above p key k xs all.1) ]
+    elim (cases_Bool (p x)) [
+      | inl t ↦ rw t (all-filter (λ y. key x < key y) p xs rises.0, Rises-filter p key xs rises.1)
+      | inr e ↦ rw e (Rises-filter p key xs rises.1)
+    ]

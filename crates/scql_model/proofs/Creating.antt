@@ -1,5 +1,5 @@
 -- CREATE USER makes a valid database of a valid one.
-use Rattle.std.proofs.Common.{◌≡◌, ℕ, ◌≤◌, ◌+◌, ◌^◌, Bool, true, false, List, [], ◌∷◌, ◌++◌, length, filter, not, ◌&&◌, ◌||◌, Option, Some, None, Ok, Err, refl, ap, subst, ◌∙◌, arith, inl, inr}
+use Rattle.std.proofs.Common.{◌≡◌, ℕ, ◌≤◌, ◌+◌, ◌^◌, Bool, true, false, List, [], ◌∷◌, ◌++◌, length, filter, not, ◌&&◌, ◌||◌, Option, Some, None, Result, Ok, Err, refl, sym, ap, subst, ◌∙◌, arith, inl, inr}
 use Rattle.std.specs.Prelude.{nat_le, nat_lt, option_map, if◌then◌else◌, ◌==◌}
 use Rattle.std.specs.List.{list_all, list_any}
 use Rattle.std.specs.Option.{option_map_or}
@@ -13,6 +13,7 @@ use Rattle.scql_base.specs.declared.words.Actor.{Actor}
 use Rattle.scql_base.specs.declared.words.Actor.TheVariants.{Public, User as a_user}
 use Rattle.scql_base.specs.declared.words.Profile.{Profile}
 use Rattle.scql_base.specs.declared.words.Profile.TheVariants.{DbO, Dboo, Dbbu}
+use Rattle.scql_base.specs.declared.words.StatusWord.{StatusWord}
 use Rattle.scql_base.specs.Words.{security_not_satisfied, no_space, already_exists}
 use Rattle.scql_base.specs.Name.{is_name, is_name_octet}
 use Rattle.scql_base.specs.declared.records.User.{User}
@@ -21,6 +22,8 @@ use Rattle.scql_model.specs.Stored.{is_storable}
 use Rattle.scql_model.specs.Rules.{owner, public_name, is_db_o, is_maker, user_stamped, is_made_by_maker, has_maker, has_all_tries, is_named}
 use Rattle.scql_model.specs.Database.{Database, IsValid, weight, stored_user}
 use Rattle.scql_model.specs.Creating.{IsAsked, may_create, actor_stamp, IsActorOf, is_taken, new_user, with_user, stamps_end, is_overfull, created}
+use Rattle.scql_model.specs.Refusals.{◌>>=◌, provided}
+use Rattle.scql_model.specs.Edits.{of_user, making, with_edits}
 use Rattle.scql_model.proofs.LongerLists.{not_equal-sym, find-passes, find-all, all-filtered, any-map}
 use Rattle.scql_model.proofs.AddedUser.{IsAddable, IsValid-with_user, kept_maker}
 
@@ -32,21 +35,22 @@ pub record IsCreated (db : Database) (actor : Actor) (name : List ℕ) (profile 
   pub room : is_overfull (with_user db (new_user db actor name profile secret)) ≡ false
   pub made : with_user db (new_user db actor name profile secret) ≡ new
 
--- three refusals in their order, and a value where none applies
-chosen-parts : {T E : Type 0} (may taken out full : Bool) (e1 e2 e3 : E) (x y : T)
-    → (if not may then Err e1 else if taken then Err e2 else if out || full then Err e3 else Ok x) ≡ Ok y
+-- two refusals in their order, then one where there is no room, and a value where none applies
+chosen-parts : {A T : Type 0} (may taken out full : Bool) (e1 e2 e3 : StatusWord) (edits : A) (with : A → Result T StatusWord) (x y : T) → with edits ≡ (if out || full then Err e3 else Ok x)
+    → (provided may e1 >>= λ _. provided (not taken) e2 >>= λ _. Ok edits) >>= with ≡ Ok y
     → (may ≡ true) × ((taken ≡ false) × ((out ≡ false) × ((full ≡ false) × (x ≡ y))))
-chosen-parts false taken out full e1 e2 e3 x y h = absurd (none-some y (ap result_ok h))
-chosen-parts true true out full e1 e2 e3 x y h = absurd (none-some y (ap result_ok h))
-chosen-parts true false true full e1 e2 e3 x y h = absurd (none-some y (ap result_ok h))
-chosen-parts true false false true e1 e2 e3 x y h = absurd (none-some y (ap result_ok h))
-chosen-parts true false false false e1 e2 e3 x y h = (refl, (refl, (refl, (refl, same_Some x y (ap result_ok h)))))
+chosen-parts false taken out full e1 e2 e3 edits with x y is h = absurd (none-some y (ap result_ok h))
+chosen-parts true true out full e1 e2 e3 edits with x y is h = absurd (none-some y (ap result_ok h))
+chosen-parts true false true full e1 e2 e3 edits with x y is h = absurd (none-some y (ap result_ok (sym is ∙ h)))
+chosen-parts true false false true e1 e2 e3 edits with x y is h = absurd (none-some y (ap result_ok (sym is ∙ h)))
+chosen-parts true false false false e1 e2 e3 edits with x y is h = (refl, (refl, (refl, (refl, same_Some x y (ap result_ok (sym is ∙ h))))))
 
 pub IsCreated-from_ok : (db : Database) (actor : Actor) (name : List ℕ) (profile : Profile) (secret : List ℕ) (new : Database) → created db actor name profile secret ≡ Ok new
     → IsCreated db actor name profile secret new
 IsCreated-from_ok db actor name profile secret new ok =
-    let parts = chosen-parts (may_create actor profile) (is_taken db name) (db.next == stamps_end) (is_overfull (with_user db (new_user db actor name profile secret)))
-    security_not_satisfied already_exists no_space (with_user db (new_user db actor name profile secret)) new ok in
+    let u : User = new_user db actor name profile secret in
+    let parts = chosen-parts (may_create actor profile) (is_taken db name) (db.next == stamps_end) (is_overfull (with_user db u))
+    security_not_satisfied already_exists no_space (making db (of_user u)) (with_edits db) (with_user db u) new refl ok in
     record { may = parts.0; free = parts.1.0; stamps_left = parts.1.1.0; room = parts.1.1.1.0; made = parts.1.1.1.1 }
 
 -- and the other way: nothing else refuses
@@ -81,7 +85,7 @@ user-short u name secret =
     (le-leb 1 (length (user_record.spell u)) (omega arith)) (le-leb (length (user_record.spell u)) 1029 (omega arith))
 
 -- the stamp of who acts is a number
-actor_fits : (db : Database) (stamp : ℕ) (profile : Profile) → IsValid db → IsActorOf db (a_user stamp profile) → nat_lt stamp (2 ^ 32) ≡ true
+pub actor_fits : (db : Database) (stamp : ℕ) (profile : Profile) → IsValid db → IsActorOf db (a_user stamp profile) → nat_lt stamp (2 ^ 32) ≡ true
 actor_fits db stamp profile valid acts = go (user_stamped db.users stamp) refl acts
   where
     go : (o : Option User) → user_stamped db.users stamp ≡ o → option_map (λ (u : User). u.profile) o ≡ Some profile → nat_lt stamp (2 ^ 32) ≡ true
@@ -95,7 +99,7 @@ user-fits : (u : User) → nat_lt u.stamp (2 ^ 32) ≡ true → nat_lt u.owner (
 user-fits u stamp owner tries name secret = rw (stamp, owner, tries, name, secret) refl
 
 -- the new user's owner may own it
-maker-profile : (users : List User) (stamp : ℕ) (profile : Profile) → is_maker profile ≡ true → option_map (λ (u : User). u.profile) (user_stamped users stamp) ≡ Some profile
+pub maker-profile : (users : List User) (stamp : ℕ) (profile : Profile) → is_maker profile ≡ true → option_map (λ (u : User). u.profile) (user_stamped users stamp) ≡ Some profile
     → is_made_by_maker users stamp ≡ true
 maker-profile users stamp profile maker acts = go (user_stamped users stamp) acts
   where

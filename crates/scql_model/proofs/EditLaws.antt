@@ -1,10 +1,9 @@
 -- What edits do to a database: what stays, what stands where, and how much it weighs.
-use Rattle.std.proofs.Common.{◌≡◌, ℕ, ◌+◌, ◌≤◌, false, eqb, List, [], ◌∷◌, ◌++◌, length, map, Some, refl, ap, sym, ◌∙◌, inl, inr, arith}
+use Rattle.std.proofs.Common.{◌≡◌, ℕ, ◌+◌, ◌≤◌, false, eqb, List, [], ◌∷◌, ◌++◌, map, Some, refl, ap, sym, ◌∙◌, inl, inr, arith}
 use Rattle.std.specs.List.{list_any, sum_by, count_by, find}
 use Rattle.std.proofs.lemmas.Bool.{cases_Bool, eqb-true}
 use Rattle.std.proofs.lemmas.Option.{none-some, same_Some}
 use Rattle.std.proofs.lemmas.List.Sums.{sum_by-cons, sum_by_push}
-use Rattle.eeprom.specs.StoreOf.{cells_for}
 use Rattle.eeprom.specs.Slots.{has, replaced, without}
 use Rattle.eeprom.proofs.InOrder.{counts, counts_not, without-none, replaced-none}
 use Rattle.scql_base.specs.declared.records.User.{User}
@@ -16,27 +15,24 @@ use Rattle.scql_model.proofs.RecordsOf.{weight-of_kinds}
 use Rattle.scql_model.specs.Edits.{AnyRecord, of_counter, of_user, of_object, of_grant, of_row, Action, to_add, to_change, to_remove, Edit, list_after, edited, applied, cells_of_record, making}
 
 -- The card's cells and its row limit stay.
-edited-cells : (action : Action) (r : AnyRecord) (db : Database) → (edited action r db).cells ≡ db.cells
-edited-cells action (of_counter next) db = refl
-edited-cells action (of_user u) db = refl
-edited-cells action (of_object o) db = refl
-edited-cells action (of_grant g) db = refl
-edited-cells action (of_row r) db = refl
+record HasSameLimits (old new : Database) : Type 0 where
+  cells : new.cells ≡ old.cells
+  limit : new.limit ≡ old.limit
 
-edited-limit : (action : Action) (r : AnyRecord) (db : Database) → (edited action r db).limit ≡ db.limit
-edited-limit action (of_counter next) db = refl
-edited-limit action (of_user u) db = refl
-edited-limit action (of_object o) db = refl
-edited-limit action (of_grant g) db = refl
-edited-limit action (of_row r) db = refl
+edited-limits : (action : Action) (r : AnyRecord) (db : Database) → HasSameLimits db (edited action r db)
+edited-limits action (of_counter next) db = record { cells = refl; limit = refl }
+edited-limits action (of_user u) db = record { cells = refl; limit = refl }
+edited-limits action (of_object o) db = record { cells = refl; limit = refl }
+edited-limits action (of_grant g) db = record { cells = refl; limit = refl }
+edited-limits action (of_row r) db = record { cells = refl; limit = refl }
 
 pub applied-cells : (db : Database) (edits : List Edit) → (applied db edits).cells ≡ db.cells
 applied-cells db [] = refl
-applied-cells db (e ∷ edits) = applied-cells (edited e.action e.entry db) edits ∙ edited-cells e.action e.entry db
+applied-cells db (e ∷ edits) = applied-cells (edited e.action e.entry db) edits ∙ (edited-limits e.action e.entry db).cells
 
 pub applied-limit : (db : Database) (edits : List Edit) → (applied db edits).limit ≡ db.limit
 applied-limit db [] = refl
-applied-limit db (e ∷ edits) = applied-limit (edited e.action e.entry db) edits ∙ edited-limit e.action e.entry db
+applied-limit db (e ∷ edits) = applied-limit (edited e.action e.entry db) edits ∙ (edited-limits e.action e.entry db).limit
 
 -- Edits may be applied in two parts.
 pub applied-append : (db : Database) (first then : List Edit) → applied db (first ++ then) ≡ applied (applied db first) then
@@ -99,9 +95,6 @@ sum_by-map f g [] = refl
 sum_by-map f g (x ∷ xs) = sum_by-cons f (g x) (map g xs) ∙ ap (λ n. f (g x) + n) (sum_by-map f g xs) ∙ sym (sum_by-cons (λ x. f (g x)) x xs)
 
 -- The weight of a database by the kinds of its records.
-abbrev octets_cells : List ℕ → ℕ
-octets_cells octets = cells_for (length octets)
-
 abbrev pub users_weight : List User → ℕ
 users_weight users = sum_by (λ u. cells_of_record (of_user u)) users
 
@@ -129,29 +122,32 @@ own_cells (of_row r) = cells_of_record (of_row r)
 pub weight-next : (db : Database) (next : ℕ) → weight (record db { next = next }) ≡ weight db
 weight-next db next = let a = weight-kinds db in let b = weight-kinds (record db { next = next }) in omega arith
 
+-- what the records of a record's kind weigh, of which there is none of the counter's
+abbrev kind_weight : AnyRecord → Database → ℕ
+kind_weight (of_counter next) db = 0
+kind_weight (of_user u) db = users_weight db.users
+kind_weight (of_object o) db = objects_weight db.objects
+kind_weight (of_grant g) db = grants_weight db.grants
+kind_weight (of_row r) db = rows_weight db.rows
+
+-- An edit changes the weight of one kind alone.
+weight-edited : (action : Action) (r : AnyRecord) (db : Database) → weight (edited action r db) + kind_weight r db ≡ weight db + kind_weight r (edited action r db)
+weight-edited action (of_counter next) db = let a = weight-next db next in omega arith
+weight-edited action (of_user u) db = omega (arith, weight-kinds db, weight-kinds (edited action (of_user u) db))
+weight-edited action (of_object o) db = omega (arith, weight-kinds db, weight-kinds (edited action (of_object o) db))
+weight-edited action (of_grant g) db = omega (arith, weight-kinds db, weight-kinds (edited action (of_grant g) db))
+weight-edited action (of_row r) db = omega (arith, weight-kinds db, weight-kinds (edited action (of_row r) db))
+
 -- A record that is added weighs what its cells are.
+kind_weight-added : (r : AnyRecord) (db : Database) → kind_weight r (edited to_add r db) ≡ kind_weight r db + own_cells r
+kind_weight-added (of_counter next) db = refl
+kind_weight-added (of_user u) db = sum_by_push (λ u. cells_of_record (of_user u)) db.users u
+kind_weight-added (of_object o) db = sum_by_push (λ o. cells_of_record (of_object o)) db.objects o
+kind_weight-added (of_grant g) db = sum_by_push (λ g. cells_of_record (of_grant g)) db.grants g
+kind_weight-added (of_row r) db = sum_by_push (λ r. cells_of_record (of_row r)) db.rows r
+
 pub weight-adding : (db : Database) (r : AnyRecord) → weight (edited to_add r db) ≡ weight db + own_cells r
-weight-adding db (of_counter next) = let a = weight-next db next in omega arith
-weight-adding db (of_user u) =
-    let a = weight-kinds db in
-    let b = weight-kinds (edited to_add (of_user u) db) in
-    let c = sum_by_push (λ u. cells_of_record (of_user u)) db.users u in
-    omega arith
-weight-adding db (of_object o) =
-    let a = weight-kinds db in
-    let b = weight-kinds (edited to_add (of_object o) db) in
-    let c = sum_by_push (λ o. cells_of_record (of_object o)) db.objects o in
-    omega arith
-weight-adding db (of_grant g) =
-    let a = weight-kinds db in
-    let b = weight-kinds (edited to_add (of_grant g) db) in
-    let c = sum_by_push (λ g. cells_of_record (of_grant g)) db.grants g in
-    omega arith
-weight-adding db (of_row r) =
-    let a = weight-kinds db in
-    let b = weight-kinds (edited to_add (of_row r) db) in
-    let c = sum_by_push (λ r. cells_of_record (of_row r)) db.rows r in
-    omega arith
+weight-adding db r = omega (arith, weight-edited to_add r db, kind_weight-added r db)
 
 pub weight-making : (db : Database) (r : AnyRecord) → weight (applied db (making db r)) ≡ weight db + own_cells r
 weight-making db r = weight-adding (record db { next = db.next + 1 }) r ∙ ap (λ n. n + own_cells r) (weight-next db (db.next + 1))
@@ -169,42 +165,23 @@ HasRecord db (of_grant g) = IsAmong (λ (h : Grant). h.stamp) g db.grants
 HasRecord db (of_row r) = IsAmong (λ (s : RowRecord). s.stamp) r db.rows
 
 -- A record that is removed takes its cells with it.
+kind_weight-removed : (r : AnyRecord) (db : Database) → HasRecord db r → kind_weight r (edited to_remove r db) + own_cells r ≡ kind_weight r db
+kind_weight-removed (of_counter next) db there = refl
+kind_weight-removed (of_user u) db there = sum-removed (λ (v : User). v.stamp) (λ u. cells_of_record (of_user u)) u db.users there.0 there.1
+kind_weight-removed (of_object o) db there = sum-removed (λ (p : Object). p.stamp) (λ o. cells_of_record (of_object o)) o db.objects there.0 there.1
+kind_weight-removed (of_grant g) db there = sum-removed (λ (h : Grant). h.stamp) (λ g. cells_of_record (of_grant g)) g db.grants there.0 there.1
+kind_weight-removed (of_row r) db there = sum-removed (λ (s : RowRecord). s.stamp) (λ r. cells_of_record (of_row r)) r db.rows there.0 there.1
+
 pub weight-removing : (db : Database) (r : AnyRecord) → HasRecord db r → weight (edited to_remove r db) + own_cells r ≡ weight db
-weight-removing db (of_counter next) there = let a = weight-next db next in omega arith
-weight-removing db (of_user u) there =
-    let a = weight-kinds db in
-    let b = weight-kinds (edited to_remove (of_user u) db) in
-    let c = sum-removed (λ (v : User). v.stamp) (λ u. cells_of_record (of_user u)) u db.users there.0 there.1 in
-    omega arith
-weight-removing db (of_object o) there =
-    let a = weight-kinds db in
-    let b = weight-kinds (edited to_remove (of_object o) db) in
-    let c = sum-removed (λ (p : Object). p.stamp) (λ o. cells_of_record (of_object o)) o db.objects there.0 there.1 in
-    omega arith
-weight-removing db (of_grant g) there =
-    let a = weight-kinds db in
-    let b = weight-kinds (edited to_remove (of_grant g) db) in
-    let c = sum-removed (λ (h : Grant). h.stamp) (λ g. cells_of_record (of_grant g)) g db.grants there.0 there.1 in
-    omega arith
-weight-removing db (of_row r) there =
-    let a = weight-kinds db in
-    let b = weight-kinds (edited to_remove (of_row r) db) in
-    let c = sum-removed (λ (s : RowRecord). s.stamp) (λ r. cells_of_record (of_row r)) r db.rows there.0 there.1 in
-    omega arith
+weight-removing db r there = omega (arith, weight-edited to_remove r db, kind_weight-removed r db there)
 
 -- A grant or a row that takes the place of another weighs its own cells for the other's.
 pub weight-grant : (db : Database) (old new : Grant) → new.stamp ≡ old.stamp → HasRecord db (of_grant old)
     → weight (edited to_change (of_grant new) db) + cells_of_record (of_grant old) ≡ weight db + cells_of_record (of_grant new)
 weight-grant db old new same there =
-    let a = weight-kinds db in
-    let b = weight-kinds (edited to_change (of_grant new) db) in
-    let c = sum-replaced (λ (h : Grant). h.stamp) (λ g. cells_of_record (of_grant g)) new old db.grants same there.0 there.1 in
-    omega arith
+    omega (arith, weight-edited to_change (of_grant new) db, sum-replaced (λ (h : Grant). h.stamp) (λ g. cells_of_record (of_grant g)) new old db.grants same there.0 there.1)
 
 pub weight-row : (db : Database) (old new : RowRecord) → new.stamp ≡ old.stamp → HasRecord db (of_row old)
     → weight (edited to_change (of_row new) db) + cells_of_record (of_row old) ≡ weight db + cells_of_record (of_row new)
 weight-row db old new same there =
-    let a = weight-kinds db in
-    let b = weight-kinds (edited to_change (of_row new) db) in
-    let c = sum-replaced (λ (s : RowRecord). s.stamp) (λ r. cells_of_record (of_row r)) new old db.rows same there.0 there.1 in
-    omega arith
+    omega (arith, weight-edited to_change (of_row new) db, sum-replaced (λ (s : RowRecord). s.stamp) (λ r. cells_of_record (of_row r)) new old db.rows same there.0 there.1)

@@ -23,7 +23,7 @@ abbrev Alone : {X : Type 0} → (X → Bool) → List X → Type 0
 Alone q [] = Unit {0}
 Alone q (x ∷ xs) = (q x ≡ true → list_any q xs ≡ false) × Alone q xs
 
-any-find : {X : Type 0} (p q : X → Bool) (xs : List X) (x : X) → find p xs ≡ Some x → q x ≡ true → list_any q xs ≡ true
+pub any-find : {X : Type 0} (p q : X → Bool) (xs : List X) (x : X) → find p xs ≡ Some x → q x ≡ true → list_any q xs ≡ true
 any-find p q [] x found passes = absurd (none-some x found)
 any-find p q (y ∷ ys) x found passes =
     elim (cases_Bool (p y)) [

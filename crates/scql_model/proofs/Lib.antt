@@ -1,3 +1,4 @@
+mod WorkedBounds
 mod WorkedChanges
 mod WorkedCreating
 mod WorkedForms
@@ -11,6 +12,7 @@ pub mod AddedUser
 pub mod AnswerWords
 pub mod Apart
 pub mod Assigning
+pub mod Bounds
 pub mod ChangeLaws
 pub mod ChangedGrants
 pub mod ChangedLists
@@ -36,18 +38,29 @@ pub mod FormedParts
 pub mod FoundAgain
 pub mod FreshCard
 pub mod Hearing
+pub mod Keeping
+pub mod KeepsGrants
+pub mod KeepsObjects
+pub mod KeepsRows
+pub mod KeepsUsers
+pub mod KeepsValid
+pub mod KeepsViews
 pub mod LastCommits
 pub mod LinesFound
 pub mod LongerLists
+pub mod Migrating
 pub mod NameOrder
 pub mod Naming
+pub mod NothingWritten
 pub mod PartsAgain
 pub mod Positions
+pub mod ReadFits
 pub mod ReadingIsShown
 pub mod ReadingSteps
 pub mod RecordLaws
 pub mod RecordLengths
 pub mod RecordsOf
+pub mod RefusalWords
 pub mod Refusing
 pub mod Removing
 pub mod RightEdits
@@ -59,4 +72,6 @@ pub mod Stored
 pub mod TailsAgain
 pub mod TakenFields
 pub mod Touching
+pub mod UsersFollow
+pub mod ValidSteps
 pub mod Validity

@@ -9,15 +9,15 @@ use Rattle.scql_base.specs.declared.operation.OperationKind.{OperationKind}
 use Rattle.scql_model.specs.Operations.{has_secrets, comes_in_parts, kind_of}
 use Rattle.scql_model.specs.WellFormed.{IsWellFormed}
 use Rattle.scql_model.specs.Form.{takes_case, is_case_3, a_command, part_on, parts_of}
-use Rattle.scql_model.specs.Spelling.{field_of, fits, parts_for, part_count, cut, part_at, goes_on_after, part_octets, octets_of, HasLine, IsTaken, ReadsAs}
+use Rattle.scql_model.specs.Spelling.{field_of, fits, parts_for, part_count, first_parts, part_at, goes_on_after, part_octets, octets_of, HasLine, IsTaken, ReadsAs}
 use Rattle.scql_model.proofs.TailsAgain.{tail, data-again}
 use Rattle.scql_model.proofs.TakenFields.{Lined, Lined-field, Lined-piece}
 use Rattle.scql_model.proofs.CommandsAgain.{part-again, last-again}
 
 -- Cutting.
-length-cut : (count : ℕ) (octets : List ℕ) → length (cut count octets) ≡ count
-length-cut zero octets = refl
-length-cut (suc count) octets = ap suc (length-cut count (drop 255 octets))
+length-first_parts : (count : ℕ) (octets : List ℕ) → length (first_parts count octets) ≡ count
+length-first_parts zero octets = refl
+length-first_parts (suc count) octets = ap suc (length-first_parts count (drop 255 octets))
 
 drop-behind : (count : ℕ) (octets : List ℕ) → drop (255 * count) (drop 255 octets) ≡ drop (255 * suc count) octets
 drop-behind count octets =
@@ -25,22 +25,22 @@ drop-behind count octets =
     drop-drop (255 * count) 255 octets ∙ ap (λ (n : ℕ). drop n octets) sum
 
 -- the parts joined, and what is behind them
-joined-cut : (count : ℕ) (octets : List ℕ) → concat (cut count octets) ++ drop (255 * count) octets ≡ octets
-joined-cut zero octets = refl
-joined-cut (suc count) octets =
-    append_assoc (take 255 octets) (concat (cut count (drop 255 octets))) (drop (255 * suc count) octets)
-    ∙ (ap (λ (back : List ℕ). take 255 octets ++ (concat (cut count (drop 255 octets)) ++ back)) (sym (drop-behind count octets))
-    ∙ (ap (λ (back : List ℕ). take 255 octets ++ back) (joined-cut count (drop 255 octets)) ∙ take-append-drop 255 octets))
+joined-first_parts : (count : ℕ) (octets : List ℕ) → concat (first_parts count octets) ++ drop (255 * count) octets ≡ octets
+joined-first_parts zero octets = refl
+joined-first_parts (suc count) octets =
+    append_assoc (take 255 octets) (concat (first_parts count (drop 255 octets))) (drop (255 * suc count) octets)
+    ∙ (ap (λ (back : List ℕ). take 255 octets ++ (concat (first_parts count (drop 255 octets)) ++ back)) (sym (drop-behind count octets))
+    ∙ (ap (λ (back : List ℕ). take 255 octets ++ back) (joined-first_parts count (drop 255 octets)) ∙ take-append-drop 255 octets))
 
 -- one part more
-cut-suc : (count : ℕ) (octets : List ℕ) → cut (suc count) octets ≡ cut count octets ++ part_at count octets ∷ []
-cut-suc zero octets = refl
-cut-suc (suc count) octets =
-    ap (λ (parts : List (List ℕ)). take 255 octets ∷ parts) (cut-suc count (drop 255 octets))
-    ∙ ap (λ (back : List ℕ). take 255 octets ∷ (cut count (drop 255 octets) ++ take 255 back ∷ [])) (drop-behind count octets)
+first_parts-suc : (count : ℕ) (octets : List ℕ) → first_parts (suc count) octets ≡ first_parts count octets ++ part_at count octets ∷ []
+first_parts-suc zero octets = refl
+first_parts-suc (suc count) octets =
+    ap (λ (parts : List (List ℕ)). take 255 octets ∷ parts) (first_parts-suc count (drop 255 octets))
+    ∙ ap (λ (back : List ℕ). take 255 octets ∷ (first_parts count (drop 255 octets) ++ take 255 back ∷ [])) (drop-behind count octets)
 
-pub cut-next : (count : ℕ) (octets : List ℕ) → cut (count + 1) octets ≡ cut count octets ++ part_at count octets ∷ []
-cut-next count octets = rw add-one (cut-suc count octets)
+pub first_parts-next : (count : ℕ) (octets : List ℕ) → first_parts (count + 1) octets ≡ first_parts count octets ++ part_at count octets ∷ []
+first_parts-next count octets = rw add-one (first_parts-suc count octets)
 
 -- Sizes.
 before_last : (size place : ℕ) → place + 1 < parts_for size → 255 * place + 255 < size
@@ -84,7 +84,7 @@ case_3 [] some = absurd (omega (arith, some))
 case_3 (octet ∷ octets) some = refl
 
 pub part-read : (table : List Line) (limit : ℕ) (c : Command) (place : ℕ) → IsWellFormed c → fits c ≡ true → place + 1 < part_count c → HasLine table (kind_of c.operation)
-    → ReadsAs table limit c (cut place (field_of c.operation)) (part_octets c place) (part_on c.channel (kind_of c.operation) (part_at place (field_of c.operation)))
+    → ReadsAs table limit c (first_parts place (field_of c.operation)) (part_octets c place) (part_on c.channel (kind_of c.operation) (part_at place (field_of c.operation)))
 unfolding part_octets
 part-read table limit c place formed' fit more has channels chain open' before =
     let asked : OperationKind = kind_of c.operation in
@@ -96,7 +96,7 @@ part-read table limit c place formed' fit more has channels chain open' before =
     let lined = Lined-piece c.operation octets None comes (omega (arith, size)) in
     let goes : goes_on_after c place ≡ true = lt-ltb (place + 1) (part_count c) more in
     let few : place < 4 = few_parts (length field) place (short-field (comes_in_parts asked) (length field) fit) more in
-    let room : (length (cut place field) == 4) ≡ false = ne_eqb (length (cut place field)) 4 (λ four. omega (arith, four, few, length-cut place field)) in
+    let room : (length (first_parts place field) == 4) ≡ false = ne_eqb (length (first_parts place field)) 4 (λ four. omega (arith, four, few, length-first_parts place field)) in
     rw (lined.found, goes)
     (part-again table lined.line c.channel asked octets channels chain limit formed'.channel (has lined.line lined.found) lined.kind formed'.closed
     (and_from (takes_case lined.line.takes (tail octets None)) (is_case_3 (tail octets None)) lined.takes (case_3 octets (omega (arith, size)))) open'
@@ -115,7 +115,7 @@ Lined-last c (suc place) formed' fit last =
     Lined-piece c.operation (part_at (suc place) field) c.le (comes-long (comes_in_parts (kind_of c.operation)) (length field) fit (omega (arith, long))) (omega (arith, size, long))
 
 pub last-read : (table : List Line) (limit : ℕ) (c : Command) (place : ℕ) → IsWellFormed c → fits c ≡ true → place + 1 ≡ part_count c → HasLine table (kind_of c.operation)
-    → IsTaken (has_secrets table) limit c.operation → ReadsAs table limit c (cut place (field_of c.operation)) (part_octets c place) (a_command c)
+    → IsTaken (has_secrets table) limit c.operation → ReadsAs table limit c (first_parts place (field_of c.operation)) (part_octets c place) (a_command c)
 unfolding part_octets
 last-read table limit c place formed' fit last has taken channels chain open' before =
     let field : List ℕ = field_of c.operation in
@@ -123,7 +123,7 @@ last-read table limit c place formed' fit last has taken channels chain open' be
     let goes : goes_on_after c place ≡ false = le-ltb (place + 1) (part_count c) (omega (arith, last)) in
     let joined : concat (parts_of (kind_of c.operation) (chain c.channel)) ++ part_at place field ≡ field
     = ap (λ (parts : List (List ℕ)). concat parts ++ part_at place field) before
-    ∙ (ap (λ (back : List ℕ). concat (cut place field) ++ back) (part-whole place field (at_last (length field) place last)) ∙ joined-cut place field) in
+    ∙ (ap (λ (back : List ℕ). concat (first_parts place field) ++ back) (part-whole place field (at_last (length field) place last)) ∙ joined-first_parts place field) in
     rw (lined.found, goes) (last-again table lined.line c (part_at place field) channels chain limit formed' (has lined.line lined.found) lined.kind lined.takes open' taken joined)
 
 -- a command of one part is that part

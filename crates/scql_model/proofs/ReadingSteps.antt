@@ -124,7 +124,7 @@ carried_out-reading : (m : Machine) (c : Command) (command : ReadingCommand) →
     → carried_out m c ≡ Ok (reading_done m c.channel command)
 carried_out-reading m c command is = rw (never_waits c.operation c.le command m.transaction c.channel is, is) refl
 
-stepped-reading : (m : Machine) (c : Command) (command : ReadingCommand) → reading_command c.operation c.le ≡ Some command
+pub stepped-reading : (m : Machine) (c : Command) (command : ReadingCommand) → reading_command c.operation c.le ≡ Some command
     → stepped m (a_command c) ≡ reading_done (ended m c.channel) c.channel command
 stepped-reading m c command is = ap (answered (ended m c.channel)) (carried_out-reading (ended m c.channel) c command is)
 

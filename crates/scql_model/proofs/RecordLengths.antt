@@ -20,7 +20,7 @@ use Rattle.scql_model.specs.Stored.{is_storable}
 use Rattle.scql_model.specs.Database.{stored_object, stored_grant, stored_row}
 use Rattle.scql_model.proofs.Creating.{name-size}
 
-names-size : (names : List (List ℕ)) → list_all is_name names ≡ true → length (flat_map spelled names) ≤ 9 * length names
+pub names-size : (names : List (List ℕ)) → list_all is_name names ≡ true → length (flat_map spelled names) ≤ 9 * length names
 names-size [] right = omega arith
 names-size (name ∷ names) right =
     let parts = and_parts (is_name name) (list_all is_name names) right in

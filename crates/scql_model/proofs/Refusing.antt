@@ -105,7 +105,7 @@ stays-has_read m channel command = go (moved (base m channel) (actor m channel) 
     go (Err word) moves = inr (refl, changing_session-same (reading_so (reading_of m channel)) m channel (same_reading (session_of m channel)))
 
 -- Each other operation accepts, or is refused before it changes anything.
-abbrev Accepted : Answer → Type 0
+abbrev pub Accepted : Answer → Type 0
 Accepted answer = Accepts answer.reply.word
 
 accepted-changed_to : (m : Machine) (channel : ℕ) (edits : List Edit) (db : Database) (t : Option Transaction) → Accepted (changed_to m channel edits db t)
@@ -146,7 +146,7 @@ accepted-closed m channel number =
     of_outcome Accepted (provided (is_channel_open m number) channel_not_supported) _ (λ _.
     of_outcome Accepted (provided (not (is_some (own_transaction m.transaction number))) conditions_not_satisfied) _ (λ _. is_done))
 
-accepted-operated : (m : Machine) (channel : ℕ) (operation : Operation) → IfOk (operated m channel operation) Accepted
+pub accepted-operated : (m : Machine) (channel : ℕ) (operation : Operation) → IfOk (operated m channel operation) Accepted
 accepted-operated m channel Begin = of_outcome Accepted (provided (not (is_some m.transaction)) conditions_not_satisfied) _ (λ _. is_done)
 accepted-operated m channel Commit = of_outcome Accepted (or_refused (own_transaction m.transaction channel) conditions_not_satisfied) _ (λ t. is_done)
 accepted-operated m channel Rollback = of_outcome Accepted (or_refused (own_transaction m.transaction channel) conditions_not_satisfied) _ (λ t. is_done)

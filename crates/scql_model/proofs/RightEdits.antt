@@ -6,6 +6,7 @@ use Rattle.std.specs.List.{list_any, list_all, find}
 use Rattle.std.proofs.lemmas.Bool.{cases_Bool, and_parts, eqb-true, eq-eqb}
 use Rattle.std.proofs.lemmas.List.Folds.{list_any-append, list_all-append, list_all-map}
 use Rattle.std.proofs.lemmas.Option.{none-some, same_Some}
+use Rattle.scql_model.proofs.FormedCommands.{not_refused}
 use Rattle.scql_model.proofs.LongerLists.{any-map, all-weaker}
 use Rattle.scql_base.specs.declared.words.StatusWord.{StatusWord}
 use Rattle.scql_base.specs.declared.records.User.{User}
@@ -31,7 +32,8 @@ use Rattle.scql_model.specs.Rights.{owns, seen_named, update_privilege, delete_p
 use Rattle.scql_model.specs.Defining.{of_kind, owned_by, named_anew, has_view, removing_object, removing_rows, object_created, view_created, table_dropped, view_dropped}
 use Rattle.scql_model.specs.Granting.{grantee_named, grant_to, more_granted, privileges_left, less_granted, privileges_granted, privileges_revoked}
 use Rattle.scql_model.specs.Writing.{Assignment, row_inserted, written_through, row_at_place, record_at_cursor, row_after, row_updated, row_deleted}
-use Rattle.scql_model.specs.Users.{owns_user, is_needed, removing_user, user_added, user_deleted}
+use Rattle.scql_model.specs.Users.{owns_user, is_needed, removing_user, user_deleted}
+use Rattle.scql_model.specs.Creating.{user_added}
 use Rattle.scql_model.specs.Changing.{edits_of, is_counter, takes_stamp}
 use Rattle.scql_model.specs.Edits.{AnyRecord, of_counter, of_user, of_object, of_grant, of_row, record_stamp, Action, to_add, to_change, to_remove, Edit, making, changing, removing, has_record, edited, applied}
 
@@ -106,16 +108,12 @@ all-there key has q (x ∷ xs) each =
 pub record Gives {A : Type 0} (P : A → Type 0) (r : Result A StatusWord) : Type 0 where
   pub each : (x : A) → r ≡ Ok x → P x
 
-bound-gives : {A B : Type 0} (P : B → Type 0) (r : Result A StatusWord) (f : A → Result B StatusWord) → ((x : A) → r ≡ Ok x → Gives P (f x)) → Gives P (r >>= f)
+pub bound-gives : {A B : Type 0} (P : B → Type 0) (r : Result A StatusWord) (f : A → Result B StatusWord) → ((x : A) → r ≡ Ok x → Gives P (f x)) → Gives P (r >>= f)
 bound-gives P (Ok x) f each = each x refl
 bound-gives P (Err word) f each = record { each = λ x (is : Err word ≡ Ok x). cc }
 
-done-gives : {A : Type 0} (P : A → Type 0) (x : A) → P x → Gives P (let r : Result A StatusWord = Ok x in r)
+pub done-gives : {A : Type 0} (P : A → Type 0) (x : A) → P x → Gives P (let r : Result A StatusWord = Ok x in r)
 done-gives P x holds = record { each = λ y (is : Ok x ≡ Ok y). subst P (same_Some x y (ap result_ok is)) holds }
-
-not_refused : {A : Type 0} (o : Option A) (word : StatusWord) (x : A) → or_refused o word ≡ Ok x → o ≡ Some x
-not_refused None word x is = cc
-not_refused (Some y) word x is = ap Some (same_Some y x (ap result_ok is))
 
 -- a record that is made takes the next stamp
 right-making : (db : Database) (r : AnyRecord) → record_stamp r ≡ db.next → counts_on db.next r ≡ true → AreRight db (making db r)
@@ -140,7 +138,6 @@ unfolding row_inserted
 inserted-right db actor name values = search outcomes
 
 user_added-right : (db : Database) (actor : Actor) (name : List ℕ) (profile : Profile) (secret : List ℕ) → Gives (AreRight db) (user_added db actor name profile secret)
-unfolding user_added
 user_added-right db actor name profile secret = search outcomes
 
 -- an object that the actor owns is there
@@ -148,7 +145,7 @@ of_kind-there : (test : ObjectKind → Bool) (found : Option Object) (o : Object
 of_kind-there test None o is = absurd (none-some o is)
 of_kind-there test (Some p) o is = elim (cases_Bool (test p.kind)) [ inl t ↦ rw t at is | inr f ↦ absurd (none-some o (rw f at is)) ]
 
-owned-there : (actor : Actor) (found : Option Object) → Gives (λ o. found ≡ Some o) (owned_by actor found)
+pub owned-there : (actor : Actor) (found : Option Object) → Gives (λ o. found ≡ Some o) (owned_by actor found)
 owned-there actor found =
     bound-gives (λ o. found ≡ Some o) (or_refused found not_found) _ λ o is.
     bound-gives (λ o. found ≡ Some o) (provided (owns actor o) security_not_satisfied) _ λ _ _.

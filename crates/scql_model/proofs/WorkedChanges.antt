@@ -1,5 +1,5 @@
 -- Worked rows of the changing commands: the definitions compute what each does, and each of its refusals.
-use Rattle.std.proofs.Common.{◌≡◌, ℕ, List, [], ◌∷◌, Option, Some, None, Result, Ok, Err, true, zero, suc, replicate, refl}
+use Rattle.std.proofs.Common.{◌≡◌, ℕ, List, [], ◌∷◌, Option, Some, None, Result, Ok, Err, true, zero, suc, map, replicate, refl}
 use Rattle.std.specs.Prelude.{codes, is_ok}
 use Rattle.scql_base.specs.declared.words.Actor.{Actor}
 use Rattle.scql_base.specs.declared.words.Actor.TheVariants.{Public, User as a_user}
@@ -28,19 +28,34 @@ use Rattle.scql_model.specs.Refusals.{◌>>=◌}
 use Rattle.scql_model.specs.Defining.{object_created, view_created, table_dropped, view_dropped}
 use Rattle.scql_model.specs.Granting.{privileges_granted, privileges_revoked}
 use Rattle.scql_model.specs.Writing.{row_inserted, row_updated, row_deleted}
-use Rattle.scql_model.specs.Users.{user_added, user_deleted}
+use Rattle.scql_model.specs.Users.{user_deleted}
 use Rattle.scql_model.specs.Machine.{Transaction}
 use Rattle.scql_model.specs.Edits.{Edit, octets_for, applied}
 use Rattle.scql_model.specs.Changing.{edits_of, change_of, transaction_after}
 
 -- the edits of a command and what it does, with all definitions open
 unfoldable edits_by : Actor → Option Cursor → Operation → Database → Result (List Edit) StatusWord
-unfolding edits_of object_created view_created table_dropped view_dropped privileges_granted privileges_revoked row_inserted row_updated row_deleted user_added user_deleted holds appears depth_of contents_of
+unfolding edits_of object_created view_created table_dropped view_dropped privileges_granted privileges_revoked row_inserted row_updated row_deleted user_deleted holds appears depth_of contents_of
 edits_by actor cursor operation db = edits_of db actor cursor operation
 
 unfoldable done_by : Actor → Option Cursor → Operation → Database → Result Database StatusWord
 unfolding change_of edits_by
 done_by actor cursor operation db = change_of db actor cursor operation
+
+-- who asks for what, through which cursor, on which card, and what comes of it
+record Case : Type 0 where
+  actor : Actor
+  cursor : Option Cursor
+  operation : Operation
+  on : Database
+  outcome : Result Database StatusWord
+
+abbrev by : Actor → Option Cursor → Operation → Database → Result Database StatusWord → Case
+by actor cursor operation on outcome = record { actor = actor; cursor = cursor; operation = operation; on = on; outcome = outcome }
+
+-- each comes so
+abbrev AreDone : List Case → Type 0
+AreDone cases = map (λ (c : Case). done_by c.actor c.cursor c.operation c.on) cases ≡ map (λ (c : Case). c.outcome) cases
 
 abbrev the_owner : Actor
 the_owner = a_user 1 DbO
@@ -112,46 +127,30 @@ shown_to_dan = record card { grants = granted 9 5 3 1 ∷ granted 10 2 4 1 ∷ [
 abbrev create_t : Operation
 create_t = CreateTable (codes "T") (codes "A" ∷ codes "B" ∷ [])
 
-table_created : done_by the_owner None create_t (fresh 64) ≡ Ok with_t
+tables_created : AreDone (
+    by the_owner None create_t (fresh 64) (Ok with_t)
+    ∷ by Public None create_t (fresh 64) (Err security_not_satisfied)
+    -- the right comes before the name
+    ∷ by as_ann None create_t card (Err security_not_satisfied)
+    -- also a name that DAN doesn't see is taken
+    ∷ by as_dan None create_t card (Err already_exists)
+    ∷ by the_owner None (CreateTable (codes "U") (codes "A" ∷ [])) full (Err no_space)
+    ∷ by the_owner None (CreateTable (codes "U") (codes "A" ∷ [])) stampless (Err no_space)
+    -- a taken name comes before a full card
+    ∷ by the_owner None create_t full (Err already_exists)
+    ∷ []
+    )
 unfolding done_by
-table_created = refl
-
-table_by_public : done_by Public None create_t (fresh 64) ≡ Err security_not_satisfied
-unfolding done_by
-table_by_public = refl
-
--- the right comes before the name
-table_by_ann : done_by as_ann None create_t card ≡ Err security_not_satisfied
-unfolding done_by
-table_by_ann = refl
-
--- also a name that DAN doesn't see is taken
-table_again : done_by as_dan None create_t card ≡ Err already_exists
-unfolding done_by
-table_again = refl
-
-table_on_a_full_card : done_by the_owner None (CreateTable (codes "U") (codes "A" ∷ [])) full ≡ Err no_space
-unfolding done_by
-table_on_a_full_card = refl
-
-table_without_a_stamp : done_by the_owner None (CreateTable (codes "U") (codes "A" ∷ [])) stampless ≡ Err no_space
-unfolding done_by
-table_without_a_stamp = refl
-
--- a taken name comes before a full card
-table_again_on_a_full_card : done_by the_owner None create_t full ≡ Err already_exists
-unfolding done_by
-table_again_on_a_full_card = refl
+tables_created = refl
 
 -- CREATE DICTIONARY, by an object owner
-dictionary_created : done_by as_dan None (CreateDictionary (codes "E") Users) card
-    ≡ Ok (record card { next = 11; objects = t ∷ v ∷ d ∷ record { stamp = 10; name = codes "E"; owner = 4; kind = Dictionary Users } ∷ [] })
+dictionaries_created : AreDone (
+    by as_dan None (CreateDictionary (codes "E") Users) card (Ok (record card { next = 11; objects = t ∷ v ∷ d ∷ record { stamp = 10; name = codes "E"; owner = 4; kind = Dictionary Users } ∷ [] }))
+    ∷ by as_dan None (CreateDictionary (codes "D") Users) card (Err already_exists)
+    ∷ []
+    )
 unfolding done_by
-dictionary_created = refl
-
-dictionary_again : done_by as_dan None (CreateDictionary (codes "D") Users) card ≡ Err already_exists
-unfolding done_by
-dictionary_again = refl
+dictionaries_created = refl
 
 -- CREATE VIEW
 abbrev where_b : List Condition
@@ -160,49 +159,25 @@ where_b = record { column = codes "B"; comparison = Equal; value = codes "s" } �
 abbrev create_w : Operation
 create_w = CreateView (codes "W") (codes "T") [] where_b
 
--- an empty list of columns becomes all columns
-view_of_all_columns : done_by the_owner None create_w card
-    ≡ Ok (record card { next = 11; objects = t ∷ v ∷ d ∷ record { stamp = 10; name = codes "W"; owner = 1; kind = View 2 (codes "A" ∷ codes "B" ∷ []) where_b } ∷ [] })
+views_created : AreDone (
+    -- an empty list of columns becomes all columns
+    by the_owner None create_w card (Ok (record card { next = 11; objects = t ∷ v ∷ d ∷ record { stamp = 10; name = codes "W"; owner = 1; kind = View 2 (codes "A" ∷ codes "B" ∷ []) where_b } ∷ [] }))
+    ∷ by as_ann None create_w card (Err security_not_satisfied)
+    -- nothing of that name, and a dictionary
+    ∷ by the_owner None (CreateView (codes "W") (codes "Z") [] []) card (Err not_found)
+    ∷ by the_owner None (CreateView (codes "W") (codes "D") [] []) card (Err not_found)
+    -- what doesn't appear can't be told from nothing
+    ∷ by as_dan None create_w card (Err not_found)
+    ∷ by as_dan None create_w shown_to_dan (Err security_not_satisfied)
+    ∷ by the_owner None (CreateView (codes "W") (codes "T") (codes "C" ∷ []) []) card (Err not_found)
+    -- B is a column of T, and V hides it
+    ∷ by the_owner None (CreateView (codes "W") (codes "V") [] where_b) card (Err not_found)
+    ∷ by the_owner None (CreateView (codes "V") (codes "T") [] []) card (Err already_exists)
+    ∷ by the_owner None create_w full (Err no_space)
+    ∷ []
+    )
 unfolding done_by
-view_of_all_columns = refl
-
-view_by_ann : done_by as_ann None create_w card ≡ Err security_not_satisfied
-unfolding done_by
-view_by_ann = refl
-
-view_of_nothing : done_by the_owner None (CreateView (codes "W") (codes "Z") [] []) card ≡ Err not_found
-unfolding done_by
-view_of_nothing = refl
-
-view_of_a_dictionary : done_by the_owner None (CreateView (codes "W") (codes "D") [] []) card ≡ Err not_found
-unfolding done_by
-view_of_a_dictionary = refl
-
--- what doesn't appear can't be told from nothing
-view_of_a_hidden_table : done_by as_dan None create_w card ≡ Err not_found
-unfolding done_by
-view_of_a_hidden_table = refl
-
-view_of_another's_table : done_by as_dan None create_w shown_to_dan ≡ Err security_not_satisfied
-unfolding done_by
-view_of_another's_table = refl
-
-view_of_a_wrong_column : done_by the_owner None (CreateView (codes "W") (codes "T") (codes "C" ∷ []) []) card ≡ Err not_found
-unfolding done_by
-view_of_a_wrong_column = refl
-
--- B is a column of T, and V hides it
-view_on_a_hidden_column : done_by the_owner None (CreateView (codes "W") (codes "V") [] where_b) card ≡ Err not_found
-unfolding done_by
-view_on_a_hidden_column = refl
-
-view_again : done_by the_owner None (CreateView (codes "V") (codes "T") [] []) card ≡ Err already_exists
-unfolding done_by
-view_again = refl
-
-view_on_a_full_card : done_by the_owner None create_w full ≡ Err no_space
-unfolding done_by
-view_on_a_full_card = refl
+views_created = refl
 
 -- views over views: V stands at depth 1, V2 to V4 over it
 abbrev view_on : ℕ → List ℕ → ℕ → Object
@@ -220,160 +195,99 @@ v4 = view_on 13 (codes "V4") 11
 abbrev with_v4 : Database
 with_v4 = record deep { next = 14; objects = t ∷ v ∷ d ∷ view_on 10 (codes "V2") 5 ∷ view_on 11 (codes "V3") 10 ∷ v4 ∷ [] }
 
-view_of_depth_4 : done_by the_owner None (CreateView (codes "V4") (codes "V3") (codes "A" ∷ []) []) deep ≡ Ok with_v4
+views_over_views : AreDone (
+    by the_owner None (CreateView (codes "V4") (codes "V3") (codes "A" ∷ []) []) deep (Ok with_v4)
+    ∷ by the_owner None (CreateView (codes "V5") (codes "V4") (codes "A" ∷ []) []) with_v4 (Err conditions_not_satisfied)
+    -- the depth comes before the columns
+    ∷ by the_owner None (CreateView (codes "V5") (codes "V4") (codes "B" ∷ []) []) with_v4 (Err conditions_not_satisfied)
+    ∷ []
+    )
 unfolding done_by
-view_of_depth_4 = refl
-
-view_of_depth_5 : done_by the_owner None (CreateView (codes "V5") (codes "V4") (codes "A" ∷ []) []) with_v4 ≡ Err conditions_not_satisfied
-unfolding done_by
-view_of_depth_5 = refl
-
--- the depth comes before the columns
-view_of_depth_5_and_a_wrong_column : done_by the_owner None (CreateView (codes "V5") (codes "V4") (codes "B" ∷ []) []) with_v4 ≡ Err conditions_not_satisfied
-unfolding done_by
-view_of_depth_5_and_a_wrong_column = refl
+views_over_views = refl
 
 -- DROP TABLE takes the rows, and the grants on the table
 abbrev drop_t : Operation
 drop_t = DropTable (codes "T")
 
-table_dropped' : done_by the_owner None drop_t (record shown_to_dan { objects = t ∷ d ∷ []; grants = granted 10 2 4 1 ∷ granted 11 6 0 1 ∷ [] })
-    ≡ Ok (record shown_to_dan { objects = d ∷ []; grants = granted 11 6 0 1 ∷ []; rows = [] })
+tables_dropped : AreDone (
+    by the_owner None drop_t (record shown_to_dan { objects = t ∷ d ∷ []; grants = granted 10 2 4 1 ∷ granted 11 6 0 1 ∷ [] }) (Ok (record shown_to_dan { objects = d ∷ []; grants = granted 11 6 0 1 ∷ []; rows = [] }))
+    -- no table, one that DAN doesn't see, and one of another's
+    ∷ by the_owner None (DropTable (codes "V")) card (Err not_found)
+    ∷ by as_dan None drop_t card (Err not_found)
+    ∷ by as_dan None drop_t shown_to_dan (Err security_not_satisfied)
+    -- a view stands over it
+    ∷ by the_owner None drop_t card (Err conditions_not_satisfied)
+    ∷ []
+    )
 unfolding done_by
-table_dropped' = refl
-
-drop_of_no_table : done_by the_owner None (DropTable (codes "V")) card ≡ Err not_found
-unfolding done_by
-drop_of_no_table = refl
-
-drop_of_a_hidden_table : done_by as_dan None drop_t card ≡ Err not_found
-unfolding done_by
-drop_of_a_hidden_table = refl
-
-drop_of_another's_table : done_by as_dan None drop_t shown_to_dan ≡ Err security_not_satisfied
-unfolding done_by
-drop_of_another's_table = refl
-
-drop_under_a_view : done_by the_owner None drop_t card ≡ Err conditions_not_satisfied
-unfolding done_by
-drop_under_a_view = refl
+tables_dropped = refl
 
 -- DROP VIEW
 abbrev drop_v : Operation
 drop_v = DropView (codes "V")
 
-view_dropped' : done_by the_owner None drop_v card ≡ Ok (record card { objects = t ∷ d ∷ []; grants = [] })
+views_dropped : AreDone (
+    by the_owner None drop_v card (Ok (record card { objects = t ∷ d ∷ []; grants = [] }))
+    ∷ by the_owner None (DropView (codes "D")) card (Ok (record card { objects = t ∷ v ∷ [] }))
+    -- no view, and one of another's
+    ∷ by the_owner None (DropView (codes "T")) card (Err not_found)
+    ∷ by as_ann None drop_v card (Err security_not_satisfied)
+    -- a view stands over it
+    ∷ by the_owner None drop_v deep (Err conditions_not_satisfied)
+    ∷ []
+    )
 unfolding done_by
-view_dropped' = refl
-
-dictionary_dropped : done_by the_owner None (DropView (codes "D")) card ≡ Ok (record card { objects = t ∷ v ∷ [] })
-unfolding done_by
-dictionary_dropped = refl
-
-drop_of_no_view : done_by the_owner None (DropView (codes "T")) card ≡ Err not_found
-unfolding done_by
-drop_of_no_view = refl
-
-drop_of_another's_view : done_by as_ann None drop_v card ≡ Err security_not_satisfied
-unfolding done_by
-drop_of_another's_view = refl
-
-view_dropped_under_a_view : done_by the_owner None drop_v deep ≡ Err conditions_not_satisfied
-unfolding done_by
-view_dropped_under_a_view = refl
+views_dropped = refl
 
 -- GRANT: a new grant, more bits of one, and one to PUBLIC
-newly_granted : done_by the_owner None (grant 6 (codes "T") (codes "ANN")) card ≡ Ok (record card { next = 11; grants = granted 9 5 3 1 ∷ granted 10 2 3 6 ∷ [] })
+granted_so : AreDone (
+    by the_owner None (grant 6 (codes "T") (codes "ANN")) card (Ok (record card { next = 11; grants = granted 9 5 3 1 ∷ granted 10 2 3 6 ∷ [] }))
+    ∷ by the_owner None (grant 5 (codes "V") (codes "ANN")) full (Ok (record full { grants = granted 9 5 3 5 ∷ [] }))
+    ∷ by the_owner None (grant 1 (codes "D") (codes "PUBLIC")) card (Ok (record card { next = 11; grants = granted 9 5 3 1 ∷ granted 10 6 0 1 ∷ [] }))
+    -- nothing of that name, an object of another's, and nobody of that name
+    ∷ by the_owner None (grant 1 (codes "Z") (codes "ANN")) card (Err not_found)
+    ∷ by as_ann None (grant 1 (codes "V") (codes "BOB")) card (Err security_not_satisfied)
+    ∷ by the_owner None (grant 1 (codes "V") (codes "BOB")) card (Err not_found)
+    ∷ by the_owner None (grant 1 (codes "V") (codes "DAN")) full (Err no_space)
+    ∷ []
+    )
 unfolding done_by
-newly_granted = refl
-
-more_granted : done_by the_owner None (grant 5 (codes "V") (codes "ANN")) full ≡ Ok (record full { grants = granted 9 5 3 5 ∷ [] })
-unfolding done_by
-more_granted = refl
-
-granted_to_public : done_by the_owner None (grant 1 (codes "D") (codes "PUBLIC")) card ≡ Ok (record card { next = 11; grants = granted 9 5 3 1 ∷ granted 10 6 0 1 ∷ [] })
-unfolding done_by
-granted_to_public = refl
-
-grant_on_nothing : done_by the_owner None (grant 1 (codes "Z") (codes "ANN")) card ≡ Err not_found
-unfolding done_by
-grant_on_nothing = refl
-
-grant_on_another's : done_by as_ann None (grant 1 (codes "V") (codes "BOB")) card ≡ Err security_not_satisfied
-unfolding done_by
-grant_on_another's = refl
-
-grant_to_nobody : done_by the_owner None (grant 1 (codes "V") (codes "BOB")) card ≡ Err not_found
-unfolding done_by
-grant_to_nobody = refl
-
-grant_on_a_full_card : done_by the_owner None (grant 1 (codes "V") (codes "DAN")) full ≡ Err no_space
-unfolding done_by
-grant_on_a_full_card = refl
+granted_so = refl
 
 -- REVOKE: bits that the grant doesn't have are no refusal, and a grant without bits goes
-less_granted : done_by the_owner None (Revoke 6 (codes "V") (codes "ANN")) (record card { grants = granted 9 5 3 5 ∷ [] }) ≡ Ok card
+revoked : AreDone (
+    by the_owner None (Revoke 6 (codes "V") (codes "ANN")) (record card { grants = granted 9 5 3 5 ∷ [] }) (Ok card)
+    ∷ by the_owner None (Revoke 3 (codes "V") (codes "ANN")) card (Ok (record card { grants = [] }))
+    -- there is no grant, no object, it is another's, and there is nobody
+    ∷ by the_owner None (Revoke 3 (codes "V") (codes "ANN")) (record card { grants = [] }) (Err not_found)
+    ∷ by the_owner None (Revoke 1 (codes "Z") (codes "ANN")) card (Err not_found)
+    ∷ by as_ann None (Revoke 1 (codes "V") (codes "ANN")) card (Err security_not_satisfied)
+    ∷ by the_owner None (Revoke 1 (codes "V") (codes "BOB")) card (Err not_found)
+    ∷ []
+    )
 unfolding done_by
-less_granted = refl
-
-none_granted : done_by the_owner None (Revoke 3 (codes "V") (codes "ANN")) card ≡ Ok (record card { grants = [] })
-unfolding done_by
-none_granted = refl
-
-revoked_again : done_by the_owner None (Revoke 3 (codes "V") (codes "ANN")) (record card { grants = [] }) ≡ Err not_found
-unfolding done_by
-revoked_again = refl
-
-revoke_on_nothing : done_by the_owner None (Revoke 1 (codes "Z") (codes "ANN")) card ≡ Err not_found
-unfolding done_by
-revoke_on_nothing = refl
-
-revoke_on_another's : done_by as_ann None (Revoke 1 (codes "V") (codes "ANN")) card ≡ Err security_not_satisfied
-unfolding done_by
-revoke_on_another's = refl
-
-revoke_from_nobody : done_by the_owner None (Revoke 1 (codes "V") (codes "BOB")) card ≡ Err not_found
-unfolding done_by
-revoke_from_nobody = refl
+revoked = refl
 
 -- INSERT
 abbrev insert_z : Operation
 insert_z = Insert (codes "T") (codes "z" ∷ [] ∷ [])
 
-row_inserted' : done_by the_owner None insert_z card ≡ Ok (record card { next = 11; rows = x ∷ y ∷ row_of 10 (codes "z") [] ∷ [] })
+inserted : AreDone (
+    by the_owner None insert_z card (Ok (record card { next = 11; rows = x ∷ y ∷ row_of 10 (codes "z") [] ∷ [] }))
+    -- by anybody, where PUBLIC may
+    ∷ by Public None insert_z (record card { grants = granted 9 2 0 2 ∷ [] }) (Ok (record card { next = 11; grants = granted 9 2 0 2 ∷ []; rows = x ∷ y ∷ row_of 10 (codes "z") [] ∷ [] }))
+    -- a view, and a table that ANN doesn't see
+    ∷ by the_owner None (Insert (codes "V") (codes "z" ∷ [])) card (Err not_found)
+    ∷ by as_ann None insert_z card (Err not_found)
+    -- DAN may only select
+    ∷ by as_dan None insert_z shown_to_dan (Err security_not_satisfied)
+    ∷ by the_owner None (Insert (codes "T") (codes "z" ∷ [])) card (Err wrong_data)
+    ∷ by the_owner None insert_z full (Err no_space)
+    ∷ by the_owner None insert_z stampless (Err no_space)
+    ∷ []
+    )
 unfolding done_by
-row_inserted' = refl
-
--- by anybody, where PUBLIC may
-row_by_public : done_by Public None insert_z (record card { grants = granted 9 2 0 2 ∷ [] })
-    ≡ Ok (record card { next = 11; grants = granted 9 2 0 2 ∷ []; rows = x ∷ y ∷ row_of 10 (codes "z") [] ∷ [] })
-unfolding done_by
-row_by_public = refl
-
-insert_into_a_view : done_by the_owner None (Insert (codes "V") (codes "z" ∷ [])) card ≡ Err not_found
-unfolding done_by
-insert_into_a_view = refl
-
-insert_unseen : done_by as_ann None insert_z card ≡ Err not_found
-unfolding done_by
-insert_unseen = refl
-
--- DAN may only select
-insert_by_dan : done_by as_dan None insert_z shown_to_dan ≡ Err security_not_satisfied
-unfolding done_by
-insert_by_dan = refl
-
-insert_of_one_value : done_by the_owner None (Insert (codes "T") (codes "z" ∷ [])) card ≡ Err wrong_data
-unfolding done_by
-insert_of_one_value = refl
-
-insert_on_a_full_card : done_by the_owner None insert_z full ≡ Err no_space
-unfolding done_by
-insert_on_a_full_card = refl
-
-insert_without_a_stamp : done_by the_owner None insert_z stampless ≡ Err no_space
-unfolding done_by
-insert_without_a_stamp = refl
+inserted = refl
 
 -- on a card of 16 cells there is room for thirteen rows
 abbrev repeated : ℕ → Operation → Database → Result Database StatusWord
@@ -424,106 +338,56 @@ unfolding done_by
 room_again = refl
 
 -- DELETE: the row goes
-row_deleted' : done_by the_owner (cursor_on 2 (At 7)) Delete card ≡ Ok (record card { rows = y ∷ [] })
+deleted : AreDone (
+    by the_owner (cursor_on 2 (At 7)) Delete card (Ok (record card { rows = y ∷ [] }))
+    -- and through a view the table's row
+    ∷ by as_ann (cursor_on 5 (At 8)) Delete (record card { grants = granted 9 5 3 8 ∷ [] }) (Ok (record card { grants = granted 9 5 3 8 ∷ []; rows = x ∷ [] }))
+    -- without a cursor, and before it is opened
+    ∷ by the_owner None Delete card (Err conditions_not_satisfied)
+    ∷ by the_owner (cursor_on 2 NotOpen) Delete card (Err conditions_not_satisfied)
+    -- the object is gone, DAN doesn't see it, or it is a dictionary
+    ∷ by the_owner (cursor_on 12 (At 7)) Delete card (Err not_found)
+    ∷ by as_dan (cursor_on 2 (At 7)) Delete card (Err not_found)
+    ∷ by the_owner (cursor_on 6 (At 2)) Delete card (Err conditions_not_satisfied)
+    -- ANN may only select
+    ∷ by as_ann (cursor_on 5 (At 7)) Delete card (Err security_not_satisfied)
+    -- at the end, where the row is gone, and where it doesn't meet the conditions
+    ∷ by the_owner (cursor_on 2 End) Delete card (Err record_not_found)
+    ∷ by the_owner (cursor_on 2 (At 9)) Delete card (Err record_not_found)
+    ∷ by the_owner (cursor_where_b 8) Delete card (Err record_not_found)
+    ∷ []
+    )
 unfolding done_by
-row_deleted' = refl
-
--- and through a view the table's row
-deleted_through_a_view : done_by as_ann (cursor_on 5 (At 8)) Delete (record card { grants = granted 9 5 3 8 ∷ [] }) ≡ Ok (record card { grants = granted 9 5 3 8 ∷ []; rows = x ∷ [] })
-unfolding done_by
-deleted_through_a_view = refl
-
-delete_without_a_cursor : done_by the_owner None Delete card ≡ Err conditions_not_satisfied
-unfolding done_by
-delete_without_a_cursor = refl
-
-delete_before_opening : done_by the_owner (cursor_on 2 NotOpen) Delete card ≡ Err conditions_not_satisfied
-unfolding done_by
-delete_before_opening = refl
-
-delete_of_a_gone_object : done_by the_owner (cursor_on 12 (At 7)) Delete card ≡ Err not_found
-unfolding done_by
-delete_of_a_gone_object = refl
-
-delete_unseen : done_by as_dan (cursor_on 2 (At 7)) Delete card ≡ Err not_found
-unfolding done_by
-delete_unseen = refl
-
-delete_in_a_dictionary : done_by the_owner (cursor_on 6 (At 2)) Delete card ≡ Err conditions_not_satisfied
-unfolding done_by
-delete_in_a_dictionary = refl
-
--- ANN may only select
-delete_by_ann : done_by as_ann (cursor_on 5 (At 7)) Delete card ≡ Err security_not_satisfied
-unfolding done_by
-delete_by_ann = refl
-
-delete_at_the_end : done_by the_owner (cursor_on 2 End) Delete card ≡ Err record_not_found
-unfolding done_by
-delete_at_the_end = refl
-
-delete_of_a_gone_row : done_by the_owner (cursor_on 2 (At 9)) Delete card ≡ Err record_not_found
-unfolding done_by
-delete_of_a_gone_row = refl
-
-delete_of_another_row : done_by the_owner (cursor_where_b 8) Delete card ≡ Err record_not_found
-unfolding done_by
-delete_of_another_row = refl
+deleted = refl
 
 -- UPDATE: the named values change; the row keeps its stamp and its place, and need not match any longer
 abbrev set_b : Operation
 set_b = Update ((codes "B", codes "u") ∷ [])
 
-row_updated' : done_by the_owner (cursor_where_b 7) set_b card ≡ Ok (record card { rows = row_of 7 (codes "x") (codes "u") ∷ y ∷ [] })
+updated : AreDone (
+    by the_owner (cursor_where_b 7) set_b card (Ok (record card { rows = row_of 7 (codes "x") (codes "u") ∷ y ∷ [] }))
+    -- through a view the table's row
+    ∷ by as_ann (cursor_on 5 (At 8)) (Update ((codes "A", codes "u") ∷ [])) (record card { grants = granted 9 5 3 4 ∷ [] }) (Ok (record card { grants = granted 9 5 3 4 ∷ []; rows = x ∷ row_of 8 (codes "u") (codes "t") ∷ [] }))
+    -- without a cursor, and before it is opened
+    ∷ by the_owner None set_b card (Err conditions_not_satisfied)
+    ∷ by the_owner (cursor_on 2 NotOpen) set_b card (Err conditions_not_satisfied)
+    -- the object is gone, or it is a dictionary
+    ∷ by the_owner (cursor_on 12 (At 7)) set_b card (Err not_found)
+    ∷ by the_owner (cursor_on 6 (At 2)) set_b card (Err conditions_not_satisfied)
+    -- ANN may only select
+    ∷ by as_ann (cursor_on 5 (At 7)) set_b card (Err security_not_satisfied)
+    -- V hides column B, also from its owner
+    ∷ by the_owner (cursor_on 5 (At 7)) set_b card (Err not_found)
+    -- the column comes before the row
+    ∷ by the_owner (cursor_on 5 End) set_b card (Err not_found)
+    -- at the end, where the row is gone, and where it doesn't meet the conditions
+    ∷ by the_owner (cursor_on 2 End) set_b card (Err record_not_found)
+    ∷ by the_owner (cursor_on 2 (At 9)) set_b card (Err record_not_found)
+    ∷ by the_owner (cursor_where_b 8) set_b card (Err record_not_found)
+    ∷ []
+    )
 unfolding done_by
-row_updated' = refl
-
-updated_through_a_view : done_by as_ann (cursor_on 5 (At 8)) (Update ((codes "A", codes "u") ∷ [])) (record card { grants = granted 9 5 3 4 ∷ [] })
-    ≡ Ok (record card { grants = granted 9 5 3 4 ∷ []; rows = x ∷ row_of 8 (codes "u") (codes "t") ∷ [] })
-unfolding done_by
-updated_through_a_view = refl
-
-update_without_a_cursor : done_by the_owner None set_b card ≡ Err conditions_not_satisfied
-unfolding done_by
-update_without_a_cursor = refl
-
-update_before_opening : done_by the_owner (cursor_on 2 NotOpen) set_b card ≡ Err conditions_not_satisfied
-unfolding done_by
-update_before_opening = refl
-
-update_of_a_gone_object : done_by the_owner (cursor_on 12 (At 7)) set_b card ≡ Err not_found
-unfolding done_by
-update_of_a_gone_object = refl
-
-update_in_a_dictionary : done_by the_owner (cursor_on 6 (At 2)) set_b card ≡ Err conditions_not_satisfied
-unfolding done_by
-update_in_a_dictionary = refl
-
-update_by_ann : done_by as_ann (cursor_on 5 (At 7)) set_b card ≡ Err security_not_satisfied
-unfolding done_by
-update_by_ann = refl
-
--- V hides column B, also from its owner
-update_of_a_hidden_column : done_by the_owner (cursor_on 5 (At 7)) set_b card ≡ Err not_found
-unfolding done_by
-update_of_a_hidden_column = refl
-
--- the column comes before the row
-update_of_a_wrong_column_at_the_end : done_by the_owner (cursor_on 5 End) set_b card ≡ Err not_found
-unfolding done_by
-update_of_a_wrong_column_at_the_end = refl
-
-update_at_the_end : done_by the_owner (cursor_on 2 End) set_b card ≡ Err record_not_found
-unfolding done_by
-update_at_the_end = refl
-
-update_of_a_gone_row : done_by the_owner (cursor_on 2 (At 9)) set_b card ≡ Err record_not_found
-unfolding done_by
-update_of_a_gone_row = refl
-
-update_of_another_row : done_by the_owner (cursor_where_b 8) set_b card ≡ Err record_not_found
-unfolding done_by
-update_of_another_row = refl
+updated = refl
 
 -- the longest row that a card takes which isn't migrated has 240 octets, and nine cells
 abbrev set_long : ℕ → Operation
@@ -532,71 +396,46 @@ set_long n = Update ((codes "A", replicate 200 0x61) ∷ (codes "B", replicate n
 abbrev with_long : ℕ → Database
 with_long n = record card { rows = row_of 7 (replicate 200 0x61) (replicate n 0x62) ∷ y ∷ [] }
 
-long_row : done_by the_owner (cursor_on 2 (At 7)) (set_long 38) card ≡ Ok (with_long 38)
-unfolding done_by
-long_row = refl
-
 long_row_cells : weight (with_long 38) ≡ 18
 long_row_cells = refl
 
-longer_row : done_by the_owner (cursor_on 2 (At 7)) (set_long 39) card ≡ Err wrong_data
+long_rows : AreDone (
+    by the_owner (cursor_on 2 (At 7)) (set_long 38) card (Ok (with_long 38))
+    -- a longer one is for a migrated card alone
+    ∷ by the_owner (cursor_on 2 (At 7)) (set_long 39) card (Err wrong_data)
+    ∷ by the_owner (cursor_on 2 (At 7)) (set_long 39) (record card { limit = 1020 }) (Ok (record (with_long 39) { limit = 1020 }))
+    ∷ by the_owner (cursor_on 2 (At 7)) (set_long 38) (record card { cells = 17 }) (Err no_space)
+    -- an update takes no stamp
+    ∷ by the_owner (cursor_on 2 (At 7)) set_b stampless (Ok (record stampless { rows = row_of 7 (codes "x") (codes "u") ∷ y ∷ [] }))
+    ∷ []
+    )
 unfolding done_by
-longer_row = refl
-
-longer_row_on_a_migrated_card : done_by the_owner (cursor_on 2 (At 7)) (set_long 39) (record card { limit = 1020 }) ≡ Ok (record (with_long 39) { limit = 1020 })
-unfolding done_by
-longer_row_on_a_migrated_card = refl
-
-long_row_on_a_full_card : done_by the_owner (cursor_on 2 (At 7)) (set_long 38) (record card { cells = 17 }) ≡ Err no_space
-unfolding done_by
-long_row_on_a_full_card = refl
-
--- an update takes no stamp
-update_without_a_stamp : done_by the_owner (cursor_on 2 (At 7)) set_b stampless ≡ Ok (record stampless { rows = row_of 7 (codes "x") (codes "u") ∷ y ∷ [] })
-unfolding done_by
-update_without_a_stamp = refl
+long_rows = refl
 
 -- CREATE USER
-user_created : done_by the_owner None (CreateUser (codes "ANN") Dbbu []) (record (fresh 64) { next = 3 }) ≡ Ok (record (fresh 64) { next = 4; users = owner ∷ ann ∷ [] })
+users_created : AreDone (
+    by the_owner None (CreateUser (codes "ANN") Dbbu []) (record (fresh 64) { next = 3 }) (Ok (record (fresh 64) { next = 4; users = owner ∷ ann ∷ [] }))
+    ∷ by as_ann None (CreateUser (codes "ANN") Dbbu []) card (Err security_not_satisfied)
+    ∷ by as_dan None (CreateUser (codes "ANN") Dbbu []) card (Err already_exists)
+    ∷ by the_owner None (CreateUser (codes "BOB") Dbbu []) full (Err no_space)
+    ∷ []
+    )
 unfolding done_by
-user_created = refl
-
-user_by_ann : done_by as_ann None (CreateUser (codes "ANN") Dbbu []) card ≡ Err security_not_satisfied
-unfolding done_by
-user_by_ann = refl
-
-user_again : done_by as_dan None (CreateUser (codes "ANN") Dbbu []) card ≡ Err already_exists
-unfolding done_by
-user_again = refl
-
-user_on_a_full_card : done_by the_owner None (CreateUser (codes "BOB") Dbbu []) full ≡ Err no_space
-unfolding done_by
-user_on_a_full_card = refl
+users_created = refl
 
 -- DELETE USER takes the grants to the user
-user_deleted' : done_by the_owner None (DeleteUser (codes "ANN")) card ≡ Ok (record card { users = owner ∷ dan ∷ []; grants = [] })
+users_deleted : AreDone (
+    by the_owner None (DeleteUser (codes "ANN")) card (Ok (record card { users = owner ∷ dan ∷ []; grants = [] }))
+    ∷ by the_owner None (DeleteUser (codes "BOB")) card (Err not_found)
+    ∷ by as_dan None (DeleteUser (codes "ANN")) card (Err security_not_satisfied)
+    -- OWNER is needed, and so is who owns an object or a user
+    ∷ by the_owner None (DeleteUser (codes "OWNER")) (fresh 64) (Err conditions_not_satisfied)
+    ∷ by the_owner None (DeleteUser (codes "DAN")) (record card { objects = record t { owner = 4 } ∷ [] }) (Err conditions_not_satisfied)
+    ∷ by the_owner None (DeleteUser (codes "DAN")) (record card { users = owner ∷ record ann { owner = 4 } ∷ dan ∷ [] }) (Err conditions_not_satisfied)
+    ∷ []
+    )
 unfolding done_by
-user_deleted' = refl
-
-delete_of_nobody : done_by the_owner None (DeleteUser (codes "BOB")) card ≡ Err not_found
-unfolding done_by
-delete_of_nobody = refl
-
-delete_of_another's_user : done_by as_dan None (DeleteUser (codes "ANN")) card ≡ Err security_not_satisfied
-unfolding done_by
-delete_of_another's_user = refl
-
-delete_of_owner : done_by the_owner None (DeleteUser (codes "OWNER")) (fresh 64) ≡ Err conditions_not_satisfied
-unfolding done_by
-delete_of_owner = refl
-
-delete_of_an_object's_owner : done_by the_owner None (DeleteUser (codes "DAN")) (record card { objects = record t { owner = 4 } ∷ [] }) ≡ Err conditions_not_satisfied
-unfolding done_by
-delete_of_an_object's_owner = refl
-
-delete_of_a_user's_owner : done_by the_owner None (DeleteUser (codes "DAN")) (record card { users = owner ∷ record ann { owner = 4 } ∷ dan ∷ [] }) ≡ Err conditions_not_satisfied
-unfolding done_by
-delete_of_a_user's_owner = refl
+users_deleted = refl
 
 -- The octets that are written for a change: 32 for each of two cells and 16 for two touched records, or 10 for one that goes.
 octets_for_a_row : (edits_by the_owner None insert_z card >>= λ edits. Ok (octets_for edits)) ≡ Ok 80

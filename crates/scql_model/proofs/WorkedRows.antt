@@ -8,61 +8,60 @@ use Rattle.scql_model.specs.Machine.{Machine, start}
 use Rattle.scql_model.specs.Form.{form_of}
 use Rattle.scql_model.specs.Step.{step, step_by}
 use Rattle.scql_model.specs.Changing.{edits_of}
-use Rattle.scql_model.specs.Users.{user_added}
 use Rattle.scql_model.specs.Lines.{lines, line_text, line_step, run_text, machine_after}
 
 abbrev card : Machine
 card = start (fresh 64)
 
 owner_presented : run_text card (lines (codes "0014008006054F574E4552\n") true) ≡ codes "9000\n"
-unfolding line_text line_step step step_by form_of edits_of user_added params_of pieces_of hex_on_literals
+unfolding line_text line_step step step_by form_of edits_of params_of pieces_of hex_on_literals
 owner_presented = refl
 
 unknown_presented : run_text card (lines (codes "00140080050444414E41") true) ≡ codes "6A88\n"
-unfolding line_text line_step step step_by form_of edits_of user_added params_of pieces_of hex_on_literals
+unfolding line_text line_step step step_by form_of edits_of params_of pieces_of hex_on_literals
 unknown_presented = refl
 
 -- the session stays without a user
 unknown_leaves : machine_after card (lines (codes "00140080050444414E41") true) ≡ card
-unfolding line_text line_step step step_by form_of edits_of user_added params_of pieces_of hex_on_literals
+unfolding line_text line_step step step_by form_of edits_of params_of pieces_of hex_on_literals
 unknown_leaves = refl
 
 -- a user is created by OWNER, once
 owner_creates : run_text card (lines (codes "0014008006054F574E4552\n001400810703414E4E010300\n001400810703414E4E010300\n") true) ≡ codes "9000\n9000\n6A89\n"
-unfolding line_text line_step step step_by form_of edits_of user_added params_of pieces_of hex_on_literals
+unfolding line_text line_step step step_by form_of edits_of params_of pieces_of hex_on_literals
 owner_creates = refl
 
 -- nobody is presented, and nothing is made
 nobody_creates : run_text card (lines (codes "00140080050444414E41\n001400810703414E4E010300\n") true) ≡ codes "6A88\n6982\n"
-unfolding line_text line_step step step_by form_of edits_of user_added params_of pieces_of hex_on_literals
+unfolding line_text line_step step step_by form_of edits_of params_of pieces_of hex_on_literals
 nobody_creates = refl
 
 -- a profile of OWNER's, no octet of a profile, a secret, too few parameters and too many
 wrong_creations : run_text card (lines (codes "001400810703414E4E010100\n0014008106 03414E4E0000\n001400810B03424F4201030431323334\n001400810603414E4E0103\n001400810803414E4E01030000\n0014008100\n") true)
     ≡ codes "6A80\n6A80\n6A80\n6A80\n6A80\n6700\n"
-unfolding line_text line_step step step_by form_of edits_of user_added params_of pieces_of hex_on_literals
+unfolding line_text line_step step step_by form_of edits_of params_of pieces_of hex_on_literals
 wrong_creations = refl
 
 -- a reset leaves what was committed, and nobody is presented; blanks stand anywhere, and letters are small
 resets : run_text card (lines (codes "0014008006054F574E4552\n001400810703414E4E010300\n re set\n001400810703424F42010300\n0014008003 03414E4E0\nRESET\n") true)
     ≡ codes "9000\n9000\nreset\n6982\nnot hexadecimal\nnot hexadecimal\n"
-unfolding line_text line_step step step_by form_of edits_of user_added params_of pieces_of hex_on_literals
+unfolding line_text line_step step step_by form_of edits_of params_of pieces_of hex_on_literals
 resets = refl
 
 -- each refusal of the reading, in its order, and the four cases
 refusals : run_text card (lines (codes "001400\n80140080\n04140080\n00FF0080\n01140080\n0014008F\n10140080\n10140080020154\n00140080\n0014008000\n00140080000154\n0014008002054F\n001400800200\n0014008002014F\n001400800401410142\n") true)
     ≡ codes "6700\n6E00\n6882\n6D00\n6881\n6A86\n6700\n6884\n6700\n6700\n6700\n6A80\n6700\n6A88\n6A80\n"
-unfolding line_text line_step step step_by form_of edits_of user_added params_of pieces_of hex_on_literals
+unfolding line_text line_step step step_by form_of edits_of params_of pieces_of hex_on_literals
 refusals = refl
 
 -- operations that aren't built yet
 not_built : run_text card (lines (codes "00100088\n0020000004 30303030\n00C0000000\n00140082020154\n") true) ≡ codes "6D00\n6D00\n6D00\n6A86\n"
-unfolding line_text line_step step step_by form_of edits_of user_added params_of pieces_of hex_on_literals
+unfolding line_text line_step step step_by form_of edits_of params_of pieces_of hex_on_literals
 not_built = refl
 
 -- what isn't hexadecimal, a reset, blanks, notes and empty lines
 odd_lines : run_text card (lines (codes "zz\n0\nreset\n\n# note\n 00 10 00 \n") true) ≡ codes "not hexadecimal\nnot hexadecimal\nreset\n6700\n"
-unfolding line_text line_step step step_by form_of edits_of user_added params_of pieces_of hex_on_literals
+unfolding line_text line_step step step_by form_of edits_of params_of pieces_of hex_on_literals
 odd_lines = refl
 
 long_line : run_text card (lines (replicate 1001 0x30) true) ≡ codes "line too long\n"

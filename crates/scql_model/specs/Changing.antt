@@ -15,7 +15,8 @@ pub use Rattle.scql_model.specs.Edits.{is_counter, takes_stamp, lacks_room, with
 use Rattle.scql_model.specs.Defining.{object_created, view_created, table_dropped, view_dropped}
 use Rattle.scql_model.specs.Granting.{privileges_granted, privileges_revoked}
 use Rattle.scql_model.specs.Writing.{row_inserted, row_updated, row_deleted}
-use Rattle.scql_model.specs.Users.{user_added, user_deleted}
+use Rattle.scql_model.specs.Users.{user_deleted}
+use Rattle.scql_model.specs.Creating.{user_added}
 
 -- The edits that a changing command makes for an actor, or the first refusal that applies, but for that of a full card. UPDATE and DELETE
 -- are of the row at the cursor. No other operation is a changing command.

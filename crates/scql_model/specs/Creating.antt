@@ -1,5 +1,5 @@
--- CREATE USER: what it does to a database, or the word that refuses it.
-use Rattle.std.specs.Prelude.{◌≡◌, ℕ, ◌==◌, not, ◌||◌, Bool, true, false, List, length, set, get_or, ◌<◌, Some, None, option_map, Result, Err, if◌then◌else◌}
+-- CREATE USER (ISO/IEC 7816-7): the edits that it makes and the database with them, or the first refusal that applies.
+use Rattle.std.specs.Prelude.{◌≡◌, ℕ, ◌==◌, not, ◌||◌, Bool, true, false, List, length, set, get_or, ◌<◌, Some, None, option_map, Result, Ok}
 use Rattle.std.specs.List.{list_any}
 use Rattle.std.specs.Str.{bytes_eq}
 use Rattle.scql_base.specs.declared.records.TheConstants.User.{ALL_TRIES}
@@ -14,7 +14,8 @@ use Rattle.eeprom.specs.Slots.{in_slot}
 use Rattle.scql_base.specs.Name.{is_name}
 use Rattle.scql_base.specs.declared.records.User.{User}
 use Rattle.scql_model.specs.Records.{is_secret, counter_record, user_record, counter_in}
-use Rattle.scql_model.specs.Edits.{of_user, making, applied, with_edits}
+use Rattle.scql_model.specs.Refusals.{◌>>=◌, provided}
+use Rattle.scql_model.specs.Edits.{Edit, of_user, making, applied, with_edits}
 pub use Rattle.scql_model.specs.Edits.{stamps_end, is_overfull}
 use Rattle.scql_model.specs.Database.{Database, public_name, user_stamped, is_named}
 
@@ -58,20 +59,22 @@ abbrev pub new_user : Database → Actor → List ℕ → Profile → List ℕ �
 new_user db actor name profile secret =
     record { stamp = db.next; name = name; profile = profile; owner = actor_stamp actor; secret = secret; tries = ALL_TRIES }
 
+-- the edits of CREATE USER, or the first refusal that applies
+abbrev pub user_added : Database → Actor → List ℕ → Profile → List ℕ → Result (List Edit) StatusWord
+user_added db actor name profile secret = do
+  _ ← provided (may_create actor profile) security_not_satisfied
+  _ ← provided (not (is_taken db name)) already_exists
+  Ok (making db (of_user (new_user db actor name profile secret)))
+
 -- the user stands behind all others, and its stamp is taken
 abbrev pub with_user : Database → User → Database
 with_user db u = applied db (making db (of_user u))
 
--- the database with one user more; refused where no stamp or no room is left
-abbrev pub added : Database → User → Result Database StatusWord
-added db u = with_edits db (making db (of_user u))
-
--- CREATE USER: the first refusal that applies, or the new database
+-- the new database, or the first refusal that applies; refused too where no stamp or no room is left
 abbrev pub created : Database → Actor → List ℕ → Profile → List ℕ → Result Database StatusWord
-created db actor name profile secret =
-    if not (may_create actor profile) then Err security_not_satisfied
-    else if is_taken db name then Err already_exists
-    else added db (new_user db actor name profile secret)
+created db actor name profile secret = do
+  edits ← user_added db actor name profile secret
+  with_edits db edits
 
 -- the slots with the counter and the user written
 abbrev pub with_user_written : Slots → ℕ → ℕ → ℕ → User → Slots

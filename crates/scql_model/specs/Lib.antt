@@ -1,4 +1,6 @@
 pub mod Accepting
+pub mod Answering
+pub mod Bound
 pub mod Changing
 pub mod Contents
 pub mod Creating
@@ -13,6 +15,7 @@ pub mod Heard
 pub mod Lines
 pub mod Machine
 pub mod Matching
+pub mod Migrating
 pub mod Moves
 pub mod Objects
 pub mod Opens
@@ -34,6 +37,7 @@ pub mod Step
 pub mod Stored
 pub mod Transactions
 pub mod Users
+pub mod ValidMachine
 pub mod Validity
 pub mod WellFormed
 pub mod Writing

@@ -1,20 +1,14 @@
 -- The records of a database, and how each is spelled.
 use Rattle.std.specs.Prelude.{ℕ, ◌==◌, nat_le, ◌&&◌, ◌||◌, Bool, false, List, [], ◌∷◌, length, Option, Some, None, option_and_then, if◌then◌else◌}
 use Rattle.std.specs.List.{flat_map, list_all}
-use Rattle.scql_base.specs.declared.words.TheConstants.Profile.{DB_O, DBOO, DBBU}
-use Rattle.scql_base.specs.declared.words.TheConstants.Subject.{OBJECTS, USERS, GRANTS}
-use Rattle.scql_base.specs.declared.words.TheConstants.Comparison.{EQUAL, LESS, GREATER, AT_MOST, AT_LEAST, NOT_EQUAL}
 use Rattle.scql_base.specs.declared.records.TheConstants.User.{SHORTEST_SECRET, LONGEST_SECRET, ALL_TRIES}
 use Rattle.scql_base.specs.declared.privileges.TheConstants.Privileges.{ALL}
 use Rattle.scql_base.specs.declared.conditions.TheConstants.Conditions as Conditions
 use Rattle.scql_base.specs.declared.name_list.TheConstants.NameList as NameList
 use Rattle.scql_base.specs.declared.row.TheConstants.Row.{LARGEST}
 use Rattle.scql_base.specs.declared.words.Profile.{Profile}
-use Rattle.scql_base.specs.declared.words.Profile.TheVariants.{DbO, Dboo, Dbbu}
 use Rattle.scql_base.specs.declared.words.Subject.{Subject}
-use Rattle.scql_base.specs.declared.words.Subject.TheVariants.{Objects, Users, Grants}
 use Rattle.scql_base.specs.declared.words.Comparison.{Comparison}
-use Rattle.scql_base.specs.declared.words.Comparison.TheVariants.{Equal, Less, Greater, AtMost, AtLeast, NotEqual}
 use Rattle.scql_base.specs.declared.condition.Condition.{Condition}
 use Rattle.scql_base.specs.declared.records.User.{User}
 use Rattle.scql_base.specs.declared.records.Object.{Object}
@@ -22,45 +16,11 @@ use Rattle.scql_base.specs.declared.records.ObjectKind.{ObjectKind}
 use Rattle.scql_base.specs.declared.records.ObjectKind.TheVariants.{Table, View, Dictionary}
 use Rattle.scql_base.specs.declared.records.Grant.{Grant}
 use Rattle.scql_base.specs.declared.records.RowRecord.{RowRecord}
+pub use Rattle.scql_base.specs.Codes.{profile_code, profile_of, subject_code, subject_of, comparison_code, comparison_of}
 use Rattle.scql_base.specs.Name.{is_name}
 use Rattle.scql_base.specs.Row.{is_narrow, row_size}
 use Rattle.scql_base.specs.Strings.{spelled, params_of}
 use Rattle.scql_model.specs.Fields.{Field, ◌then◌, number, octet, letter, text, counted_list, as_record, made_at, with_mark, whole}
-
--- Codes.
-abbrev pub profile_code : Profile → ℕ
-profile_code DbO = DB_O
-profile_code Dboo = DBOO
-profile_code Dbbu = DBBU
-
-abbrev pub profile_of : ℕ → Option Profile
-profile_of code = if code == DB_O then Some DbO else if code == DBOO then Some Dboo else if code == DBBU then Some Dbbu else None
-
-abbrev pub subject_code : Subject → ℕ
-subject_code Objects = OBJECTS
-subject_code Users = USERS
-subject_code Grants = GRANTS
-
-abbrev pub subject_of : ℕ → Option Subject
-subject_of code = if code == OBJECTS then Some Objects else if code == USERS then Some Users else if code == GRANTS then Some Grants else None
-
-abbrev pub comparison_code : Comparison → ℕ
-comparison_code Equal = EQUAL
-comparison_code Less = LESS
-comparison_code Greater = GREATER
-comparison_code AtMost = AT_MOST
-comparison_code AtLeast = AT_LEAST
-comparison_code NotEqual = NOT_EQUAL
-
-abbrev pub comparison_of : ℕ → Option Comparison
-comparison_of code =
-    if code == EQUAL then Some Equal
-    else if code == LESS then Some Less
-    else if code == GREATER then Some Greater
-    else if code == AT_MOST then Some AtMost
-    else if code == AT_LEAST then Some AtLeast
-    else if code == NOT_EQUAL then Some NotEqual
-    else None
 
 -- Limits.
 abbrev pub is_secret : List ℕ → Bool

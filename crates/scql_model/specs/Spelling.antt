@@ -95,9 +95,9 @@ abbrev pub parts_for : ℕ → ℕ
 parts_for size = max 1 ((size + 254) / LONGEST_DATA)
 
 -- the first so many parts of octets, of 255 octets each
-abbrev pub cut : ℕ → List ℕ → List (List ℕ)
-cut zero octets = []
-cut (suc count) octets = take LONGEST_DATA octets ∷ cut count (drop LONGEST_DATA octets)
+abbrev pub first_parts : ℕ → List ℕ → List (List ℕ)
+first_parts zero octets = []
+first_parts (suc count) octets = take LONGEST_DATA octets ∷ first_parts count (drop LONGEST_DATA octets)
 
 -- the part at a place, counted from 0
 abbrev pub part_at : ℕ → List ℕ → List ℕ

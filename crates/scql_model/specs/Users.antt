@@ -1,25 +1,16 @@
--- Commands that make and delete users (ISO/IEC 7816-7, CREATE USER, DELETE USER): for each the edits that it makes, or the first refusal that
--- applies.
+-- DELETE USER (ISO/IEC 7816-7): the edits that it makes, or the first refusal that applies.
 use Rattle.std.specs.Prelude.{ℕ, ◌==◌, not, ◌||◌, Bool, List, ◌∷◌, map, filter, Result, Ok}
 use Rattle.std.specs.List.{list_any}
 use Rattle.scql_base.specs.declared.words.Actor.{Actor}
-use Rattle.scql_base.specs.declared.words.Profile.{Profile}
 use Rattle.scql_base.specs.declared.words.StatusWord.{StatusWord}
 use Rattle.scql_base.specs.declared.records.User.{User}
 use Rattle.scql_base.specs.declared.records.Object.{Object}
 use Rattle.scql_base.specs.declared.records.Grant.{Grant}
-use Rattle.scql_base.specs.Words.{security_not_satisfied, conditions_not_satisfied, not_found, already_exists}
+use Rattle.scql_base.specs.Words.{security_not_satisfied, conditions_not_satisfied, not_found}
 use Rattle.scql_model.specs.Database.{Database, is_db_o, user_named}
-use Rattle.scql_model.specs.Creating.{may_create, is_owned_by, is_taken, new_user}
+use Rattle.scql_model.specs.Creating.{is_owned_by}
 use Rattle.scql_model.specs.Refusals.{◌>>=◌, or_refused, provided}
-use Rattle.scql_model.specs.Edits.{Edit, of_user, of_grant, making, removing}
-
--- CREATE USER
-unfoldable pub user_added : Database → Actor → List ℕ → Profile → List ℕ → Result (List Edit) StatusWord
-user_added db actor name profile secret = do
-  _ ← provided (may_create actor profile) security_not_satisfied
-  _ ← provided (not (is_taken db name)) already_exists
-  Ok (making db (of_user (new_user db actor name profile secret)))
+use Rattle.scql_model.specs.Edits.{Edit, of_user, of_grant, removing}
 
 -- a user's owner is the user who made it
 abbrev pub owns_user : Actor → User → Bool

@@ -1,12 +1,14 @@
 -- Well-formed commands: those that can be written. What octets are read as is one, with a row within the card's limit besides.
-use Rattle.std.specs.Prelude.{◌≡◌, ◌≤◌, true, IfSome, is_some}
-use Rattle.scql_base.specs.declared.operation.TheConstants.Command.{LAST_CHANNEL, LARGEST_LE}
+use Rattle.std.specs.Prelude.{◌≡◌, ℕ, ◌≤◌, true, length, IfSome, is_some}
+use Rattle.scql_base.specs.declared.operation.TheConstants.Command.{LAST_CHANNEL, LARGEST_LE, LONGEST_DATA}
 use Rattle.scql_base.specs.declared.words.Profile.TheVariants.{DbO}
 use Rattle.scql_base.specs.Name.{is_name}
+use Rattle.scql_base.specs.Row.{row_size}
 use Rattle.scql_base.specs.declared.operation.Command.{Command}
 use Rattle.scql_base.specs.declared.operation.Operation.{Operation}
 use Rattle.scql_base.specs.declared.operation.Operation.TheVariants.{CreateTable, CreateView, CreateDictionary, DropTable, DropView, Grant, Revoke, DeclareCursor, OpenCursor, Next, Fetch, FetchNext, Insert, Update, Delete, Begin, Commit, Rollback, PresentUser, CreateUser, DeleteUser, Verify, OpenChannel, CloseChannel, GetResponse}
 use Rattle.scql_model.specs.Operations.{WantsLe, is_for_channel, kind_of}
+use Rattle.scql_model.specs.Records as records
 use Rattle.scql_model.specs.Records.{is_secret, is_privileges, is_row}
 use Rattle.scql_model.specs.Parameters.{are_columns, are_chosen_columns, are_conditions, are_changes, is_verified_secret}
 
@@ -38,6 +40,12 @@ HasForm (Verify secret) = is_verified_secret secret ≡ true
 HasForm (OpenChannel number) = number ≤ LAST_CHANNEL
 HasForm (CloseChannel number) = number ≤ LAST_CHANNEL
 HasForm GetResponse = Unit {0}
+
+-- On a card with this limit a row that is inserted is within it, and a view's conditions are no longer than the data field in which they came.
+abbrev pub FitsCard : ℕ → Operation → Type 0
+FitsCard limit (Insert table values) = row_size values ≤ limit
+FitsCard limit (CreateView name base columns conditions) = length (records.conditions.spell conditions) ≤ LONGEST_DATA
+FitsCard limit operation = Unit {0}
 
 -- a command on a channel 0 to 3, and none that closes channel 0; with Le none or 1 to 256, and not none where its operation takes Le alone
 pub record IsWellFormed (c : Command) : Type 0 where

@@ -4,11 +4,17 @@
 mod laws;
 mod written;
 
-pub use laws::{
-    a_step_accepts_or_leaves_the_machine, a_step_reads_what_is_shown,
-    an_answer_says_what_it_changes, contents_are_those_of_the_kind,
-    depth_is_one_more_than_the_base_has, equal_shown_gives_equal_replies,
-    objects_are_shown_by_their_names, reading_is_of_what_is_shown, views_are_seen_through,
+pub use laws::answers::{
+    a_step_accepts_or_leaves_the_machine, an_answer_comes_of_its_cause,
+    an_answer_says_what_it_changes, nothing_is_written_without_a_change,
+};
+pub use laws::changes::{a_change_keeps_a_database_valid, a_step_keeps_a_machine_valid};
+pub use laws::reading::{
+    a_step_reads_what_is_shown, equal_shown_gives_equal_replies, objects_are_shown_by_their_names,
+    reading_is_of_what_is_shown,
+};
+pub use laws::views::{
+    contents_are_those_of_the_kind, depth_is_one_more_than_the_base_has, views_are_seen_through,
 };
 pub use written::{
     operations_have_their_lines, parts_are_the_least, parts_that_are_written_are_read_back,

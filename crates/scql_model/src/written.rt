@@ -5,7 +5,7 @@ ghost use Rattle.scql_base.specs.declared.operation.Line.{Line};
 ghost use Rattle.scql_base.specs.declared.operation.OperationKind.{OperationKind};
 ghost use Rattle.scql_model.specs.Form.{a_command, part_on};
 ghost use Rattle.scql_model.specs.Operations.{IsBuilt, built_operations, has_secrets, kind_of, operations};
-ghost use Rattle.scql_model.specs.Spelling.{HasLine, IsTaken, ReadsAs, cut, field_of, fits, octets_of, part_at, part_count, part_octets, parts_for};
+ghost use Rattle.scql_model.specs.Spelling.{HasLine, IsTaken, ReadsAs, first_parts, field_of, fits, octets_of, part_at, part_count, part_octets, parts_for};
 ghost use Rattle.scql_model.specs.WellFormed.{IsWellFormed};
 
 /// What is written of a well-formed command is read as that command, where its channel is open, no parts of such a command came
@@ -21,13 +21,13 @@ pub fn what_is_written_is_read_back()
 pub fn parts_that_are_written_are_read_back()
     ensures part { (table : List Line) (limit : ℕ) (c : Command) (place : ℕ)
         → IsWellFormed c → fits c ≡ true → place + 1 < part_count c → HasLine table (kind_of c.operation)
-        → ReadsAs table limit c (cut place (field_of c.operation)) (part_octets c place)
+        → ReadsAs table limit c (first_parts place (field_of c.operation)) (part_octets c place)
         (part_on c.channel (kind_of c.operation) (part_at place (field_of c.operation))) }
     ensures last { (table : List Line) (limit : ℕ) (c : Command) (place : ℕ)
         → IsWellFormed c → fits c ≡ true → place + 1 ≡ part_count c → HasLine table (kind_of c.operation)
         → IsTaken (has_secrets table) limit c.operation
-        → ReadsAs table limit c (cut place (field_of c.operation)) (part_octets c place) (a_command c) }
-    ensures next { (place : ℕ) (octets : List ℕ) → cut (place + 1) octets ≡ cut place octets ++ part_at place octets ∷ [] }
+        → ReadsAs table limit c (first_parts place (field_of c.operation)) (part_octets c place) (a_command c) }
+    ensures next { (place : ℕ) (octets : List ℕ) → first_parts (place + 1) octets ≡ first_parts place octets ++ part_at place octets ∷ [] }
     ensures one { (c : Command) → part_count c ≡ 1 → part_octets c 0 ≡ octets_of c }
 {}
 

@@ -1,8 +1,8 @@
 -- A transaction that was just begun has the committed records of the store before it.
-use Rattle.std.proofs.Common.{◌≡◌, ℕ, List, Option, ap, ◌∙◌, subst, rules}
+use Rattle.std.proofs.Common.{◌≡◌, ℕ, List, Option, drop, ap, sym, ◌∙◌, subst, rules}
 use Rattle.std.specs.Prelude.{OnOk, IfSome}
-use Rattle.eeprom.specs.Chip.{Becomes}
-use Rattle.eeprom.specs.StoreOf.{Slots}
+use Rattle.eeprom.specs.Chip.{Becomes, Keeps}
+use Rattle.eeprom.specs.StoreOf.{Slots, image_size}
 use Rattle.record_store.specs.Held.{Held, contents, StandsFor}
 use Rattle.record_store.specs.declared.side.Side.TheVariants.{Committed}
 use Rattle.card.specs.Adding.{LeavesAdded, HasBothRecords}
@@ -12,20 +12,21 @@ use Rattle.card.proofs.adding.add_and_change.Goals as goal
 
 moments : (g : _) (c : After-write_both-written g) → LeavesAdded c.args.store.now c.args.added.now c.args.slot c.args.changed.now (g.B.Eeprom.chip c.args.bench.now) (g.B.Eeprom.chip c.write_both-written.new.bench)
 moments g c =
-    subst (λ (s : Held). LeavesAdded s c.args.added.now c.args.slot c.args.changed.now (g.B.Eeprom.chip c.args.bench.now) (g.B.Eeprom.chip c.write_both-written.new.bench)) c.begin.ensures.begun c.write_both-written.ensures.adds.moments
+    subst (λ (s : Held). LeavesAdded s c.args.added.now c.args.slot c.args.changed.now (g.B.Eeprom.chip c.args.bench.now) (g.B.Eeprom.chip c.write_both-written.new.bench)) c.begin.ensures.begun c.write_both-written.ensures.moments
 
-pub returns-in-Err-Full-clause-adds : goal.returns-in-Err-Full-clause-adds
-returns-in-Err-Full-clause-adds g c = record {
-  written = search rules;
-  told = search rules;
-  full = search rules;
-  stands = λ is. if_some-then (StandsFor c.write_both-written.new.store) (StandsFor c.rollback.new.self) (g.B.Eeprom.chip c.write_both-written.new.bench).image c.rollback.ensures.stands
-      (c.write_both-written.ensures.adds.stands (search rules));
-  cells = search rules;
-  rows = search rules;
-  still = search rules;
-  moments = moments g (goal.at.returns-in-Err-Full-clause-adds g c).After-write_both-written;
-}
+behind : (g : _) (c : After-write_both-written g) → Keeps (drop (image_size c.args.store.now.chains.cells)) (g.B.Eeprom.chip c.args.bench.now) (g.B.Eeprom.chip c.write_both-written.new.bench)
+behind g c =
+    subst (λ (s : Held). Keeps (drop (image_size s.chains.cells)) (g.B.Eeprom.chip c.args.bench.now) (g.B.Eeprom.chip c.write_both-written.new.bench)) c.begin.ensures.begun c.write_both-written.ensures.behind
+
+pub returns-in-Err-Full-clause-stands : goal.returns-in-Err-Full-clause-stands
+returns-in-Err-Full-clause-stands g c = λ is.
+    if_some-then (StandsFor c.write_both-written.new.store) (StandsFor c.rollback.new.self) (g.B.Eeprom.chip c.write_both-written.new.bench).image c.rollback.ensures.stands (c.write_both-written.ensures.stands (search rules))
+
+pub returns-in-Err-Full-clause-moments : goal.returns-in-Err-Full-clause-moments
+returns-in-Err-Full-clause-moments g c = moments g (goal.at.returns-in-Err-Full-clause-moments g c).After-write_both-written
+
+pub returns-in-Err-Full-clause-behind : goal.returns-in-Err-Full-clause-behind
+returns-in-Err-Full-clause-behind g c = behind g (goal.at.returns-in-Err-Full-clause-behind g c).After-write_both-written
 
 -- what was committed stays from the beginning to the end
 pub returns-in-Err-Full-clause-unchanged : goal.returns-in-Err-Full-clause-unchanged
@@ -42,27 +43,19 @@ returns-in-Err-Full-clause-unchanged g c = λ is.
     (λ slots w. (w.0, ends w.1)) (subst (λ (slots : Option Slots). IfSome slots (λ slots. stays × (left ≡ begun))) (c.begin.ensures.committed image) from))
     (c.write_both-written.ensures.unchanged is)
 
-pub returns-clause-adds : goal.returns-clause-adds
-returns-clause-adds g c = record {
-  written = search rules;
-  told = search rules;
-  full = search rules;
-  stands = search rules;
-  cells = search rules;
-  rows = search rules;
-  still = search rules;
-  moments = moments g (goal.at.returns-clause-adds g c).After-write_both-written;
-}
+pub returns-clause-moments : goal.returns-clause-moments
+returns-clause-moments g c = moments g (goal.at.returns-clause-moments g c).After-write_both-written
 
-pub returns-2-clause-adds : goal.returns-2-clause-adds
-returns-2-clause-adds g c = record {
-  written = subst (λ (s : Held). OnOk c.write_both-written.result (Becomes (HasBothRecords s c.write_both-written.new.store c.args.added.now c.args.slot c.args.changed.now) (g.B.Eeprom.chip c.args.bench.now).image
-      (g.B.Eeprom.chip c.write_both-written.new.bench).image)) c.begin.ensures.begun c.write_both-written.ensures.adds.written;
-  told = search rules;
-  full = search rules;
-  stands = search rules;
-  cells = search rules;
-  rows = search rules;
-  still = search rules;
-  moments = moments g (goal.at.returns-2-clause-adds g c).After-write_both-written;
-}
+pub returns-clause-behind : goal.returns-clause-behind
+returns-clause-behind g c = behind g (goal.at.returns-clause-behind g c).After-write_both-written
+
+pub returns-2-clause-written : goal.returns-2-clause-written
+returns-2-clause-written g c =
+    subst (λ (s : Held). OnOk c.write_both-written.result (Becomes (HasBothRecords s c.write_both-written.new.store c.args.added.now c.args.slot c.args.changed.now) (g.B.Eeprom.chip c.args.bench.now).image
+    (g.B.Eeprom.chip c.write_both-written.new.bench).image)) c.begin.ensures.begun c.write_both-written.ensures.written
+
+pub returns-2-clause-moments : goal.returns-2-clause-moments
+returns-2-clause-moments g c = moments g (goal.at.returns-2-clause-moments g c).After-write_both-written
+
+pub returns-2-clause-behind : goal.returns-2-clause-behind
+returns-2-clause-behind g c = behind g (goal.at.returns-2-clause-behind g c).After-write_both-written

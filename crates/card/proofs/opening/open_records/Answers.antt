@@ -54,9 +54,10 @@ returns-clause-stored g c =
 pub returns-clause-gathers : goal.returns-clause-gathers
 returns-clause-gathers g c =
     let at = (goal.at.returns-clause-gathers g c).After-finish-store in
-    gathered-all c.loop-slot.opening (g.B.Eeprom.chip c.loop-slot.bench).image (c.in-Some.counter.next ∷ []) (users_of c.loop-slot.found.users) c.finish-store.result c.finish-store.ensures.opened c.finish-store.ensures.slots
+    gathered-all c.loop-slot.opening (g.B.Eeprom.chip c.loop-slot.bench).image (c.counter.inside.next ∷ []) (users_of c.loop-slot.found.users) c.finish-store.result c.finish-store.ensures.opened c.finish-store.ensures.slots
     (over g at).stands
-    (subst (λ (chip : Chip). GathersSoFar c.loop-slot.opening chip.image (c.in-Some.counter.next ∷ []) (users_of c.loop-slot.found.users)) (sym c.loop-slot.invariant.same) (rw c.in-Some.is at c.loop-slot.invariant.gathers))
+    (subst (λ (next : ℕ). GathersSoFar c.loop-slot.opening (g.B.Eeprom.chip c.loop-slot.bench).image (next ∷ []) (users_of c.loop-slot.found.users)) (sym c.counter.view_is)
+    (subst (λ (chip : Chip). GathersSoFar c.loop-slot.opening chip.image (c.in-Some.counter ∷ []) (users_of c.loop-slot.found.users)) (sym c.loop-slot.invariant.same) (rw c.in-Some.is at c.loop-slot.invariant.gathers)))
 
 pub returns-clause-octets_read : goal.returns-clause-octets_read
 returns-clause-octets_read g c =

@@ -32,7 +32,7 @@ moments : (g : _) (c : After-write g) → KeepsMarked c.args.marks.now c.args.ce
 moments g c =
     keeps-run c.args.marks.now c.loop-left.marks c.args.cells c.find_run-run.result.cell c.find_run-run.result.count c.as_slice.result.now (g.B.Eeprom.chip c.args.bench.now) (g.B.Eeprom.chip c.loop-left.bench) (g.B.Eeprom.chip c.write.new.self)
     c.args.payload.now c.loop-left.links c.loop-left.left c.args.count c.loop-left.first (inside g c) c.find_run-run.ensures.free c.loop-left.invariant.stays
-    (rw c.as_slice.ensures.value c.run_octets-octets.ensures.size) c.requires.room (g.met.B.Eeprom.sized c.args.bench.now) (g.met.B.Eeprom.clocked c.loop-left.bench)
+    (rw c.as_slice.ensures.value c.fill_run.ensures.size) c.requires.room (g.met.B.Eeprom.sized c.args.bench.now) (g.met.B.Eeprom.clocked c.loop-left.bench)
     c.loop-left.invariant.placed c.loop-left.invariant.moments (rw c.cell_place.ensures at c.write.ensures.writes)
 
 pub returns-in-Err-clause-moments : goal.returns-in-Err-clause-moments
@@ -50,7 +50,7 @@ loop-left-preserved g c =
     let left : ℕ = c.loop-left.left - run.count in
     let inside = inside g written in
     let pieces : c.loop-left.left ≡ left + run.count = omega arith in
-    let size : length c.as_slice.result.now ≡ 32 * run.count = rw c.as_slice.ensures.value c.run_octets-octets.ensures.size in
+    let size : length c.as_slice.result.now ≡ 32 * run.count = rw c.as_slice.ensures.value c.fill_run.ensures.size in
     let old = g.B.Eeprom.chip c.args.bench.now in
     let mid = g.B.Eeprom.chip c.loop-left.bench in
     let new = g.B.Eeprom.chip c.write.new.self in
@@ -65,7 +65,7 @@ loop-left-preserved g c =
           let so_far = subst (λ (k : ℕ). Becomes (IsPlaced c.args.cells c.args.marks.now c.loop-left.marks c.args.payload.now k c.args.count c.loop-left.first c.loop-left.links) old.image mid.image) pieces c.loop-left.invariant.placed in
           let next = becomes-run c.args.marks.now c.loop-left.marks c.args.cells run.cell run.count c.as_slice.result.now old.image mid.image new.image old.still.size c.args.payload.now c.loop-left.links left c.args.count
           c.loop-left.first c.requires.many inside c.find_run-run.ensures.free c.loop-left.invariant.stays c.requires.room (g.met.B.Eeprom.sized c.args.bench.now) (omega (arith, c.loop-left.invariant.within, pieces)) c.requires.payload
-          c.loop-left.invariant.marks c.loop-left.invariant.links (c.as_slice.ensures.value ∙ c.run_octets-octets.ensures.octets) so_far (rw c.cell_place.ensures at c.in_default.ensures.written) in
+          c.loop-left.invariant.marks c.loop-left.invariant.links (c.as_slice.ensures.value ∙ c.fill_run.ensures.octets) so_far (rw c.cell_place.ensures at c.in_default.ensures.written) in
           subst (λ (first : ℕ). Becomes (IsPlaced c.args.cells c.args.marks.now (run_marked c.loop-left.marks run.cell run.count) c.args.payload.now left c.args.count first
           (run_linked c.loop-left.links run.cell run.count c.loop-left.first)) old.image new.image) (first-some run.cell run.count c.loop-left.first c.find_run-run.ensures.some) next;
       laid =

@@ -1,6 +1,5 @@
-use Rattle.std.proofs.Common.{ap, subst, ◌∙◌, inl, inr}
+use Rattle.std.proofs.Common.{ap, ◌∙◌, inl, inr}
 use Rattle.scql_model.specs.Replies.{Reply}
-use Rattle.card.specs.Card.{IsAt}
 use Rattle.card.proofs.card.Card.answer.Goals as goal
 
 pub returns-in-Ok-clause-step : goal.returns-in-Ok-clause-step
@@ -15,11 +14,14 @@ returns-in-Err-clause-moments g c = λ m at. (c.in-Err.ensures.performs m at).mo
 pub returns-in-Ok-clause-unwritten : goal.returns-in-Ok-clause-unwritten
 returns-in-Ok-clause-unwritten g c = λ m at is idle. (c.in-Ok.ensures.performs m at).unwritten idle
 
+pub returns-in-Ok-clause-octets_written : goal.returns-in-Ok-clause-octets_written
+returns-in-Ok-clause-octets_written g c = λ m at is. (c.in-Ok.ensures.performs m at).octets
+
 pub returns-in-Ok-clause-refused : goal.returns-in-Ok-clause-refused
 returns-in-Ok-clause-refused g c = λ m at is not_done.
     let performs = c.in-Ok.ensures.performs m at in
     let answers = performs.step in
     elim (c.in-Ok.ensures.done_or_stays m at) [
       | inl is_done ↦ absurd (not_done (ap (λ (sent : Reply). sent.word) answers.reply ∙ is_done))
-      | inr stays ↦ (performs.unwritten stays.1, subst (IsAt c.word_of.new.self (g.B.Eeprom.chip c.word_of.new.bench)) stays.0 answers.at)
+      | inr stays ↦ (performs.unwritten stays.0, (_, stays.1, answers.at))
     ]

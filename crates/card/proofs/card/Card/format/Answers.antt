@@ -11,7 +11,7 @@ counter : (g : _) (c : After-format g) → c.deref.result.now ≡ counter_record
 counter g c = c.deref.ensures.0 ∙ c.encode.ensures
 
 user : (g : _) (c : After-format g) → c.deref-2.result.now ≡ user_record.spell owner
-user g c = c.deref-2.ensures.0 ∙ (c.encode_user.ensures ∙ ap (λ (u : User). user_record.spell u) c.owner.ensures)
+user g c = c.deref-2.ensures.0 ∙ (c.encode-2.ensures ∙ ap (λ (u : User). user_record.spell u) c.owner.ensures)
 
 pub returns-clause-image : goal.returns-clause-image
 returns-clause-image g c =

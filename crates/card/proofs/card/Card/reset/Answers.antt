@@ -1,6 +1,7 @@
 -- What was committed stays, and channel 0 alone is open.
 use Rattle.std.proofs.Common.{refl, sym, ap, ◌∙◌}
 use Rattle.card.specs.Card.{Kept, committed_slots}
+use Rattle.card.specs.Sessions.{sessions_of}
 use Rattle.card.proofs.card.Card.reset.Goals as goal
 
 pub returns-clause-at : goal.returns-clause-at
@@ -11,5 +12,5 @@ returns-clause-at c = λ chip m at. record {
   holds = at.holds;
   valid = at.valid;
   transaction = refl;
-  sessions = sym (c.first_sessions-self-inside.ensures m.committed);
+  sessions = sym (c.first_sessions-self-inside.ensures m.committed) ∙ ap (sessions_of c.first_sessions-self-inside.result) (sym c.clear.ensures);
 }

@@ -1,39 +1,125 @@
--- What was read with the card's open channels is what the machine reads with its own.
-use Rattle.std.proofs.Common.{◌≡◌, ◌≤◌, ◌∙◌, ℕ, min, ap, Ok, Err, refl, sym, subst, inr, arith}
-use Rattle.scql_model.specs.Step.{Answer}
-use Rattle.card.specs.Card.{Kept}
+-- What was taken with the card's open channels and chains is what the machine takes with its own.
+use Rattle.std.proofs.Common.{◌≡◌, ◌≤◌, ◌∙◌, ℕ, min, [], drop, ap, Result, Ok, Err, refl, sym, subst, inl, inr, arith}
+use Rattle.eeprom.specs.Chip.{Chip, Keeps}
+use Rattle.eeprom.specs.StoreOf.{image_size}
+use Rattle.scql_base.specs.declared.words.StatusWord.{StatusWord}
+use Rattle.scql_base.specs.Words.{done}
+use Rattle.scql_model.specs.Bound.{octets_bound}
+use Rattle.scql_model.specs.Form.{Form, form_of}
+use Rattle.scql_model.specs.Machine.{Machine}
+use Rattle.scql_model.specs.Operations.{built_operations}
+use Rattle.scql_model.specs.Replies.{said}
+use Rattle.scql_model.specs.Step.{Answer, answered, carried_out, step}
+use Rattle.apdu_chain.specs.Chaining.{chain_on}
+use Rattle.card.specs.Card.{Kept, IsAt}
 use Rattle.card.specs.Answering.{IsDoneOrStays, Performs}
-use Rattle.card.proofs.IdleSteps.{step-refused, step-carried_out, built-read, carried_out-done}
-use Rattle.card.proofs.Performing.{Performs-refused}
+use Rattle.card.specs.Sessions.{sessions_of, AreUnread}
+use Rattle.card.proofs.SeenSessions.{unread-sessions}
+use Rattle.card.proofs.TakenForms.{taken_at, outcome_of, step-taken, IsAt-taken, bound-taken, octets_taken, octets-whole, taken-committed, taken-transaction, taken-refused, taken-kept, outcome-whole, built-taken, done_or_stays-taken}
+use Rattle.card.proofs.UnreadSteps.{carried_out-done, DoneOrStays}
+use Rattle.card.proofs.Leaving.{Keeps-none}
+use Rattle.card.proofs.Performing.{Performs-from, Performs-unwritten}
+use Rattle.card.proofs.card.Card.word_of.Goals.{After-take}
 use Rattle.card.proofs.card.Card.word_of.Goals as goal
 
 -- no row limit is above the largest
 rows : (limit own : ℕ) → limit ≤ 1020 → limit ≡ own → min limit 1020 ≡ own
 rows limit own most is = omega (arith, most, is)
 
-pub returns-in-Err-clause-performs : goal.returns-in-Err-clause-performs
-returns-in-Err-clause-performs g c = λ m at.
-    subst (λ (answer : Answer). Performs m answer (Ok c.in-Err.word) c.args.self.now (g.B.Eeprom.chip c.args.bench.now) (g.B.Eeprom.chip c.args.bench.now))
-    (sym (step-refused c.args.self.now (g.B.Eeprom.chip c.args.bench.now) m c.args.command.now c.open_channels.result c.in-Err.word at c.open_channels.ensures.channels c.open_channels.ensures.idle (rw (rows c.row_limit.result _ c.row_limit.ensures.most (c.row_limit.ensures.limit ∙ ap (λ (kept : Kept). kept.store.row_limit) c.self.view_is)) at c.in-Err.ensures.command)))
-    (Performs-refused c.args.self.now (g.B.Eeprom.chip c.args.bench.now) (g.B.Eeprom.chip c.args.bench.now) m c.in-Err.word (Err c.in-Err.word) c.requires.ready at refl refl)
+-- the card once octets were taken
+abbrev after_take : (g : _) → After-take g → Kept
+after_take g c = record { store = c.self.inside.store; sessions = sessions_of c.self.inside.sessions c.take.new.self; live = c.self.inside.live }
 
-pub returns-in-Err-clause-done_or_stays : goal.returns-in-Err-clause-done_or_stays
-returns-in-Err-clause-done_or_stays g c = λ m at.
-    subst (IsDoneOrStays m)
-    (sym (step-refused c.args.self.now (g.B.Eeprom.chip c.args.bench.now) m c.args.command.now c.open_channels.result c.in-Err.word at c.open_channels.ensures.channels c.open_channels.ensures.idle (rw (rows c.row_limit.result _ c.row_limit.ensures.most (c.row_limit.ensures.limit ∙ ap (λ (kept : Kept). kept.store.row_limit) c.self.view_is)) at c.in-Err.ensures.command)))
-    (inr (refl, refl))
+-- what they are
+abbrev form : (g : _) → After-take g → Form
+form g c = form_of built_operations c.args.command.now c.open_channels-channels.result (chain_on c.self.inside.chains) (min c.row_limit.result 1020)
+
+steps : (g : _) (c : After-take g) (m : Machine) → IsAt c.args.self.now (g.B.Eeprom.chip c.args.bench.now) m
+    → step m c.args.command.now ≡ answered (taken_at m (form g c)) (outcome_of (taken_at m (form g c)) (form g c))
+steps g c m at =
+    step-taken c.args.self.now (g.B.Eeprom.chip c.args.bench.now) m c.args.command.now c.open_channels-channels.result c.self.inside.sessions c.self.inside.chains (min c.row_limit.result 1020) at
+    c.open_channels-channels.ensures (ap (λ (kept : Kept). kept.sessions) (sym c.self.view_is)) (rows c.row_limit.result _ c.row_limit.ensures.most (c.row_limit.ensures.limit ∙ ap (λ (kept : Kept). kept.store.row_limit) c.self.view_is))
+
+bounds : (g : _) (c : After-take g) (m : Machine) → IsAt c.args.self.now (g.B.Eeprom.chip c.args.bench.now) m → octets_bound m c.args.command.now ≡ octets_taken (taken_at m (form g c)) (form g c)
+bounds g c m at =
+    bound-taken c.args.self.now (g.B.Eeprom.chip c.args.bench.now) m c.args.command.now c.open_channels-channels.result c.self.inside.sessions c.self.inside.chains (min c.row_limit.result 1020) at
+    c.open_channels-channels.ensures (ap (λ (kept : Kept). kept.sessions) (sym c.self.view_is)) (rows c.row_limit.result _ c.row_limit.ensures.most (c.row_limit.ensures.limit ∙ ap (λ (kept : Kept). kept.store.row_limit) c.self.view_is))
+
+at-taken : (g : _) (c : After-take g) (m : Machine) → IsAt c.args.self.now (g.B.Eeprom.chip c.args.bench.now) m → IsAt (after_take g c) (g.B.Eeprom.chip c.args.bench.now) (taken_at m (form g c))
+at-taken g c m at =
+    IsAt-taken c.self.inside.store c.self.inside.live c.self.inside.sessions c.self.inside.chains c.take.new.self c.args.self.now (g.B.Eeprom.chip c.args.bench.now) m (form g c) at c.self.view_is c.take.ensures.chains
+
+-- nothing is written for what is no command
+unwritten : (g : _) (c : After-take g) (m : Machine) (answer : Answer) (word : StatusWord) → IsAt c.args.self.now (g.B.Eeprom.chip c.args.bench.now) m
+    → answered (taken_at m (form g c)) (outcome_of (taken_at m (form g c)) (form g c)) ≡ answer → answer.reply ≡ said word → answer.machine ≡ taken_at m (form g c)
+    → Performs m (step m c.args.command.now) (octets_bound m c.args.command.now) (Ok word) (after_take g c) (g.B.Eeprom.chip c.args.bench.now) (g.B.Eeprom.chip c.args.bench.now)
+unwritten g c m answer word at is says stays =
+    let chip = g.B.Eeprom.chip c.args.bench.now in
+    subst (λ (answer : Answer). Performs m answer (octets_bound m c.args.command.now) (Ok word) (after_take g c) chip chip) (sym (steps g c m at ∙ is))
+    (Performs-unwritten c.args.self.now (after_take g c) chip chip m answer (octets_bound m c.args.command.now) (Ok word) c.requires.ready at refl
+    (record { reply = sym says; at = subst (λ (next : Machine). IsAt (after_take g c) chip next) (sym stays) (at-taken g c m at) }))
+
+pub returns-in-Refused-clause-performs : goal.returns-in-Refused-clause-performs
+returns-in-Refused-clause-performs g c = λ m at.
+    let w = (goal.at.returns-in-Refused-clause-performs g c).After-take in
+    let next = taken_at m (form g w) in
+    unwritten g w m (answered next (Err c.in-Refused.word)) c.in-Refused.word at (ap (answered next) (taken-refused next (form g w) c.in-Refused.word (sym c.in-Refused.is ∙ c.take.ensures.taken))) refl refl
+
+pub returns-in-Refused-clause-done_or_stays : goal.returns-in-Refused-clause-done_or_stays
+returns-in-Refused-clause-done_or_stays g c = λ m at.
+    let w = (goal.at.returns-in-Refused-clause-done_or_stays g c).After-take in
+    let next = taken_at m (form g w) in
+    let refused = taken-refused next (form g w) c.in-Refused.word (sym c.in-Refused.is ∙ c.take.ensures.taken) in
+    subst (IsDoneOrStays m c.args.command.now) (sym (steps g w m at))
+    (done_or_stays-taken m c.args.command.now c.open_channels-channels.result (chain_on c.self.inside.chains) (min c.row_limit.result 1020) (λ kept. cc)
+    (subst (λ outcome. DoneOrStays next (answered next outcome)) (sym refused) (inr (refl, refl))))
+
+pub returns-in-Kept-clause-performs : goal.returns-in-Kept-clause-performs
+returns-in-Kept-clause-performs g c = λ m at.
+    let w = (goal.at.returns-in-Kept-clause-performs g c).After-take in
+    let next = taken_at m (form g w) in
+    let unread : AreUnread next.sessions = subst AreUnread (sym (at-taken g w m at).sessions) (unread-sessions c.self.inside.sessions c.take.new.self) in
+    unwritten g w m (record { reply = said done; machine = next; commits = [] }) done at (ap (answered next) (taken-kept next (form g w) unread (sym c.in-Kept.is ∙ c.take.ensures.taken))) refl refl
+
+pub returns-in-Kept-clause-done_or_stays : goal.returns-in-Kept-clause-done_or_stays
+returns-in-Kept-clause-done_or_stays g c = λ m at.
+    let w = (goal.at.returns-in-Kept-clause-done_or_stays g c).After-take in
+    let next = taken_at m (form g w) in
+    let unread : AreUnread next.sessions = subst AreUnread (sym (at-taken g w m at).sessions) (unread-sessions c.self.inside.sessions c.take.new.self) in
+    inl (ap (λ (answer : Answer). answer.reply.word) (steps g w m at ∙ ap (answered next) (taken-kept next (form g w) unread (sym c.in-Kept.is ∙ c.take.ensures.taken))))
 
 pub carry_out-requires-clause-built : goal.carry_out-requires-clause-built
-carry_out-requires-clause-built g c = built-read c.args.command.now c.open_channels.result (min c.row_limit.result 1020) c.in-Ok.command (omega arith) c.in-Ok.ensures.command
+carry_out-requires-clause-built g c =
+    built-taken c.args.command.now c.open_channels-channels.result (chain_on c.self.inside.chains) (min c.row_limit.result 1020) c.in-Whole.command (omega arith) (sym c.in-Whole.is ∙ c.take.ensures.taken)
 
-pub returns-in-Ok-clause-performs : goal.returns-in-Ok-clause-performs
-returns-in-Ok-clause-performs g c = λ m at.
-    subst (λ (answer : Answer). Performs m answer c.carry_out.result c.carry_out.new.self (g.B.Eeprom.chip c.args.bench.now) (g.B.Eeprom.chip c.carry_out.new.bench))
-    (sym (step-carried_out c.args.self.now (g.B.Eeprom.chip c.args.bench.now) m c.args.command.now c.open_channels.result c.in-Ok.command at c.open_channels.ensures.channels c.open_channels.ensures.idle (rw (rows c.row_limit.result _ c.row_limit.ensures.most (c.row_limit.ensures.limit ∙ ap (λ (kept : Kept). kept.store.row_limit) c.self.view_is)) at c.in-Ok.ensures.command)))
-    (c.carry_out.ensures.performs m at)
+pub returns-in-Whole-clause-performs : goal.returns-in-Whole-clause-performs
+returns-in-Whole-clause-performs g c = λ m at.
+    let w = (goal.at.returns-in-Whole-clause-performs g c).After-take in
+    let next = taken_at m (form g w) in
+    let most = bounds g w m at ∙ octets-whole next (form g w) c.in-Whole.command (sym c.in-Whole.is ∙ c.take.ensures.taken) in
+    let is = steps g w m at ∙ ap (answered next) (outcome-whole next (form g w) c.in-Whole.command (sym c.in-Whole.is ∙ c.take.ensures.taken)) in
+    subst (λ (answer : Answer). Performs m answer (octets_bound m c.args.command.now) c.carry_out.result c.carry_out.new.self (g.B.Eeprom.chip c.args.bench.now) (g.B.Eeprom.chip c.carry_out.new.bench)) (sym is)
+    (subst (λ (most : ℕ). Performs m (answered next (carried_out next c.in-Whole.command)) most c.carry_out.result c.carry_out.new.self (g.B.Eeprom.chip c.args.bench.now) (g.B.Eeprom.chip c.carry_out.new.bench)) (sym most)
+    (Performs-from m next _ _ c.carry_out.result c.carry_out.new.self (g.B.Eeprom.chip c.args.bench.now) (g.B.Eeprom.chip c.carry_out.new.bench) (taken-committed m (form g w))
+    (c.carry_out.ensures.performs next (at-taken g w m at))))
 
-pub returns-in-Ok-clause-done_or_stays : goal.returns-in-Ok-clause-done_or_stays
-returns-in-Ok-clause-done_or_stays g c = λ m at.
-    subst (IsDoneOrStays m)
-    (sym (step-carried_out c.args.self.now (g.B.Eeprom.chip c.args.bench.now) m c.args.command.now c.open_channels.result c.in-Ok.command at c.open_channels.ensures.channels c.open_channels.ensures.idle (rw (rows c.row_limit.result _ c.row_limit.ensures.most (c.row_limit.ensures.limit ∙ ap (λ (kept : Kept). kept.store.row_limit) c.self.view_is)) at c.in-Ok.ensures.command)))
-    (carried_out-done m c.in-Ok.command at.transaction (built-read c.args.command.now c.open_channels.result (min c.row_limit.result 1020) c.in-Ok.command (omega arith) c.in-Ok.ensures.command))
+pub returns-in-Refused-clause-behind : goal.returns-in-Refused-clause-behind
+returns-in-Refused-clause-behind g c = Keeps-none (drop (image_size c.args.self.now.store.chains.cells)) (g.B.Eeprom.chip c.args.bench.now) (g.B.Eeprom.chip c.args.bench.now) refl
+
+pub returns-in-Kept-clause-behind : goal.returns-in-Kept-clause-behind
+returns-in-Kept-clause-behind g c = Keeps-none (drop (image_size c.args.self.now.store.chains.cells)) (g.B.Eeprom.chip c.args.bench.now) (g.B.Eeprom.chip c.args.bench.now) refl
+
+pub returns-in-Whole-clause-behind : goal.returns-in-Whole-clause-behind
+returns-in-Whole-clause-behind g c =
+    subst (λ (kept : Kept). Keeps (drop (image_size kept.store.chains.cells)) (g.B.Eeprom.chip c.args.bench.now) (g.B.Eeprom.chip c.carry_out.new.bench)) c.self.view_is c.carry_out.ensures.behind
+
+pub returns-in-Whole-clause-done_or_stays : goal.returns-in-Whole-clause-done_or_stays
+returns-in-Whole-clause-done_or_stays g c = λ m at.
+    let w = (goal.at.returns-in-Whole-clause-done_or_stays g c).After-take in
+    let next = taken_at m (form g w) in
+    let whole = outcome-whole next (form g w) c.in-Whole.command (sym c.in-Whole.is ∙ c.take.ensures.taken) in
+    subst (IsDoneOrStays m c.args.command.now) (sym (steps g w m at))
+    (done_or_stays-taken m c.args.command.now c.open_channels-channels.result (chain_on c.self.inside.chains) (min c.row_limit.result 1020) (λ kept. cc)
+    (subst (λ outcome. DoneOrStays next (answered next outcome)) (sym whole)
+    (carried_out-done next c.in-Whole.command (at-taken g w m at).transaction
+    (built-taken c.args.command.now c.open_channels-channels.result (chain_on c.self.inside.chains) (min c.row_limit.result 1020) c.in-Whole.command (omega arith) (sym c.in-Whole.is ∙ c.take.ensures.taken)))))

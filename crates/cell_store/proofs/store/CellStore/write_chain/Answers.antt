@@ -15,7 +15,7 @@ returns-clause-written g c =
     written-becomes c.args.self.now _ c.self.inside.used c.write_cells.new.marks c.write_cells.new.links c.as_mut_slice.result.now c.as_slice.result.now c.args.octets.now c.self.inside.cells c.cells_for-count.result c.in_ok-first.first
     (g.B.Eeprom.chip c.args.bench.now).still.size (g.B.Eeprom.chip c.args.bench.now).image (g.B.Eeprom.chip c.write_cells.new.bench).image (subst IsInRange c.self.view_is c.self.invariant) c.requires.room
     (g.met.B.Eeprom.sized c.args.bench.now) cells (ap (λ (store : Cells). store.used) c.self.view_is) (c.as_mut_slice.ensures.value ∙ links) c.in_ok-first.ensures.links
-    c.requires.some c.requires.most (rw c.as_slice.ensures.value c.payload_of_record-payload.ensures.number) (rw c.as_slice.ensures.value c.payload_of_record-payload.ensures.record) (search rules)
+    c.requires.some c.requires.most (rw c.as_slice.ensures.value c.fill_payload.ensures.number) (rw c.as_slice.ensures.value c.fill_payload.ensures.record) (search rules)
     (cells_from-alike c.self.inside.cells c.args.self.now.cells c.write_cells.new.marks _ c.write_cells.new.links cells
     (take-whole c.write_cells.new.links (drop (length c.write_cells.new.links) c.self.inside.links.items) c.self.inside.links.len size))
     c.in_ok-first.ensures.laid c.in_ok-first.ensures.placed

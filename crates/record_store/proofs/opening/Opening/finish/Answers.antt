@@ -1,19 +1,34 @@
 -- Once all slots were claimed, the chains in memory are those of a store.
-use Rattle.std.proofs.Common.{◌≡◌, sym, subst}
+use Rattle.std.proofs.Common.{◌≡◌, ◌∙◌, ℕ, length, ap, sym, subst}
+use Rattle.std.specs.Vec.{vec_capacity}
 use Rattle.eeprom.specs.StoreOf.{weight_of}
 use Rattle.record_store.specs.Opening.{HeldSoFar, StandsSoFar}
-use Rattle.record_store.proofs.OpeningSlots.{held_of, weight-finished}
+use Rattle.record_store.proofs.Transacting.{touched-finished}
+use Rattle.record_store.proofs.InUse.{in_use-finished}
+use Rattle.record_store.proofs.OpeningSlots.{held_of, stands-finished, weight-finished}
 use Rattle.record_store.proofs.Weighing.{weighed-finished}
 use Rattle.record_store.proofs.opening.Opening.finish.Goals as goal
 
 pub invariant_of-result : goal.invariant_of-result
 invariant_of-result c =
     let mine = c.self.inside in
-    weighed-finished (held_of mine.chains mine.row_limit mine.committed.items mine.claimed mine.weight) mine.working.items c.self.invariant.1 (subst (λ (held : HeldSoFar). held.claimed ≡ held.chains.cells) (sym c.self.view_is) c.requires.all) c.self.invariant.0
+    let all : mine.claimed ≡ mine.chains.cells = subst (λ (held : HeldSoFar). held.claimed ≡ held.chains.cells) (sym c.self.view_is) c.requires.all in
+    let whole = held_of mine.chains mine.row_limit mine.committed.items mine.claimed mine.weight mine.first_octets.items in
+    record {
+      weighed = weighed-finished whole mine.working.items c.self.invariant.2 all (ap (length {A = ℕ}) c.self.invariant.0 ∙ c.self.invariant.2.count);
+      in_use = in_use-finished whole mine.working.items c.slots_in_use-slots_in_use.result c.self.invariant.0 c.self.invariant.2.count (rw c.as_slice.ensures.value at c.slots_in_use-slots_in_use.ensures.most) (rw c.as_slice.ensures.value at c.slots_in_use-slots_in_use.ensures.empty);
+      transaction = touched-finished whole mine.working.items mine.touched (vec_capacity mine.entries) c.self.invariant.0 c.self.invariant.1;
+    }
+
+pub returns-clause-stands : goal.returns-clause-stands
+returns-clause-stands c = λ image stands.
+    let mine = c.self.inside in
+    stands-finished (held_of mine.chains mine.row_limit mine.committed.items mine.claimed mine.weight mine.first_octets.items) mine.working.items image c.self.invariant.2.count
+    (subst (λ (held : HeldSoFar). held.claimed ≡ held.chains.cells) (sym c.self.view_is) c.requires.all) (subst (λ (held : HeldSoFar). StandsSoFar held image) (sym c.self.view_is) stands)
 
 pub returns-clause-weight : goal.returns-clause-weight
 returns-clause-weight c = λ image slots stands there.
     let mine = c.self.inside in
     subst (λ (held : HeldSoFar). held.weight ≡ weight_of slots) c.self.view_is
-    (weight-finished (held_of mine.chains mine.row_limit mine.committed.items mine.claimed mine.weight) image slots c.self.invariant.1 (subst (λ (held : HeldSoFar). held.claimed ≡ held.chains.cells) (sym c.self.view_is) c.requires.all)
+    (weight-finished (held_of mine.chains mine.row_limit mine.committed.items mine.claimed mine.weight mine.first_octets.items) image slots c.self.invariant.2 (subst (λ (held : HeldSoFar). held.claimed ≡ held.chains.cells) (sym c.self.view_is) c.requires.all)
     (subst (λ (held : HeldSoFar). StandsSoFar held image) (sym c.self.view_is) stands) there)

@@ -1,6 +1,8 @@
 -- Before the first slot nothing is claimed, and the image begins as a store's.
-use Rattle.std.proofs.Common.{◌≡◌, ap, sym, ◌∙◌, arith, rules}
+use Rattle.std.proofs.Common.{◌≡◌, ℕ, ◌*◌, length, replicate, ap, sym, ◌∙◌, arith, rules}
+use Rattle.std.proofs.lemmas.List.{length-replicate}
 use Rattle.cell_store.specs.Cells.{Cells}
+use Rattle.record_store.specs.Touched.{none_touched}
 use Rattle.record_store.proofs.OpeningSlots.{sound-begun, stands-begun}
 use Rattle.record_store.proofs.Replaying.{front-read}
 use Rattle.record_store.proofs.opening.Opening.new.Goals.{In_ok-chains}
@@ -11,9 +13,11 @@ invariant_of-result g c =
     let header = c.in_ok-header.header in
     let range = c.in_ok-header.ensures.range in
     let cells = ap (λ (store : Cells). store.cells) c.in_ok-chains.ensures in
+    let filled : c.in_ok-first_octets.first_octets.items ≡ replicate (2 * header.cells) 0 = search rules in
     let copied : c.in_ok-working.working.items ≡ c.in_ok-committed.committed.items = search rules in (
-      rw copied (c.in_ok-committed.ensures.count ∙ sym cells),
-      sound-begun header.cells header.row_limit c.in_ok-committed.committed.items c.in_ok-chains.chains c.in_ok-chains.ensures range.few range.many range.rows c.in_ok-committed.ensures.count,
+      copied,
+      record { none = c.in_ok-touched.ensures ∙ ap none_touched (sym cells); room_is = omega (arith, cells, c.in_ok-entries.ensures.capacity) },
+      sound-begun header.cells header.row_limit c.in_ok-committed.committed.items _ c.in_ok-chains.chains c.in_ok-chains.ensures range.few range.many range.rows c.in_ok-committed.ensures.count (ap (length {A = ℕ}) filled ∙ length-replicate {A = ℕ} (2 * header.cells) 0),
     )
 
 cells : (g : _) (c : In_ok-chains g) → c.in_ok-chains.chains.cells ≡ c.in_ok-header.header.cells
@@ -24,7 +28,7 @@ returns-clause-over g c =
     let size : (g.B.Eeprom.chip c.read_directory.new.bench).still.size ≡ (g.B.Eeprom.chip c.args.bench.now).still.size =
     ap (λ chip. chip.still.size) c.read_directory.ensures.frame.same ∙ (ap (λ still. still.size) c.close_gate.ensures.frame.store.keeps.still ∙ ap (λ chip. chip.still.size) c.read_header.ensures.frame.same) in record {
       room = omega (arith, cells g c, c.in_ok-header.ensures.range.room, size);
-      stands = rw (c.read_directory.ensures.frame.same) (stands-begun c.in_ok-header.header c.in_ok-committed.committed.items c.in_ok-chains.chains (g.B.Eeprom.chip c.close_gate.new.bench).image c.in_ok-chains.ensures
+      stands = rw (c.read_directory.ensures.frame.same) (stands-begun c.in_ok-header.header c.in_ok-committed.committed.items _ c.in_ok-chains.chains (g.B.Eeprom.chip c.close_gate.new.bench).image c.in_ok-chains.ensures
           c.in_ok-close_gate.ensures.header c.in_ok-committed.ensures.directory);
     }
 

@@ -1,43 +1,63 @@
-use Rattle.std.proofs.Common.{◌≡◌, List, Bool, ap, ◌∙◌, subst, arith}
+use Rattle.std.proofs.Common.{◌≡◌, ℕ, List, Bool, length, drop, refl, ap, ◌∙◌, subst, arith}
+use Rattle.std.specs.Vec.{vec_capacity}
 use Rattle.cell_store.specs.Marks.{StaysMarked}
+use Rattle.eeprom.specs.Chip.{Keeps}
+use Rattle.eeprom.specs.StoreOf.{image_size}
 use Rattle.record_store.specs.Held.{Held}
 use Rattle.record_store.specs.Transaction.{Commits}
 use Rattle.record_store.proofs.Commit.{Ready, ready-from, changed-few, commits-from, commit-done}
 use Rattle.record_store.proofs.Filling.{commit-sound, commit-view}
+use Rattle.record_store.proofs.InUse.{in_use-committed}
+use Rattle.record_store.proofs.Keeping.{behind-commit}
+use Rattle.record_store.proofs.Transacting.{touched-slots, working-others, committed-others, touched-room, touched-committed}
 use Rattle.record_store.proofs.Weighing.{weighed-committed}
-use Rattle.record_store.proofs.store.Store.commit.Goals.{After-entries_of-entries, After-commit}
+use Rattle.record_store.proofs.store.Store.commit.Goals.{After-take_entries, After-commit}
 use Rattle.record_store.proofs.store.Store.commit.Goals as goal
 
-ready : (g : _) (c : After-entries_of-entries g) → Ready c.args.self.now c.entries_of-entries.result.items
+ready : (g : _) (c : After-take_entries g) → Ready c.args.self.now c.take_entries.new.entries.items
 ready g c =
-    ready-from _ c.args.self.now c.as_slice.result.now c.as_slice-2.result.now c.entries_of-entries.result.items c.self.view_is c.self.invariant.sound c.requires.begun c.as_slice.ensures.value c.as_slice-2.ensures.value
-    c.entries_of-entries.ensures.entries c.entries_of-entries.ensures.range c.entries_of-entries.ensures.count
+    ready-from _ c.args.self.now c.as_slice.result.now c.as_slice-working.result.now c.take_entries.new.entries.items c.self.view_is c.self.invariant.weighed.sound c.requires.begun c.as_slice.ensures.value c.as_slice-working.ensures.value
+    c.take_entries.ensures.entries c.take_entries.ensures.range c.take_entries.ensures.count
 
 pub commit-requires-clause-few : goal.commit-requires-clause-few
 commit-requires-clause-few g c =
-    let r = ready g (goal.at.commit-requires-clause-few g c).After-entries_of-entries in
+    let r = ready g (goal.at.commit-requires-clause-few g c).After-take_entries in
     let cells = ap (λ (held : Held). held.chains.cells) c.self.view_is in
-    rw (c.as_slice-3.ensures.value) (omega (arith, changed-few c.args.self.now c.entries_of-entries.result.items r, c.cells.ensures.number, cells))
+    rw (c.as_slice-2.ensures.value) (omega (arith, changed-few c.args.self.now c.take_entries.new.entries.items r, c.cells.ensures.number, cells))
 
 pub commit-requires-clause-entries : goal.commit-requires-clause-entries
 commit-requires-clause-entries g c =
-    let r = ready g (goal.at.commit-requires-clause-entries g c).After-entries_of-entries in
-    rw (c.as_slice-3.ensures.value, c.cells.ensures.number, ap (λ (held : Held). held.chains.cells) c.self.view_is) (r.range)
+    let r = ready g (goal.at.commit-requires-clause-entries g c).After-take_entries in
+    rw (c.as_slice-2.ensures.value, c.cells.ensures.number, ap (λ (held : Held). held.chains.cells) c.self.view_is) (r.range)
 
 moments : (g : _) (c : After-commit g) → Commits c.args.self.now (g.B.Eeprom.chip c.args.bench.now) (g.B.Eeprom.chip c.commit.new.bench)
 moments g c =
-    commits-from c.args.self.now c.entries_of-entries.result.items (g.B.Eeprom.chip c.args.bench.now) (g.B.Eeprom.chip c.commit.new.bench) (ready g (goal.at.After-commit g c).After-entries_of-entries) c.requires.over.stands
-    c.commit.ensures.still (rw (c.as_slice-3.ensures.value, c.cells.ensures.number, ap (λ (held : Held). held.chains.cells) c.self.view_is) at c.commit.ensures.moments)
+    commits-from c.args.self.now c.take_entries.new.entries.items (g.B.Eeprom.chip c.args.bench.now) (g.B.Eeprom.chip c.commit.new.bench) (ready g (goal.at.After-commit g c).After-take_entries) c.requires.over.stands
+    c.commit.ensures.still (rw (c.as_slice-2.ensures.value, c.cells.ensures.number, ap (λ (held : Held). held.chains.cells) c.self.view_is) at c.commit.ensures.moments)
 
 pub returns-in_err-commit-clause-moments : goal.returns-in_err-commit-clause-moments
 returns-in_err-commit-clause-moments g c = moments g (goal.at.returns-in_err-commit-clause-moments g c).After-commit
 
-pub invariant_of-self : goal.invariant_of-self
-invariant_of-self g c =
+pub invariant_of-self-2 : goal.invariant_of-self-2
+invariant_of-self-2 g c =
     let begun = ap (λ (held : Held). held.begun) c.self.view_is ∙ c.requires.begun in
-    weighed-committed _ c.free_replaced.new.cells _ c.self.inside.committed_weight c.self.inside.working_weight c.self.invariant begun c.free_replaced.ensures.links (c.copy_from_slice.ensures.items ∙ c.as_slice-6.ensures.value)
-    (commit-sound _ c.free_replaced.new.cells _ c.as_slice-4.result.now c.as_slice-5.result.now c.self.invariant.sound (ap (λ (held : Held). held.begun) c.self.view_is ∙ c.requires.begun) c.as_slice-4.ensures.value c.as_slice-5.ensures.value
-    c.free_replaced.ensures.cells c.free_replaced.ensures.links (c.copy_from_slice.ensures.items ∙ c.as_slice-6.ensures.value) c.free_replaced.ensures.freed c.free_replaced.ensures.others c.free_replaced.ensures.fewer c.free_replaced.ensures.count)
+    let whole : Held = record { chains = c.self.inside.chains; row_limit = c.self.inside.row_limit; committed = c.self.inside.committed.items; working = c.self.inside.working.items; begun = c.self.inside.begun; first_octets = c.self.inside.first_octets.items } in
+    let same = c.copy_slots.ensures ∙ c.as_slice-working.ensures.value in
+    record {
+      in_use = in_use-committed whole c.free_replaced.new.cells _ c.self.inside.slots_in_use c.free_replaced.ensures.cells same c.self.invariant.in_use;
+      weighed = weighed-committed whole c.free_replaced.new.cells _ c.self.inside.committed_weight c.self.inside.working_weight c.self.invariant.weighed begun c.free_replaced.ensures.links same
+          (commit-sound whole c.free_replaced.new.cells _ c.as_slice-3.result.now c.as_slice-working.result.now c.self.invariant.weighed.sound begun c.as_slice-3.ensures.value c.as_slice-working.ensures.value
+          c.free_replaced.ensures.cells c.free_replaced.ensures.links same c.free_replaced.ensures.freed c.free_replaced.ensures.others c.free_replaced.ensures.fewer c.free_replaced.ensures.count);
+      transaction = touched-committed whole c.free_replaced.new.cells _ c.self.inside.touched c.clear.new.self (vec_capacity c.self.inside.entries) (vec_capacity c.take_entries.new.entries) c.free_replaced.ensures.cells same c.clear.ensures.slots c.clear.ensures.size
+          c.take_entries.ensures.room c.self.invariant.transaction;
+    }
+
+pub invariant_of-self : goal.invariant_of-self
+invariant_of-self g c = record {
+  weighed = c.self.invariant.weighed;
+  in_use = c.self.invariant.in_use;
+  transaction = touched-room _ c.self.inside.touched (vec_capacity c.self.inside.entries) (vec_capacity c.take_entries.new.entries) c.take_entries.ensures.room c.self.invariant.transaction;
+}
 
 pub returns-clause-done : goal.returns-clause-done
 returns-clause-done g c =
@@ -45,10 +65,45 @@ returns-clause-done g c =
     let links = c.free_replaced.ensures.links ∙ ap (λ (held : Held). held.chains.links) c.self.view_is in
     let working = ap (λ (held : Held). held.working) c.self.view_is in
     let used : c.self.inside.chains.used ≡ c.args.self.now.chains.used = ap (λ (held : Held). held.chains.used) c.self.view_is in
-    commit-done c.args.self.now _ c.entries_of-entries.result.items c.free_replaced.new.cells.used (g.B.Eeprom.chip c.args.bench.now).image (g.B.Eeprom.chip c.commit.new.bench).image
-    (ready g (goal.at.returns-clause-done g c).After-entries_of-entries) (subst (λ (used : List Bool). StaysMarked c.free_replaced.new.cells.used used) used c.free_replaced.ensures.fewer)
-    (commit-view c.args.self.now c.free_replaced.new.cells _ _ _ cells links (ap (λ (held : Held). held.row_limit) c.self.view_is) (c.copy_from_slice.ensures.items ∙ (c.as_slice-6.ensures.value ∙ working)) working)
-    c.requires.over.stands (rw (c.as_slice-3.ensures.value, c.cells.ensures.number, ap (λ (held : Held). held.chains.cells) c.self.view_is) at c.in_ok-commit.ensures.done)
+    commit-done c.args.self.now _ c.take_entries.new.entries.items c.free_replaced.new.cells.used (g.B.Eeprom.chip c.args.bench.now).image (g.B.Eeprom.chip c.commit.new.bench).image
+    (ready g (goal.at.returns-clause-done g c).After-take_entries) (subst (λ (used : List Bool). StaysMarked c.free_replaced.new.cells.used used) used c.free_replaced.ensures.fewer)
+    (commit-view c.args.self.now c.free_replaced.new.cells _ _ _ _ cells links (ap (λ (held : Held). held.row_limit) c.self.view_is) (c.copy_slots.ensures ∙ (c.as_slice-working.ensures.value ∙ working)) working (ap (λ (held : Held). held.first_octets) c.self.view_is))
+    c.requires.over.stands (rw (c.as_slice-2.ensures.value, c.cells.ensures.number, ap (λ (held : Held). held.chains.cells) c.self.view_is) at c.in_ok-commit.ensures.done)
 
 pub returns-clause-moments : goal.returns-clause-moments
 returns-clause-moments g c = moments g (goal.at.returns-clause-moments g c).After-commit
+
+behind : (g : _) (c : After-commit g) → Keeps (drop (image_size c.args.self.now.chains.cells)) (g.B.Eeprom.chip c.args.bench.now) (g.B.Eeprom.chip c.commit.new.bench)
+behind g c =
+    behind-commit c.cells.result c.args.self.now.chains.cells c.as_slice-2.result.now (g.B.Eeprom.chip c.args.bench.now) (g.B.Eeprom.chip c.commit.new.bench)
+    (c.cells.ensures.number ∙ ap (λ (held : Held). held.chains.cells) c.self.view_is) c.commit.ensures.still c.commit.ensures.moments
+
+pub returns-in_err-commit-clause-behind : goal.returns-in_err-commit-clause-behind
+returns-in_err-commit-clause-behind g c = behind g (goal.at.returns-in_err-commit-clause-behind g c).After-commit
+
+pub returns-clause-behind : goal.returns-clause-behind
+returns-clause-behind g c = behind g (goal.at.returns-clause-behind g c).After-commit
+
+pub take_entries-requires-clause-slots : goal.take_entries-requires-clause-slots
+take_entries-requires-clause-slots g c =
+    touched-slots _ c.self.inside.touched _ c.as_slice.result.now c.slots-slots.result.now c.self.invariant.transaction c.slots-slots.ensures.are c.slots-slots.ensures.slots (ap (length {A = ℕ}) c.as_slice.ensures.value ∙ c.self.invariant.weighed.sound.committed_count)
+
+pub take_entries-requires-clause-others : goal.take_entries-requires-clause-others
+take_entries-requires-clause-others g c =
+    working-others _ c.self.inside.touched _ c.slots-slots.result.now c.as_slice-working.result.now c.as_slice.result.now c.self.invariant.transaction c.slots-slots.ensures.slots c.as_slice-working.ensures.value c.as_slice.ensures.value
+
+pub free_replaced-requires-clause-slots : goal.free_replaced-requires-clause-slots
+free_replaced-requires-clause-slots g c =
+    touched-slots _ c.self.inside.touched _ c.as_slice-3.result.now c.slots-slots.result.now c.self.invariant.transaction c.slots-slots.ensures.are c.slots-slots.ensures.slots (ap (length {A = ℕ}) c.as_slice-3.ensures.value ∙ c.self.invariant.weighed.sound.committed_count)
+
+pub free_replaced-requires-clause-others : goal.free_replaced-requires-clause-others
+free_replaced-requires-clause-others g c =
+    committed-others _ c.self.inside.touched _ c.slots-slots.result.now c.as_slice-working.result.now c.as_slice-3.result.now c.self.invariant.transaction c.slots-slots.ensures.slots c.as_slice-working.ensures.value c.as_slice-3.ensures.value
+
+pub copy_slots-requires-clause-slots : goal.copy_slots-requires-clause-slots
+copy_slots-requires-clause-slots g c =
+    touched-slots _ c.self.inside.touched _ c.as_slice-working.result.now c.slots-slots.result.now c.self.invariant.transaction c.slots-slots.ensures.are c.slots-slots.ensures.slots (ap (length {A = ℕ}) c.as_slice-working.ensures.value ∙ c.self.invariant.weighed.sound.working_count)
+
+pub copy_slots-requires-clause-others : goal.copy_slots-requires-clause-others
+copy_slots-requires-clause-others g c =
+    committed-others _ c.self.inside.touched _ c.slots-slots.result.now c.as_slice-working.result.now c.self.inside.committed.items c.self.invariant.transaction c.slots-slots.ensures.slots c.as_slice-working.ensures.value refl

@@ -1,12 +1,14 @@
-use Rattle.std.proofs.Common.{◌≡◌, ℕ, List, Option, Some, None, option_map, refl, ◌∙◌, arith}
+use Rattle.std.proofs.Common.{◌≡◌, ℕ, List, Option, Some, None, option_map, drop, ap, refl, ◌∙◌, arith}
 use Rattle.std.specs.Prelude.{IfSome}
-use Rattle.eeprom.specs.StoreOf.{store_of, fresh_store}
+use Rattle.eeprom.specs.Chip.{Keeps}
+use Rattle.eeprom.specs.StoreOf.{store_of, fresh_store, image_size}
 use Rattle.eeprom.specs.Image.{overwrite}
 use Rattle.record_store.specs.FreshImage.{magic, fresh_body, fresh_image, LeavesFormatted}
 use Rattle.record_store.proofs.FreshStore.{store-formatted}
 use Rattle.eeprom.proofs.Overwrite.{option-front}
-use Rattle.record_store.proofs.Fronts.{body_moments, front_moments}
-use Rattle.record_store.proofs.store.Store.format.Goals.{After-write}
+use Rattle.record_store.proofs.Fronts.{Keeps-then, body_moments, front_moments}
+use Rattle.record_store.proofs.Keeping.{behind-write}
+use Rattle.record_store.proofs.store.Store.format.Goals.{After-write_body, After-write}
 use Rattle.record_store.proofs.store.Store.format.Goals as goal
 
 image_is : (g : _) (c : goal.In_ok-write g) → (g.B.Eeprom.chip c.write.new.self).image
@@ -56,3 +58,23 @@ returns-in_err-write-clause-moments g c = moments g (goal.at.returns-in_err-writ
 
 pub returns-clause-moments : goal.returns-clause-moments
 returns-clause-moments g c = moments g (goal.at.returns-clause-moments g c).After-write
+
+-- nothing is written behind the image
+body_behind : (g : _) (c : After-write_body g) → Keeps (drop (image_size c.args.cells)) (g.B.Eeprom.chip c.args.bench.now) (g.B.Eeprom.chip c.write_body.new.bench)
+body_behind g c = Keeps-then (drop (image_size c.args.cells)) _ _ _ (c.clear_front.ensures.behind (image_size c.args.cells) (omega arith)) c.write_body.ensures.behind
+
+behind : (g : _) (c : After-write g) → Keeps (drop (image_size c.args.cells)) (g.B.Eeprom.chip c.args.bench.now) (g.B.Eeprom.chip c.write.new.self)
+behind g c =
+    let before = body_behind g (goal.at.After-write g c).After-write_body in
+    Keeps-then (drop (image_size c.args.cells)) (g.B.Eeprom.chip c.args.bench.now) (g.B.Eeprom.chip c.write_body.new.bench) (g.B.Eeprom.chip c.write.new.self) before
+    (behind-write 0 (image_size c.args.cells) _ (g.B.Eeprom.chip c.write_body.new.bench) (g.B.Eeprom.chip c.write.new.self) (omega arith) (omega (arith, ap (λ still. still.size) before.still)) (g.met.B.Eeprom.sized c.write_body.new.bench)
+    (g.met.B.Eeprom.clocked c.write_body.new.bench) c.write.ensures.writes)
+
+pub returns-in_err-write_body-clause-behind : goal.returns-in_err-write_body-clause-behind
+returns-in_err-write_body-clause-behind g c = body_behind g (goal.at.returns-in_err-write_body-clause-behind g c).After-write_body
+
+pub returns-in_err-write-clause-behind : goal.returns-in_err-write-clause-behind
+returns-in_err-write-clause-behind g c = behind g (goal.at.returns-in_err-write-clause-behind g c).After-write
+
+pub returns-clause-behind : goal.returns-clause-behind
+returns-clause-behind g c = behind g (goal.at.returns-clause-behind g c).After-write

@@ -1,18 +1,23 @@
-use Rattle.std.proofs.Common.{◌≡◌, ◌<◌, None, length, slice_index, ap, ◌∙◌, refl, arith, rules, subst}
+use Rattle.std.proofs.Common.{◌≡◌, ◌<◌, None, length, set, slice_index, drop, ap, ◌∙◌, refl, arith, rules, subst}
+use Rattle.std.specs.Vec.{vec_capacity}
 use Rattle.eeprom.specs.Chip.{Keeps}
-use Rattle.eeprom.specs.StoreOf.{store_of, cells_for}
+use Rattle.eeprom.specs.StoreOf.{store_of, cells_for, image_size}
 use Rattle.record_store.specs.Held.{Held}
 use Rattle.record_store.specs.Slots.{steps_without}
 use Rattle.record_store.specs.Sound.{IsSound}
+use Rattle.record_store.proofs.ChangedSlots.{entries-filled}
 use Rattle.record_store.proofs.Emptying.{empty-record, full-found, full-none, working-of}
 use Rattle.record_store.proofs.Filling.{Emptied, room-enough, filled-becomes, filled-keeps}
+use Rattle.record_store.proofs.InUse.{in_use-filled, in_use-kept}
+use Rattle.record_store.proofs.Keeping.{behind-marked}
 use Rattle.record_store.proofs.Putting.{put-over, put-within}
+use Rattle.record_store.proofs.Transacting.{touched-set, touched-kept}
 use Rattle.record_store.proofs.Weighing.{weighed-filled, weighed-failed}
 use Rattle.record_store.proofs.store.Store.put.Goals.{In-Some, After-as_slice, After-weight_without-weight, After-write_chain}
 use Rattle.record_store.proofs.store.Store.put.Goals as goal
 
 sound : (g : _) (c : After-as_slice g) → IsSound c.args.self.now
-sound g c = subst IsSound c.self.view_is c.self.invariant.sound
+sound g c = subst IsSound c.self.view_is c.self.invariant.weighed.sound
 
 working : (g : _) (c : After-as_slice g) → c.as_slice.result.now ≡ c.args.self.now.working
 working g c = working-of _ c.args.self.now c.as_slice.result.now c.self.view_is c.as_slice.ensures.value
@@ -49,7 +54,7 @@ returns-then-weight-count-clause-full g c = λ _.
 
 -- the store once the slot was emptied
 abbrev mid : (g : _) (c : After-write_chain g) → Held
-mid g c = record { chains = c.self-2.inside.chains; row_limit = c.self-2.inside.row_limit; committed = c.self-2.inside.committed.items; working = c.self-2.inside.working.items; begun = c.self-2.inside.begun }
+mid g c = record { chains = c.self-2.inside.chains; row_limit = c.self-2.inside.row_limit; committed = c.self-2.inside.committed.items; working = c.self-2.inside.working.items; begun = c.self-2.inside.begun; first_octets = c.self-2.inside.first_octets.items }
 
 -- there is room in it for the record
 emptied : (g : _) (c : After-write_chain g) → Emptied c.args.self.now (mid g c) c.remove.new.self.chains.used c.in-Some.slot c.weight_without-weight.result (cells_for (length c.args.octets.now))
@@ -58,7 +63,7 @@ emptied g c =
     let cells : c.self.inside.chains.cells ≡ c.args.self.now.chains.cells = ap (λ (held : Held). held.chains.cells) c.self.view_is in
     record {
       sound = sound g at.After-as_slice;
-      mid_sound = c.self-2.invariant.sound;
+      mid_sound = c.self-2.invariant.weighed.sound;
       is = c.self-2.view_is ∙ c.remove.ensures.emptied;
       fewer = c.remove.ensures.fewer;
       begun = c.requires.begun;
@@ -70,11 +75,23 @@ emptied g c =
 pub invariant_of-self : goal.invariant_of-self
 invariant_of-self g c =
     let at = (goal.at.invariant_of-self g c).After-write_chain in
-    rw (c.cells_for-count.ensures) (weighed-filled c.args.self.now (mid g at) c.remove.new.self.chains.used c.in-Some.slot c.weight_without-weight.result (cells_for (length c.args.octets.now)) c.in-Ok.first c.self-2.inside.committed_weight c.self-2.inside.working_weight c.write_chain.new.self
-    (emptied g at) c.in-Ok.ensures.takes c.self-2.invariant)
+    record {
+      weighed = rw (c.cells_for-count.ensures) (weighed-filled c.args.self.now (mid g at) c.remove.new.self.chains.used c.in-Some.slot c.weight_without-weight.result (cells_for (length c.args.octets.now)) c.in-Ok.first (slice_index c.args.octets.now 0)
+          c.self-2.inside.committed_weight c.self-2.inside.working_weight c.write_chain.new.self (emptied g at) c.in-Ok.ensures.takes c.self-2.invariant.weighed);
+      in_use = in_use-filled (mid g at) c.write_chain.new.self c.in-Some.slot c.in-Ok.first (slice_index c.args.octets.now 0) c.self-2.inside.slots_in_use _ c.in-Ok.ensures.takes.cells (omega arith) (omega arith)
+          (omega (arith, inside g (goal.at.After-write_chain g at).In-Some, ap (λ (held : Held). held.chains.cells) (emptied g at).is, c.self-2.invariant.in_use.most)) c.self-2.invariant.in_use;
+      transaction = touched-set (mid g at) c.write_chain.new.self (set (mid g at).first_octets c.in-Ok.first (slice_index c.args.octets.now 0)) c.in-Some.slot c.in-Ok.first c.self-2.inside.touched c.touch.new.self (vec_capacity c.self-2.inside.entries)
+          (ap (λ (held : Held). held.begun) (emptied g at).is ∙ c.requires.begun) c.in-Ok.ensures.takes.cells c.touch.ensures.slots c.touch.ensures.size c.self-2.invariant.transaction;
+    }
 
 pub invariant_of-self-in-Err-Fault : goal.invariant_of-self-in-Err-Fault
-invariant_of-self-in-Err-Fault g c = weighed-failed _ c.write_chain.new.self c.self-2.inside.committed_weight c.self-2.inside.working_weight c.self-2.invariant (c.in-Err-Fault.ensures.fault (search rules))
+invariant_of-self-in-Err-Fault g c =
+    let keeps = c.in-Err-Fault.ensures.fault (search rules) in
+    record {
+      weighed = weighed-failed _ c.write_chain.new.self c.self-2.inside.committed_weight c.self-2.inside.working_weight c.self-2.invariant.weighed keeps;
+      in_use = in_use-kept _ c.write_chain.new.self c.self-2.inside.slots_in_use keeps.cells c.self-2.invariant.in_use;
+      transaction = touched-kept _ c.write_chain.new.self c.self-2.inside.touched (vec_capacity c.self-2.inside.entries) keeps.cells c.self-2.invariant.transaction;
+    }
 
 pub unreachable-requires : goal.unreachable-requires
 unreachable-requires g c =
@@ -85,8 +102,8 @@ unreachable-requires g c =
 pub returns-in-Ok-clause-put : goal.returns-in-Ok-clause-put
 returns-in-Ok-clause-put g c =
     let at = (goal.at.returns-in-Ok-clause-put g c).After-write_chain in
-    filled-becomes c.args.self.now (mid g at) c.remove.new.self.chains.used c.in-Some.slot c.weight_without-weight.result (cells_for (length c.args.octets.now)) c.in-Ok.first c.write_chain.new.self c.args.octets.now
-    (g.B.Eeprom.chip c.args.bench.now).image (g.B.Eeprom.chip c.write_chain.new.bench).image (emptied g at) c.requires.over.stands c.in-Ok.ensures.takes c.in-Ok.ensures.written
+    filled-becomes c.args.self.now (mid g at) c.remove.new.self.chains.used c.in-Some.slot c.weight_without-weight.result (cells_for (length c.args.octets.now)) c.in-Ok.first (slice_index c.args.octets.now 0) c.write_chain.new.self c.args.octets.now
+    (g.B.Eeprom.chip c.args.bench.now).image (g.B.Eeprom.chip c.write_chain.new.bench).image (omega (arith, c.in-Ok.ensures.there, ap (λ (held : Held). held.chains.cells) (emptied g at).is)) refl (emptied g at) c.requires.over.stands c.in-Ok.ensures.takes c.in-Ok.ensures.written
 
 -- at each moment, also where the write failed
 moments : (g : _) (c : After-write_chain g) → Keeps store_of (g.B.Eeprom.chip c.args.bench.now) (g.B.Eeprom.chip c.write_chain.new.bench)
@@ -111,3 +128,24 @@ returns-in-Ok-clause-within g c =
     let cells : c.self.inside.chains.cells ≡ c.args.self.now.chains.cells = ap (λ (held : Held). held.chains.cells) c.self.view_is in
     put-within c.args.self.now c.in-Some.slot c.weight_without-weight.result c.args.octets.now (g.B.Eeprom.chip c.args.bench.now).image (sound g at.After-as_slice) c.requires.begun c.requires.over.stands (inside g at.In-Some)
     (weight g at.After-weight_without-weight) (omega (arith, c.if-weight-count.false, c.cells.ensures.number, cells, c.cells_for-count.ensures))
+
+pub returns-in-Ok-clause-entries : goal.returns-in-Ok-clause-entries
+returns-in-Ok-clause-entries g c =
+    let at = (goal.at.returns-in-Ok-clause-entries g c).After-write_chain in
+    entries-filled c.args.self.now (mid g at) c.write_chain.new.self (set (mid g at).first_octets c.in-Ok.first (slice_index c.args.octets.now 0)) c.in-Some.slot c.in-Ok.first c.remove.new.self.chains.used c.requires.begun (emptied g at).is
+
+behind : (g : _) (c : After-write_chain g) → Keeps (drop (image_size c.args.self.now.chains.cells)) (g.B.Eeprom.chip c.args.bench.now) (g.B.Eeprom.chip c.write_chain.new.bench)
+behind g c =
+    behind-marked c.self-2.inside.chains.used c.self-2.inside.chains.cells c.args.self.now.chains.cells (g.B.Eeprom.chip c.args.bench.now) (g.B.Eeprom.chip c.write_chain.new.bench)
+    (ap (λ (held : Held). held.chains.cells) (emptied g c).is) c.write_chain.ensures.moments
+
+pub returns-in-Ok-clause-behind : goal.returns-in-Ok-clause-behind
+returns-in-Ok-clause-behind g c = behind g (goal.at.returns-in-Ok-clause-behind g c).After-write_chain
+
+pub returns-in-Err-Fault-clause-behind : goal.returns-in-Err-Fault-clause-behind
+returns-in-Err-Fault-clause-behind g c = behind g (goal.at.returns-in-Err-Fault-clause-behind g c).After-write_chain
+
+pub touch-requires : goal.touch-requires
+touch-requires g c =
+    let at = goal.at.touch-requires g c in
+    record { inside = omega (arith, inside g at.In-Some, c.self-2.invariant.transaction.size, ap (λ (held : Held). held.chains.cells) (emptied g at.After-write_chain).is) }

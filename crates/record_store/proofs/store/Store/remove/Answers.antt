@@ -1,19 +1,23 @@
 use Rattle.std.proofs.Common.{◌≡◌, ◌<◌, ℕ, set, slice_index, ap, ◌∙◌, sym, refl, subst, arith, rules, true}
+use Rattle.std.specs.Vec.{vec_capacity}
 use Rattle.cell_store.proofs.Freeing.{link-read}
 use Rattle.record_store.specs.Held.{Held}
 use Rattle.record_store.specs.Slots.{steps_without}
 use Rattle.record_store.specs.Sound.{IsSound}
-use Rattle.record_store.specs.Weighed.{IsWeighed}
+use Rattle.record_store.specs.Kept.{IsKept}
 use Rattle.record_store.specs.declared.store.Store.TheInside.{Inside}
+use Rattle.record_store.proofs.ChangedSlots.{entries-emptied}
 use Rattle.record_store.proofs.Emptying.{removed-stands}
 use Rattle.record_store.proofs.Filling.{freed-sound, kept-sound}
+use Rattle.record_store.proofs.InUse.{in_use-emptied}
+use Rattle.record_store.proofs.Transacting.{touched-set}
 use Rattle.record_store.proofs.Weighing.{weighed-emptied}
 use Rattle.record_store.proofs.store.Store.remove.Goals.{then-first-index, else-first-index}
 use Rattle.record_store.proofs.store.Store.remove.Goals as goal
 
 -- what holds of a store whose slot is empty
-abbrev emptied_is_weighed : ℕ → ℕ → Inside → Type 0
-emptied_is_weighed slot weight inside = IsWeighed (record { chains = inside.chains; row_limit = inside.row_limit; committed = inside.committed.items; working = set inside.working.items slot 65535; begun = inside.begun }) inside.committed_weight weight
+abbrev emptied_is_kept : ℕ → ℕ → Inside → Type 0
+emptied_is_kept slot weight inside = IsKept (record { chains = inside.chains; row_limit = inside.row_limit; committed = inside.committed.items; working = set inside.working.items slot 65535; begun = inside.begun; first_octets = inside.first_octets.items }) inside.committed_weight weight inside.slots_in_use inside.touched (vec_capacity inside.entries)
 
 pub invariant_of-self : goal.invariant_of-self
 invariant_of-self c =
@@ -21,20 +25,31 @@ invariant_of-self c =
     let cells : c.self.inside.chains.cells ≡ c.args.self.now.chains.cells = ap (λ (held : Held). held.chains.cells) c.self.view_is in
     let inside : c.args.slot < c.self.inside.chains.cells = omega (arith, cells, c.requires.slot) in
     let first : c.index-first.result.now ≡ slice_index c.self.inside.working.items c.args.slot =
-    link-read c.self.inside.working.items c.self.inside.working.items c.args.slot c.index-first.result.now refl (omega (arith, cells, c.requires.slot, c.self.invariant.sound.working_count)) c.index-first.ensures in
+    link-read c.self.inside.working.items c.self.inside.working.items c.args.slot c.index-first.result.now refl (omega (arith, cells, c.requires.slot, c.self.invariant.weighed.sound.working_count)) c.index-first.ensures in
     let old : c.index.result.now ≡ slice_index c.self.inside.committed.items c.args.slot =
-    link-read c.self.inside.committed.items c.self.inside.committed.items c.args.slot c.index.result.now refl (omega (arith, cells, c.requires.slot, c.self.invariant.sound.committed_count)) c.index.ensures in
+    link-read c.self.inside.committed.items c.self.inside.committed.items c.args.slot c.index.result.now refl (omega (arith, cells, c.requires.slot, c.self.invariant.weighed.sound.committed_count)) c.index.ensures in
     let weight : c.weight_without-weight.result ≡ steps_without c.self.inside.chains.links c.self.inside.working.items c.args.slot =
     c.weight_without-weight.ensures.weight ∙ ap (λ (held : Held). steps_without held.chains.links held.working c.args.slot) (sym c.self.view_is) in
     elim c.if-first-index.branch [
-      | then-first-index w ↦ subst (emptied_is_weighed c.args.slot c.weight_without-weight.result) (sym w.self-inside-is)
-          (weighed-emptied _ c.self.inside.committed_weight c.self.inside.working_weight c.args.slot c.weight_without-weight.result w.free_chain.new.self c.self.invariant (freed-sound _ w.free_chain.new.self c.args.slot c.index-first.result.now c.self.invariant.sound begun inside first (λ same. w.if-first-index.true (same ∙ sym old)) w.free_chain.ensures.freed w.free_chain.ensures.cells w.free_chain.ensures.links
-          w.free_chain.ensures.count) begun inside w.free_chain.ensures.links weight)
-      | else-first-index w ↦ subst (emptied_is_weighed c.args.slot c.weight_without-weight.result) (sym w.self-inside-is)
-          (weighed-emptied _ c.self.inside.committed_weight c.self.inside.working_weight c.args.slot c.weight_without-weight.result c.self.inside.chains c.self.invariant
-          (kept-sound _ c.args.slot c.self.invariant.sound begun inside (sym first ∙ (w.if-first-index.false ∙ old))) begun inside refl weight)
+      | then-first-index w ↦ subst (emptied_is_kept c.args.slot c.weight_without-weight.result) (sym w.self-inside-is)
+          (record {
+            weighed = weighed-emptied _ c.self.inside.committed_weight c.self.inside.working_weight c.args.slot c.weight_without-weight.result w.free_chain.new.self c.self.invariant.weighed (freed-sound _ w.free_chain.new.self c.args.slot c.index-first.result.now c.self.invariant.weighed.sound begun inside first (λ same. w.if-first-index.true (same ∙ sym old)) w.free_chain.ensures.freed w.free_chain.ensures.cells w.free_chain.ensures.links
+                w.free_chain.ensures.count) begun inside w.free_chain.ensures.links weight;
+            in_use = in_use-emptied _ w.free_chain.new.self c.args.slot c.self.inside.slots_in_use w.free_chain.ensures.cells c.self.invariant.in_use;
+            transaction = touched-set _ w.free_chain.new.self c.self.inside.first_octets.items c.args.slot 65535 c.self.inside.touched c.touch.new.self (vec_capacity c.self.inside.entries) begun w.free_chain.ensures.cells c.touch.ensures.slots c.touch.ensures.size c.self.invariant.transaction;
+          })
+      | else-first-index w ↦ subst (emptied_is_kept c.args.slot c.weight_without-weight.result) (sym w.self-inside-is)
+          (record {
+            weighed = weighed-emptied _ c.self.inside.committed_weight c.self.inside.working_weight c.args.slot c.weight_without-weight.result c.self.inside.chains c.self.invariant.weighed
+                (kept-sound _ c.args.slot c.self.invariant.weighed.sound begun inside (sym first ∙ (w.if-first-index.false ∙ old))) begun inside refl weight;
+            in_use = in_use-emptied _ c.self.inside.chains c.args.slot c.self.inside.slots_in_use refl c.self.invariant.in_use;
+            transaction = touched-set _ c.self.inside.chains c.self.inside.first_octets.items c.args.slot 65535 c.self.inside.touched c.touch.new.self (vec_capacity c.self.inside.entries) begun refl c.touch.ensures.slots c.touch.ensures.size c.self.invariant.transaction;
+          })
     ]
 
 pub returns-clause-removed : goal.returns-clause-removed
 returns-clause-removed c = λ image stands.
-    removed-stands c.args.self.now _ c.args.slot c.if-first-index.self-inside.chains.used image (subst IsSound c.self.view_is c.self.invariant.sound) (invariant_of-self c).sound c.requires.begun c.requires.slot (search rules) (search rules) stands
+    removed-stands c.args.self.now _ c.args.slot c.if-first-index.self-inside.chains.used image (subst IsSound c.self.view_is c.self.invariant.weighed.sound) (invariant_of-self c).weighed.sound c.requires.begun c.requires.slot (search rules) (search rules) stands
+
+pub returns-clause-entries : goal.returns-clause-entries
+returns-clause-entries c = entries-emptied c.args.self.now _ c.args.slot c.if-first-index.self-inside.chains.used (invariant_of-self c).weighed.sound c.requires.begun (search rules)

@@ -1,11 +1,36 @@
-use Rattle.std.proofs.Common.{ap, ◌∙◌}
+use Rattle.std.proofs.Common.{ℕ, length, refl, ap, ◌∙◌}
+use Rattle.std.specs.Vec.{vec_capacity}
 use Rattle.record_store.specs.Held.{Held}
 use Rattle.record_store.proofs.Filling.{rollback-sound}
+use Rattle.record_store.proofs.InUse.{in_use-rolled_back}
+use Rattle.record_store.proofs.Transacting.{touched-slots, working-others, touched-rolled_back, sound-restored}
 use Rattle.record_store.proofs.Weighing.{weighed-rolled_back}
 use Rattle.record_store.proofs.store.Store.rollback.Goals as goal
 
 pub invariant_of-self : goal.invariant_of-self
 invariant_of-self c =
-    weighed-rolled_back _ c.free_replaced.new.cells c.self.inside.committed_weight c.self.inside.working_weight c.self.invariant c.free_replaced.ensures.links
-    (rollback-sound _ c.free_replaced.new.cells c.as_slice-replaced.result.now c.as_slice.result.now c.self.invariant.sound (ap (λ (held : Held). held.begun) c.self.view_is ∙ c.requires.begun) c.as_slice-replaced.ensures.value c.as_slice.ensures.value
-    c.free_replaced.ensures.cells c.free_replaced.ensures.links c.free_replaced.ensures.freed c.free_replaced.ensures.others c.free_replaced.ensures.fewer c.free_replaced.ensures.count)
+    let whole : Held = record { chains = c.self.inside.chains; row_limit = c.self.inside.row_limit; committed = c.self.inside.committed.items; working = c.self.inside.working.items; begun = c.self.inside.begun; first_octets = c.self.inside.first_octets.items } in
+    let same = c.copy_slots.ensures ∙ c.as_slice-committed.ensures.value in
+    record {
+      in_use = in_use-rolled_back whole c.free_replaced.new.cells _ c.self.inside.slots_in_use c.free_replaced.ensures.cells same c.self.invariant.in_use;
+      weighed = weighed-rolled_back whole c.free_replaced.new.cells _ c.self.inside.committed_weight c.self.inside.working_weight c.self.invariant.weighed c.free_replaced.ensures.links
+          (sound-restored whole c.free_replaced.new.cells _ same (rollback-sound whole c.free_replaced.new.cells c.as_slice.result.now c.as_slice-committed.result.now c.self.invariant.weighed.sound (ap (λ (held : Held). held.begun) c.self.view_is ∙ c.requires.begun) c.as_slice.ensures.value c.as_slice-committed.ensures.value
+          c.free_replaced.ensures.cells c.free_replaced.ensures.links c.free_replaced.ensures.freed c.free_replaced.ensures.others c.free_replaced.ensures.fewer c.free_replaced.ensures.count));
+      transaction = touched-rolled_back whole c.free_replaced.new.cells _ c.self.inside.touched c.clear.new.self (vec_capacity c.self.inside.entries) c.free_replaced.ensures.cells same c.clear.ensures.slots c.clear.ensures.size c.self.invariant.transaction;
+    }
+
+pub free_replaced-requires-clause-slots : goal.free_replaced-requires-clause-slots
+free_replaced-requires-clause-slots c =
+    touched-slots _ c.self.inside.touched _ c.as_slice.result.now c.slots-slots.result.now c.self.invariant.transaction c.slots-slots.ensures.are c.slots-slots.ensures.slots (ap (length {A = ℕ}) c.as_slice.ensures.value ∙ c.self.invariant.weighed.sound.working_count)
+
+pub free_replaced-requires-clause-others : goal.free_replaced-requires-clause-others
+free_replaced-requires-clause-others c =
+    working-others _ c.self.inside.touched _ c.slots-slots.result.now c.as_slice.result.now c.as_slice-committed.result.now c.self.invariant.transaction c.slots-slots.ensures.slots c.as_slice.ensures.value c.as_slice-committed.ensures.value
+
+pub copy_slots-requires-clause-slots : goal.copy_slots-requires-clause-slots
+copy_slots-requires-clause-slots c =
+    touched-slots _ c.self.inside.touched _ c.as_slice-committed.result.now c.slots-slots.result.now c.self.invariant.transaction c.slots-slots.ensures.are c.slots-slots.ensures.slots (ap (length {A = ℕ}) c.as_slice-committed.ensures.value ∙ c.self.invariant.weighed.sound.committed_count)
+
+pub copy_slots-requires-clause-others : goal.copy_slots-requires-clause-others
+copy_slots-requires-clause-others c =
+    working-others _ c.self.inside.touched _ c.slots-slots.result.now c.self.inside.working.items c.as_slice-committed.result.now c.self.invariant.transaction c.slots-slots.ensures.slots refl c.as_slice-committed.ensures.value

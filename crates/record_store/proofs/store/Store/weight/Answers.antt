@@ -14,17 +14,17 @@ weighed inside held = IsWeighed held inside.committed_weight inside.working_weig
 pub returns-in-Committed-clause-weight : goal.returns-in-Committed-clause-weight
 returns-in-Committed-clause-weight c = λ image slots stands there.
     let is : c.args.side ≡ Committed = cc in
-    weighed-is c.args.self.now c.self.inside.committed_weight c.self.inside.working_weight Committed (subst (weighed c.self.inside) c.self.view_is c.self.invariant) image slots stands
+    weighed-is c.args.self.now c.self.inside.committed_weight c.self.inside.working_weight Committed (subst (weighed c.self.inside) c.self.view_is c.self.invariant.weighed) image slots stands
     (subst (λ (side : Side). contents c.args.self.now side image ≡ Some slots) is there)
 
 pub returns-in-Working-clause-weight : goal.returns-in-Working-clause-weight
 returns-in-Working-clause-weight c = λ image slots stands there.
     let is : c.args.side ≡ Working = cc in
-    weighed-is c.args.self.now c.self.inside.committed_weight c.self.inside.working_weight Working (subst (weighed c.self.inside) c.self.view_is c.self.invariant) image slots stands
+    weighed-is c.args.self.now c.self.inside.committed_weight c.self.inside.working_weight Working (subst (weighed c.self.inside) c.self.view_is c.self.invariant.weighed) image slots stands
     (subst (λ (side : Side). contents c.args.self.now side image ≡ Some slots) is there)
 
 pub returns-in-Committed-clause-most : goal.returns-in-Committed-clause-most
-returns-in-Committed-clause-most c = weighed-most c.args.self.now c.self.inside.committed_weight c.self.inside.working_weight Committed (subst (weighed c.self.inside) c.self.view_is c.self.invariant)
+returns-in-Committed-clause-most c = weighed-most c.args.self.now c.self.inside.committed_weight c.self.inside.working_weight Committed (subst (weighed c.self.inside) c.self.view_is c.self.invariant.weighed)
 
 pub returns-in-Working-clause-most : goal.returns-in-Working-clause-most
-returns-in-Working-clause-most c = weighed-most c.args.self.now c.self.inside.committed_weight c.self.inside.working_weight Working (subst (weighed c.self.inside) c.self.view_is c.self.invariant)
+returns-in-Working-clause-most c = weighed-most c.args.self.now c.self.inside.committed_weight c.self.inside.working_weight Working (subst (weighed c.self.inside) c.self.view_is c.self.invariant.weighed)

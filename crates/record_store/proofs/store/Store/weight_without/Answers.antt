@@ -10,7 +10,7 @@ use Rattle.record_store.proofs.store.Store.weight_without.Goals.{After-length_of
 use Rattle.record_store.proofs.store.Store.weight_without.Goals as goal
 
 abbrev mine : After-length_of_chain → Held
-mine c = record { chains = c.self.inside.chains; row_limit = c.self.inside.row_limit; committed = c.self.inside.committed.items; working = c.self.inside.working.items; begun = c.self.inside.begun }
+mine c = record { chains = c.self.inside.chains; row_limit = c.self.inside.row_limit; committed = c.self.inside.committed.items; working = c.self.inside.working.items; begun = c.self.inside.begun; first_octets = c.self.inside.first_octets.items }
 
 -- the weight is that of the chain of the slot, and of the others
 parts : (c : After-length_of_chain) → c.self.inside.working_weight ≡ steps_without c.self.inside.chains.links c.self.inside.working.items c.args.slot + c.length_of_chain.result
@@ -19,11 +19,11 @@ parts c =
     let cells : c.self.inside.chains.cells ≡ c.args.self.now.chains.cells = ap (λ (held : Held). held.chains.cells) c.self.view_is in
     let inside : c.args.slot < c.self.inside.chains.cells = omega (arith, cells, c.requires.slot) in
     let first : c.index.result.now ≡ slice_index c.self.inside.working.items c.args.slot =
-    link-read c.self.inside.working.items c.self.inside.working.items c.args.slot c.index.result.now refl (omega (arith, inside, c.self.invariant.sound.working_count)) c.index.ensures in
-    omega (arith, weighed-without (mine c) c.self.inside.committed_weight c.self.inside.working_weight c.args.slot c.self.invariant begun inside, c.length_of_chain.ensures.length, ap (steps c.self.inside.chains.links longest_chain) first)
+    link-read c.self.inside.working.items c.self.inside.working.items c.args.slot c.index.result.now refl (omega (arith, inside, c.self.invariant.weighed.sound.working_count)) c.index.ensures in
+    omega (arith, weighed-without (mine c) c.self.inside.committed_weight c.self.inside.working_weight c.args.slot c.self.invariant.weighed begun inside, c.length_of_chain.ensures.length, ap (steps c.self.inside.chains.links longest_chain) first)
 
 most : (c : After-length_of_chain) → c.self.inside.working_weight ≤ c.args.self.now.chains.cells
-most c = omega (arith, weighed-most (mine c) c.self.inside.committed_weight c.self.inside.working_weight Working c.self.invariant, ap (λ (held : Held). held.chains.cells) c.self.view_is)
+most c = omega (arith, weighed-most (mine c) c.self.inside.committed_weight c.self.inside.working_weight Working c.self.invariant.weighed, ap (λ (held : Held). held.chains.cells) c.self.view_is)
 
 pub overflow_sub-result : goal.overflow_sub-result
 overflow_sub-result c = omega (arith, parts (goal.at.overflow_sub-result c).After-length_of_chain)

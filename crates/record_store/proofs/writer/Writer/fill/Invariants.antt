@@ -1,6 +1,6 @@
-use Rattle.std.proofs.Common.{◌≡◌, ◌≤◌, take, replicate}
+use Rattle.std.proofs.Common.{◌≡◌, ◌≤◌, ℕ, ◌+◌, take, drop, replicate}
 use Rattle.eeprom.specs.Chip.{Keeps}
-use Rattle.record_store.specs.Appends.{Appends}
+use Rattle.record_store.specs.Appends.{Appends, end_of}
 use Rattle.record_store.proofs.writer.Writer.fill.Given as goal
 
 abbrev pub invariant-loop-step : goal.invariant-loop-step
@@ -8,5 +8,6 @@ invariant-loop-step g l = record {
   appends : Appends (replicate l._step l.octet) l.initial.self l.self (g.B.Eeprom.chip l.initial.bench) (g.B.Eeprom.chip l.bench);
   behind : 4 ≤ l.self.at;
   front : Keeps (take 4) (g.B.Eeprom.chip l.initial.bench) (g.B.Eeprom.chip l.bench);
+  after : (limit : ℕ) → end_of l.initial.self + l.count ≤ limit → Keeps (drop limit) (g.B.Eeprom.chip l.initial.bench) (g.B.Eeprom.chip l.bench);
   faults : g.B.Eeprom.faults l.bench ≡ g.B.Eeprom.faults l.initial.bench;
 }

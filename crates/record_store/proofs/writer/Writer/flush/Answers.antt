@@ -1,6 +1,8 @@
-use Rattle.std.proofs.Common.{take}
+use Rattle.std.proofs.Common.{ℕ, ◌≤◌, take, drop}
 use Rattle.eeprom.specs.Chip.{Keeps}
+use Rattle.record_store.specs.Appends.{end_of}
 use Rattle.record_store.proofs.Fronts.{Keeps-write}
+use Rattle.record_store.proofs.Keeping.{behind-write}
 use Rattle.record_store.proofs.writer.Writer.flush.Goals.{After-write}
 use Rattle.record_store.proofs.writer.Writer.flush.Goals as goal
 
@@ -12,3 +14,13 @@ returns-in_err-write-clause-front g c = front g (goal.at.returns-in_err-write-cl
 
 pub returns-clause-front : goal.returns-clause-front
 returns-clause-front g c = front g (goal.at.returns-clause-front g c).After-write
+
+after : (g : _) (c : After-write g) (limit : ℕ) → end_of c.args.self.now ≤ limit → Keeps (drop limit) (g.B.Eeprom.chip c.args.bench.now) (g.B.Eeprom.chip c.write.new.self)
+after g c limit inside =
+    behind-write _ limit _ (g.B.Eeprom.chip c.args.bench.now) (g.B.Eeprom.chip c.write.new.self) (rw c.as_slice.ensures.value inside) (rw c.as_slice.ensures.value c.requires.room) (g.met.B.Eeprom.sized c.args.bench.now) (g.met.B.Eeprom.clocked c.args.bench.now) c.write.ensures.writes
+
+pub returns-in_err-write-clause-after : goal.returns-in_err-write-clause-after
+returns-in_err-write-clause-after g c = λ limit inside. after g (goal.at.returns-in_err-write-clause-after g c).After-write limit inside
+
+pub returns-clause-after : goal.returns-clause-after
+returns-clause-after g c = λ limit inside. after g (goal.at.returns-clause-after g c).After-write limit inside

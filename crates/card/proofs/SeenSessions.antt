@@ -1,0 +1,107 @@
+-- The sessions and the chains of a card, as the model sees them.
+use Rattle.std.proofs.Common.{◌≡◌, ℕ, zero, suc, Bool, true, false, List, [], ◌∷◌, length, Option, Some, None, is_some, refl, ap, sym, subst, ◌∙◌, arith}
+use Rattle.std.specs.Prelude.{IfSome, map, option_map, option_and_then, slice_get, slice_index_or, slice_set}
+use Rattle.std.specs.Option.{option_flatten}
+use Rattle.std.proofs.lemmas.Option.{none-some, same_Some}
+use Rattle.std.proofs.lemmas.Bool.{false≢true}
+use Rattle.record_store.specs.Held.{Held}
+use Rattle.apdu_chain.specs.Chaining.{chain_on}
+use Rattle.scql_model.specs.Machine as machine
+use Rattle.scql_model.specs.Machine.{Chain}
+use Rattle.card.specs.Card.{Kept}
+use Rattle.card.specs.Sessions.{session_seen, sessions_of, AreUnread, proved_stamp, proved_user}
+use Rattle.card.specs.Answering.{with_session_for}
+use Rattle.scql_base.specs.declared.cursor.Presented.{Presented}
+use Rattle.card.specs.declared.session.Session.{Session}
+
+-- which of four channels have a session
+pub four-sessions : (sessions : List (Option Session)) → length sessions ≡ 4
+    → is_some (slice_index_or sessions 0 None) ∷ is_some (slice_index_or sessions 1 None) ∷ is_some (slice_index_or sessions 2 None) ∷ is_some (slice_index_or sessions 3 None) ∷ []
+    ≡ map (λ (s : Option Session). is_some s) sessions
+four-sessions [] four = absurd cc
+four-sessions (first ∷ []) four = absurd cc
+four-sessions (first ∷ second ∷ []) four = absurd cc
+four-sessions (first ∷ second ∷ third ∷ []) four = absurd cc
+four-sessions (first ∷ second ∷ third ∷ fourth ∷ []) four = refl
+four-sessions (first ∷ second ∷ third ∷ fourth ∷ fifth ∷ rest) four = absurd (omega (arith, four))
+
+-- a channel with a session is open
+open-sessions : (sessions : List (Option Session)) (chains : List (Option Chain)) → length sessions ≡ length chains
+    → map (λ (s : Option Session). is_some s) sessions ≡ map (λ (s : Option machine.Session). is_some s) (sessions_of sessions chains)
+open-sessions [] chains same = refl
+open-sessions (session ∷ sessions) [] same = absurd cc
+open-sessions (None ∷ sessions) (chain ∷ chains) same = ap (λ rest. false ∷ rest) (open-sessions sessions chains cc)
+open-sessions (Some session ∷ sessions) (chain ∷ chains) same = ap (λ rest. true ∷ rest) (open-sessions sessions chains cc)
+
+-- nothing is read yet
+pub unread-sessions : (sessions : List (Option Session)) (chains : List (Option Chain)) → AreUnread (sessions_of sessions chains)
+unread-sessions [] chains = tt
+unread-sessions (session ∷ sessions) [] = tt
+unread-sessions (None ∷ sessions) (chain ∷ chains) = (tt, unread-sessions sessions chains)
+unread-sessions (Some session ∷ sessions) (chain ∷ chains) = (refl, unread-sessions sessions chains)
+
+-- the user of a session is the program's
+user-seen : (sessions : List (Option Session)) (chains : List (Option Chain)) (channel : ℕ) → length sessions ≡ length chains
+    → proved_user (option_flatten (slice_get (sessions_of sessions chains) channel)) ≡ option_and_then proved_stamp (option_and_then (λ (s : Session). s.user) (slice_index_or sessions channel None))
+user-seen [] chains channel same = refl
+user-seen (session ∷ sessions) [] channel same = absurd cc
+user-seen (None ∷ sessions) (chain ∷ chains) zero same = refl
+user-seen (Some session ∷ sessions) (chain ∷ chains) zero same = refl
+user-seen (session ∷ sessions) (chain ∷ chains) (suc channel) same = user-seen sessions chains channel cc
+
+-- the same of a card
+module _ (store : Held) (live : Bool) (sessions : List (Option Session)) (chains : List (Option Chain)) (card : Kept) (is : record { store = store; sessions = sessions_of sessions chains; live = live } ≡ card) where
+  pub open-card : length sessions ≡ length chains → map (λ (s : Option Session). is_some s) sessions ≡ map (λ (s : Option machine.Session). is_some s) card.sessions
+  open-card same = open-sessions sessions chains same ∙ ap (λ (kept : Kept). map (λ (s : Option machine.Session). is_some s) kept.sessions) is
+
+  pub user-card : length sessions ≡ length chains → (channel : ℕ) (session : Session) → slice_index_or sessions channel None ≡ Some session
+      → proved_user (option_flatten (slice_get card.sessions channel)) ≡ option_and_then proved_stamp session.user
+  user-card same channel session there =
+      ap (λ (kept : Kept). proved_user (option_flatten (slice_get kept.sessions channel))) (sym is)
+      ∙ (user-seen sessions chains channel same
+      ∙ ap (λ (s : Option Session). option_and_then proved_stamp (option_and_then (λ (s : Session). s.user) s)) there)
+
+  pub unread-card : AreUnread card.sessions
+  unread-card = subst (λ (kept : Kept). AreUnread kept.sessions) is (unread-sessions sessions chains)
+
+-- an open channel's session has the parts of its channel
+pub chain-seen : (sessions : List (Option Session)) (chains : List (Option Chain)) (channel : ℕ)
+    → slice_get (map (λ (s : Option machine.Session). is_some s) (sessions_of sessions chains)) channel ≡ Some true
+    → option_and_then (λ (s : machine.Session). s.chain) (option_flatten (slice_get (sessions_of sessions chains) channel)) ≡ chain_on chains channel
+chain-seen [] chains channel is = absurd (none-some true is)
+chain-seen (session ∷ sessions) [] channel is = absurd (none-some true is)
+chain-seen (None ∷ sessions) (chain ∷ chains) zero is = absurd (false≢true (same_Some _ true is))
+chain-seen (Some session ∷ sessions) (chain ∷ chains) zero is = refl
+chain-seen (session ∷ sessions) (chain ∷ chains) (suc channel) is = chain-seen sessions chains channel is
+
+-- What changes the parts of a channel changes them in its session.
+pub sessions_of-chain : (change : machine.Session → machine.Session) (next : Option Chain → Option Chain)
+    → ((chain : Option Chain) (s : Session) → session_seen (next chain) s ≡ change (session_seen chain s))
+    → (sessions : List (Option Session)) (chains : List (Option Chain)) (channel : ℕ)
+    → sessions_of sessions (slice_set chains channel (next (chain_on chains channel)))
+    ≡ slice_set (sessions_of sessions chains) channel (option_map change (option_flatten (slice_get (sessions_of sessions chains) channel)))
+sessions_of-chain change next seen [] chains channel = refl
+sessions_of-chain change next seen (session ∷ sessions) [] channel = refl
+sessions_of-chain change next seen (None ∷ sessions) (chain ∷ chains) zero = refl
+sessions_of-chain change next seen (Some session ∷ sessions) (chain ∷ chains) zero = ap (λ (s : machine.Session). Some s ∷ sessions_of sessions chains) (seen chain session)
+sessions_of-chain change next seen (session ∷ sessions) (chain ∷ chains) (suc channel) =
+    ap (λ rest. option_map (session_seen chain) session ∷ rest) (sessions_of-chain change next seen sessions chains channel)
+
+-- A new session of a channel has no parts.
+sessions_of-new : (sessions : List (Option Session)) (chains : List (Option Chain)) (channel : ℕ) (user : Option Presented)
+    → sessions_of (slice_set sessions channel (Some (record { user = user }))) (slice_set chains channel None) ≡ slice_set (sessions_of sessions chains) channel (Some (machine.session_for user))
+sessions_of-new [] chains channel user = refl
+sessions_of-new (session ∷ sessions) [] zero user = refl
+sessions_of-new (session ∷ sessions) [] (suc channel) user = refl
+sessions_of-new (session ∷ sessions) (chain ∷ chains) zero user = refl
+sessions_of-new (session ∷ sessions) (chain ∷ chains) (suc channel) user =
+    ap (λ rest. option_map (session_seen chain) session ∷ rest) (sessions_of-new sessions chains channel user)
+
+pub sessions_of-set : (store : Held) (live : Bool) (sessions : List (Option Session)) (chains left : List (Option Chain)) (channel : ℕ) (user : Option Presented) → (card : Kept)
+    → record { store = store; sessions = sessions_of sessions chains; live = live } ≡ card → left ≡ slice_set chains channel None
+    → record { store = store; sessions = sessions_of (slice_set sessions channel (Some (record { user = user }))) left; live = live } ≡ with_session_for card channel user
+sessions_of-set store live sessions chains left channel user card is ended =
+    let seen = λ (changed : List (Option machine.Session)). let kept : Kept = record { store = store; sessions = changed; live = live } in kept in
+    ap (λ (left : List (Option Chain)). seen (sessions_of (slice_set sessions channel (Some (record { user = user }))) left)) ended
+    ∙ (ap seen (sessions_of-new sessions chains channel user)
+    ∙ ap (λ (kept : Kept). with_session_for kept channel user) is)

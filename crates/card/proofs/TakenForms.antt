@@ -1,0 +1,222 @@
+-- What becomes of a card and its machine by what was taken of octets, before a command is carried out.
+use Rattle.std.proofs.Common.{◌≡◌, ℕ, ◌%◌, Bool, true, false, List, [], ◌∷◌, ◌++◌, Option, Some, None, is_some, Result, Ok, Err, ◌≤◌, refl, sym, ap, subst, ◌∙◌, if◌then◌else◌, inl, inr}
+use Rattle.std.specs.Prelude.{IfSome, map, slice_get, slice_set}
+use Rattle.eeprom.specs.Chip.{Chip}
+use Rattle.scql_base.specs.declared.words.StatusWord.{StatusWord}
+use Rattle.scql_base.specs.Words.{done, instruction_not_supported, channel_not_supported}
+use Rattle.scql_base.specs.declared.operation.Command.{Command}
+use Rattle.scql_base.specs.declared.operation.Line.{Line}
+use Rattle.scql_base.specs.declared.operation.OperationKind.{OperationKind}
+use Rattle.scql_model.specs.Refusals.{◌>>=◌, provided}
+use Rattle.scql_model.specs.Machine.{Machine, Session as Seen, Chain, open_channels, session_of}
+use Rattle.scql_model.specs.Sessions.{changing_session, command_chain, without_chain, with_part}
+use Rattle.scql_model.specs.Operations.{IsBuilt, built_operations, has_instruction, has_secrets, kind_of}
+use Rattle.scql_model.specs.Form.{Form, refused, refused_on, part_on, a_command, form_of, formed, formed_on, class_of, is_open, channel_asked, line_on, taken_in, is_chained, part_in, command_in, parts_of}
+use Rattle.scql_model.specs.Accepting.{channel_named, IsAsBefore}
+use Rattle.scql_model.specs.Bound.{octets_bound, octets_bound_by, octets_carried_out, octets_stepped, or_nothing}
+use Rattle.scql_model.specs.Database.{Database, IsValid}
+use Rattle.scql_model.specs.Opens.{Holds}
+use Rattle.scql_model.specs.Replies.{said}
+use Rattle.scql_model.specs.Step.{Answer, answered, done_with, carried_out, stepped, step_by, step}
+use Rattle.scql_model.proofs.FormedCommands.{bound, refused-not, kind-form_of, sound-built_operations}
+use Rattle.scql_model.proofs.FormedParts.{IfSome-read_on-named, read_on}
+use Rattle.apdu_chain.specs.declared.chains.Taken.TheVariants as taken
+use Rattle.apdu_chain.specs.Chaining.{chain_on, chains_after, taken_of}
+use Rattle.record_store.specs.Held.{Held}
+use Rattle.card.specs.Card.{Kept, IsAt}
+use Rattle.card.specs.Sessions.{sessions_of, AreUnread}
+use Rattle.card.specs.Answering.{IsDoneOrStays}
+use Rattle.card.specs.declared.session.Session.{Session}
+use Rattle.card.proofs.SeenSessions.{chain-seen, sessions_of-chain}
+use Rattle.card.proofs.UnreadSteps.{done_with-unread, DoneOrStays}
+
+-- the machine once octets were taken
+abbrev pub taken_at : Machine → Form → Machine
+taken_at m (refused word) = m
+taken_at m (refused_on channel word) = changing_session without_chain m channel
+taken_at m (part_on channel kind octets) = changing_session (with_part kind octets) m channel
+taken_at m (a_command c) = changing_session without_chain m c.channel
+
+-- what comes of them there
+abbrev pub outcome_of : Machine → Form → Result Answer StatusWord
+outcome_of m (refused word) = Err word
+outcome_of m (refused_on channel word) = Err word
+outcome_of m (part_on channel kind octets) = Ok (done_with m channel [])
+outcome_of m (a_command c) = carried_out m c
+
+stepped-taken : (m : Machine) (form : Form) → stepped m form ≡ answered (taken_at m form) (outcome_of (taken_at m form) form)
+stepped-taken m (refused word) = refl
+stepped-taken m (refused_on channel word) = refl
+stepped-taken m (part_on channel kind octets) = refl
+stepped-taken m (a_command c) = refl
+
+-- Sessions alone change.
+pub taken-committed : (m : Machine) (form : Form) → (taken_at m form).committed ≡ m.committed
+taken-committed m (refused word) = refl
+taken-committed m (refused_on channel word) = refl
+taken-committed m (part_on channel kind octets) = refl
+taken-committed m (a_command c) = refl
+
+pub taken-transaction : (m : Machine) (form : Form) → (taken_at m form).transaction ≡ m.transaction
+taken-transaction m (refused word) = refl
+taken-transaction m (refused_on channel word) = refl
+taken-transaction m (part_on channel kind octets) = refl
+taken-transaction m (a_command c) = refl
+
+taken-sessions : (sessions : List (Option Session)) (chains : List (Option Chain)) (m : Machine) (form : Form) → m.sessions ≡ sessions_of sessions chains
+    → (taken_at m form).sessions ≡ sessions_of sessions (chains_after chains form)
+taken-sessions sessions chains m form is = by_form form
+  where
+    seen : (change : Seen → Seen) (next : Option Chain → Option Chain) (channel : ℕ)
+        → sessions_of sessions (slice_set chains channel (next (chain_on chains channel))) ≡ (changing_session change (record m { sessions = sessions_of sessions chains }) channel).sessions
+        → (changing_session change m channel).sessions ≡ sessions_of sessions (slice_set chains channel (next (chain_on chains channel)))
+    seen change next channel changed = ap (λ (sessions : List (Option Seen)). (changing_session change (record m { sessions = sessions }) channel).sessions) is ∙ sym changed
+
+    by_form : (form : Form) → (taken_at m form).sessions ≡ sessions_of sessions (chains_after chains form)
+    by_form (refused word) = is
+    by_form (refused_on channel word) = seen without_chain (λ _. None) channel (sessions_of-chain without_chain (λ _. None) (λ chain s. refl) sessions chains channel)
+    by_form (a_command c) = seen without_chain (λ _. None) c.channel (sessions_of-chain without_chain (λ _. None) (λ chain s. refl) sessions chains c.channel)
+    by_form (part_on channel kind octets) =
+        let next = λ (chain : Option Chain). let more : Chain = record { operation = kind; parts = parts_of kind chain ++ octets ∷ [] } in Some more in
+        seen (with_part kind octets) next channel (sessions_of-chain (with_part kind octets) next (λ chain s. refl) sessions chains channel)
+
+-- a card at a machine is at the next one once octets were taken
+pub IsAt-taken : (store : Held) (live : Bool) (sessions : List (Option Session)) (chains after : List (Option Chain)) (card : Kept) (chip : Chip) (m : Machine) (form : Form) → IsAt card chip m
+    → record { store = store; sessions = sessions_of sessions chains; live = live } ≡ card → after ≡ chains_after chains form
+    → IsAt (record { store = store; sessions = sessions_of sessions after; live = live }) chip (taken_at m form)
+IsAt-taken store live sessions chains after card chip m form at seen is =
+    let was = subst (λ (kept : Kept). IsAt kept chip m) (sym seen) at in
+    record {
+      slots = was.slots;
+      committed = was.committed;
+      limit = ap (λ (db : Database). db.limit) (taken-committed m form) ∙ was.limit;
+      holds = subst (Holds was.slots) (sym (taken-committed m form)) was.holds;
+      valid = subst IsValid (sym (taken-committed m form)) was.valid;
+      transaction = taken-transaction m form ∙ was.transaction;
+      sessions = taken-sessions sessions chains m form was.sessions ∙ ap (sessions_of sessions) (sym is);
+    }
+
+-- the channel that a command asks for is open
+open-asked : (table : List Line) (cla ins : ℕ) (channels : List Bool) (channel : ℕ) → channel_asked table cla ins channels ≡ Ok channel → slice_get channels channel ≡ Some true
+open-asked table cla ins channels channel is =
+    bound (class_of cla) _ channel is (λ _ _ is.
+    bound (provided (has_instruction table ins) instruction_not_supported) _ channel is (λ _ _ is. go (slice_get channels (cla % 4)) refl is))
+  where
+    go : (told : Option Bool) → slice_get channels (cla % 4) ≡ told → (if is_open told then Ok (cla % 4) else Err channel_not_supported) ≡ Ok channel → slice_get channels channel ≡ Some true
+    go None at is = refused-not channel_not_supported channel is
+    go (Some false) at is = refused-not channel_not_supported channel is
+    go (Some true) at is = let same : cla % 4 ≡ channel = cc in subst (λ (n : ℕ). slice_get channels n ≡ Some true) same at
+
+-- What octets are depends on the chains of open channels alone.
+form_of-open : (table : List Line) (octets : List ℕ) (channels : List Bool) (chain other : ℕ → Option Chain) (limit : ℕ)
+    → ((channel : ℕ) → slice_get channels channel ≡ Some true → chain channel ≡ other channel)
+    → form_of table octets channels chain limit ≡ form_of table octets channels other limit
+unfolding form_of
+form_of-open table [] channels chain other limit same = refl
+form_of-open table (cla ∷ []) channels chain other limit same = refl
+form_of-open table (cla ∷ ins ∷ []) channels chain other limit same = refl
+form_of-open table (cla ∷ ins ∷ p1 ∷ []) channels chain other limit same = refl
+form_of-open table (cla ∷ ins ∷ p1 ∷ p2 ∷ after) channels chain other limit same =
+    go (channel_asked table cla ins channels) (λ channel is. same channel (open-asked table cla ins channels channel is))
+  where
+    read : Option Chain → ℕ → Result Form StatusWord
+    read chain channel =
+        line_on table channel ins p1 p2 >>= λ line. taken_in line.takes (is_chained cla) after >>= λ tail.
+        if is_chained cla then part_in channel line.kind (parts_of line.kind chain) tail else command_in (has_secrets table) channel line.kind limit (parts_of line.kind chain) tail
+
+    go : (r : Result ℕ StatusWord) → ((channel : ℕ) → r ≡ Ok channel → chain channel ≡ other channel)
+        → formed r (λ channel. read (chain channel) channel) ≡ formed r (λ channel. read (other channel) channel)
+    go (Err word) same = refl
+    go (Ok channel) same = ap (λ (chain : Option Chain). formed_on channel (read chain channel)) (same channel refl)
+
+-- What the machine reads is what is read with the card's open channels and chains.
+form-card : (card : Kept) (chip : Chip) (m : Machine) (octets : List ℕ) (channels : List Bool) (sessions : List (Option Session)) (chains : List (Option Chain)) (limit : ℕ) → IsAt card chip m
+    → channels ≡ map (λ (s : Option Seen). is_some s) card.sessions → card.sessions ≡ sessions_of sessions chains → limit ≡ card.store.row_limit
+    → form_of built_operations octets (open_channels m) (command_chain m) m.committed.limit ≡ form_of built_operations octets channels (chain_on chains) limit
+form-card card chip m octets channels sessions chains limit at are_open seen is =
+    let opened : open_channels m ≡ channels = ap (map (λ (s : Option Seen). is_some s)) at.sessions ∙ sym are_open in
+    form_of-open built_operations octets (open_channels m) (command_chain m) (chain_on chains) m.committed.limit (chain-at (at.sessions ∙ seen))
+    ∙ (ap (form_of built_operations octets (open_channels m) (chain_on chains)) (at.limit ∙ sym is)
+    ∙ ap (λ (channels : List Bool). form_of built_operations octets channels (chain_on chains) limit) opened)
+  where
+    chain-at : m.sessions ≡ sessions_of sessions chains → (channel : ℕ) → slice_get (open_channels m) channel ≡ Some true → command_chain m channel ≡ chain_on chains channel
+    chain-at is channel open' =
+        ap (λ (s : List (Option Seen)). command_chain (record m { sessions = s }) channel) is
+        ∙ chain-seen sessions chains channel (subst (λ (s : List (Option Seen)). slice_get (map (λ (s : Option Seen). is_some s) s) channel ≡ Some true) is open')
+
+-- The step to octets, from what was taken of them.
+pub step-taken : (card : Kept) (chip : Chip) (m : Machine) (octets : List ℕ) (channels : List Bool) (sessions : List (Option Session)) (chains : List (Option Chain)) (limit : ℕ) → IsAt card chip m
+    → channels ≡ map (λ (s : Option Seen). is_some s) card.sessions → card.sessions ≡ sessions_of sessions chains → limit ≡ card.store.row_limit
+    → (let form = form_of built_operations octets channels (chain_on chains) limit in step m octets ≡ answered (taken_at m form) (outcome_of (taken_at m form) form))
+unfolding step step_by
+step-taken card chip m octets channels sessions chains limit at are_open seen is =
+    ap (stepped m) (form-card card chip m octets channels sessions chains limit at are_open seen is)
+    ∙ stepped-taken m (form_of built_operations octets channels (chain_on chains) limit)
+
+-- How many octets are written for it at most.
+abbrev pub octets_taken : Machine → Form → ℕ
+octets_taken m (refused word) = 0
+octets_taken m (refused_on channel word) = 0
+octets_taken m (part_on channel kind octets) = 0
+octets_taken m (a_command c) = or_nothing (octets_carried_out m c)
+
+octets_stepped-taken : (m : Machine) (form : Form) → octets_stepped m form ≡ octets_taken (taken_at m form) form
+octets_stepped-taken m (refused word) = refl
+octets_stepped-taken m (refused_on channel word) = refl
+octets_stepped-taken m (part_on channel kind octets) = refl
+octets_stepped-taken m (a_command c) = refl
+
+pub bound-taken : (card : Kept) (chip : Chip) (m : Machine) (octets : List ℕ) (channels : List Bool) (sessions : List (Option Session)) (chains : List (Option Chain)) (limit : ℕ) → IsAt card chip m
+    → channels ≡ map (λ (s : Option Seen). is_some s) card.sessions → card.sessions ≡ sessions_of sessions chains → limit ≡ card.store.row_limit
+    → (let form = form_of built_operations octets channels (chain_on chains) limit in octets_bound m octets ≡ octets_taken (taken_at m form) form)
+unfolding octets_bound octets_bound_by
+bound-taken card chip m octets channels sessions chains limit at are_open seen is =
+    ap (octets_stepped m) (form-card card chip m octets channels sessions chains limit at are_open seen is)
+    ∙ octets_stepped-taken m (form_of built_operations octets channels (chain_on chains) limit)
+
+-- What comes of what was taken.
+pub taken-refused : (m : Machine) (form : Form) (word : StatusWord) → taken.Refused word ≡ taken_of form → outcome_of m form ≡ Err word
+taken-refused m (refused other) word is = cc
+taken-refused m (refused_on channel other) word is = cc
+taken-refused m (part_on channel kind octets) word is = absurd cc
+taken-refused m (a_command c) word is = absurd cc
+
+pub taken-kept : (m : Machine) (form : Form) → AreUnread m.sessions → taken.Kept ≡ taken_of form → outcome_of m form ≡ Ok (record { reply = said done; machine = m; commits = [] })
+taken-kept m (refused word) unread is = absurd cc
+taken-kept m (refused_on channel word) unread is = absurd cc
+taken-kept m (part_on channel kind octets) unread is = ap Ok (done_with-unread m channel [] unread)
+taken-kept m (a_command c) unread is = absurd cc
+
+taken-whole : (form : Form) (c : Command) → taken.Whole c ≡ taken_of form → form ≡ a_command c
+taken-whole (refused word) c is = absurd cc
+taken-whole (refused_on channel word) c is = absurd cc
+taken-whole (part_on channel kind octets) c is = absurd cc
+taken-whole (a_command other) c is = cc
+
+pub outcome-whole : (m : Machine) (form : Form) (c : Command) → taken.Whole c ≡ taken_of form → outcome_of m form ≡ carried_out m c
+outcome-whole m form c is = ap (outcome_of m) (taken-whole form c is)
+
+pub octets-whole : (m : Machine) (form : Form) (c : Command) → taken.Whole c ≡ taken_of form → octets_taken m form ≡ or_nothing (octets_carried_out m c)
+octets-whole m form c is = ap (octets_taken m) (taken-whole form c is)
+
+-- a command that was taken whole is of an operation that is built
+pub built-taken : (octets : List ℕ) (channels : List Bool) (chain : ℕ → Option Chain) (limit : ℕ) (c : Command) → limit ≤ 1020 → taken.Whole c ≡ taken_of (form_of built_operations octets channels chain limit)
+    → IsBuilt (kind_of c.operation)
+built-taken octets channels chain limit c most is =
+    kind-form_of built_operations octets channels chain limit c sound-built_operations most (taken-whole (form_of built_operations octets channels chain limit) c is)
+
+-- But for a part, octets leave the machine as before.
+as_before-taken : (m : Machine) (octets : List ℕ) (form : Form) → IfSome (read_on form) (λ channel. channel ≡ channel_named octets) → (taken.Kept ≡ taken_of form → ⊥)
+    → IsAsBefore m (channel_named octets) (taken_at m form)
+as_before-taken m octets (refused word) named whole = inl refl
+as_before-taken m octets (refused_on channel word) named whole = inr (ap (changing_session without_chain m) named)
+as_before-taken m octets (part_on channel kind part) named whole = absurd (whole refl)
+as_before-taken m octets (a_command c) named whole = inr (ap (changing_session without_chain m) named)
+
+pub done_or_stays-taken : (m : Machine) (octets : List ℕ) (channels : List Bool) (chain : ℕ → Option Chain) (limit : ℕ)
+    → (let form = form_of built_operations octets channels chain limit in (taken.Kept ≡ taken_of form → ⊥) → DoneOrStays (taken_at m form) (answered (taken_at m form) (outcome_of (taken_at m form) form))
+    → IsDoneOrStays m octets (answered (taken_at m form) (outcome_of (taken_at m form) form)))
+done_or_stays-taken m octets channels chain limit whole (inl is_done) = inl is_done
+done_or_stays-taken m octets channels chain limit whole (inr stays) =
+    let form = form_of built_operations octets channels chain limit in
+    inr (stays.0, subst (IsAsBefore m (channel_named octets)) (sym stays.1) (as_before-taken m octets form (IfSome-read_on-named built_operations octets channels chain limit) whole))

@@ -1,0 +1,123 @@
+-- What the operations that are built do at a machine of a card, whose sessions read nothing, and which has no transaction.
+use Rattle.std.proofs.Common.{◌≡◌, ℕ, zero, suc, List, [], ◌∷◌, Option, Some, None, Result, Ok, Err, refl, sym, ap, subst, ◌∙◌, ◌≤◌, inl, inr}
+use Rattle.std.specs.Prelude.{◌⊎◌, IfOk, IfSome, option_map, slice_get}
+use Rattle.std.specs.Option.{option_flatten}
+use Rattle.eeprom.specs.Chip.{Chip}
+use Rattle.scql_base.specs.declared.words.StatusWord.{StatusWord}
+use Rattle.scql_base.specs.declared.words.Actor.{Actor}
+use Rattle.scql_base.specs.declared.words.Profile.{Profile}
+use Rattle.scql_base.specs.declared.operation.Command.{Command}
+use Rattle.scql_base.specs.declared.operation.Operation.{Operation}
+use Rattle.scql_base.specs.declared.operation.Operation.TheVariants.{PresentUser, CreateUser}
+use Rattle.scql_base.specs.declared.operation.OperationKind.{OperationKind}
+use Rattle.scql_base.specs.declared.operation.OperationKind.TheVariants as kind
+use Rattle.scql_base.specs.Words.{done}
+use Rattle.scql_model.specs.Refusals.{◌>>=◌}
+use Rattle.scql_model.specs.Database.{Database}
+use Rattle.scql_model.specs.Machine.{Machine, Reading, Session, Transaction, session_of, base_of, base, actor}
+use Rattle.scql_model.specs.Sessions.{reading_so, without_pending, cursor_of}
+use Rattle.scql_model.specs.Transactions.{own_transaction}
+use Rattle.scql_model.specs.Operations.{IsBuilt, kind_of}
+use Rattle.scql_model.specs.Edits.{Edit}
+use Rattle.scql_model.specs.Changing.{edits_of, with_edits, change_of}
+use Rattle.scql_model.specs.Creating.{created}
+use Rattle.scql_model.specs.Replies.{said}
+use Rattle.scql_model.specs.Step.{Answer, answered, done_with, changed_to, changed, session_named, user_presented, carried_out}
+use Rattle.scql_model.proofs.ChangingSessions.{changing_session-same}
+use Rattle.scql_model.proofs.ChangeLaws.{change_of-CreateUser}
+use Rattle.scql_model.proofs.LastCommits.{of_outcome}
+use Rattle.card.specs.Card.{Kept, IsAt}
+use Rattle.card.proofs.BuiltLines.{IsBuilt-one}
+use Rattle.card.specs.Answering.{committed_at_once}
+use Rattle.card.specs.Sessions.{IsUnread, AreUnread}
+
+-- the session of a channel reads nothing
+unread-at : (sessions : List (Option Session)) (channel : ℕ) → AreUnread sessions → IfSome (option_flatten (slice_get sessions channel)) IsUnread
+unread-at [] channel are = tt
+unread-at (s ∷ sessions) zero are = are.0
+unread-at (s ∷ sessions) (suc channel) are = unread-at sessions channel are.1
+
+-- nothing is pending that could be dropped
+pub done_with-unread : (m : Machine) (channel : ℕ) (commits : List Database) → AreUnread m.sessions → done_with m channel commits ≡ record { reply = said done; machine = m; commits = commits }
+done_with-unread m channel commits are =
+    ap (λ (next : Machine). let answer : Answer = record { reply = said done; machine = next; commits = commits } in answer)
+    (changing_session-same without_pending m channel (same (session_of m channel) (unread-at m.sessions channel are)))
+  where
+    same : (s : Option Session) → IfSome s IsUnread → option_map without_pending s ≡ s
+    same None is = refl
+    same (Some s) is = ap (λ (reading : Reading). Some (reading_so (record { cursor = reading.cursor; pending = [] }) s)) is ∙ ap (λ (reading : Reading). Some (reading_so reading s)) (sym is)
+
+-- PRESENT USER and CREATE USER outside of a transaction.
+pub carried_out-presents : (m : Machine) (channel : ℕ) (name : List ℕ) (le : Option ℕ) → m.transaction ≡ None
+    → carried_out m (record { channel = channel; operation = PresentUser name; le = le }) ≡ user_presented m channel name
+carried_out-presents m channel name le none = rw none refl
+
+pub carried_out-creates : (m : Machine) (channel : ℕ) (name : List ℕ) (profile : Profile) (secret : List ℕ) (le : Option ℕ) → m.transaction ≡ None
+    → carried_out m (record { channel = channel; operation = CreateUser name profile secret; le = le }) ≡ changed m channel (CreateUser name profile secret)
+carried_out-creates m channel name profile secret le none = rw none refl
+
+-- what becomes of the machine by a change that is committed at once
+changed-outcome : (m : Machine) (channel : ℕ) (operation : Operation) → m.transaction ≡ None → AreUnread m.sessions
+    → changed m channel operation ≡ committed_at_once m (change_of (base m channel) (actor m channel) (cursor_of m channel) operation)
+unfolding change_of
+changed-outcome m channel operation none are = of_edits (edits_of (base m channel) (actor m channel) (cursor_of m channel) operation)
+  where
+    made : (edits : List Edit) (db : Database) → Ok (changed_to m channel edits db (own_transaction m.transaction channel)) ≡ committed_at_once m (Ok db)
+    made edits db = ap Ok (ap (λ (t : Option Transaction). changed_to m channel edits db (own_transaction t channel)) none ∙ done_with-unread (record m { committed = db }) channel (db ∷ []) are)
+
+    of_database : (edits : List Edit) (r : Result Database StatusWord)
+        → (r >>= λ (db : Database). Ok (changed_to m channel edits db (own_transaction m.transaction channel))) ≡ committed_at_once m r
+    of_database edits (Ok db) = made edits db
+    of_database edits (Err word) = refl
+
+    of_edits : (r : Result (List Edit) StatusWord)
+        → (r >>= λ (edits : List Edit). with_edits (base m channel) edits >>= λ (db : Database). Ok (changed_to m channel edits db (own_transaction m.transaction channel)))
+        ≡ committed_at_once m (r >>= λ (edits : List Edit). with_edits (base m channel) edits)
+    of_edits (Ok edits) = of_database edits (with_edits (base m channel) edits)
+    of_edits (Err word) = refl
+
+pub changed-creates : (card : Kept) (chip : Chip) (m : Machine) (channel : ℕ) (who : Actor) (name : List ℕ) (profile : Profile) (secret : List ℕ) → IsAt card chip m → AreUnread card.sessions
+    → who ≡ actor m channel → changed m channel (CreateUser name profile secret) ≡ committed_at_once m (created m.committed who name profile secret)
+changed-creates card chip m channel who name profile secret at are is =
+    changed-outcome m channel (CreateUser name profile secret) at.transaction (subst AreUnread (sym at.sessions) are)
+    ∙ ap (committed_at_once m) (change_of-CreateUser (base m channel) (actor m channel) (cursor_of m channel) name profile secret ∙ outside)
+  where
+    outside : created (base m channel) (actor m channel) name profile secret ≡ created m.committed who name profile secret
+    outside =
+        ap (λ (t : Option Transaction). created (base_of t m.committed channel) (actor m channel) name profile secret) at.transaction
+        ∙ ap (λ (who : Actor). created m.committed who name profile secret) (sym is)
+
+-- An operation that is built is done, or leaves the machine and commits nothing.
+abbrev SaysDone : Answer → Type 0
+SaysDone answer = answer.reply.word ≡ done
+
+abbrev pub DoneOrStays : Machine → Answer → Type 0
+DoneOrStays m answer = SaysDone answer ⊎ ((answer.commits ≡ []) × (answer.machine ≡ m))
+
+done-answered : (m : Machine) (outcome : Result Answer StatusWord) → IfOk outcome SaysDone → DoneOrStays m (answered m outcome)
+done-answered m (Ok answer) is = inl is
+done-answered m (Err word) is = inr (refl, refl)
+
+done-changed : (m : Machine) (channel : ℕ) (operation : Operation) → IfOk (changed m channel operation) SaysDone
+done-changed m channel operation =
+    of_outcome SaysDone (edits_of (base m channel) (actor m channel) (cursor_of m channel) operation) _ (λ edits.
+    of_outcome SaysDone (with_edits (base m channel) edits) _ (λ db. made edits db (own_transaction m.transaction channel)))
+  where
+    made : (edits : List Edit) (db : Database) (t : Option Transaction) → SaysDone (changed_to m channel edits db t)
+    made edits db None = refl
+    made edits db (Some t) = refl
+
+done-carried_out : (m : Machine) (channel : ℕ) (operation : Operation) (le : Option ℕ) → m.transaction ≡ None → IsBuilt (kind_of operation)
+    → IfOk (carried_out m (record { channel = channel; operation = operation; le = le })) SaysDone
+done-carried_out m channel (PresentUser name) le none built =
+    subst (λ (o : Result Answer StatusWord). IfOk o SaysDone) (sym (carried_out-presents m channel name le none)) (of_outcome SaysDone (session_named (base m channel) name) _ (λ session. refl))
+done-carried_out m channel (CreateUser name profile secret) le none built =
+    subst (λ (o : Result Answer StatusWord). IfOk o SaysDone) (sym (carried_out-creates m channel name profile secret le none)) (done-changed m channel (CreateUser name profile secret))
+done-carried_out m channel operation le none built = absurd (not_other (IsBuilt-one (kind_of operation) built))
+  where
+    not_other : (kind_of operation ≡ kind.PresentUser) ⊎ (kind_of operation ≡ kind.CreateUser) → ⊥
+    not_other (inl is) = absurd cc
+    not_other (inr is) = absurd cc
+
+pub carried_out-done : (m : Machine) (c : Command) → m.transaction ≡ None → IsBuilt (kind_of c.operation) → DoneOrStays m (answered m (carried_out m c))
+carried_out-done m c none built = done-answered m (carried_out m c) (done-carried_out m c.channel c.operation c.le none built)

@@ -1,0 +1,22 @@
+-- With which database a run begins that makes its card, or finds it there.
+use Rattle.std.proofs.Common.{ℕ, List}
+use Rattle.eeprom.specs.Image.{overwrite}
+use Rattle.card.specs.Card.{fresh_card}
+use Rattle.card_cli.proofs.Preparing.{begins-new, began-new, begins-there, leaves-there}
+use Rattle.card_cli.proofs.opening.prepare.Goals as goal
+
+pub returns-in-New-clause-begins : goal.returns-in-New-clause-begins
+returns-in-New-clause-begins g c =
+    begins-new c.format.result (g.B.Eeprom.chip c.args.bench.now) (g.B.Eeprom.chip c.format.new.bench) c.args.form c.in-New.cells (λ (image : List ℕ). overwrite image 0 (fresh_card c.in-New.cells)) c.in-New.is
+    c.format.ensures.image c.format.ensures.fresh
+
+pub returns-in-New-clause-began : goal.returns-in-New-clause-began
+returns-in-New-clause-began g c =
+    began-new c.format.result _ (g.B.Eeprom.chip c.args.bench.now) (g.B.Eeprom.chip c.format.new.bench) c.args.form c.in-New.cells (λ (image : List ℕ). overwrite image 0 (fresh_card c.in-New.cells)) c.in-New.is
+    c.format.ensures.image c.format.ensures.too_small
+
+pub returns-in-Apdu-clause-began : goal.returns-in-Apdu-clause-began
+returns-in-Apdu-clause-began g c = λ db opens. (db, begins-there c.args.form (g.B.Eeprom.chip c.args.bench.now) db c.in-Apdu.is opens)
+
+pub returns-in-Apdu-clause-leaves : goal.returns-in-Apdu-clause-leaves
+returns-in-Apdu-clause-leaves g c = leaves-there c.args.form (g.B.Eeprom.chip c.args.bench.now) c.in-Apdu.is

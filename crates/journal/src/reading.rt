@@ -1,0 +1,78 @@
+// The journal of an image, read where it is in range.
+ghost use Rattle.std.specs.Prelude.{◌≡◌, ◌+◌, ◌*◌, ◌≤◌, ◌<◌, true, false, length, IfSome, IfOk, OnOk, IsErrOf};
+ghost use Rattle.std.specs.List.{list_all};
+ghost use Rattle.eeprom.specs.Chip.{Becomes, RisesAtMost, RisesBy};
+ghost use Rattle.eeprom.specs.Frame.{HasRoom, Reads};
+ghost use Rattle.eeprom.specs.StoreOf.{is_entry, is_in_range, number_at, entries_at, journal_place};
+ghost use Rattle.journal.specs.Faults.{is_replay_fault};
+ghost use Rattle.journal.specs.Redo.{HasJournal};
+
+use crate::ReplayRefusal;
+use crate::octets::{Entries, LARGEST_ENTRIES, are_entries, take_entries};
+use eeprom::{Eeprom, journal_place};
+
+/// Makes these the entries of the journal, where it is in range.
+pub fn read_journal<B: Eeprom>(
+    bench: &mut B,
+    cells: u16,
+    entries: &mut Entries,
+) -> Result<(), ReplayRefusal>
+    requires many { cells ≤ 2048 }
+    requires room { HasRoom cells (B.chip bench.old) }
+    ensures journal { OnOk result (IfSome (B.chip bench.old).image (HasJournal cells entries.new.items)) }
+    ensures few { OnOk result (length entries.new.items ≤ cells) }
+    ensures range { OnOk result (list_all (is_entry cells) entries.new.items ≡ true) }
+    ensures bad_journal { IsErrOf result ReplayRefusal.BadJournal → IfSome (B.chip bench.old).image (λ image. is_in_range image cells ≡ false) }
+    ensures octets_read { Becomes (RisesAtMost (2 + 4 * cells)) (B.octets_read bench.old) (B.octets_read bench.new) }
+    ensures frame { Reads is_replay_fault B.chip B.faults bench.old bench.new result }
+{
+    let count = read_count(bench, cells)?;
+    read_entries(bench, cells, count, entries)
+}
+
+/// Reads how many entries the journal has, where they are at most as many as there are slots.
+fn read_count<B: Eeprom>(bench: &mut B, cells: u16) -> Result<u16, ReplayRefusal>
+    requires room { HasRoom cells (B.chip bench.old) }
+    ensures count { IfOk result (λ count. IfSome (B.chip bench.old).image (λ image. count ≡ number_at image (journal_place cells))) }
+    ensures few { IfOk result (λ count. count ≤ cells) }
+    ensures bad_journal { IsErrOf result ReplayRefusal.BadJournal
+        → IfSome (B.chip bench.old).image (λ image. cells < number_at image (journal_place cells)) }
+    ensures octets_read { Becomes (RisesBy 2) (B.octets_read bench.old) (B.octets_read bench.new) }
+    ensures frame { Reads is_replay_fault B.chip B.faults bench.old bench.new result }
+{
+    let mut number = [0; 2];
+    bench.read(journal_place(cells), &mut number)?;
+    let count = u16::from_be_bytes(number);
+    if count > cells {
+        return Err(ReplayRefusal::BadJournal);
+    }
+    Ok(count)
+}
+
+/// Reads so many entries of the journal, where each is in range.
+fn read_entries<B: Eeprom>(
+    bench: &mut B,
+    cells: u16,
+    count: u16,
+    entries: &mut Entries,
+) -> Result<(), ReplayRefusal>
+    requires many { cells ≤ 2048 }
+    requires few { count ≤ cells }
+    requires room { HasRoom cells (B.chip bench.old) }
+    ensures entries { OnOk result (IfSome (B.chip bench.old).image (λ image. entries.new.items ≡ entries_at image (journal_place cells + 2) count)) }
+    ensures count { OnOk result (length entries.new.items ≡ count) }
+    ensures range { OnOk result (list_all (is_entry cells) entries.new.items ≡ true) }
+    ensures bad_journal { IsErrOf result ReplayRefusal.BadJournal
+        → IfSome (B.chip bench.old).image (λ image. list_all (is_entry cells) (entries_at image (journal_place cells + 2) count) ≡ false) }
+    ensures octets_read { Becomes (RisesBy (4 * count)) (B.octets_read bench.old) (B.octets_read bench.new) }
+    ensures frame { Reads is_replay_fault B.chip B.faults bench.old bench.new result }
+{
+    let mut octets = [0; LARGEST_ENTRIES];
+    let octets = &mut octets[..4 * count as usize];
+    bench.read(journal_place(cells) + 2, octets)?;
+    take_entries(octets, count, entries);
+    if !are_entries(entries.as_slice(), cells) {
+        return Err(ReplayRefusal::BadJournal);
+    }
+    Ok(())
+}

@@ -1,0 +1,82 @@
+// The slots that a transaction touched: each once, without a look at all slots of the store.
+ghost use Rattle.std.specs.Prelude.{◌≡◌, ◌≤◌, ◌<◌, ℕ, [], true, false, length, IfOk};
+ghost use Rattle.cell_store.specs.Chains.{is_among};
+ghost use Rattle.cell_store.specs.Marks.{is_marked};
+ghost use Rattle.record_store.specs.Touched.{none_touched, with_touched, AreSlots};
+
+use std::alloc::{AllocError, Global};
+use std::marker::Model;
+
+/// Slots of a store, each once.
+#[derive(Drop)]
+pub struct Touched {
+    slots: Vec<u16>,
+    /// Of each slot of the store whether it is one of them.
+    marks: Vec<bool>,
+}
+
+impl Model for Touched {
+    ghost use Rattle.std.specs.Prelude.{length};
+    ghost use Rattle.std.specs.Vec.{vec_capacity};
+    ghost use Rattle.record_store.specs.Touched.{TouchedSlots, AreMarkedOnce};
+
+    ghost Value = { TouchedSlots };
+
+    ghost view = { λ touched. record { slots = touched.slots.items; size = length touched.marks.items } };
+
+    ghost invariant = { λ touched. AreMarkedOnce touched.slots.items touched.marks.items (vec_capacity touched.slots) };
+}
+
+impl Touched {
+    /// None of so many slots. All memory that is needed is taken here.
+    pub fn with_room(alloc: Global, size: u16) -> Result<Touched, AllocError>
+        requires few { size ≤ 2048 }
+        ensures { IfOk result (λ touched. touched ≡ none_touched size) }
+    {
+        Ok(Touched {
+            slots: Vec::with_capacity(alloc, size as usize)?,
+            marks: vec![in alloc; false; size as usize]?,
+        })
+    }
+
+    pub fn slots(&self) -> &[u16]
+        ensures slots { result.now ≡ self.now.slots }
+        ensures are { AreSlots self.now.size self.now.slots }
+    {
+        self.slots.as_slice()
+    }
+
+    /// Touches a slot.
+    pub fn touch(&mut self, slot: u16)
+        requires inside { slot < self.old.size }
+        ensures slots { self.new.slots ≡ with_touched self.old.slots slot }
+        ensures size { self.new.size ≡ self.old.size }
+    {
+        let marked = self.marks[slot as usize];
+        if marked {
+            return;
+        }
+        self.marks[slot as usize] = true;
+        self.slots.push_reserved(slot);
+    }
+
+    /// Forgets all slots.
+    pub fn clear(&mut self)
+        ensures slots { self.new.slots ≡ [] }
+        ensures size { self.new.size ≡ self.old.size }
+    {
+        unmark(self.slots.as_slice(), &mut self.marks);
+        self.slots.clear();
+    }
+}
+
+/// Marks these slots no more, which are all that are marked.
+fn unmark(slots: &[u16], marks: &mut Vec<bool>)
+    requires marked { (slot : ℕ) → is_marked marks.old.items slot ≡ is_among slot slots.now }
+    ensures none { (slot : ℕ) → is_marked marks.new.items slot ≡ false }
+    ensures count { length marks.new.items ≡ length marks.old.items }
+{
+    for slot in slots {
+        marks[*slot as usize] = false;
+    }
+}

@@ -1,0 +1,12 @@
+-- What isn't read is no record of the kind, and what is read costs its cells at most.
+use Rattle.record_table.proofs.SlotReads.{none-unmarked, reads-marked}
+use Rattle.record_table.proofs.entry.read_entry.Goals as goal
+
+pub returns-then-not-is_marked-clause-value : goal.returns-then-not-is_marked-clause-value
+returns-then-not-is_marked-clause-value g c =
+    none-unmarked g.R.Record.kind c.args.store.now c.args.side c.args.slot (g.B.Eeprom.chip c.args.bench.now).image c.is_marked.result g.met.R.Record.lawful c.requires.over.stands c.is_marked.ensures c.if-not-is_marked.true
+
+pub returns-then-branch-clause-octets_read : goal.returns-then-branch-clause-octets_read
+returns-then-branch-clause-octets_read g c =
+    reads-marked g.R.Record.kind c.args.store.now c.args.side c.args.slot (g.B.Eeprom.chip c.args.bench.now).image c.is_marked.result _ _ _ c.requires.over.stands c.is_marked.ensures c.if-not-is_marked.false
+    c.in_ok-get.ensures.found c.in_ok-get.ensures.octets_read

@@ -1,0 +1,75 @@
+-- The answer of all slots is that of those that are left, slot by slot.
+use Rattle.std.proofs.Common.{◌≡◌, ◌+◌, false, Some, Option, refl, sym, ◌∙◌}
+use Rattle.std.specs.Prelude.{IfSome}
+use Rattle.std.specs.List.{find}
+use Rattle.eeprom.specs.StoreOf.{Slots}
+use Rattle.record_table.specs.Listed.{in_slots, slots_of}
+use Rattle.record_table.proofs.ListedSearches.{found-listed, some-listed}
+use Rattle.record_table.proofs.Scan.{empty-told, left-all, left-behind, left-known, left-empty, passed_over, reads-none, reads-behind, reads-all}
+use Rattle.record_table.proofs.finding.find_by.Goals as goal
+use Rattle.record_table.proofs.finding.find_by.Goals.{in-Some+else-is, in_default}
+
+pub loop-slot-init : goal.loop-slot-init
+loop-slot-init g c =
+    let slots : Option Slots = slots_of c.args.store.now c.args.side (g.B.Eeprom.chip c.args.bench.now) in
+    record {
+      same = refl;
+      faults = refl;
+      bound = c.slots_in_use-slot-end.ensures.most;
+      empty = empty-told c.args.store.now c.args.side c.slots_in_use-slot-end.result (g.B.Eeprom.chip c.args.bench.now).image c.requires.over.stands c.slots_in_use-slot-end.ensures.empty;
+      left = left-all g.R.Record.kind (find (g.W.Wanted.wants c.args.wanted.now)) slots;
+      read = reads-none g.R.Record.kind slots (g.B.Eeprom.octets_read c.args.bench.now);
+    }
+
+pub returns-then-is-clause-first : goal.returns-then-is-clause-first
+returns-then-is-clause-first g c =
+    let slots : Option Slots = slots_of c.args.store.now c.args.side (g.B.Eeprom.chip c.args.bench.now) in
+    let here = rw c.loop-slot.invariant.same at (rw c.in-Some.is at c.in_ok-value.ensures.value) in
+    left-known g.R.Record.kind (λ slots. find (g.W.Wanted.wants c.args.wanted.now) (in_slots g.R.Record.kind slots)) (find (g.W.Wanted.wants c.args.wanted.now)) slots c.loop-slot.slot (Some c.in-Some.value) (Some c.in-Some.value) here
+    (λ rest. rw (sym c.is.ensures ∙ c.if-is.true) refl) c.loop-slot.invariant.left
+
+pub returns-then-is-clause-some : goal.returns-then-is-clause-some
+returns-then-is-clause-some g c =
+    some-listed g.R.Record.kind (g.W.Wanted.wants c.args.wanted.now) (Some c.in-Some.value) (slots_of c.args.store.now c.args.side (g.B.Eeprom.chip c.args.bench.now)) (returns-then-is-clause-first g c)
+
+pub returns-then-is-clause-found : goal.returns-then-is-clause-found
+returns-then-is-clause-found g c =
+    found-listed g.R.Record.kind (g.W.Wanted.wants c.args.wanted.now) (Some c.in-Some.value) (slots_of c.args.store.now c.args.side (g.B.Eeprom.chip c.args.bench.now)) (returns-then-is-clause-first g c)
+
+pub returns-then-is-clause-octets_read : goal.returns-then-is-clause-octets_read
+returns-then-is-clause-octets_read g c =
+    let slots : Option Slots = slots_of c.args.store.now c.args.side (g.B.Eeprom.chip c.args.bench.now) in
+    let here = rw c.loop-slot.invariant.same at c.in_ok-value.ensures.octets_read in
+    reads-all g.R.Record.kind slots (c.loop-slot.slot + 1) _ _ (reads-behind g.R.Record.kind slots c.loop-slot.slot _ _ _ c.loop-slot.invariant.read here)
+
+pub loop-slot-preserved : goal.loop-slot-preserved
+loop-slot-preserved g c =
+    let slots : Option Slots = slots_of c.args.store.now c.args.side (g.B.Eeprom.chip c.args.bench.now) in
+    let here = rw c.loop-slot.invariant.same at c.in_ok-value.ensures.value in
+    let fails : IfSome c.in_ok-value.field-0 (λ x. g.W.Wanted.wants c.args.wanted.now x ≡ false) =
+    elim c.match-branch-2.branch [
+      | in-Some+else-is w ↦ rw w.in-Some.is (sym w.is.ensures ∙ w.if-is.false)
+      | in_default w ↦ rw w.in_default.is tt
+    ] in
+    record {
+      same = c.in_ok-value.ensures.frame.same ∙ c.loop-slot.invariant.same;
+      faults = c.in_ok-value.ensures.frame.counts.1 ∙ c.loop-slot.invariant.faults;
+      bound = c.loop-slot.invariant.bound;
+      empty = c.loop-slot.invariant.empty;
+      left = left-behind g.R.Record.kind (λ slots. find (g.W.Wanted.wants c.args.wanted.now) (in_slots g.R.Record.kind slots)) (find (g.W.Wanted.wants c.args.wanted.now)) (find (g.W.Wanted.wants c.args.wanted.now)) slots
+          c.loop-slot.slot c.in_ok-value.field-0 here (passed_over (g.W.Wanted.wants c.args.wanted.now) c.in_ok-value.field-0 fails) c.loop-slot.invariant.left;
+      read = reads-behind g.R.Record.kind slots c.loop-slot.slot _ _ _ c.loop-slot.invariant.read (rw c.loop-slot.invariant.same at c.in_ok-value.ensures.octets_read);
+    }
+
+pub returns-clause-first : goal.returns-clause-first
+returns-clause-first g c =
+    left-empty g.R.Record.kind (λ slots. find (g.W.Wanted.wants c.args.wanted.now) (in_slots g.R.Record.kind slots)) (find (g.W.Wanted.wants c.args.wanted.now))
+    (slots_of c.args.store.now c.args.side (g.B.Eeprom.chip c.args.bench.now)) c.slots_in_use-slot-end.result c.loop-slot.slot c.loop-slot-test.false c.loop-slot.invariant.empty c.loop-slot.invariant.left
+
+pub returns-clause-some : goal.returns-clause-some
+returns-clause-some g c =
+    some-listed g.R.Record.kind (g.W.Wanted.wants c.args.wanted.now) _ (slots_of c.args.store.now c.args.side (g.B.Eeprom.chip c.args.bench.now)) (returns-clause-first g c)
+
+pub returns-clause-found : goal.returns-clause-found
+returns-clause-found g c =
+    found-listed g.R.Record.kind (g.W.Wanted.wants c.args.wanted.now) _ (slots_of c.args.store.now c.args.side (g.B.Eeprom.chip c.args.bench.now)) (returns-clause-first g c)

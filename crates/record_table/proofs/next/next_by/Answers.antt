@@ -1,0 +1,69 @@
+-- The nearest of all slots is the nearest of one so far and those that are left, slot by slot.
+use Rattle.std.proofs.Common.{◌≡◌, ◌<◌, List, Option, Some, None, refl, sym, ◌∙◌, arith}
+use Rattle.std.specs.Prelude.{IfSome, option_map, filter}
+use Rattle.std.specs.List.{cons_option}
+use Rattle.eeprom.specs.StoreOf.{Slots}
+use Rattle.eeprom.specs.Slots.{nearest_from}
+use Rattle.record_table.specs.Listed.{in_slots, at_slot, slots_of}
+use Rattle.record_table.proofs.ListedSearches.{next-listed}
+use Rattle.record_table.proofs.Scan.{empty-told, left-all, left-behind, left-empty, nearest-passed, nearest-taken, one_of_both, reads-none, reads-behind}
+use Rattle.record_table.proofs.next.next_by.Goals as goal
+use Rattle.record_table.proofs.next.next_by.Goals.{in-Some+then-is, in-Some+else-is, in_default}
+
+pub loop-slot-init : goal.loop-slot-init
+loop-slot-init g c =
+    let slots : Option Slots = slots_of c.args.store.now c.args.side (g.B.Eeprom.chip c.args.bench.now) in
+    record {
+      same = refl;
+      faults = refl;
+      bound = c.slots_in_use-slot-end.ensures.most;
+      empty = empty-told c.args.store.now c.args.side c.slots_in_use-slot-end.result (g.B.Eeprom.chip c.args.bench.now).image c.requires.over.stands c.slots_in_use-slot-end.ensures.empty;
+      there = tt;
+      at = tt;
+      left = left-all g.R.Record.kind (λ rest. nearest_from g.R.Record.kind.key c.args.stamp None (filter (g.W.Wanted.wants c.args.wanted.now) rest)) slots;
+      read = reads-none g.R.Record.kind slots (g.B.Eeprom.octets_read c.args.bench.now);
+    }
+
+pub loop-slot-preserved : goal.loop-slot-preserved
+loop-slot-preserved g c =
+    let slots : Option Slots = slots_of c.args.store.now c.args.side (g.B.Eeprom.chip c.args.bench.now) in
+    let here = rw c.loop-slot.invariant.same at c.in_ok-value.ensures.value in
+    let within : c.loop-slot.slot < c.args.store.now.chains.cells = omega (arith, c.loop-slot.invariant.bound, c.loop-slot-test.true) in
+    let key = g.R.Record.kind.key in
+    let wants = g.W.Wanted.wants c.args.wanted.now in
+    let step : (rest : List g.row.R.Denot) → nearest_from key c.args.stamp (option_map (λ near. near.value) c.loop-slot.nearest) (filter wants (cons_option c.in_ok-value.field-0 rest))
+    ≡ nearest_from key c.args.stamp (option_map (λ near. near.value) c.match-branch-2.nearest) (filter wants rest) =
+    elim c.match-branch-2.branch [
+      | in-Some+then-is w ↦ λ rest. rw (w.in-Some.is, w.nearest-is) (nearest-taken key c.args.stamp wants _ w.in-Some.value _ (sym w.is.ensures ∙ w.if-is.true) w.nearer_of-nearest.ensures.nearer rest)
+      | in-Some+else-is w ↦ λ rest. rw (w.in-Some.is, w.nearest-is) (nearest-passed key c.args.stamp wants _ w.in-Some.value (sym w.is.ensures ∙ w.if-is.false) rest)
+      | in_default w ↦ λ rest. rw (w.in_default.is, w.nearest-is) refl
+    ] in
+    record {
+      same = c.in_ok-value.ensures.frame.same ∙ c.loop-slot.invariant.same;
+      faults = c.in_ok-value.ensures.frame.counts.1 ∙ c.loop-slot.invariant.faults;
+      bound = c.loop-slot.invariant.bound;
+      empty = c.loop-slot.invariant.empty;
+      there = elim c.match-branch-2.branch [
+        | in-Some+then-is w ↦ rw w.nearest-is (one_of_both c.loop-slot.nearest _ w.nearer_of-nearest.result (λ near. near.slot < c.args.store.now.chains.cells) w.nearer_of-nearest.ensures.either c.loop-slot.invariant.there within)
+        | in-Some+else-is w ↦ rw w.nearest-is c.loop-slot.invariant.there
+        | in_default w ↦ rw w.nearest-is c.loop-slot.invariant.there
+      ];
+      at = elim c.match-branch-2.branch [
+        | in-Some+then-is w ↦
+            rw w.nearest-is (one_of_both c.loop-slot.nearest _ w.nearer_of-nearest.result (λ near. IfSome slots (λ slots. Some near.value ≡ at_slot g.R.Record.kind near.slot slots)) w.nearer_of-nearest.ensures.either c.loop-slot.invariant.at
+            (rw w.in-Some.is at here))
+        | in-Some+else-is w ↦ rw w.nearest-is c.loop-slot.invariant.at
+        | in_default w ↦ rw w.nearest-is c.loop-slot.invariant.at
+      ];
+      left = left-behind g.R.Record.kind (λ slots. nearest_from key c.args.stamp None (filter wants (in_slots g.R.Record.kind slots)))
+          (λ rest. nearest_from key c.args.stamp (option_map (λ near. near.value) c.loop-slot.nearest) (filter wants rest)) (λ rest. nearest_from key c.args.stamp (option_map (λ near. near.value) c.match-branch-2.nearest) (filter wants rest)) slots c.loop-slot.slot c.in_ok-value.field-0 here step c.loop-slot.invariant.left;
+      read = reads-behind g.R.Record.kind slots c.loop-slot.slot _ _ _ c.loop-slot.invariant.read (rw c.loop-slot.invariant.same at c.in_ok-value.ensures.octets_read);
+    }
+
+pub returns-clause-next : goal.returns-clause-next
+returns-clause-next g c =
+    let slots : Option Slots = slots_of c.args.store.now c.args.side (g.B.Eeprom.chip c.args.bench.now) in
+    next-listed g.R.Record.kind c.args.stamp (g.W.Wanted.wants c.args.wanted.now) _ slots
+    (left-empty g.R.Record.kind (λ slots. nearest_from g.R.Record.kind.key c.args.stamp None (filter (g.W.Wanted.wants c.args.wanted.now) (in_slots g.R.Record.kind slots)))
+    (λ rest. nearest_from g.R.Record.kind.key c.args.stamp (option_map (λ near. near.value) c.loop-slot.nearest) (filter (g.W.Wanted.wants c.args.wanted.now) rest)) slots c.slots_in_use-slot-end.result c.loop-slot.slot
+    c.loop-slot-test.false c.loop-slot.invariant.empty c.loop-slot.invariant.left)

@@ -1,0 +1,49 @@
+// The record of one slot, if it is of a kind.
+ghost use Rattle.std.specs.Prelude.{◌≡◌, ◌<◌, ◌*◌, ℕ, List, None, IfOk, IfSome, slice_index_or};
+ghost use Rattle.eeprom.specs.Chip.{Becomes, RisesAtMost};
+ghost use Rattle.eeprom.specs.Fault.{each_error};
+ghost use Rattle.eeprom.specs.Frame.{Reads};
+ghost use Rattle.eeprom.specs.StoreOf.{cell_size};
+ghost use Rattle.record_store.specs.Held.{IsOver, StandsFor, record_at};
+ghost use Rattle.record_table.specs.Listed.{at_slot, own_cells, slots_of};
+ghost use Rattle.record_table.specs.Listed as listed;
+
+use crate::Marked;
+use eeprom::{Eeprom, EepromFault};
+use record_store::{RecordOctets, Side, Store};
+
+/// The record of a slot, if it is of the kind. A record with another first octet isn't read.
+pub(crate) fn read_entry<R: Marked, B: Eeprom>(
+    store: &Store,
+    bench: &mut B,
+    side: Side,
+    slot: u16,
+    octets: &mut RecordOctets,
+) -> Result<Option<R>, EepromFault>
+    requires over { IsOver store.now (B.chip bench.old) }
+    requires slot { slot < store.now.chains.cells }
+    ensures value { IfOk result (λ value. IfSome (slots_of store.now side (B.chip bench.old)) (λ slots. value ≡ at_slot R.kind slot slots)) }
+    ensures octets_read { IfOk result (λ _. IfSome (slots_of store.now side (B.chip bench.old))
+        (λ slots. Becomes (RisesAtMost (cell_size * own_cells R.kind (slice_index_or slots slot None))) (B.octets_read bench.old) (B.octets_read bench.new))) }
+    ensures frame { Reads each_error B.chip B.faults bench.old bench.new result }
+{
+    if !is_marked::<R>(store, side, slot) {
+        return Ok(None);
+    }
+    if store.get(bench, side, slot, octets)? {
+        Ok(R::decode(octets.as_slice()))
+    } else {
+        Ok(None)
+    }
+}
+
+// Whether the first octet of a slot's record is a mark of the kind.
+fn is_marked<R: Marked>(store: &Store, side: Side, slot: u16) -> bool
+    requires { slot < store.now.chains.cells }
+    ensures { (image : List ℕ) → StandsFor store.now image → result ≡ listed.is_marked R.kind (record_at store.now side slot image) }
+{
+    match store.kind(side, slot) {
+        Some(octet) => R::has_mark(octet),
+        None => false,
+    }
+}

@@ -1,0 +1,18 @@
+//! Records of any kind in the slots of a store: finding, adding, changing and removing them, once for all kinds.
+#![tactic(auto)]
+
+mod changing;
+mod entry;
+mod finding;
+mod marked;
+mod next;
+mod wanted;
+
+pub use changing::{add, change, remove};
+pub use finding::{find_by, find_stamp};
+pub use marked::Marked;
+pub use next::{next_after, next_by};
+pub use wanted::{Any, Stamped, Wanted};
+
+#[cfg(test)]
+mod tests;

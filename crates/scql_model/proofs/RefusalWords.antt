@@ -1,0 +1,361 @@
+-- Refusals have other words than 6282 and 63CX, and so has what neither reads nor compares a secret.
+use Rattle.std.proofs.Common.{◌≡◌, ◌≤◌, ◌<◌, ◌+◌, ◌==◌, ◌/◌, ◌%◌, ℕ, zero, suc, Bool, true, false, ◌&&◌, ◌||◌, nat_le, nat_lt, List, [], ◌∷◌, ◌++◌, length, map, Option, Some, None, Result, Ok, Err, not, is_some, if◌then◌else◌, refl, ap, arith, lit≤}
+use Rattle.std.specs.Prelude.{slice_get}
+use Rattle.std.specs.List.{list_any, concat}
+use Rattle.std.specs.Result.{result_ok}
+use Rattle.std.specs.Str.{bytes_eq}
+use Rattle.std.proofs.lemmas.Bool.{leb-true, ltb-true, le-leb}
+use Rattle.scql_base.specs.declared.words.StatusWord.{StatusWord}
+use Rattle.scql_base.specs.declared.words.Actor.{Actor}
+use Rattle.scql_base.specs.declared.cursor.Cursor.{Cursor}
+use Rattle.scql_base.specs.declared.condition.Condition.{Condition}
+use Rattle.scql_base.specs.declared.records.User.{User}
+use Rattle.scql_base.specs.declared.records.Object.{Object}
+use Rattle.scql_base.specs.declared.records.ObjectKind.{ObjectKind}
+use Rattle.scql_base.specs.declared.records.ObjectKind.TheVariants.{Table, View, Dictionary}
+use Rattle.scql_base.specs.declared.operation.Line.{Line}
+use Rattle.scql_base.specs.declared.operation.Takes.{Takes}
+use Rattle.scql_base.specs.declared.operation.Operation.{Operation}
+use Rattle.scql_base.specs.declared.operation.Operation.TheVariants.{CreateTable, CreateView, CreateDictionary, DropTable, DropView, Grant, Revoke, Insert, Update, Delete, CreateUser, DeleteUser}
+use Rattle.scql_base.specs.Row.{row_size}
+use Rattle.scql_base.specs.Words.{done, end_reached, in_four_bits, tries_left, in_sw2, more_left, wrong_le, wrong_length, wrong_data, wrong_parameters, class_not_supported, secure_messaging_not_supported, instruction_not_supported, chaining_not_supported, channel_not_supported, conditions_not_satisfied, function_not_supported, not_found, record_not_found, security_not_satisfied, already_exists, no_space}
+use Rattle.scql_model.specs.Refusals.{◌>>=◌, or_refused, provided}
+use Rattle.scql_model.specs.Database.{Database, public_name, user_named, is_table, are_among}
+use Rattle.scql_model.specs.Rules.{may_have_view}
+use Rattle.scql_model.specs.Matching.{Columns, Values}
+use Rattle.scql_model.specs.Machine.{Machine, Transaction, Chain, new_session, session_for, base, actor}
+use Rattle.scql_model.specs.Sessions.{cursor_of, presented, is_channel_open, least_closed, without_user}
+use Rattle.scql_model.specs.Transactions.{own_transaction}
+use Rattle.scql_model.specs.Operations.{has_instruction, has_secrets, is_for_channel, line_of, comes_in_parts}
+use Rattle.scql_model.specs.Parameters.{operation_in}
+use Rattle.scql_model.specs.Form.{Form, refused, refused_on, part_on, a_command, Tail, class_of, is_chained, is_open, channel_of, channel_asked, line_on, tail_of, taken_in, parts_of, formed_on, formed, part_in, command_in, takes_case, is_case_3, data_in, form_of}
+use Rattle.scql_model.specs.Objects.{columns_of}
+use Rattle.scql_model.specs.ReadingCommands.{rest_word, fitting, wanted_of, named_among}
+use Rattle.scql_model.specs.Moves.{selected, is_opened, opened, rows_under}
+use Rattle.scql_model.specs.Rights.{select_privilege, insert_privilege, update_privilege, delete_privilege, owns, holds, seen_named, seen_stamped}
+use Rattle.scql_model.specs.Edits.{Edit, applied}
+use Rattle.scql_model.specs.Defining.{makes_objects, of_kind, is_table_or_view, has_view, new_object, owned_by, named_anew, object_created, view_created, table_dropped, view_dropped}
+use Rattle.scql_model.specs.Granting.{grantee_named, grant_to, privileges_granted, privileges_revoked}
+use Rattle.scql_model.specs.Writing.{Assignment, record_at_cursor, row_after, written_through, row_inserted, row_updated, row_deleted}
+use Rattle.scql_model.specs.Creating.{may_create, is_taken, user_added}
+use Rattle.scql_model.specs.Users.{owns_user, is_needed, user_deleted}
+use Rattle.scql_base.specs.declared.words.Profile.{Profile}
+use Rattle.scql_model.specs.Changing.{edits_of, lacks_room, with_edits}
+use Rattle.scql_model.specs.Step.{Answer, changed_to, changed, user_and_sessions_deleted, session_named, channel_opened, channel_closed}
+use Rattle.scql_model.proofs.FormedCommands.{refused-not}
+
+-- Numbers of words.
+pub four_bits : (n : ℕ) → in_four_bits n ≤ 15
+four_bits n = go (nat_lt n 16) refl
+  where
+    go : (b : Bool) → nat_lt n 16 ≡ b → (if b then n else 15) ≤ 15
+    go true is = omega (arith, ltb-true n 16 is)
+    go false is = omega arith
+
+pub one_octet : (n : ℕ) → in_sw2 n ≤ 255
+one_octet n = go (nat_lt n 256) refl
+  where
+    go : (b : Bool) → nat_lt n 256 ≡ b → (if b then n else 0) ≤ 255
+    go true is = omega (arith, ltb-true n 256 is)
+    go false is = omega arith
+
+abbrev pub number : StatusWord → ℕ
+number w = w.word
+
+-- neither 6282 nor 63CX
+abbrev pub IsPlain : StatusWord → Type 0
+IsPlain w = (w ≡ end_reached → ⊥) × ((n : ℕ) → w ≡ tries_left n → ⊥)
+
+pub plain-high : (w : StatusWord) → 25552 ≤ w.word → IsPlain w
+plain-high w high = (λ is. omega (arith, high, ap number is), λ n is. omega (arith, high, ap number is, four_bits n))
+
+pub plain-low : (w : StatusWord) → w.word < 25218 → IsPlain w
+plain-low w low = (λ is. omega (arith, low, ap number is), λ n is. omega (arith, low, ap number is, four_bits n))
+
+pub plain-done : IsPlain done
+plain-done = plain-high done (lit≤ tt)
+
+pub plain-rest : (rest : List ℕ) → IsPlain (rest_word rest)
+plain-rest [] = plain-done
+plain-rest (octet ∷ octets) = plain-low (more_left (length (octet ∷ octets))) (omega (arith, one_octet (length (octet ∷ octets))))
+
+pub end-not_try : (n : ℕ) → end_reached ≡ tries_left n → ⊥
+end-not_try n is = omega (arith, ap number is)
+
+-- the words of refusals
+abbrev pub Refuses : StatusWord → Type 0
+Refuses w = nat_le 25600 w.word ≡ true
+
+pub plain-refusal : (w : StatusWord) → Refuses w → IsPlain w
+plain-refusal w is = plain-high w (omega (arith, leb-true 25600 w.word is))
+
+pub refuses-wrong_le : (n : ℕ) → Refuses (wrong_le n)
+refuses-wrong_le n = le-leb 25600 (27648 + in_sw2 n) (omega arith)
+
+-- An outcome is so, or a refusal.
+abbrev pub Gives : {A : Type 0} → (A → Type 0) → Result A StatusWord → Type 0
+Gives P (Ok x) = P x
+Gives P (Err word) = Refuses word
+
+abbrev pub Anything : {A : Type 0} → A → Type 0
+Anything x = Unit {0}
+
+pub behind : {A B : Type 0} (P : B → Type 0) (r : Result A StatusWord) (f : A → Result B StatusWord) → Gives Anything r → ((x : A) → r ≡ Ok x → Gives P (f x)) → Gives P (r >>= f)
+behind P (Ok x) f gives each = each x refl
+behind P (Err word) f gives each = gives
+
+pub or_word : {A : Type 0} (o : Option A) (word : StatusWord) → Refuses word → Gives Anything (or_refused o word)
+or_word None word is = is
+or_word (Some x) word is = tt
+
+pub if_word : (test : Bool) (word : StatusWord) → Refuses word → Gives Anything (provided test word)
+if_word true word is = tt
+if_word false word is = is
+
+-- what is asked of a command, and what there has to be
+pub asked : {B : Type 0} (P : B → Type 0) (test : Bool) (word : StatusWord) (f : Unit {0} → Result B StatusWord) → Refuses word → Gives P (f tt) → Gives P (provided test word >>= f)
+asked P true word f is gives = gives
+asked P false word f is gives = is
+
+pub there : {A B : Type 0} (P : B → Type 0) (o : Option A) (word : StatusWord) (f : A → Result B StatusWord) → Refuses word → ((x : A) → Gives P (f x)) → Gives P (or_refused o word >>= f)
+there P None word f is each = is
+there P (Some x) word f is each = each x
+
+-- Reading.
+pub gives-selected : (db : Database) (actor : Actor) (o : Object) → Gives Anything (selected db actor o)
+gives-selected db actor o = asked Anything (holds db actor o select_privilege) security_not_satisfied _ refl tt
+
+pub gives-rows : (db : Database) (actor : Actor) (c : Cursor) → Gives Anything (rows_under db actor c)
+gives-rows db actor c =
+    behind Anything (or_refused (seen_stamped db actor c.object) not_found) _ (or_word (seen_stamped db actor c.object) not_found refl) (λ o _.
+    behind Anything (selected db actor o) _ (gives-selected db actor o) (λ _ _. tt))
+
+pub gives-opened : (cursor : Option Cursor) → Gives Anything (opened cursor)
+gives-opened cursor =
+    behind Anything (or_refused cursor conditions_not_satisfied) _ (or_word cursor conditions_not_satisfied refl) (λ c _.
+    behind Anything (provided (is_opened c.place) conditions_not_satisfied) _ (if_word (is_opened c.place) conditions_not_satisfied refl) (λ _ _. tt))
+
+pub opened-is : (cursor : Option Cursor) (c : Cursor) → opened cursor ≡ Ok c → cursor ≡ Some c
+opened-is None c is = refused-not conditions_not_satisfied c is
+opened-is (Some d) c is = go (is_opened d.place) is
+  where
+    go : (b : Bool) → (provided b conditions_not_satisfied >>= λ _. Ok d) ≡ Ok c → Some d ≡ Some c
+    go true is = ap result_ok is
+    go false is = refused-not conditions_not_satisfied c is
+
+pub gives-fitting : (le : ℕ) (octets : List ℕ) → Gives Anything (fitting le octets)
+gives-fitting le octets = go (nat_le (length octets) le || le == 256)
+  where
+    go : (b : Bool) → Gives Anything (if b then Ok octets else Err (wrong_le (length octets)))
+    go true = tt
+    go false = refuses-wrong_le (length octets)
+
+pub gives-named_among : (columns named : Columns) (conditions : List Condition) → Gives Anything (named_among columns named conditions)
+gives-named_among columns named conditions = if_word (are_among named columns && are_among (map (λ (c : Condition). c.column) conditions) columns) not_found refl
+
+-- Changing commands.
+pub gives-owned_by : (actor : Actor) (found : Option Object) → Gives Anything (owned_by actor found)
+gives-owned_by actor found = there Anything found not_found _ refl (λ o. asked Anything (owns actor o) security_not_satisfied _ refl tt)
+
+pub gives-named_anew : (db : Database) (o : Object) → Gives Anything (named_anew db o)
+gives-named_anew db o = asked Anything (not (list_any (λ (other : Object). bytes_eq o.name other.name) db.objects)) already_exists _ refl tt
+
+pub gives-object_created : (db : Database) (actor : Actor) (name : List ℕ) (kind : ObjectKind) → Gives Anything (object_created db actor name kind)
+unfolding object_created
+gives-object_created db actor name kind = asked Anything (makes_objects actor) security_not_satisfied _ refl (gives-named_anew db (new_object db actor name kind))
+
+pub gives-view_created : (db : Database) (actor : Actor) (name base_name : List ℕ) (columns : Columns) (conditions : List Condition) → Gives Anything (view_created db actor name base_name columns conditions)
+unfolding view_created
+gives-view_created db actor name base_name columns conditions =
+    asked Anything (makes_objects actor) security_not_satisfied _ refl
+    (behind Anything (owned_by actor (of_kind is_table_or_view (seen_named db actor base_name))) _ (gives-owned_by actor (of_kind is_table_or_view (seen_named db actor base_name))) (λ o _.
+    asked Anything (may_have_view db.objects o) conditions_not_satisfied _ refl
+    (behind Anything (named_among (columns_of o.kind) columns conditions) _ (gives-named_among (columns_of o.kind) columns conditions) (λ _ _.
+    gives-named_anew db (new_object db actor name (View o.stamp (wanted_of (columns_of o.kind) columns) conditions))))))
+
+pub gives-table_dropped : (db : Database) (actor : Actor) (name : List ℕ) → Gives Anything (table_dropped db actor name)
+unfolding table_dropped
+gives-table_dropped db actor name =
+    behind Anything (owned_by actor (of_kind is_table (seen_named db actor name))) _ (gives-owned_by actor (of_kind is_table (seen_named db actor name))) (λ o _.
+    asked Anything (not (has_view db o)) conditions_not_satisfied _ refl tt)
+
+pub gives-view_dropped : (db : Database) (actor : Actor) (name : List ℕ) → Gives Anything (view_dropped db actor name)
+unfolding view_dropped
+gives-view_dropped db actor name =
+    behind Anything (owned_by actor (of_kind (λ kind. not (is_table kind)) (seen_named db actor name))) _ (gives-owned_by actor (of_kind (λ kind. not (is_table kind)) (seen_named db actor name))) (λ o _.
+    asked Anything (not (has_view db o)) conditions_not_satisfied _ refl tt)
+
+pub gives-granted : (db : Database) (actor : Actor) (privileges : ℕ) (name grantee : List ℕ) → Gives Anything (privileges_granted db actor privileges name grantee)
+unfolding privileges_granted
+gives-granted db actor privileges name grantee =
+    behind Anything (owned_by actor (seen_named db actor name)) _ (gives-owned_by actor (seen_named db actor name)) (λ o _.
+    there Anything (grantee_named db grantee) not_found _ refl (λ _. tt))
+
+pub gives-revoked : (db : Database) (actor : Actor) (privileges : ℕ) (name grantee : List ℕ) → Gives Anything (privileges_revoked db actor privileges name grantee)
+unfolding privileges_revoked
+gives-revoked db actor privileges name grantee =
+    behind Anything (owned_by actor (seen_named db actor name)) _ (gives-owned_by actor (seen_named db actor name)) (λ o _.
+    there Anything (grantee_named db grantee) not_found _ refl (λ to.
+    there Anything (grant_to db o to) not_found _ refl (λ _. tt)))
+
+pub gives-inserted : (db : Database) (actor : Actor) (name : List ℕ) (values : Values) → Gives Anything (row_inserted db actor name values)
+unfolding row_inserted
+gives-inserted db actor name values =
+    there Anything (of_kind is_table (seen_named db actor name)) not_found _ refl (λ o.
+    asked Anything (holds db actor o insert_privilege) security_not_satisfied _ refl
+    (asked Anything (length values == length (columns_of o.kind)) wrong_data _ refl tt))
+
+pub gives-written_through : (db : Database) (actor : Actor) (privilege : ℕ) (c : Cursor) → Gives Anything (written_through db actor privilege c)
+gives-written_through db actor privilege c =
+    there Anything (seen_stamped db actor c.object) not_found _ refl (λ o.
+    asked Anything (is_table_or_view o.kind) conditions_not_satisfied _ refl
+    (asked Anything (holds db actor o privilege) security_not_satisfied _ refl tt))
+
+pub gives-updated : (db : Database) (actor : Actor) (cursor : Option Cursor) (assignments : List Assignment) → Gives Anything (row_updated db actor cursor assignments)
+unfolding row_updated
+gives-updated db actor cursor assignments =
+    behind Anything (opened cursor) _ (gives-opened cursor) (λ c _.
+    behind Anything (written_through db actor update_privilege c) _ (gives-written_through db actor update_privilege c) (λ o _.
+    asked Anything (are_among (map (λ (a : Assignment). a.0) assignments) (columns_of o.kind)) not_found _ refl
+    (there Anything (record_at_cursor db c) record_not_found _ refl (λ r.
+    asked Anything (nat_le (row_size (row_after db assignments r).row) db.limit) wrong_data _ refl tt))))
+
+pub gives-deleted : (db : Database) (actor : Actor) (cursor : Option Cursor) → Gives Anything (row_deleted db actor cursor)
+unfolding row_deleted
+gives-deleted db actor cursor =
+    behind Anything (opened cursor) _ (gives-opened cursor) (λ c _.
+    behind Anything (written_through db actor delete_privilege c) _ (gives-written_through db actor delete_privilege c) (λ _ _.
+    there Anything (record_at_cursor db c) record_not_found _ refl (λ _. tt)))
+
+pub gives-user_added : (db : Database) (actor : Actor) (name : List ℕ) (profile : Profile) (secret : List ℕ) → Gives Anything (user_added db actor name profile secret)
+gives-user_added db actor name profile secret =
+    asked Anything (may_create actor profile) security_not_satisfied _ refl (asked Anything (not (is_taken db name)) already_exists _ refl tt)
+
+pub gives-user_deleted : (db : Database) (actor : Actor) (name : List ℕ) → Gives Anything (user_deleted db actor name)
+unfolding user_deleted
+gives-user_deleted db actor name =
+    there Anything (user_named db.users name) not_found _ refl (λ u.
+    asked Anything (owns_user actor u) security_not_satisfied _ refl
+    (asked Anything (not (is_needed db u)) conditions_not_satisfied _ refl tt))
+
+pub gives-edits_of : (db : Database) (actor : Actor) (cursor : Option Cursor) (operation : Operation) → Gives Anything (edits_of db actor cursor operation)
+unfolding edits_of
+gives-edits_of db actor cursor (CreateTable name columns) = gives-object_created db actor name (Table columns)
+gives-edits_of db actor cursor (CreateView name base columns conditions) = gives-view_created db actor name base columns conditions
+gives-edits_of db actor cursor (CreateDictionary name subject) = gives-object_created db actor name (Dictionary subject)
+gives-edits_of db actor cursor (DropTable name) = gives-table_dropped db actor name
+gives-edits_of db actor cursor (DropView name) = gives-view_dropped db actor name
+gives-edits_of db actor cursor (Grant privileges object grantee) = gives-granted db actor privileges object grantee
+gives-edits_of db actor cursor (Revoke privileges object grantee) = gives-revoked db actor privileges object grantee
+gives-edits_of db actor cursor (Insert table row) = gives-inserted db actor table row
+gives-edits_of db actor cursor (Update changes) = gives-updated db actor cursor changes
+gives-edits_of db actor cursor Delete = gives-deleted db actor cursor
+gives-edits_of db actor cursor (CreateUser name profile secret) = gives-user_added db actor name profile secret
+gives-edits_of db actor cursor (DeleteUser name) = gives-user_deleted db actor name
+gives-edits_of db actor cursor operation = refl
+
+pub gives-with_edits : (db : Database) (edits : List Edit) → Gives Anything (with_edits db edits)
+gives-with_edits db edits = go (lacks_room db edits)
+  where
+    go : (b : Bool) → Gives Anything (if b then Err no_space else Ok (applied db edits))
+    go true = refl
+    go false = tt
+
+-- Operations that don't read.
+abbrev pub Plain : Answer → Type 0
+Plain answer = IsPlain answer.reply.word
+
+pub plain-changed : (m : Machine) (channel : ℕ) (operation : Operation) → Gives Plain (changed m channel operation)
+plain-changed m channel operation =
+    behind Plain (edits_of (base m channel) (actor m channel) (cursor_of m channel) operation) _ (gives-edits_of (base m channel) (actor m channel) (cursor_of m channel) operation) (λ edits _.
+    behind Plain (with_edits (base m channel) edits) _ (gives-with_edits (base m channel) edits) (λ db _. go edits db (own_transaction m.transaction channel)))
+  where
+    go : (edits : List Edit) (db : Database) (t : Option Transaction) → Plain (changed_to m channel edits db t)
+    go edits db None = plain-done
+    go edits db (Some t) = plain-done
+
+pub plain-deleted : (m : Machine) (channel : ℕ) (name : List ℕ) → Gives Plain (user_and_sessions_deleted m channel name)
+plain-deleted m channel name = go (changed m channel (DeleteUser name)) (plain-changed m channel (DeleteUser name))
+  where
+    go : (r : Result Answer StatusWord) → Gives Plain r
+        → Gives Plain (r >>= λ (answer : Answer). or_refused (user_named (base m channel).users name) not_found >>= λ (u : User). Ok (record answer { machine = without_user answer.machine u.stamp }))
+    go (Err word) plain = plain
+    go (Ok answer) plain = behind Plain (or_refused (user_named (base m channel).users name) not_found) _ (or_word (user_named (base m channel).users name) not_found refl) (λ _ _. plain)
+
+pub gives-session_named : (db : Database) (name : List ℕ) → Gives Anything (session_named db name)
+gives-session_named db name = go (bytes_eq name public_name)
+  where
+    go : (b : Bool) → Gives Anything (if b then Ok new_session else (or_refused (user_named db.users name) not_found >>= λ u. Ok (session_for (Some (presented u)))))
+    go true = tt
+    go false = behind Anything (or_refused (user_named db.users name) not_found) _ (or_word (user_named db.users name) not_found refl) (λ _ _. tt)
+
+pub plain-opened : (m : Machine) (channel number : ℕ) → Gives Plain (channel_opened m channel number)
+plain-opened m channel zero = behind Plain (or_refused (least_closed m) function_not_supported) _ (or_word (least_closed m) function_not_supported refl) (λ _ _. plain-done)
+plain-opened m channel (suc n) = asked Plain (not (is_channel_open m (suc n))) conditions_not_satisfied _ refl plain-done
+
+pub plain-closed : (m : Machine) (channel number : ℕ) → Gives Plain (channel_closed m channel number)
+plain-closed m channel number =
+    asked Plain (is_channel_open m number) channel_not_supported _ refl
+    (asked Plain (not (is_some (own_transaction m.transaction number))) conditions_not_satisfied _ refl plain-done)
+
+-- Octets that are refused.
+abbrev pub RefusedSo : Form → Type 0
+RefusedSo (refused word) = Refuses word
+RefusedSo (refused_on channel word) = Refuses word
+RefusedSo (part_on channel kind part) = Unit {0}
+RefusedSo (a_command c) = Unit {0}
+
+pub gives-class_of : (cla : ℕ) → Gives Anything (class_of cla)
+gives-class_of cla = go (not (cla / 32 == 0)) (not (cla / 4 % 4 == 0))
+  where
+    go : (other secure : Bool) → Gives {A = Unit {0}} Anything (if other then Err class_not_supported else if secure then Err secure_messaging_not_supported else Ok tt)
+    go true secure = refl
+    go false true = refl
+    go false false = tt
+
+pub gives-channel_of : (cla : ℕ) (channels : List Bool) → Gives Anything (channel_of cla channels)
+gives-channel_of cla channels = go (is_open (slice_get channels (cla % 4)))
+  where
+    go : (b : Bool) → Gives Anything (if b then Ok (cla % 4) else Err channel_not_supported)
+    go true = tt
+    go false = refl
+
+pub refused-formed : (r : Result ℕ StatusWord) (f : ℕ → Result Form StatusWord) → Gives Anything r → ((channel : ℕ) → Gives RefusedSo (f channel)) → RefusedSo (formed r f)
+refused-formed (Err word) f gives each = gives
+refused-formed (Ok channel) f gives each = go (f channel) (each channel)
+  where
+    go : (r : Result Form StatusWord) → Gives RefusedSo r → RefusedSo (formed_on channel r)
+    go (Err word) is = is
+    go (Ok form) is = is
+
+pub refused-form_of : (table : List Line) (octets : List ℕ) (channels : List Bool) (chain : ℕ → Option Chain) (limit : ℕ) → RefusedSo (form_of table octets channels chain limit)
+unfolding form_of
+refused-form_of table [] channels chain limit = refl
+refused-form_of table (cla ∷ []) channels chain limit = refl
+refused-form_of table (cla ∷ ins ∷ []) channels chain limit = refl
+refused-form_of table (cla ∷ ins ∷ p1 ∷ []) channels chain limit = refl
+refused-form_of table (cla ∷ ins ∷ p1 ∷ p2 ∷ after) channels chain limit =
+    refused-formed (channel_asked table cla ins channels) _
+    (behind Anything (class_of cla) _ (gives-class_of cla) (λ _ _.
+    asked Anything (has_instruction table ins) instruction_not_supported _ refl (gives-channel_of cla channels)))
+    (λ channel.
+    behind RefusedSo (line_on table channel ins p1 p2) _ (gives-line channel) (λ line _.
+    behind RefusedSo (taken_in line.takes (is_chained cla) after) _ (gives-taken line.takes) (λ tail _. go (is_chained cla) channel line tail)))
+  where
+    gives-line : (channel : ℕ) → Gives Anything (line_on table channel ins p1 p2)
+    gives-line channel =
+        there Anything (line_of table ins p1 p2) wrong_parameters _ refl (λ line.
+        asked Anything (is_for_channel channel line.kind) wrong_parameters _ refl tt)
+
+    gives-taken : (takes : Takes) → Gives Anything (taken_in takes (is_chained cla) after)
+    gives-taken takes =
+        there Anything (tail_of after) wrong_length _ refl (λ tail.
+        asked Anything (takes_case takes tail && (not (is_chained cla) || is_case_3 tail)) wrong_length _ refl tt)
+
+    go : (more : Bool) (channel : ℕ) (line : Line) (tail : Tail)
+        → Gives RefusedSo (if more then part_in channel line.kind (parts_of line.kind (chain channel)) tail else command_in (has_secrets table) channel line.kind limit (parts_of line.kind (chain channel)) tail)
+    go true channel line tail =
+        asked RefusedSo (comes_in_parts line.kind) chaining_not_supported _ refl
+        (asked RefusedSo (not (length (parts_of line.kind (chain channel)) == 4)) wrong_length _ refl tt)
+    go false channel line tail =
+        there RefusedSo (operation_in (has_secrets table) line.kind limit (concat (parts_of line.kind (chain channel)) ++ data_in tail)) wrong_data _ refl (λ _. tt)

@@ -1,0 +1,401 @@
+-- A step keeps a machine valid, and each database that it commits is valid.
+use Rattle.std.proofs.Common.{◌≡◌, ℕ, zero, suc, ◌-◌, ◌<◌, ◌≤◌, ◌^◌, ◌==◌, ◌&&◌, Bool, true, false, not, List, [], ◌∷◌, length, map, Option, Some, None, option_map, is_some, Result, Ok, Err, if◌then◌else◌, refl, ap, sym, subst, ◌∙◌, inl, inr, arith}
+use Rattle.std.specs.Prelude.{IfOk, IfSome, nat_lt, option_and_then, slice_get, slice_set}
+use Rattle.std.specs.List.{list_all, AllByRecursion}
+use Rattle.std.specs.Option.{option_flatten, option_map_or}
+use Rattle.std.specs.Str.{bytes_eq}
+use Rattle.std.proofs.lemmas.Bool.{cases_Bool, and_parts, false≢true, not-true, le-leb, leb-true}
+use Rattle.std.proofs.lemmas.Option.{none-some, same_Some}
+use Rattle.scql_base.specs.declared.words.StatusWord.{StatusWord}
+use Rattle.scql_base.specs.declared.cursor.Presented.{Presented}
+use Rattle.scql_base.specs.declared.records.User.{User}
+use Rattle.scql_base.specs.declared.operation.Command.{Command}
+use Rattle.scql_base.specs.declared.operation.Operation.{Operation}
+use Rattle.scql_base.specs.declared.operation.Operation.TheVariants.{DeclareCursor, OpenCursor, Next, Fetch, FetchNext, GetResponse, DeleteUser, Begin, Commit, Rollback, PresentUser, Verify, OpenChannel, CloseChannel}
+use Rattle.scql_base.specs.Words.{authentication_blocked, channel_not_supported, conditions_not_satisfied, function_not_supported, not_found}
+use Rattle.scql_model.specs.Records.{is_tries, is_secret, user_record}
+use Rattle.scql_base.specs.Name.{is_name}
+use Rattle.scql_model.specs.Refusals.{◌>>=◌, or_refused, provided}
+use Rattle.scql_model.specs.Database.{Database, IsValid, public_name, user_named, user_stamped, is_named}
+use Rattle.scql_model.specs.Machine.{Machine, Session, Transaction, new_session, session_for, session_of, open_channels, base_of, base, actor, start}
+use Rattle.scql_model.specs.Sessions.{with_session, changing_session, command_chain, cursor_of, without_chain, without_pending, without_cursor, proving, presented, user_of, reading_so, with_part, is_of_user, left_by, without_user, is_channel_open, least_closed}
+use Rattle.scql_model.specs.Transactions.{own_transaction, waits, for_others, for_any, is_kept_waiting}
+use Rattle.scql_base.specs.declared.operation.Line.{Line}
+use Rattle.scql_model.specs.Operations.{built_operations, kind_of}
+use Rattle.scql_model.specs.Form.{Form, refused, refused_on, part_on, a_command, form_of}
+use Rattle.scql_model.specs.ReadingCommands.{ReadingCommand, reading_command}
+use Rattle.scql_model.specs.Edits.{Edit}
+use Rattle.scql_model.specs.Changing.{edits_of, with_edits, transaction_after}
+use Rattle.scql_model.specs.WellFormed.{HasForm, FitsCard}
+use Rattle.scql_model.specs.ValidMachine.{HasSecret, IsPresentedIn, ArePresentedIn, IsValidWork, IsValidMachine}
+use Rattle.scql_model.specs.Step.{Answer, answered, done_with, reading_done, changed_to, changed, user_and_sessions_deleted, session_named, with_tries, secret_right, secret_wrong, verified, channel_opened, channel_closed, operated, carried_out, stepped, step_by, step}
+use Rattle.scql_model.proofs.Acting.{IsActorOf-actor}
+use Rattle.scql_model.proofs.AddedUser.{users_below}
+use Rattle.scql_model.proofs.ChangeLaws.{AreMade-with_edits}
+use Rattle.scql_model.proofs.ChangedLists.{each-weaker, found-each}
+use Rattle.scql_model.proofs.ChangedUsers.{IsValid-with_tries}
+use Rattle.scql_model.proofs.FieldLaws.{AreOctets}
+use Rattle.scql_model.proofs.FormedCommands.{not_refused, not_unless, is_sound, sound-built_operations, IsWellFormed-form_of}
+use Rattle.scql_model.proofs.Keeping.{key-found}
+use Rattle.scql_model.proofs.KeepsRows.{within_largest}
+use Rattle.scql_model.proofs.KeepsValid.{IsValid-edits_of}
+use Rattle.scql_model.proofs.LastCommits.{of_outcome}
+use Rattle.scql_model.proofs.LongerLists.{find-all}
+use Rattle.scql_model.proofs.ReadFits.{FitsCard-form_of}
+use Rattle.scql_model.proofs.UsersFollow.{presented-edits_of, presented-with_tries}
+
+-- The users of sessions.
+abbrev Presents : Database → Option Session → Type 0
+Presents db session = IfSome (option_and_then (λ (s : Session). s.user) session) (IsPresentedIn db)
+
+all-set : {X : Type 0} (P : X → Type 0) (xs : List X) (i : ℕ) (x : X) → AllByRecursion P xs → P x → AllByRecursion P (slice_set xs i x)
+all-set P [] i x all is = tt
+all-set P (y ∷ ys) zero x all is = (is, all.1)
+all-set P (y ∷ ys) (suc i) x all is = (all.0, all-set P ys i x all.1 is)
+
+all-get : {X : Type 0} (P : Option X → Type 0) (xs : List (Option X)) (i : ℕ) → AllByRecursion P xs → P None → P (option_flatten (slice_get xs i))
+all-get P [] i all none = none
+all-get P (x ∷ xs) zero all none = all.0
+all-get P (x ∷ xs) (suc i) all none = all-get P xs i all.1 none
+
+all-map : {X : Type 0} (P : X → Type 0) (f : X → X) (xs : List X) → ((x : X) → P x → P (f x)) → AllByRecursion P xs → AllByRecursion P (map f xs)
+all-map P f [] each all = tt
+all-map P f (x ∷ xs) each all = (each x all.0, all-map P f xs each all.1)
+
+if_some-weaker : {X : Type 0} (P Q : X → Type 0) (o : Option X) → ((x : X) → P x → Q x) → IfSome o P → IfSome o Q
+if_some-weaker P Q None more is = tt
+if_some-weaker P Q (Some x) more is = more x is
+
+-- who is presented in one database is in another
+are_presented-in : (db new : Database) (sessions : List (Option Session)) → ((p : Presented) → IsPresentedIn db p → IsPresentedIn new p) → ArePresentedIn db sessions → ArePresentedIn new sessions
+are_presented-in db new sessions each are =
+    each-weaker (Presents db) (Presents new) sessions (λ session is. if_some-weaker (IsPresentedIn db) (IsPresentedIn new) (option_and_then (λ (s : Session). s.user) session) each is) are
+
+-- a machine whose sessions alone are other ones
+valid-sessions : (m : Machine) (sessions : List (Option Session)) → ((db : Database) → ArePresentedIn db m.sessions → ArePresentedIn db sessions) → IsValidMachine m → IsValidMachine (record m { sessions = sessions })
+valid-sessions m sessions each valid = record {
+  committed = valid.committed;
+  presented = each m.committed valid.presented;
+  transaction = if_some-weaker (IsValidWork m) (IsValidWork (record m { sessions = sessions })) m.transaction
+      (λ t (work : IsValidWork m t). record { working = work.working; limit = work.limit; presented = each t.working work.presented }) valid.transaction;
+}
+
+-- the session of a channel is none, a new one, or one of the same user
+valid-with_session : (m : Machine) (channel : ℕ) (session : Option Session) → ((db : Database) → ArePresentedIn db m.sessions → Presents db session) → IsValidMachine m → IsValidMachine (with_session m channel session)
+valid-with_session m channel session is valid = valid-sessions m (slice_set m.sessions channel session) (λ db are. all-set (Presents db) m.sessions channel session are (is db are)) valid
+
+valid-changing : (m : Machine) (channel : ℕ) (change : Session → Session) → ((db : Database) (s : Session) → Presents db (Some s) → Presents db (Some (change s))) → IsValidMachine m
+    → IsValidMachine (changing_session change m channel)
+valid-changing m channel change keeps valid =
+    valid-with_session m channel (option_map change (session_of m channel)) (λ db are. go db (session_of m channel) (all-get (Presents db) m.sessions channel are tt)) valid
+  where
+    go : (db : Database) (session : Option Session) → Presents db session → Presents db (option_map change session)
+    go db None is = tt
+    go db (Some s) is = keeps db s is
+
+-- An answer leaves a valid machine, and commits valid databases.
+pub record IsValidAnswer (answer : Answer) : Type 0 where
+  pub machine : IsValidMachine answer.machine
+  pub commits : AllByRecursion IsValid answer.commits
+
+valid-done : (m : Machine) (channel : ℕ) (commits : List Database) → IsValidMachine m → AllByRecursion IsValid commits → IsValidAnswer (done_with m channel commits)
+valid-done m channel commits valid each = record { machine = valid-changing m channel without_pending (λ db s is. is) valid; commits = each }
+
+valid-reading : (m : Machine) (channel : ℕ) (command : ReadingCommand) → IsValidMachine m → IsValidAnswer (reading_done m channel command)
+valid-reading m channel command valid = record { machine = valid-changing m channel (reading_so _) (λ db s is. is) valid; commits = tt }
+
+-- What a channel reads and changes is valid.
+record IsValidBase (m : Machine) (db : Database) : Type 0 where
+  valid : IsValid db
+  limit : db.limit ≡ m.committed.limit
+  presented : ArePresentedIn db m.sessions
+
+valid-base : (m : Machine) (channel : ℕ) → IsValidMachine m → IsValidBase m (base m channel)
+valid-base m channel valid = go m.transaction valid.transaction
+  where
+    committed : IsValidBase m m.committed
+    committed = record { valid = valid.committed; limit = refl; presented = valid.presented }
+
+    either : (t : Transaction) (b : Bool) → IsValidWork m t → IsValidBase m (if b then t.working else m.committed)
+    either t true work = record { valid = work.working; limit = work.limit; presented = work.presented }
+    either t false work = committed
+
+    go : (t : Option Transaction) → IfSome t (IsValidWork m) → IsValidBase m (base_of t m.committed channel)
+    go None work = committed
+    go (Some t) work = either t (t.channel == channel) work
+
+-- what comes of a value comes of an outcome
+bound-ok : {A B : Type 0} (P : B → Type 0) (r : Result A StatusWord) (f : A → Result B StatusWord) → ((x : A) → r ≡ Ok x → IfOk (f x) P) → IfOk (r >>= f) P
+bound-ok P (Ok x) f each = each x refl
+bound-ok P (Err word) f each = tt
+
+-- what waits for the transactions of others, or for any
+no_other : (t : Option Transaction) (channel : ℕ) → own_transaction t channel ≡ None → is_kept_waiting for_others t channel ≡ false → t ≡ None
+no_other None channel own free = refl
+no_other (Some t) channel own free =
+    elim (cases_Bool (t.channel == channel)) [
+      | inl e ↦ absurd (none-some t (sym (rw e at own)))
+      | inr f ↦ absurd (let wrong : true ≡ false = rw f at free in cc)
+    ]
+
+none_open : (t : Option Transaction) (channel : ℕ) → is_kept_waiting for_any t channel ≡ false → t ≡ None
+none_open None channel free = refl
+none_open (Some t) channel free = absurd cc
+
+others-any : (t : Option Transaction) (channel : ℕ) → is_kept_waiting for_any t channel ≡ false → is_kept_waiting for_others t channel ≡ false
+others-any None channel free = refl
+others-any (Some t) channel free = absurd cc
+
+-- Changes.
+valid-changed : (m : Machine) (channel : ℕ) (operation : Operation) → IsValidMachine m → HasForm operation → FitsCard m.committed.limit operation → is_kept_waiting for_others m.transaction channel ≡ false
+    → IfOk (changed m channel operation) IsValidAnswer
+valid-changed m channel operation valid form fits free =
+    bound-ok IsValidAnswer (edits_of (base m channel) (actor m channel) (cursor_of m channel) operation) _ (λ edits made.
+    bound-ok IsValidAnswer (with_edits (base m channel) edits) _ (λ db ok. to edits db made ok (own_transaction m.transaction channel) refl))
+  where
+    to : (edits : List Edit) (db : Database) → edits_of (base m channel) (actor m channel) (cursor_of m channel) operation ≡ Ok edits → with_edits (base m channel) edits ≡ Ok db
+        → (own : Option Transaction) → own_transaction m.transaction channel ≡ own → IsValidAnswer (changed_to m channel edits db own)
+    to edits db made ok own is = go own is
+      where
+        before : IsValidBase m (base m channel)
+        before = valid-base m channel valid
+
+        new : IsValid db
+        new = IsValid-edits_of (base m channel) (actor m channel) (cursor_of m channel) operation edits db before.valid (IsActorOf-actor m channel) form
+            (subst (λ (limit : ℕ). FitsCard limit operation) (sym before.limit) fits) made ok
+
+        users : ArePresentedIn db m.sessions
+        users = are_presented-in (base m channel) db m.sessions
+            (λ p is. subst (λ (db : Database). IsPresentedIn db p) (sym (AreMade-with_edits (base m channel) edits db ok).is)
+            (presented-edits_of (base m channel) (actor m channel) (cursor_of m channel) operation edits p before.valid made is)) before.presented
+
+        go : (own : Option Transaction) → own_transaction m.transaction channel ≡ own → IsValidAnswer (changed_to m channel edits db own)
+        go None is = valid-done (record m { committed = db }) channel (db ∷ []) (record {
+          committed = new;
+          presented = users;
+          transaction = subst (λ (t : Option Transaction). IfSome t (IsValidWork (record m { committed = db }))) (sym (no_other m.transaction channel is free)) tt;
+        }) (new, tt)
+        go (Some t) is = valid-done (record m { transaction = Some (transaction_after m.committed t edits db) }) channel [] (record {
+          committed = valid.committed;
+          presented = valid.presented;
+          transaction = record { working = new; limit = (AreMade-with_edits (base m channel) edits db ok).limit ∙ before.limit; presented = users };
+        }) tt
+
+-- a user who is deleted is presented nowhere any more
+valid-deleted : (m : Machine) (channel : ℕ) (name : List ℕ) → IsValidMachine m → HasForm (DeleteUser name) → is_kept_waiting for_others m.transaction channel ≡ false
+    → IfOk (user_and_sessions_deleted m channel name) IsValidAnswer
+valid-deleted m channel name valid form free = go (changed m channel (DeleteUser name)) (valid-changed m channel (DeleteUser name) valid form tt free)
+  where
+    left : (stamp : ℕ) (db : Database) (session : Option Session) → Presents db session → Presents db (option_map (left_by stamp) session)
+    left stamp db None is = tt
+    left stamp db (Some s) is = either (is_of_user stamp s)
+      where
+        either : (b : Bool) → Presents db (Some (if b then without_cursor (record s { user = None }) else s))
+        either true = tt
+        either false = is
+
+    go : (r : Result Answer StatusWord) → IfOk r IsValidAnswer
+        → IfOk (r >>= λ (answer : Answer). or_refused (user_named (base m channel).users name) not_found >>= λ (u : User). Ok (record answer { machine = without_user answer.machine u.stamp })) IsValidAnswer
+    go (Err word) is = tt
+    go (Ok answer) is = of_outcome IsValidAnswer (or_refused (user_named (base m channel).users name) not_found) _ (λ u. record {
+      machine = valid-sessions answer.machine (map (option_map (left_by u.stamp)) answer.machine.sessions)
+          (λ db are. all-map (Presents db) (option_map (left_by u.stamp)) answer.machine.sessions (left u.stamp db) are) is.machine;
+      commits = is.commits;
+    })
+
+-- Transactions.
+own-some : (P : Transaction → Type 0) (o : Option Transaction) (channel : ℕ) (t : Transaction) → own_transaction o channel ≡ Some t → IfSome o P → P t
+own-some P None channel t own is = absurd (none-some t own)
+own-some P (Some other) channel t own is = go (other.channel == channel) own
+  where
+    go : (b : Bool) → (if b then Some other else None) ≡ Some t → P t
+    go true own = subst P (same_Some other t own) is
+    go false own = absurd (none-some t own)
+
+valid-begun : (m : Machine) (channel : ℕ) → IsValidMachine m → IfOk (operated m channel Begin) IsValidAnswer
+valid-begun m channel valid =
+    of_outcome IsValidAnswer (provided (not (is_some m.transaction)) conditions_not_satisfied) _ (λ _.
+    valid-done (record m { transaction = Some (record { channel = channel; working = m.committed; touched = [] }) }) channel [] (record {
+      committed = valid.committed;
+      presented = valid.presented;
+      transaction = record { working = valid.committed; limit = refl; presented = valid.presented };
+    }) tt)
+
+valid-committed : (m : Machine) (channel : ℕ) → IsValidMachine m → IfOk (operated m channel Commit) IsValidAnswer
+valid-committed m channel valid =
+    bound-ok IsValidAnswer (or_refused (own_transaction m.transaction channel) conditions_not_satisfied) _ (λ t is.
+    let work = own-some (IsValidWork m) m.transaction channel t (not_refused (own_transaction m.transaction channel) conditions_not_satisfied t is) valid.transaction in
+    valid-done (record m { committed = t.working; transaction = None }) channel (t.working ∷ []) (record { committed = work.working; presented = work.presented; transaction = tt }) (work.working, tt))
+
+valid-rolled_back : (m : Machine) (channel : ℕ) → IsValidMachine m → IfOk (operated m channel Rollback) IsValidAnswer
+valid-rolled_back m channel valid =
+    of_outcome IsValidAnswer (or_refused (own_transaction m.transaction channel) conditions_not_satisfied) _ (λ _.
+    let ended : Machine = record m { transaction = None } in
+    valid-done (changing_session without_cursor ended channel) channel []
+    (valid-changing ended channel without_cursor (λ db s is. is) (record { committed = valid.committed; presented = valid.presented; transaction = tt })) tt)
+
+-- PRESENT USER: who is found has the secret that it has
+presents-named : (db : Database) (name : List ℕ) (session : Session) → IsValid db → session_named db name ≡ Ok session → Presents db (Some session)
+presents-named db name session valid is = go (bytes_eq name public_name) is
+  where
+    unproved : (u : User) → (length u.secret == 0) ≡ false → user_stamped db.users u.stamp ≡ Some u → IfSome (user_stamped db.users u.stamp) HasSecret
+    unproved u some found = rw found some
+
+    user : (u : User) → user_named db.users name ≡ Some u → Presents db (Some (session_for (Some (presented u))))
+    user u found = record {
+      stamp = found-each (λ (v : User). v.stamp < db.next) (is_named name) db.users u (users_below db valid) found;
+      secret = λ some. unproved u some (key-found (λ (v : User). v.stamp) (is_named name) db.users u valid.users.rises found);
+    }
+
+    named : (found : Option User) → user_named db.users name ≡ found → (or_refused found not_found >>= λ (u : User). Ok (session_for (Some (presented u)))) ≡ Ok session → Presents db (Some session)
+    named None found is = absurd cc
+    named (Some u) found is =
+        let same : session_for (Some (presented u)) ≡ session = cc in
+        subst (λ (s : Session). Presents db (Some s)) same (user u found)
+
+    go : (b : Bool) → (if b then Ok new_session else (or_refused (user_named db.users name) not_found >>= λ (u : User). Ok (session_for (Some (presented u))))) ≡ Ok session → Presents db (Some session)
+    go true is = let same : new_session ≡ session = cc in subst (λ (s : Session). Presents db (Some s)) same tt
+    go false is = named (user_named db.users name) refl is
+
+valid-presented : (m : Machine) (channel : ℕ) (name : List ℕ) → IsValidMachine m → is_kept_waiting for_any m.transaction channel ≡ false → IfOk (operated m channel (PresentUser name)) IsValidAnswer
+valid-presented m channel name valid free =
+    bound-ok IsValidAnswer (session_named (base m channel) name) _ (λ session is. valid-done (with_session m channel (Some session)) channel [] (machine session is) tt)
+  where
+    none : m.transaction ≡ None
+    none = none_open m.transaction channel free
+
+    machine : (session : Session) → session_named (base m channel) name ≡ Ok session → IsValidMachine (with_session m channel (Some session))
+    machine session is = record {
+      committed = valid.committed;
+      presented = all-set (Presents m.committed) m.sessions channel (Some session) valid.presented
+          (presents-named m.committed name session valid.committed (ap (λ (t : Option Transaction). session_named (base_of t m.committed channel) name) (sym none) ∙ is));
+      transaction = subst (λ (t : Option Transaction). IfSome t (IsValidWork (with_session m channel (Some session)))) (sym none) tt;
+    }
+
+-- VERIFY: a user who isn't proved has a secret, and so may have fewer tries
+module _ (m : Machine) (valid : IsValidMachine m) (none : m.transaction ≡ None) (p : Presented) (u : User)
+    (stored : user_stamped m.committed.users p.stamp ≡ Some u) (secret : HasSecret u) where
+  valid-tries : (tries : ℕ) → is_tries tries ≡ true → IsValid (with_tries m.committed u tries)
+  valid-tries tries few = IsValid-with_tries m.committed (λ (v : User). v.stamp == p.stamp) u tries valid.committed stored few secret
+
+  valid-with_tries : (tries : ℕ) → is_tries tries ≡ true → IsValidMachine (record m { committed = with_tries m.committed u tries })
+  valid-with_tries tries few = record {
+    committed = valid-tries tries few;
+    presented = are_presented-in m.committed (with_tries m.committed u tries) m.sessions (λ q is. presented-with_tries m.committed u tries q secret is) valid.presented;
+    transaction = subst (λ (t : Option Transaction). IfSome t (IsValidWork (record m { committed = with_tries m.committed u tries }))) (sym none) tt;
+  }
+
+  fewer : is_tries (u.tries - 1) ≡ true
+  fewer =
+      let fits = find-all user_record.fits (λ (v : User). v.stamp == p.stamp) m.committed.users u valid.committed.users.limits stored in
+      let a = and_parts (nat_lt u.stamp (2 ^ 32)) (nat_lt u.owner (2 ^ 32) && (is_tries u.tries && (is_name u.name && is_secret u.secret))) fits in
+      let b = and_parts (nat_lt u.owner (2 ^ 32)) (is_tries u.tries && (is_name u.name && is_secret u.secret)) a.1 in
+      let c = and_parts (is_tries u.tries) (is_name u.name && is_secret u.secret) b.1 in
+      let most = leb-true u.tries 3 c.0 in
+      le-leb (u.tries - 1) 3 (omega arith)
+
+  valid-compared : (channel : ℕ) (b : Bool) → IsValidAnswer (if b then secret_right m channel u else secret_wrong m u)
+  valid-compared channel true =
+      let restored : Machine = record m { committed = with_tries m.committed u 3 } in
+      valid-done (changing_session proving restored channel) channel (with_tries m.committed u (u.tries - 1) ∷ with_tries m.committed u 3 ∷ [])
+      (valid-changing restored channel proving (λ db s is. proved db s.user is) (valid-with_tries 3 refl)) (valid-tries (u.tries - 1) fewer, (valid-tries 3 refl, tt))
+    where
+      proved : (db : Database) (user : Option Presented) → IfSome user (IsPresentedIn db) → IfSome (option_map (λ (p : Presented). record p { proved = true }) user) (IsPresentedIn db)
+      proved db None is = tt
+      proved db (Some q) is = record { stamp = is.stamp; secret = λ unproved. absurd (false≢true (sym unproved)) }
+  valid-compared channel false = record { machine = valid-with_tries (u.tries - 1) fewer; commits = (valid-tries (u.tries - 1) fewer, tt) }
+
+valid-verified : (m : Machine) (channel : ℕ) (secret : List ℕ) → IsValidMachine m → is_kept_waiting for_any m.transaction channel ≡ false → IfOk (verified m channel secret) IsValidAnswer
+valid-verified m channel secret valid free =
+    bound-ok IsValidAnswer (or_refused (user_of m channel) conditions_not_satisfied) _ (λ p at.
+    bound-ok IsValidAnswer (provided (not p.proved) conditions_not_satisfied) _ (λ x unproved.
+    bound-ok IsValidAnswer (or_refused (user_stamped m.committed.users p.stamp) conditions_not_satisfied) _ (λ u is.
+    of_outcome IsValidAnswer (provided (not (u.tries == 0)) authentication_blocked) _ (λ _.
+    let stored = not_refused (user_stamped m.committed.users p.stamp) conditions_not_satisfied u is in
+    let who : IsPresentedIn m.committed p = subst (λ (o : Option Presented). IfSome o (IsPresentedIn m.committed)) (not_refused (user_of m channel) conditions_not_satisfied p at)
+    (all-get (Presents m.committed) m.sessions channel valid.presented tt) in
+    let has : HasSecret u = subst (λ (o : Option User). IfSome o HasSecret) stored (who.secret (not-true p.proved (not_unless (not p.proved) conditions_not_satisfied x unproved))) in
+    valid-compared m valid (none_open m.transaction channel free) p u stored has channel (bytes_eq secret u.secret)))))
+
+-- MANAGE CHANNEL
+valid-opened : (m : Machine) (channel number : ℕ) → IsValidMachine m → IfOk (channel_opened m channel number) IsValidAnswer
+valid-opened m channel zero valid = of_outcome IsValidAnswer (or_refused (least_closed m) function_not_supported) _ (λ number.
+    let done = valid-done (with_session m number (Some new_session)) channel [] (valid-with_session m number (Some new_session) (λ db are. tt) valid) tt in
+    record { machine = done.machine; commits = tt })
+valid-opened m channel (suc n) valid = of_outcome IsValidAnswer (provided (not (is_channel_open m (suc n))) conditions_not_satisfied) _ (λ _.
+    valid-done (with_session m (suc n) (Some new_session)) channel [] (valid-with_session m (suc n) (Some new_session) (λ db are. tt) valid) tt)
+
+valid-closed : (m : Machine) (channel number : ℕ) → IsValidMachine m → IfOk (channel_closed m channel number) IsValidAnswer
+valid-closed m channel number valid =
+    of_outcome IsValidAnswer (provided (is_channel_open m number) channel_not_supported) _ (λ _.
+    of_outcome IsValidAnswer (provided (not (is_some (own_transaction m.transaction number))) conditions_not_satisfied) _ (λ _.
+    valid-done (with_session m number None) channel [] (valid-with_session m number None (λ db are. tt) valid) tt))
+
+-- Each operation that doesn't read.
+valid-operated : (m : Machine) (channel : ℕ) (operation : Operation) → IsValidMachine m → HasForm operation → FitsCard m.committed.limit operation
+    → is_kept_waiting (waits (kind_of operation)) m.transaction channel ≡ false → IfOk (operated m channel operation) IsValidAnswer
+unfolding edits_of
+valid-operated m channel Begin valid form fits free = valid-begun m channel valid
+valid-operated m channel Commit valid form fits free = valid-committed m channel valid
+valid-operated m channel Rollback valid form fits free = valid-rolled_back m channel valid
+valid-operated m channel (PresentUser name) valid form fits free = valid-presented m channel name valid free
+valid-operated m channel (DeleteUser name) valid form fits free = valid-deleted m channel name valid form (others-any m.transaction channel free)
+valid-operated m channel (Verify secret) valid form fits free = valid-verified m channel secret valid free
+valid-operated m channel (OpenChannel number) valid form fits free = valid-opened m channel number valid
+valid-operated m channel (CloseChannel number) valid form fits free = valid-closed m channel (if number == 0 then channel else number) valid
+valid-operated m channel (DeclareCursor object columns conditions) valid form fits free = tt
+valid-operated m channel OpenCursor valid form fits free = tt
+valid-operated m channel Next valid form fits free = tt
+valid-operated m channel Fetch valid form fits free = tt
+valid-operated m channel FetchNext valid form fits free = tt
+valid-operated m channel GetResponse valid form fits free = tt
+valid-operated m channel operation valid form fits free = valid-changed m channel operation valid form fits free
+
+valid-carried_out : (m : Machine) (c : Command) → IsValidMachine m → HasForm c.operation → FitsCard m.committed.limit c.operation → IfOk (carried_out m c) IsValidAnswer
+valid-carried_out m c valid form fits =
+    bound-ok IsValidAnswer (provided (not (is_kept_waiting (waits (kind_of c.operation)) m.transaction c.channel)) conditions_not_satisfied) _ (λ x free.
+    either (reading_command c.operation c.le)
+    (not-true (is_kept_waiting (waits (kind_of c.operation)) m.transaction c.channel) (not_unless (not (is_kept_waiting (waits (kind_of c.operation)) m.transaction c.channel)) conditions_not_satisfied x free)))
+  where
+    either : (command : Option ReadingCommand) → is_kept_waiting (waits (kind_of c.operation)) m.transaction c.channel ≡ false
+        → IfOk (option_map_or (λ command. Ok (reading_done m c.channel command)) command (operated m c.channel c.operation)) IsValidAnswer
+    either None free = valid-operated m c.channel c.operation valid form fits free
+    either (Some command) free = valid-reading m c.channel command valid
+
+valid-answered : (m : Machine) (outcome : Result Answer StatusWord) → IsValidMachine m → IfOk outcome IsValidAnswer → IsValidAnswer (answered m outcome)
+valid-answered m (Ok answer) valid is = is
+valid-answered m (Err word) valid is = record { machine = valid; commits = tt }
+
+valid-ended : (m : Machine) (channel : ℕ) → IsValidMachine m → IsValidMachine (changing_session without_chain m channel)
+valid-ended m channel valid = valid-changing m channel without_chain (λ db s is. is) valid
+
+valid-stepped : (m : Machine) (form : Form) → IsValidMachine m → ((c : Command) → form ≡ a_command c → HasForm c.operation × FitsCard m.committed.limit c.operation) → IsValidAnswer (stepped m form)
+valid-stepped m (refused word) valid right = record { machine = valid; commits = tt }
+valid-stepped m (refused_on channel word) valid right = record { machine = valid-ended m channel valid; commits = tt }
+valid-stepped m (part_on channel kind octets) valid right =
+    valid-done (changing_session (with_part kind octets) m channel) channel [] (valid-changing m channel (with_part kind octets) (λ db s is. is) valid) tt
+valid-stepped m (a_command c) valid right =
+    let ended : Machine = changing_session without_chain m c.channel in
+    let fields = right c refl in
+    valid-answered ended (carried_out ended c) (valid-ended m c.channel valid) (valid-carried_out ended c (valid-ended m c.channel valid) fields.0 fields.1)
+
+-- A step, by a table whose lines are those of operations.
+pub IsValidAnswer-step_by : (table : List Line) (m : Machine) (octets : List ℕ) → list_all is_sound table ≡ true → AreOctets octets → IsValidMachine m → IsValidAnswer (step_by table m octets)
+unfolding step_by
+IsValidAnswer-step_by table m octets sound are valid =
+    valid-stepped m (form_of table octets (open_channels m) (command_chain m) m.committed.limit) valid (λ c read. (
+      (IsWellFormed-form_of table octets (open_channels m) (command_chain m) m.committed.limit c sound are most read).form,
+      FitsCard-form_of table octets (open_channels m) (command_chain m) m.committed.limit c sound are most read,
+    ))
+  where
+    most : m.committed.limit ≤ 1020
+    most = leb-true m.committed.limit 1020 (within_largest m.committed m.committed.limit valid.committed (le-leb m.committed.limit m.committed.limit (omega arith)))
+
+-- the step of today's card
+pub IsValidAnswer-step : (m : Machine) (octets : List ℕ) → AreOctets octets → IsValidMachine m → IsValidAnswer (step m octets)
+unfolding step
+IsValidAnswer-step m octets are valid = IsValidAnswer-step_by built_operations m octets sound-built_operations are valid
+
+-- the machine with which a card begins
+pub IsValidMachine-start : (db : Database) → IsValid db → IsValidMachine (start db)
+IsValidMachine-start db valid = record { committed = valid; presented = (tt, (tt, (tt, (tt, tt)))); transaction = tt }
