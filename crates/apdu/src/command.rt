@@ -1,5 +1,5 @@
 // Commands, read from octets and written (ISO/IEC 7816-4, command APDU).
-ghost use Rattle.std.specs.Prelude.{◌≡◌, ◌<◌, [], ℕ, Bool, Some, true, IfOk, slice_get, min};
+ghost use Rattle.std.specs.Prelude.{◌≡◌, ◌<◌, ◌+◌, [], ℕ, Bool, Some, true, IfOk, slice_get, min};
 ghost use Rattle.scql_model.specs.Form as form;
 ghost use Rattle.scql_model.specs.Operations as table;
 ghost use Rattle.scql_model.specs.Spelling as spelling;
@@ -85,13 +85,31 @@ impl CommandApdu for Command {
     fn write_part(&self, part: u8, out: &mut CommandOctets)
         requires fits { spelling.fits self.now ≡ true }
         requires there { part < spelling.part_count self.now }
-        ensures { out.new.items ≡ spelling.part_octets self.now part }
+        ensures octets { out.new.items ≡ spelling.part_octets self.now part }
+        ensures part { (limit : ℕ)
+            → IsWellFormed self.now → table.IsBuilt (table.kind_of self.now.operation) → part + 1 < spelling.part_count self.now
+            → spelling.ReadsAs table.built_operations limit self.now (spelling.cut part (spelling.field_of self.now.operation)) out.new.items
+            (form.part_on self.now.channel (table.kind_of self.now.operation) (spelling.part_at part (spelling.field_of self.now.operation))) }
+        ensures last { (limit : ℕ)
+            → IsWellFormed self.now → table.IsBuilt (table.kind_of self.now.operation) → part + 1 ≡ spelling.part_count self.now
+            → spelling.IsTaken (table.has_secrets table.built_operations) limit self.now.operation
+            → spelling.ReadsAs table.built_operations limit self.now (spelling.cut part (spelling.field_of self.now.operation)) out.new.items
+            (form.a_command self.now) }
     {
-        let field = field_of(&self.operation);
-        match line_for(kind_of(&self.operation)) {
-            Some(line) => put_part(self, &line, field.written(), part, out),
-            None => out.clear(),
-        }
+        write_at(self, part, out);
+    }
+}
+
+// Writes the part of a command at a place. An operation that stands in no line of the table is written as no octets.
+fn write_at(command: &Command, part: u8, out: &mut CommandOctets)
+    requires fits { spelling.fits command.now ≡ true }
+    requires there { part < spelling.part_count command.now }
+    ensures { out.new.items ≡ spelling.part_octets command.now part }
+{
+    let field = field_of(&command.operation);
+    match line_for(kind_of(&command.operation)) {
+        Some(line) => put_part(command, &line, field.written(), part, out),
+        None => out.clear(),
     }
 }
 

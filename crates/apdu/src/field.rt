@@ -6,7 +6,6 @@ ghost use Rattle.scql_base.specs.declared.operation.Operation.TheVariants as ope
 ghost use Rattle.scql_model.specs.Spelling as spelling;
 ghost use Rattle.apdu.specs.Writing.{with_more};
 
-use crate::codes::{comparison_code, profile_code, subject_code};
 use arrayvec::ArrayVec;
 use scql_base::{
     Change, Command, Condition, Conditions, Name, NameList, Octets, Operation, Privileges, Profile,
@@ -104,7 +103,7 @@ impl Field {
         ensures { self.new ≡ with_more (flat_map spelled (spelling.condition_strings condition.now)) self.old }
     {
         self.put_name(&condition.column);
-        self.put_octet(comparison_code(condition.comparison));
+        self.put_octet(condition.comparison.code());
         self.put_string(condition.value.as_slice());
     }
 
@@ -146,7 +145,7 @@ impl Field {
         ensures { self.new ≡ with_more (spelling.field_of (operation.CreateUser name.now profile secret.now)) self.old }
     {
         self.put_name(name);
-        self.put_octet(profile_code(profile));
+        self.put_octet(profile.code());
         self.put_string(secret.as_slice());
     }
 
@@ -170,7 +169,7 @@ impl Field {
             }
             Operation::CreateDictionary { name, subject } => {
                 self.put_name(name);
-                self.put_octet(subject_code(*subject));
+                self.put_octet(subject.code());
             }
             Operation::Grant {
                 privileges,

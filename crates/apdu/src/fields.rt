@@ -236,9 +236,7 @@ fn subject_in(string: &[u8]) -> Option<Subject>
     ensures { result ≡ fields.subject_in string.now }
 {
     match string {
-        [b'O'] => Some(Subject::Objects),
-        [b'U'] => Some(Subject::Users),
-        [b'P'] => Some(Subject::Grants),
+        [code] => Subject::of(*code),
         _ => None,
     }
 }
@@ -248,8 +246,8 @@ fn made_profile_in(string: &[u8]) -> Option<Profile>
     ensures { result ≡ fields.made_profile_in string.now }
 {
     match string {
-        [0x02] => Some(Profile::Dboo),
-        [0x03] => Some(Profile::Dbbu),
+        [Profile::DBOO] => Some(Profile::Dboo),
+        [Profile::DBBU] => Some(Profile::Dbbu),
         _ => None,
     }
 }

@@ -1,7 +1,6 @@
 //! Commands and replies, to octets and back (ISO/IEC 7816-4).
 #![tactic(auto)]
 
-mod codes;
 mod command;
 mod field;
 mod fields;

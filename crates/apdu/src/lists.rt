@@ -98,12 +98,7 @@ fn comparison_in(string: &[u8]) -> Option<Comparison>
     ensures { result ≡ fields.comparison_in string.now }
 {
     match string {
-        [b'='] => Some(Comparison::Equal),
-        [b'<'] => Some(Comparison::Less),
-        [b'>'] => Some(Comparison::Greater),
-        [b'L'] => Some(Comparison::AtMost),
-        [b'G'] => Some(Comparison::AtLeast),
-        [b'#'] => Some(Comparison::NotEqual),
+        [code] => Comparison::of(*code),
         _ => None,
     }
 }

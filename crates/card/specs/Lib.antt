@@ -3,6 +3,7 @@ pub mod Answering
 pub mod Card
 pub mod Creating
 pub mod Making
+pub mod Marks
 pub mod Opening
 pub mod Sessions
 pub mod Users

@@ -19,7 +19,7 @@ ghost use Rattle.card.specs.Card.{Kept, IsReady, IsAt, committed_slots, fresh_ca
 ghost use Rattle.card.specs.Answering.{Answers, IsAtAsBefore, IsDoneOrStays, LeavesOneOf, Performs, answer_to, committed_at_once, octets_if_made, with_session_for};
 ghost use Rattle.card.specs.Creating.{IsAddition, IsCounter};
 ghost use Rattle.card.specs.Making.{LeavesMade};
-ghost use Rattle.card.specs.Opening.{ReadsCard};
+ghost use Rattle.card.specs.Opening.{LeavesBehind, ReadsCard};
 ghost use Rattle.card.specs.Sessions.{proved_user, sessions_of};
 ghost use Rattle.scql_base.specs.declared.operation.Operation.TheVariants as operation;
 ghost use Rattle.scql_model.specs.Bound.{octets_bound, octets_carried_out, octets_changed, or_nothing};
@@ -106,6 +106,7 @@ impl Card {
         ensures not_a_card { IsErrOf result OpenRefusal.NotACard → IfSome (B.chip bench.old).image (λ image. (db : Database) → Opens image db → ⊥) }
         // A power loss leaves an image that opens as before, also where it is refused; and where the gate is closed nothing is written.
         ensures recovers { Recovers is_open_fault B.chip B.faults bench.old bench.new result }
+        ensures behind { LeavesBehind (B.chip bench.old) (B.chip bench.new) }
         ensures fault { IsErrOf result OpenRefusal.Fault → Rose (B.faults bench.old) (B.faults bench.new) }
         ensures quiet { ¬ IsErrOf result OpenRefusal.Fault → B.faults bench.new ≡ B.faults bench.old }
         ensures never_falls { B.faults bench.old ≤ B.faults bench.new }
@@ -258,7 +259,8 @@ impl Card {
             self.set_user(channel, None);
             return Ok(StatusWord::DONE);
         }
-        let Some(user) = find_user(&self.store, bench, Wanted::Named(name))? else {
+        let mut octets = RecordOctets::new();
+        let Some(user) = find_user(&self.store, bench, Wanted::Named(name), &mut octets)? else {
             return Ok(StatusWord::NOT_FOUND);
         };
         let proved = user.secret.as_slice().is_empty();
@@ -290,18 +292,28 @@ impl Card {
         ensures cause { Counts (B.faults bench.old) (B.faults bench.new) result }
         ensures behind { Keeps (drop (image_size self.old.store.chains.cells)) (B.chip bench.old) (B.chip bench.new) }
     {
-        let actor = self.actor_of(bench, channel)?;
-        match prepare_user(&self.store, bench, actor, name, profile, secret)? {
+        let mut octets = RecordOctets::new();
+        let actor = self.actor_of(bench, channel, &mut octets)?;
+        match prepare_user(
+            &self.store,
+            bench,
+            actor,
+            name,
+            profile,
+            secret,
+            &mut octets,
+        )? {
             Prepared::Refused(word) => Ok(word),
-            Prepared::Ready(addition) => self.add_user(bench, &addition),
+            Prepared::Ready(addition) => self.add_user(bench, &addition, &mut octets),
         }
     }
 
-    // Commits the user that was prepared and the next stamp, where there is room.
+    // Commits the user that was prepared, spelled in `octets`, and the next stamp, where there is room.
     fn add_user<B: Eeprom>(
         &mut self,
         bench: &mut B,
         addition: &Addition,
+        octets: &mut RecordOctets,
     ) -> Result<StatusWord, EepromFault>
         requires ready { IsReady self.old (B.chip bench.old) }
         requires slot { addition.now.counter_slot < self.old.store.chains.cells }
@@ -315,15 +327,14 @@ impl Card {
         ensures cause { Counts (B.faults bench.old) (B.faults bench.new) result }
         ensures behind { Keeps (drop (image_size self.old.store.chains.cells)) (B.chip bench.old) (B.chip bench.new) }
     {
-        let mut user = RecordOctets::new();
-        addition.user.encode(&mut user);
+        addition.user.encode(octets);
         let mut counter = RecordOctets::new();
         let next = addition.user.stamp + 1;
         Counter { next }.encode(&mut counter);
         let added = add_and_change(
             &mut self.store,
             bench,
-            &user,
+            octets,
             addition.counter_slot,
             &counter,
         );
@@ -331,7 +342,12 @@ impl Card {
     }
 
     // For whom a channel acts: its user where that one is proved, or nobody in particular.
-    fn actor_of<B: Eeprom>(&self, bench: &mut B, channel: u8) -> Result<Actor, EepromFault>
+    fn actor_of<B: Eeprom>(
+        &self,
+        bench: &mut B,
+        channel: u8,
+        octets: &mut RecordOctets,
+    ) -> Result<Actor, EepromFault>
         requires ready { IsReady self.now (B.chip bench.old) }
         requires channel { channel < 4 }
         ensures actor { (m : machine.Machine) → IsAt self.now (B.chip bench.old) m → IfOk result (λ actor. actor ≡ machine.actor m channel) }
@@ -341,7 +357,7 @@ impl Card {
         let Some(stamp) = self.proved_user(channel) else {
             return Ok(Actor::Public);
         };
-        match find_user(&self.store, bench, Wanted::Stamped(stamp))? {
+        match find_user(&self.store, bench, Wanted::Stamped(stamp), octets)? {
             Some(user) => Ok(Actor::User {
                 stamp: user.stamp,
                 profile: user.profile,

@@ -8,6 +8,7 @@ ghost use Rattle.record_store.specs.Held.{IsOver};
 ghost use Rattle.scql_model.specs.Records as records;
 ghost use Rattle.card.specs.Card.{committed_slots};
 
+use crate::marks::{COUNTER, has_mark};
 use catalog_codec::{Counter, Record};
 use eeprom::{Eeprom, EepromFault};
 use record_store::{RecordOctets, Side, Store};
@@ -19,10 +20,11 @@ pub(crate) struct CounterSlot {
     pub counter: Counter,
 }
 
-/// Finds the committed counter.
+/// Finds the committed counter. Records are read into `octets`.
 pub(crate) fn find_counter<B: Eeprom>(
     store: &Store,
     bench: &mut B,
+    octets: &mut RecordOctets,
 ) -> Result<Option<CounterSlot>, EepromFault>
     requires over { IsOver store.now (B.chip bench.old) }
     ensures there { IfOk result (λ found. IfSome found (λ found. found.slot < store.now.chains.cells)) }
@@ -32,16 +34,15 @@ pub(crate) fn find_counter<B: Eeprom>(
         (λ slots. None ≡ find (λ _. true) (filter_map (in_slot records.counter_in) slots)))) }
     ensures frame { Reads each_error B.chip B.faults bench.old bench.new result }
 {
-    let mut octets = RecordOctets::new();
-    for slot in 0..store.cells() {
-        if let Some(counter) = counter_at(store, bench, slot, &mut octets)? {
+    for slot in 0..store.slots_in_use() {
+        if let Some(counter) = counter_at(store, bench, slot, octets)? {
             return Ok(Some(CounterSlot { slot, counter }));
         }
     }
     Ok(None)
 }
 
-// The counter whose record is in a slot.
+// The counter whose record is in a slot. Records of other kinds aren't read.
 #[tactic(auto, unfolding(crate::specs::Card::committed_slots))]
 fn counter_at<B: Eeprom>(
     store: &Store,
@@ -55,6 +56,9 @@ fn counter_at<B: Eeprom>(
         (λ slots. counter ≡ in_slot records.counter_in (slice_index_or slots slot None))) }
     ensures frame { Reads each_error B.chip B.faults bench.old bench.new result }
 {
+    if !has_mark(store.kind(Side::Committed, slot), COUNTER) {
+        return Ok(None);
+    }
     if store.get(bench, Side::Committed, slot, octets)? {
         Ok(Counter::decode(octets))
     } else {

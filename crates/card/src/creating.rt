@@ -16,7 +16,7 @@ ghost use Rattle.card.specs.Creating.{Prepares, IfReady, IsCounter};
 use crate::counter::find_counter;
 use crate::users::{Wanted, find_user};
 use eeprom::{Eeprom, EepromFault};
-use record_store::Store;
+use record_store::{RecordOctets, Store};
 use scql_base::{Actor, Name, Octets, Profile, StatusWord, User};
 
 /// A user to be added, and the slot of the counter whose stamp it takes.
@@ -32,7 +32,7 @@ pub(crate) enum Prepared {
     Refused(StatusWord),
 }
 
-/// Prepares what CREATE USER makes for an actor. Whether there is room for it is told when it is added.
+/// Prepares what CREATE USER makes for an actor, by records that are read into `octets`. Whether there is room for it is told when it is added.
 pub(crate) fn prepare_user<B: Eeprom>(
     store: &Store,
     bench: &mut B,
@@ -40,6 +40,7 @@ pub(crate) fn prepare_user<B: Eeprom>(
     name: &Name,
     profile: Profile,
     secret: &Octets<8>,
+    octets: &mut RecordOctets,
 ) -> Result<Prepared, EepromFault>
     requires over { IsOver store.now (B.chip bench.old) }
     ensures prepares { (slots : Slots) (db : Database) → committed_slots store.now (B.chip bench.old).image ≡ Some slots → Holds slots db → IsValid db
@@ -51,11 +52,11 @@ pub(crate) fn prepare_user<B: Eeprom>(
     let Some(owner) = owner_for(actor, profile) else {
         return Ok(Prepared::Refused(StatusWord::SECURITY_NOT_SATISFIED));
     };
-    if is_taken(store, bench, name)? {
+    if is_taken(store, bench, name, octets)? {
         return Ok(Prepared::Refused(StatusWord::ALREADY_EXISTS));
     }
     // A card has a counter; without one there would be no stamp to take.
-    let Some(found) = find_counter(store, bench)? else {
+    let Some(found) = find_counter(store, bench, octets)? else {
         return Ok(Prepared::Refused(StatusWord::NO_SPACE));
     };
     let stamp = found.counter.next;
@@ -99,7 +100,12 @@ fn owner_for(actor: Actor, profile: Profile) -> Option<u32>
 }
 
 // Whether a user has the name, or it is PUBLIC.
-fn is_taken<B: Eeprom>(store: &Store, bench: &mut B, name: &Name) -> Result<bool, EepromFault>
+fn is_taken<B: Eeprom>(
+    store: &Store,
+    bench: &mut B,
+    name: &Name,
+    octets: &mut RecordOctets,
+) -> Result<bool, EepromFault>
     requires over { IsOver store.now (B.chip bench.old) }
     ensures taken { (slots : Slots) (db : Database) → committed_slots store.now (B.chip bench.old).image ≡ Some slots → Holds slots db → IsValid db
         → IfOk result (λ taken. taken ≡ model.is_taken db name.now) }
@@ -108,6 +114,6 @@ fn is_taken<B: Eeprom>(store: &Store, bench: &mut B, name: &Name) -> Result<bool
     if name.octets() == Name::PUBLIC {
         return Ok(true);
     }
-    let user = find_user(store, bench, Wanted::Named(name))?;
+    let user = find_user(store, bench, Wanted::Named(name), octets)?;
     Ok(user.is_some())
 }

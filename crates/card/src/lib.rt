@@ -5,6 +5,7 @@ mod adding;
 mod card;
 mod counter;
 mod creating;
+mod marks;
 mod opening;
 mod outcome;
 mod session;

@@ -10,6 +10,7 @@ ghost use Rattle.scql_model.specs.Database as database;
 ghost use Rattle.card.specs.Users.{is_wanted};
 ghost use Rattle.card.specs.Card.{committed_slots};
 
+use crate::marks::{USER, has_mark};
 use catalog_codec::Record;
 use eeprom::{Eeprom, EepromFault};
 use record_store::{RecordOctets, Side, Store};
@@ -36,20 +37,20 @@ pub(crate) enum Wanted<'a> {
     Stamped(u32),
 }
 
-/// The committed user that is wanted.
+/// The committed user that is wanted. Records are read into `octets`.
 pub(crate) fn find_user<B: Eeprom>(
     store: &Store,
     bench: &mut B,
     wanted: Wanted<'_>,
+    octets: &mut RecordOctets,
 ) -> Result<Option<User>, EepromFault>
     requires over { IsOver store.now (B.chip bench.old) }
     ensures user { IfOk result (λ user. IfSome (committed_slots store.now (B.chip bench.old).image)
         (λ slots. user ≡ find (is_wanted wanted.entry) (filter_map (in_slot records.user_in) slots))) }
     ensures frame { Reads each_error B.chip B.faults bench.old bench.new result }
 {
-    let mut octets = RecordOctets::new();
-    for slot in 0..store.cells() {
-        if let Some(user) = user_in(store, bench, slot, &mut octets)? {
+    for slot in 0..store.slots_in_use() {
+        if let Some(user) = user_in(store, bench, slot, octets)? {
             if is_found(&user, wanted) {
                 return Ok(Some(user));
             }
@@ -58,7 +59,7 @@ pub(crate) fn find_user<B: Eeprom>(
     Ok(None)
 }
 
-// The user whose record is in a slot.
+// The user whose record is in a slot. Records of other kinds aren't read.
 #[tactic(auto, unfolding(crate::specs::Card::committed_slots))]
 fn user_in<B: Eeprom>(
     store: &Store,
@@ -72,6 +73,9 @@ fn user_in<B: Eeprom>(
         (λ slots. user ≡ in_slot records.user_in (slice_index_or slots slot None))) }
     ensures frame { Reads each_error B.chip B.faults bench.old bench.new result }
 {
+    if !has_mark(store.kind(Side::Committed, slot), USER) {
+        return Ok(None);
+    }
     if store.get(bench, Side::Committed, slot, octets)? {
         Ok(User::decode(octets))
     } else {

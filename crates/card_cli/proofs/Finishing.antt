@@ -14,7 +14,7 @@ use Rattle.card.specs.Making.{LeavesMade, OpensAsBefore, OpensToNone}
 use Rattle.card.proofs.Starting.{opens-same}
 use Rattle.card.specs.Card.{Kept, IsAt}
 use Rattle.card_cli.specs.declared.words.Form.{Form}
-use Rattle.card_cli.specs.declared.words.Form.TheVariants.{New, Apdu}
+use Rattle.card_cli.specs.declared.words.Form.TheVariants.{New}
 use Rattle.card_cli.specs.Beginning.{IsOpenTo, LacksCard, LeavesUntilOpen}
 use Rattle.card_cli.specs.declared.status.Status.{Status}
 use Rattle.card_cli.specs.declared.status.Status.TheVariants.{Done, Eeprom, ReadFault, WriteFault, TooLong}
@@ -43,7 +43,7 @@ not_to_none chip db opens none = subst (λ (o : Option (List ℕ)). IfSome o Ope
 -- where a card is lacking none was opened
 pub lacks_none : (form : Form) (old mid : Chip) → LacksCard form old → LeavesUntilOpen form old mid → (IsSome old.image → IsSome mid.image) → IfSome mid.image (λ (image : List ℕ). (db : Database) × Opens image db) → ⊥
 lacks_none (New n) old mid lacks leaves told opens = lacks
-lacks_none Apdu old mid lacks leaves told opens = found mid.image refl (told (subst (λ (o : Option (List ℕ)). IsSome o) (sym lacks.1) refl)) opens
+lacks_none form old mid lacks leaves told opens = found mid.image refl (told (subst (λ (o : Option (List ℕ)). IsSome o) (sym lacks.1) refl)) opens
   where
     found : (o : Option (List ℕ)) → mid.image ≡ o → IsSome o → IfSome o (λ (image : List ℕ). (db : Database) × Opens image db) → ⊥
     found None is some opens = absurd cc
@@ -55,7 +55,7 @@ lacks_none Apdu old mid lacks leaves told opens = found mid.image refl (told (su
 -- and what was there keeps its store
 pub lacks_keeps : (form : Form) (old new : Chip) → LacksCard form old → LeavesUntilOpen form old new → KeepsStore old new
 lacks_keeps (New n) old new lacks leaves = absurd lacks
-lacks_keeps Apdu old new lacks leaves = leaves
+lacks_keeps form old new lacks leaves = leaves
 
 -- what is told of the whole input is told of this one
 becomes-at : (P : List ℕ → List ℕ → Type 0) (start now : Option (List ℕ)) (input left : List ℕ) → start ≡ Some input → now ≡ Some left → Becomes (λ i l. P i l) start now → P input left
@@ -141,4 +141,4 @@ until_open form asked old mid new same keeps leaves = of_form asked (subst (λ (
   where
     of_form : (asked : Form) → LeavesUntilOpen asked old mid → LeavesUntilOpen asked old new
     of_form (New n) made = made_then n old mid new made keeps
-    of_form Apdu first = keeps_then old mid new first keeps
+    of_form other first = keeps_then old mid new first keeps

@@ -1,6 +1,8 @@
+mod Asking
 mod Feeding
 mod Finishing
 mod Keeping
+mod LongerRows
 mod Moving
 mod Preparing
 mod Stopping

@@ -1,12 +1,16 @@
--- A card that was just made is open to the fresh database with which its run begins.
-use Rattle.std.proofs.Common.{◌≡◌, ℕ, ◌+◌, ◌*◌, ◌<◌, ◌≤◌, List, Option, Some, None, Result, Ok, Err, refl, sym, subst, arith}
+-- With which database a run begins: a card that was just made is open to the fresh one, and any other is there.
+use Rattle.std.proofs.Common.{◌≡◌, ◌⊎◌, inl, inr, ℕ, ◌<◌, ◌≤◌, Bool, true, false, ◌&&◌, ◌==◌, nat_le, if◌then◌else◌, List, length, slice_index, Option, Some, None, Result, Ok, Err, refl, sym, subst, arith}
 use Rattle.std.specs.Prelude.{◌↔◌, IsSome, IfSome, OnOk, IsErrOf, option_map}
 use Rattle.eeprom.specs.Chip.{Chip}
+use Rattle.eeprom.specs.StoreOf.{Stored, store_of, starts_with_magic, has_header, has_version, number_at, fewest_cells, most_cells, image_size}
+use Rattle.std.proofs.lemmas.Bool.{and_parts, leb-true}
+use Rattle.card.specs.Making.{OpensToNone}
 use Rattle.scql_model.specs.Database.{Database, fresh}
 use Rattle.scql_model.specs.Opens.{Opens}
 use Rattle.card_cli.specs.declared.words.Form.{Form}
-use Rattle.card_cli.specs.declared.words.Form.TheVariants.{New}
-use Rattle.card_cli.specs.Beginning.{IsOpenTo, Begins}
+use Rattle.card_cli.specs.declared.words.Form.TheVariants.{New, Apdu, Migrate}
+use Rattle.card_cli.specs.Beginning.{IsOpenTo, Begins, LeavesUntilOpen}
+use Rattle.card_cli.proofs.Finishing.{keeps_same}
 
 -- what was made of an image that was told is told, and opens to what all of it opens to
 opens_made : (before after : Option (List ℕ)) (make : List ℕ → List ℕ) (db : Database) → IsSome before → after ≡ option_map make before → IfSome after (λ (image : List ℕ). Opens image db)
@@ -28,12 +32,53 @@ begins-new (Ok x) old new form n make is made opens = λ db begins.
     subst (λ (d : Database). IsOpenTo new d) (sym of_new.2) (opens_made old.image new.image make (fresh n) of_new.0 made opens)
 
 pub began-new : {E : Type 0} (result : Result (Unit {0}) E) (too_small : E) (old new : Chip) (form : Form) (n : ℕ) (make : List ℕ → List ℕ) → form ≡ New n
-    → OnOk result (new.image ≡ option_map make old.image) → (IsErrOf result too_small ↔ (old.still.size < 70 * n + 34))
+    → OnOk result (new.image ≡ option_map make old.image) → (IsErrOf result too_small ↔ (old.still.size < image_size n))
     → OnOk result ((db : Database) → IsOpenTo new db → (first : Database) × Begins form old first)
 began-new (Err e) too_small old new form n make is made small = tt
 began-new (Ok x) too_small old new form n make is made small = λ db opens.
-    let not_small : ¬ (old.still.size < 70 * n + 34) = λ less. let is_error : Ok x ≡ Err too_small = small.1 less in absurd cc in
-    let room : 70 * n + 34 ≤ old.still.size = omega arith in (
+    let not_small : ¬ (old.still.size < image_size n) = λ less. let is_error : Ok x ≡ Err too_small = small.1 less in absurd cc in
+    let room : image_size n ≤ old.still.size = omega arith in (
       fresh n,
       subst (λ (f : Form). Begins f old (fresh n)) (sym is) (told_before old.image new.image make opens.0 made opens.1, room, refl),
     )
+
+-- a form whose card is to be there
+abbrev pub IsThere : Form → Type 0
+IsThere form = (form ≡ Apdu) ⊎ (form ≡ Migrate)
+
+pub begins-there : (form : Form) (chip : Chip) (db : Database) → IsThere form → IsOpenTo chip db → Begins form chip db
+begins-there form chip db (inl is) opens = subst (λ (f : Form). Begins f chip db) (sym is) opens
+begins-there form chip db (inr is) opens = subst (λ (f : Form). Begins f chip db) (sym is) opens
+
+pub leaves-there : (form : Form) (chip : Chip) → IsThere form → LeavesUntilOpen form chip chip
+leaves-there form chip (inl is) = subst (λ (f : Form). LeavesUntilOpen f chip chip) (sym is) (keeps_same chip)
+leaves-there form chip (inr is) = subst (λ (f : Form). LeavesUntilOpen f chip chip) (sym is) (keeps_same chip)
+
+-- an image with a store has the header of one
+header-store : (image : List ℕ) (store : Stored) → store_of image ≡ Some store → has_header image ≡ true
+header-store image store is = of (starts_with_magic image) (has_header image) _ is
+  where
+    of : (magic header : Bool) (rest : Option Stored) → (if magic then (if header then rest else None) else None) ≡ Some store → header ≡ true
+    of false header rest is = absurd (cc)
+    of true false rest is = absurd (cc)
+    of true true rest is = refl
+
+-- so it is no shorter than that of the smallest card
+long-enough : (image : List ℕ) → has_header image ≡ true → image_size fewest_cells ≤ length image
+long-enough image header =
+    let n = number_at image 6 in
+    let told = parts (slice_index image 4 == 2) (has_version image) (nat_le fewest_cells n) (nat_le n most_cells) (nat_le (image_size n) (length image)) header in
+    omega (arith, leb-true fewest_cells n told.0, leb-true (image_size n) (length image) told.1)
+  where
+    parts : (a b c d e : Bool) → (a && b && c && d && e) ≡ true → (c ≡ true) × (e ≡ true)
+    parts a b c d e all =
+        let size = and_parts (a && b && c && d) e all in
+        let most = and_parts (a && b && c) d size.0 in
+        let few = and_parts (a && b) c most.0 in (few.1, size.1)
+
+pub small-to_none : (chip : Chip) → IfSome chip.image (λ image. length image ≡ chip.still.size) → chip.still.size < image_size fewest_cells → IfSome chip.image OpensToNone
+small-to_none chip sized small = of chip.image sized
+  where
+    of : (o : Option (List ℕ)) → IfSome o (λ image. length image ≡ chip.still.size) → IfSome o OpensToNone
+    of None sized = tt
+    of (Some image) sized = λ db opens. absurd (omega (arith, small, sized, long-enough image (header-store image opens.store opens.stored)))

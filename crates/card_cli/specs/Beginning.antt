@@ -1,5 +1,5 @@
 -- With which database a run begins, and what a power loss leaves until its card is open.
-use Rattle.std.specs.Prelude.{◌≡◌, ℕ, ◌≤◌, true, List, Some, IsSome}
+use Rattle.std.specs.Prelude.{◌≡◌, ℕ, true, List, Some, IsSome}
 use Rattle.eeprom.specs.Chip.{Chip}
 use Rattle.eeprom.specs.Frame.{HasRoom}
 use Rattle.scql_model.specs.Database.{Database, fresh}

@@ -1,5 +1,5 @@
 -- How a run of `migrate` ends, and what a power loss leaves at any moment of it.
-use Rattle.std.specs.Prelude.{◌≡◌, ℕ, ◌+◌, ◌<◌, ◌≤◌, Bool, true, false, List, ◌∷◌, length, IsSome, IfSome}
+use Rattle.std.specs.Prelude.{◌≡◌, ℕ, ◌+◌, ◌<◌, ◌≤◌, Bool, true, false, List, ◌∷◌, length, Option, IsSome, IfSome}
 use Rattle.eeprom.specs.Chip.{Chip, Throughout}
 use Rattle.scql_model.specs.Database.{Database}
 use Rattle.scql_model.specs.Migrating.{migrated, migrate_text, migrate_commits}
@@ -29,12 +29,12 @@ abbrev pub IsMigratedFrom : Database → Chip → Type 0
 IsMigratedFrom db new = IfSome new.image (λ image. Opens image (migrated db))
 
 -- How a migration of this database ends so, where the EEPROM's count of faults goes from one number to another: with its text; or with the start of it, where the outlet alone fails; or without it, where the EEPROM fails, or memory is missing and the database stays.
-abbrev pub MigratesTo : Status → ℕ → ℕ → Database → Chip → Chip → Type 0
-MigratesTo Done from to db old new = Prints (migrate_text db) old.still.given new.still.given × IsMigratedFrom db new
-MigratesTo WriteFault from to db old new = IsCutShort (migrate_text db) old.still.given new.still.given × IsMigratedFrom db new × (to ≡ from)
-MigratesTo Eeprom from to db old new = (new.still.given ≡ old.still.given) × IfSome new.image (OpensToOneOf (db ∷ migrate_commits db))
-MigratesTo NoMemory from to db old new = (new.still.given ≡ old.still.given) × IfSome new.image (λ image. Opens image db)
-MigratesTo status from to db old new = ⊥
+abbrev pub MigratesTo : Status → ℕ → ℕ → Database → Option (List ℕ) → Chip → Type 0
+MigratesTo Done from to db before now = Prints (migrate_text db) before now.still.given × IsMigratedFrom db now
+MigratesTo WriteFault from to db before now = IsCutShort (migrate_text db) before now.still.given × IsMigratedFrom db now × (to ≡ from)
+MigratesTo Eeprom from to db before now = (now.still.given ≡ before) × IfSome now.image (OpensToOneOf (db ∷ migrate_commits db))
+MigratesTo NoMemory from to db before now = (now.still.given ≡ before) × IfSome now.image (λ image. Opens image db)
+MigratesTo status from to db before now = ⊥
 
 -- the ends of a migration over a card that was opened
 abbrev pub ends_migration : Status → Bool
@@ -50,7 +50,7 @@ pub record Migrates {S : Type 0} (status : Status) (before after : S) (old new :
   -- Where it came to its text, a database was there.
   pub begins : has_opened status ≡ true → IsSome old.image → (db : Database) × IsOpenTo old db
   -- Over a database it ends with its text, or as a device or want of memory ends it;
-  pub ends : (db : Database) → IsOpenTo old db → MigratesTo status was.eeprom now.eeprom db old new
+  pub ends : (db : Database) → IsOpenTo old db → MigratesTo status was.eeprom now.eeprom db old.still.given new
   -- without a fault the output is exactly its text, or memory was missing.
   pub text : (db : Database) → IsOpenTo old db → IsQuiet was now → AnswersAll status (migrate_text db) old.still.given new.still.given
   -- At each moment a power loss leaves the database as it was, or with longer rows.

@@ -1,5 +1,5 @@
 // The run of a migration.
-ghost use Rattle.std.specs.Prelude.{◌≡◌, ℕ, true};
+ghost use Rattle.std.specs.Prelude.{◌≡◌, ℕ, true, codes, if◌then◌else◌};
 ghost use Rattle.eeprom.specs.Frame.{HasRoom};
 ghost use Rattle.eeprom.specs.StoreOf.{fewest_cells};
 ghost use Rattle.scql_model.specs.Database.{Database};
@@ -16,7 +16,7 @@ use migrate::migrate;
 pub(crate) fn run_migration<B: Bench>(bench: &mut B) -> Status
     requires room { HasRoom fewest_cells (B.chip bench.old) }
     ensures migrates { (db : Database) → IsOpenTo (B.chip bench.old) db
-        → MigratesTo result (B.faults bench.old) (B.faults bench.new) db (B.chip bench.old) (B.chip bench.new) }
+        → MigratesTo result (B.faults bench.old) (B.faults bench.new) db (B.chip bench.old).still.given (B.chip bench.new) }
     ensures moments { (db : Database) → IsOpenTo (B.chip bench.old) db → StaysMigrating db (B.chip bench.old) (B.chip bench.new) }
     ensures status { ends_migration result ≡ true }
     ensures ends { (source : ℕ) → EndsBy result
@@ -26,13 +26,18 @@ pub(crate) fn run_migration<B: Bench>(bench: &mut B) -> Status
     let Ok(migrates) = migrate(bench) else {
         return Status::Eeprom;
     };
-    let text = if migrates {
-        b"migrated\n".as_slice()
-    } else {
-        b"already migrated\n".as_slice()
-    };
-    match give(bench, text) {
+    match give(bench, text_of(migrates)) {
         Ok(()) => Status::Done,
         Err(_) => Status::WriteFault,
+    }
+}
+
+fn text_of(migrates: bool) -> &'static [u8]
+    ensures { result.now ≡ (if migrates then codes "migrated\n" else codes "already migrated\n") }
+{
+    if migrates {
+        b"migrated\n"
+    } else {
+        b"already migrated\n"
     }
 }

@@ -19,11 +19,7 @@ use eeprom::{Bench, FEWEST_CELLS, image_size};
 use std::alloc::Global;
 
 /// Opens the card that the words ask for. Nothing is given, and no line is read.
-pub(crate) fn open_card<B: Bench>(
-    alloc: Global,
-    form: Form,
-    bench: &mut B,
-) -> Result<Card, Status>
+pub(crate) fn open_card<B: Bench>(alloc: Global, form: Form, bench: &mut B) -> Result<Card, Status>
     requires { IsWithinLimits form }
     ensures starts { IfOk result (λ card. (db : Database) → Begins form (B.chip bench.old) db → IsAt card (B.chip bench.new) (start db)) }
     ensures ready { IfOk result (λ card. IsReady card (B.chip bench.new)) }

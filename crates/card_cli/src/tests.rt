@@ -1,4 +1,5 @@
 // Worked rows over a bench in memory.
+mod migrating;
 mod opening;
 mod power_loss;
 mod reads;
@@ -132,7 +133,7 @@ fn words_of(alloc: Global, words: &[&str]) -> Result<Vec<String>, AllocError> {
 #[test]
 fn worked_rows(rt: HostRuntime) -> Result<(), Fail> {
     let alloc = rt.alloc();
-    let rows: [(&[&str], &str, Status, &str); 13] = [
+    let rows: [(&[&str], &str, Status, &str); 16] = [
         (
             &["new", "64"],
             "0014008006054F574E4552\n",
@@ -171,10 +172,13 @@ fn worked_rows(rt: HostRuntime) -> Result<(), Fail> {
             "6E00\n6D00\n6881\n6A86\n",
         ),
         (&["apdu"], "00", Status::NotACard, ""),
+        (&["migrate"], "00", Status::NotACard, ""),
         (&["new", "15"], "00", Status::Usage, ""),
         (&["new", "2049"], "00", Status::Usage, ""),
         (&["new"], "00", Status::Usage, ""),
         (&["apdu", "x"], "00", Status::Usage, ""),
+        (&["migrate", "x"], "00", Status::Usage, ""),
+        (&["MIGRATE"], "00", Status::Usage, ""),
         (&[], "00", Status::Usage, ""),
     ];
     for (words, input, status, output) in rows {

@@ -1,3 +1,4 @@
+pub mod HeldRecords
 pub mod ListedChanges
 pub mod ListedSearches
 pub mod Rewriting

@@ -1,6 +1,7 @@
 -- A search among the slots, and what it says of the list of a kind.
-use Rattle.std.proofs.Common.{◌≡◌, ℕ, ◌≤◌, Bool, true, cond, List, [], ◌∷◌, Option, None, Some, refl, sym, ap, ◌∙◌, arith}
+use Rattle.std.proofs.Common.{◌≡◌, ℕ, ◌≤◌, Bool, true, cond, List, [], ◌∷◌, Option, None, Some, is_some, inl, inr, refl, sym, ap, ◌∙◌, arith}
 use Rattle.std.specs.Prelude.{IfSome}
+use Rattle.std.proofs.lemmas.Bool.{cases_Bool}
 use Rattle.std.specs.List.{find, filter, count_by, list_any}
 use Rattle.eeprom.specs.StoreOf.{Slots}
 use Rattle.eeprom.specs.Slots.{Rises, AreApart, has, is_after, nearest_from}
@@ -8,6 +9,14 @@ use Rattle.eeprom.proofs.InOrder.{count_by-in_order, find-in_order, list_any-in_
 use Rattle.scql_model.proofs.ChangedLists.{sum_by-filter}
 use Rattle.catalog_codec.specs.Kinds.{Kind}
 use Rattle.record_table.specs.Listed.{listed, in_slots}
+
+is_some-find : {X : Type 0} (p : X → Bool) (xs : List X) → is_some (find p xs) ≡ list_any p xs
+is_some-find p [] = refl
+is_some-find p (x ∷ xs) =
+    elim (cases_Bool (p x)) [
+      | inl t ↦ rw t refl
+      | inr f ↦ rw f (is_some-find p xs)
+    ]
 
 module _ {X : Type 0} (kind : Kind X) where
   -- of records of whom at most one passes, the one that does
@@ -34,6 +43,12 @@ module _ {X : Type 0} (kind : Kind X) where
       let apart = AreApart-in_slots slots rises in
       let fewer : AreApart kind.key (filter p (in_slots kind slots)) = λ n. omega (arith, apart n, sum_by-filter p (λ x. cond (has kind.key n x) 1 0) (in_slots kind slots)) in
       nearest-in_order kind.key k (filter p (in_slots kind slots)) fewer ∙ ap (find (is_after kind.key k)) (sym (filter-in_order kind.key p (in_slots kind slots) apart))
+
+  -- something is found exactly where a record of the list passes
+  pub some-listed : (p : X → Bool) (found : Option X) (slots : Option Slots) → IfSome slots (λ slots. found ≡ find p (in_slots kind slots))
+      → IfSome slots (λ slots. is_some found ≡ list_any p (listed kind slots))
+  some-listed p found None first = tt
+  some-listed p found (Some slots) first = ap is_some first ∙ (is_some-find p (in_slots kind slots) ∙ any-listed p slots)
 
   -- what is found first is what the list says
   pub found-listed : (p : X → Bool) (found : Option X) (slots : Option Slots) → IfSome slots (λ slots. found ≡ find p (in_slots kind slots))

@@ -1,6 +1,6 @@
 // Changes of the records of a kind, on the working side of a transaction.
 ghost use Rattle.std.specs.Prelude.{◌≡◌, ◌<◌, ◌≤◌, ◌+◌, ◌*◌, ℕ, List, Some, None, IsTrue, IfOk, IfSome, IsErrOf, OnOk, is_some, length, drop};
-ghost use Rattle.eeprom.specs.Chip.{Becomes, RisesBy, Keeps};
+ghost use Rattle.eeprom.specs.Chip.{Chip, Becomes, RisesBy, Keeps};
 ghost use Rattle.eeprom.specs.Fault.{CountsFaults};
 ghost use Rattle.eeprom.specs.StoreOf.{store_of, image_size, cell_size, cells_for};
 ghost use Rattle.record_store.specs.Faults.{is_put_fault};
@@ -24,6 +24,7 @@ pub fn add<R: Record, B: Eeprom>(
     requires spelled { R.can_encode value.now }
     ensures there { IfOk result (λ slot. slot < store.old.chains.cells) }
     ensures added { IfOk result (λ slot. Becomes (Rewrites (IsAdded R.kind value.now slot) store.old store.new) (B.chip bench.old).image (B.chip bench.new).image) }
+    ensures over { OnOk result (IsOver store.new (B.chip bench.new)) }
     ensures within { IfOk result (λ slot. IfSome (B.chip bench.old).image (IsWithin store.old slot (R.kind.form.spell value.now))) }
     ensures full { IsErrOf result StoreRefusal.Full → IfSome (B.chip bench.old).image (IsFull store.old None (R.kind.form.spell value.now)) }
     ensures unchanged { IsErrOf result StoreRefusal.Full → (store.new ≡ store.old) × (bench.new ≡ bench.old) }
@@ -54,6 +55,7 @@ pub fn change<R: Record, B: Eeprom>(
     requires over { IsOver store.old (B.chip bench.old) }
     requires spelled { R.can_encode value.now }
     ensures changed { OnOk result (Becomes (Rewrites (IsChanged R.kind value.now slot) store.old store.new) (B.chip bench.old).image (B.chip bench.new).image) }
+    ensures over { OnOk result (IsOver store.new (B.chip bench.new)) }
     ensures within { OnOk result (IfSome (B.chip bench.old).image (IsWithin store.old slot (R.kind.form.spell value.now))) }
     ensures full { IsErrOf result StoreRefusal.Full → IfSome (B.chip bench.old).image (IsFull store.old (Some slot) (R.kind.form.spell value.now)) }
     ensures unchanged { IsErrOf result StoreRefusal.Full → (store.new ≡ store.old) × (bench.new ≡ bench.old) }
@@ -78,6 +80,7 @@ pub fn remove(store: &mut Store, slot: u16)
     requires begun { IsTrue store.old.begun }
     requires slot { slot < store.old.chains.cells }
     ensures removed { (image : List ℕ) → StandsFor store.old image → Rewrites (IsRemoved slot) store.old store.new image image }
+    ensures over { (chip : Chip) → IsOver store.old chip → IsOver store.new chip }
     ensures begun { store.new.begun ≡ store.old.begun }
     ensures cells { store.new.chains.cells ≡ store.old.chains.cells }
     ensures rows { store.new.row_limit ≡ store.old.row_limit }

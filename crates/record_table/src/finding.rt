@@ -1,6 +1,6 @@
 // Searches among the records of a kind.
-ghost use Rattle.std.specs.Prelude.{◌≡◌, ◌<◌, ◌≤◌, ◌*◌, Some, count_by, IfOk, IfSome, option_map};
-ghost use Rattle.std.specs.List.{find};
+ghost use Rattle.std.specs.Prelude.{◌≡◌, ◌<◌, ◌≤◌, ◌*◌, Some, count_by, IfOk, IfSome, is_some, option_map};
+ghost use Rattle.std.specs.List.{find, list_any};
 ghost use Rattle.eeprom.specs.Chip.{Becomes, RisesAtMost};
 ghost use Rattle.eeprom.specs.Fault.{each_error};
 ghost use Rattle.eeprom.specs.Frame.{Reads};
@@ -14,7 +14,7 @@ use crate::{Marked, Stamped, Wanted};
 use eeprom::{Eeprom, EepromFault};
 use record_store::{Found, RecordOctets, Side, Store};
 
-/// Finds the first record of a kind that is wanted. Where there is one at most, it is the one that the kind's list has.
+/// Finds a record of the kind that is wanted, where there is one: that of the lowest slot. Where there is one at most, it is the one that the list has.
 pub fn find_by<R: Marked, W: Wanted<R>, B: Eeprom>(
     store: &Store,
     bench: &mut B,
@@ -25,6 +25,8 @@ pub fn find_by<R: Marked, W: Wanted<R>, B: Eeprom>(
     ensures there { IfOk result (λ found. IfSome found (λ found. found.slot < store.now.chains.cells)) }
     ensures at { IfOk result (λ found. IfSome found (λ found. IfSome (slots_of store.now side (B.chip bench.old))
         (λ slots. Some found.value ≡ at_slot R.kind found.slot slots))) }
+    ensures some { IfOk result (λ found. IfSome (slots_of store.now side (B.chip bench.old))
+        (λ slots. is_some found ≡ list_any (W.wants wanted.now) (listed R.kind slots))) }
     ensures first { IfOk result (λ found. IfSome (slots_of store.now side (B.chip bench.old))
         (λ slots. option_map (λ found. found.value) found ≡ find (W.wants wanted.now) (in_slots R.kind slots))) }
     ensures found { IfOk result (λ found. IfSome (slots_of store.now side (B.chip bench.old))

@@ -1,11 +1,11 @@
-// Users in the slots of a store: found, added, changed and removed.
-ghost use Rattle.std.specs.Prelude.{◌≡◌, ◌==◌, ◌+◌};
+// Users and the counter in the slots of a store.
+ghost use Rattle.std.specs.Prelude.{◌≡◌, ◌==◌};
 
-use crate::{Wanted, add, change, find_by, find_stamp, next_after, next_by, remove};
+use crate::{Wanted, find_by, find_stamp, next_after};
 use catalog_codec::Counter;
 use eeprom::{FaultPlan, MemBench};
-use record_store::{Side, Store, StoreRefusal};
-use scql_base::{Name, Octets, Profile, User};
+use record_store::{Side, Store};
+use scql_base::User;
 use std::test::Fail;
 
 /// The counter before stamp 2, and the user of stamp 1, as they are written.
@@ -22,17 +22,6 @@ impl Wanted<User> for MadeBy {
     fn is(&self, entry: &User) -> bool {
         entry.owner == self.0
     }
-}
-
-fn user(stamp: u32, name: &[u8], owner: u32) -> Option<User> {
-    Some(User {
-        stamp,
-        name: Name::read(name)?,
-        profile: Profile::Dbbu,
-        owner,
-        secret: Octets::of(b"")?,
-        tries: 3,
-    })
 }
 
 #[test]
@@ -53,7 +42,7 @@ fn records_are_found(rt: HostRuntime) -> Result<(), Fail> {
         let before = bench.octets_read();
         let owner = find_stamp::<User, MemBench>(&store, &mut bench, Side::Committed, 1);
         assert!(rt; matches!(&owner, Ok(Some(found)) if found.slot == 1));
-        assert!(rt; bench.octets_read() - before == 32);
+        assert_eq!(rt; bench.octets_read().checked_sub(before), Some(32));
         let none = find_by::<User, MadeBy, MemBench>(
             &store,
             &mut bench,

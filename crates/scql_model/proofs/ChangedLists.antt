@@ -88,11 +88,11 @@ found-replaced h key x k (y ∷ ys) same =
       | inr e ↦ rw e (elim (cases_Bool (eqb (key y) k)) [ inl u ↦ rw u refl | inr f ↦ rw f rest ])
     ]
 
-each-weaker : {X : Type 0} (P Q : X → Type 0) (xs : List X) → ((x : X) → P x → Q x) → AllByRecursion P xs → AllByRecursion Q xs
+pub each-weaker : {X : Type 0} (P Q : X → Type 0) (xs : List X) → ((x : X) → P x → Q x) → AllByRecursion P xs → AllByRecursion Q xs
 each-weaker P Q [] more all = tt
 each-weaker P Q (x ∷ xs) more all = (more x all.0, each-weaker P Q xs more all.1)
 
-found-each : {X : Type 0} (P : X → Type 0) (q : X → Bool) (xs : List X) (x : X) → AllByRecursion P xs → find q xs ≡ Some x → P x
+pub found-each : {X : Type 0} (P : X → Type 0) (q : X → Bool) (xs : List X) (x : X) → AllByRecursion P xs → find q xs ≡ Some x → P x
 found-each P q [] x all found = absurd (none-some x found)
 found-each P q (y ∷ ys) x all found =
     elim (cases_Bool (q y)) [ inl t ↦ subst P (same_Some y x (rw t at found)) all.0 | inr e ↦ found-each P q ys x all.1 (rw e at found) ]

@@ -35,19 +35,19 @@ both true b is = (refl, is)
 both false b is = absurd (false≢true is)
 
 -- what passed a test
-passed : {A P : Type 0} (test : Bool) (x y : A) → only_where test x ≡ Some y → (test ≡ true → x ≡ y → P) → P
+pub passed : {A P : Type 0} (test : Bool) (x y : A) → only_where test x ≡ Some y → (test ≡ true → x ≡ y → P) → P
 passed true x y is then' = then' refl (same_Some x y is)
 passed false x y is then' = absurd (none-some y is)
 
 -- a value came of what went before
-found : {A B P : Type 0} (o : Option A) (f : A → Option B) (y : B) → parameters.◌>>=◌ o f ≡ Some y → ((x : A) → o ≡ Some x → f x ≡ Some y → P) → P
+pub found : {A B P : Type 0} (o : Option A) (f : A → Option B) (y : B) → parameters.◌>>=◌ o f ≡ Some y → ((x : A) → o ≡ Some x → f x ≡ Some y → P) → P
 found None f y is then' = absurd (none-some y is)
 found (Some x) f y is then' = then' x refl is
 
 -- an operation of a kind whose fields have their forms
-record IsRead (asked : OperationKind) (operation : Operation) : Type 0 where
-  form : HasForm operation
-  kind : kind_of operation ≡ asked
+pub record IsRead (asked : OperationKind) (operation : Operation) : Type 0 where
+  pub form : HasForm operation
+  pub kind : kind_of operation ≡ asked
 
 read-is : (operation operation' : Operation) → HasForm operation → operation ≡ operation' → IsRead (kind_of operation) operation'
 read-is operation operation' form is = subst (IsRead (kind_of operation)) is (record { form = form; kind = refl })
@@ -171,12 +171,12 @@ listed : (octets : List ℕ) (f : List (List ℕ) → Option Operation) (asked :
 listed octets f asked formed o is = found (params_of octets) f o is (λ strings at is. formed strings o is)
 
 -- a number of a channel, in the kinds that have one
-abbrev has_channel : OperationKind → Bool
+abbrev pub has_channel : OperationKind → Bool
 has_channel (kind.OpenChannel number) = nat_le number 3
 has_channel (kind.CloseChannel number) = nat_le number 3
 has_channel asked = true
 
-read-operation : (secrets : Bool) (asked : OperationKind) (limit : ℕ) → limit ≤ 1020 → has_channel asked ≡ true → (octets : List ℕ) (o : Operation) → operation_in secrets asked limit octets ≡ Some o → IsRead asked o
+pub read-operation : (secrets : Bool) (asked : OperationKind) (limit : ℕ) → limit ≤ 1020 → has_channel asked ≡ true → (octets : List ℕ) (o : Operation) → operation_in secrets asked limit octets ≡ Some o → IsRead asked o
 read-operation secrets kind.CreateTable limit least number octets o is = listed octets create_table_in kind.CreateTable read-table o is
 read-operation secrets kind.CreateView limit least number octets o is = listed octets create_view_in kind.CreateView read-view o is
 read-operation secrets kind.CreateDictionary limit least number octets o is = listed octets create_dictionary_in kind.CreateDictionary read-dictionary o is
@@ -232,7 +232,7 @@ tail-read (lc ∷ x ∷ rest) tail octets is = go (lc == 0) is
     go false is = data-read lc (x ∷ rest) tail (λ i. octets (suc i)) is
 
 -- a line of a table as the operations have it
-abbrev wants_le : OperationKind → Bool
+abbrev pub wants_le : OperationKind → Bool
 wants_le kind.Fetch = true
 wants_le kind.FetchNext = true
 wants_le (kind.OpenChannel number) = number == 0
@@ -273,7 +273,7 @@ found-passes p q (y ∷ ys) x all is = go (p y) refl is (found-passes p q ys x (
 pub refused-not : {A P : Type 0} (word : StatusWord) (y : A) → Err word ≡ Ok y → P
 refused-not word y is = absurd (none-some y (ap result_ok is))
 
-same_Ok : {A : Type 0} (x y : A) → (let o : Result A StatusWord = Ok x in o) ≡ Ok y → x ≡ y
+pub same_Ok : {A : Type 0} (x y : A) → (let o : Result A StatusWord = Ok x in o) ≡ Ok y → x ≡ y
 same_Ok x y is = same_Some x y (ap result_ok is)
 
 -- a value came of what went before
@@ -312,7 +312,7 @@ on_channel {P} (Ok channel) f form read is then' = go (f channel) refl is
     go (Err word) same is = absurd (false≢true (ap is_read is ∙ read))
     go (Ok form') same is = then' channel refl (same ∙ ap Ok is)
 
-no_part : {P : Type 0} (channel : ℕ) (asked : OperationKind) (parts : List (List ℕ)) (tail : Tail) (c : Command) → part_in channel asked parts tail ≡ Ok (a_command c) → P
+pub no_part : {P : Type 0} (channel : ℕ) (asked : OperationKind) (parts : List (List ℕ)) (tail : Tail) (c : Command) → part_in channel asked parts tail ≡ Ok (a_command c) → P
 no_part channel asked parts tail c is =
     bound (provided (comes_in_parts asked) chaining_not_supported) _ (a_command c) is (λ _ _ is.
     bound (provided (not (length parts == 4)) wrong_length) _ (a_command c) is (λ _ _ is. absurd cc))
@@ -401,7 +401,7 @@ pub sound-built_operations : list_all is_sound built_operations ≡ true
 sound-built_operations = refl
 
 -- A line that is found passes each test that all lines of its table pass, and its operation is one of the table.
-line-passes : (q : Line → Bool) (table : List Line) (channel ins p1 p2 : ℕ) (line : Line) → list_all q table ≡ true → line_on table channel ins p1 p2 ≡ Ok line → q line ≡ true
+pub line-passes : (q : Line → Bool) (table : List Line) (channel ins p1 p2 : ℕ) (line : Line) → list_all q table ≡ true → line_on table channel ins p1 p2 ≡ Ok line → q line ≡ true
 line-passes q table channel ins p1 p2 line all is =
     bound (or_refused (line_of table ins p1 p2) wrong_parameters) _ line is (λ found_line at is.
     bound (provided (is_for_channel channel found_line.kind) wrong_parameters) _ line is (λ closed at_closed same.

@@ -22,7 +22,8 @@ use Rattle.scql_model.specs.Edits.{making, changing, removing}
 use Rattle.scql_model.proofs.ChangedGrants.{IsValid-with_grant, IsValid-with_privileges, IsValid-with_grants_left}
 use Rattle.scql_model.proofs.FoundAgain.{any-find}
 use Rattle.scql_model.proofs.LongerLists.{find-all}
-use Rattle.scql_model.proofs.RightEdits.{Gives, bound-gives, done-gives, not_refused, owned-there}
+use Rattle.scql_model.proofs.RightEdits.{Gives, bound-gives, done-gives, owned-there}
+use Rattle.scql_model.proofs.FormedCommands.{not_refused}
 use Rattle.scql_model.proofs.Keeping.{HasRoomFor, Keeps, next-making, IsThere, IsThere-found}
 
 -- a grantee is PUBLIC or a user, and so its stamp is a number

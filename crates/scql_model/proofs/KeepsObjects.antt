@@ -32,7 +32,8 @@ use Rattle.scql_model.proofs.LongerLists.{any-map, all-weaker}
 use Rattle.scql_model.proofs.RecordLengths.{short-table, short-dictionary}
 use Rattle.scql_model.proofs.Removing.{applied-removing_object, applied-removing_table}
 use Rattle.scql_model.proofs.RightEdits.{Gives, bound-gives, done-gives, owned-there}
-use Rattle.scql_model.proofs.Keeping.{HasRoomFor, Keeps, next-making, IsThere, IsThere-found, of_kind-parts, was_asked}
+use Rattle.scql_model.proofs.FormedCommands.{not_unless}
+use Rattle.scql_model.proofs.Keeping.{HasRoomFor, Keeps, next-making, IsThere, IsThere-found, of_kind-parts}
 
 -- who makes objects is a user that may own them
 pub maker-actor : (db : Database) (actor : Actor) → IsActorOf db actor → makes_objects actor ≡ true → is_made_by_maker db.users (actor_stamp actor) ≡ true
@@ -49,7 +50,7 @@ named_anew-keeps db o valid stamp is =
     bound-gives (Keeps db) (provided (not (list_any (λ (other : Object). bytes_eq o.name other.name) db.objects)) already_exists) _ λ x free.
     done-gives (Keeps db) (making db (of_object o)) (λ (room : HasRoomFor db (making db (of_object o))).
     IsValid-with_object db o valid is
-    (any-map (bytes_eq o.name) (λ (other : Object). other.name) db.objects ∙ not-true _ (was_asked (not (list_any (λ (other : Object). bytes_eq o.name other.name) db.objects)) already_exists x free))
+    (any-map (bytes_eq o.name) (λ (other : Object). other.name) db.objects ∙ not-true _ (not_unless (not (list_any (λ (other : Object). bytes_eq o.name other.name) db.objects)) already_exists x free))
     stamp room.room (next-making db (of_object o) valid room))
 
 object_created-keeps : (db : Database) (actor : Actor) (name : List ℕ) (kind : ObjectKind) → IsValid db → IsActorOf db actor
@@ -59,7 +60,7 @@ unfolding object_created
 object_created-keeps db actor name kind valid acts fits short founded =
     bound-gives (Keeps db) (provided (makes_objects actor) security_not_satisfied) _ λ x may.
     named_anew-keeps db (new_object db actor name kind) valid refl
-    (record { fits = fits; short = short; maker = maker-actor db actor acts (was_asked (makes_objects actor) security_not_satisfied x may); founded = founded })
+    (record { fits = fits; short = short; maker = maker-actor db actor acts (not_unless (makes_objects actor) security_not_satisfied x may); founded = founded })
 
 -- CREATE TABLE and CREATE DICTIONARY
 pub table_created-keeps : (db : Database) (actor : Actor) (name : List ℕ) (columns : List (List ℕ)) → IsValid db → IsActorOf db actor → is_name name ≡ true → are_columns columns ≡ true
@@ -112,7 +113,7 @@ table_dropped-keeps db actor name valid =
     (IsValid-with_rows_left (with_grants_left db (λ (g : Grant). not (g.object == o.stamp))) (λ (r : RowRecord). not (r.table == o.stamp))
     (IsValid-with_grants_left db (λ (g : Grant). not (g.object == o.stamp)) valid))
     (record {
-      no_view = no_view-left db o (was_asked (not (has_view db o)) conditions_not_satisfied x none);
+      no_view = no_view-left db o (not_unless (not (has_view db o)) conditions_not_satisfied x none);
       no_grant = all-left (λ (g : Grant). not (g.object == o.stamp)) db.grants;
       no_row = all-left (λ (r : RowRecord). not (r.table == o.stamp)) db.rows;
     })))
@@ -146,7 +147,7 @@ view_dropped-keeps db actor name valid =
     subst IsValid (sym (applied-removing_object db o valid.grants.rises))
     (IsValid-without_object (with_grants_left db (λ (g : Grant). not (g.object == o.stamp))) o.stamp (IsValid-with_grants_left db (λ (g : Grant). not (g.object == o.stamp)) valid)
     (record {
-      no_view = no_view-left db o (was_asked (not (has_view db o)) conditions_not_satisfied x none);
+      no_view = no_view-left db o (not_unless (not (has_view db o)) conditions_not_satisfied x none);
       no_grant = all-left (λ (g : Grant). not (g.object == o.stamp)) db.grants;
       no_row = no_row-left db o valid there parts.1;
     })))

@@ -28,8 +28,9 @@ use Rattle.scql_model.specs.Edits.{making, changing, removing}
 use Rattle.scql_model.proofs.Assigning.{length-all_assigned}
 use Rattle.scql_model.proofs.ChangedRows.{IsRowOf, IsValid-with_row, IsValid-with_row_changed, IsValid-with_rows_left}
 use Rattle.scql_model.proofs.LongerLists.{find-all}
-use Rattle.scql_model.proofs.RightEdits.{Gives, bound-gives, done-gives, not_refused}
-use Rattle.scql_model.proofs.Keeping.{HasRoomFor, Keeps, next-making, IsThere-found, of_kind-parts, was_asked}
+use Rattle.scql_model.proofs.RightEdits.{Gives, bound-gives, done-gives}
+use Rattle.scql_model.proofs.FormedCommands.{not_unless, not_refused}
+use Rattle.scql_model.proofs.Keeping.{HasRoomFor, Keeps, next-making, IsThere-found, of_kind-parts}
 
 -- INSERT: the row takes the next stamp, in a table that is there
 pub inserted-keeps : (db : Database) (actor : Actor) (name : List ℕ) (values : Values) → IsValid db → is_row values ≡ true → nat_le (row_size values) db.limit ≡ true
@@ -41,7 +42,7 @@ inserted-keeps db actor name values valid row within =
     bound-gives (Keeps db) (provided (length values == length (columns_of o.kind)) wrong_data) _ λ x same.
     let parts = of_kind-parts is_table (seen_named db actor name) o (not_refused (of_kind is_table (seen_named db actor name)) not_found o is) in
     let there = IsThere-found db _ o valid parts.0 in
-    let as_many = eqb-true (length values) (length (columns_of o.kind)) (was_asked (length values == length (columns_of o.kind)) wrong_data x same) in
+    let as_many = eqb-true (length values) (length (columns_of o.kind)) (not_unless (length values == length (columns_of o.kind)) wrong_data x same) in
     let r : RowRecord = record { stamp = db.next; table = o.stamp; row = values } in
     done-gives (Keeps db) (making db (of_row r)) (λ (room : HasRoomFor db (making db (of_row r))).
     IsValid-with_row db r valid (record {
@@ -112,7 +113,7 @@ updated-keeps db actor cursor assignments valid changes =
     let new : RowRecord = row_after db assignments r in
     done-gives (Keeps db) (changing (of_row new) ∷ []) (λ (room : HasRoomFor db (changing (of_row new) ∷ [])).
     IsValid-with_row_changed db new valid
-    (IsRowOf-row_after db assignments (λ (s : RowRecord). s.stamp == found.0) r valid found.1 changes (was_asked (nat_le (row_size new.row) db.limit) wrong_data x within)) room.room)
+    (IsRowOf-row_after db assignments (λ (s : RowRecord). s.stamp == found.0) r valid found.1 changes (not_unless (nat_le (row_size new.row) db.limit) wrong_data x within)) room.room)
 
 -- DELETE: one row goes
 pub deleted-keeps : (db : Database) (actor : Actor) (cursor : Option Cursor) → IsValid db → Gives (Keeps db) (row_deleted db actor cursor)

@@ -21,8 +21,9 @@ use Rattle.scql_model.proofs.AddedUser.{IsValid-with_user}
 use Rattle.scql_model.proofs.ChangedGrants.{with_grants_left, IsValid-with_grants_left}
 use Rattle.scql_model.proofs.FewerUsers.{MayGo, IsValid-without_user}
 use Rattle.scql_model.proofs.Removing.{applied-removing_user}
-use Rattle.scql_model.proofs.RightEdits.{Gives, bound-gives, done-gives, not_refused}
-use Rattle.scql_model.proofs.Keeping.{HasRoomFor, Keeps, next-making, key-found, was_asked}
+use Rattle.scql_model.proofs.RightEdits.{Gives, bound-gives, done-gives}
+use Rattle.scql_model.proofs.FormedCommands.{not_unless, not_refused}
+use Rattle.scql_model.proofs.Keeping.{HasRoomFor, Keeps, next-making, key-found}
 use Rattle.scql_model.proofs.KeepsObjects.{all-left, all-none_of}
 
 -- CREATE USER
@@ -34,8 +35,8 @@ user_added-keeps db actor name profile secret valid asked =
     let u : User = new_user db actor name profile secret in
     done-gives (Keeps db) (making db (of_user u)) (λ (room : HasRoomFor db (making db (of_user u))).
     IsValid-with_user db u valid
-    (IsAddable-new_user db actor name profile secret valid asked (was_asked (may_create actor profile) security_not_satisfied x may)
-    (not-true (is_taken db name) (was_asked (not (is_taken db name)) already_exists y free)))
+    (IsAddable-new_user db actor name profile secret valid asked (not_unless (may_create actor profile) security_not_satisfied x may)
+    (not-true (is_taken db name) (not_unless (not (is_taken db name)) already_exists y free)))
     room.room (next-making db (of_user u) valid room))
 
 -- OWNER alone has its stamp
@@ -68,7 +69,7 @@ user_deleted-keeps db actor name valid =
     done-gives (Keeps db) (removing_user db u) (λ room.
     subst IsValid (sym (applied-removing_user db u valid.grants.rises))
     (IsValid-without_user (with_grants_left db (λ (g : Grant). not (g.grantee == u.stamp))) u.stamp (IsValid-with_grants_left db (λ (g : Grant). not (g.grantee == u.stamp)) valid)
-    (may_go u (not_refused (user_named db.users name) not_found u is) (not-true (is_needed db u) (was_asked (not (is_needed db u)) conditions_not_satisfied x free)))))
+    (may_go u (not_refused (user_named db.users name) not_found u is) (not-true (is_needed db u) (not_unless (not (is_needed db u)) conditions_not_satisfied x free)))))
   where
     may_go : (u : User) → user_named db.users name ≡ Some u → is_needed db u ≡ false → MayGo (with_grants_left db (λ (g : Grant). not (g.grantee == u.stamp))) u.stamp
     may_go u found free =

@@ -31,8 +31,9 @@ use Rattle.scql_model.specs.Defining.{makes_objects, of_kind, is_table_or_view, 
 use Rattle.scql_model.proofs.Creating.{name-size}
 use Rattle.scql_model.proofs.LongerLists.{find-all, all-weaker}
 use Rattle.scql_model.proofs.RecordLengths.{names-size}
-use Rattle.scql_model.proofs.RightEdits.{Gives, bound-gives, done-gives, not_refused}
-use Rattle.scql_model.proofs.Keeping.{Keeps, IsThere-found, of_kind-parts, was_asked}
+use Rattle.scql_model.proofs.RightEdits.{Gives, bound-gives, done-gives}
+use Rattle.scql_model.proofs.FormedCommands.{not_unless, not_refused}
+use Rattle.scql_model.proofs.Keeping.{Keeps, IsThere-found, of_kind-parts}
 use Rattle.scql_model.proofs.KeepsObjects.{maker-actor, fits-actor, named_anew-keeps}
 
 -- columns that an object may have: 1 to 15 different names
@@ -100,7 +101,7 @@ owned-parts : (actor : Actor) (found : Option Object) → Gives (λ o. (found �
 owned-parts actor found =
     bound-gives (λ o. (found ≡ Some o) × (owns actor o ≡ true)) (or_refused found not_found) _ λ o is.
     bound-gives (λ o. (found ≡ Some o) × (owns actor o ≡ true)) (provided (owns actor o) security_not_satisfied) _ λ x its.
-    done-gives (λ o. (found ≡ Some o) × (owns actor o ≡ true)) o (not_refused found not_found o is, was_asked (owns actor o) security_not_satisfied x its)
+    done-gives (λ o. (found ≡ Some o) × (owns actor o ≡ true)) o (not_refused found not_found o is, not_unless (owns actor o) security_not_satisfied x its)
 
 own-stamp : (actor : Actor) (o : Object) → owns actor o ≡ true → (o.owner == actor_stamp actor) ≡ true
 own-stamp Public o its = absurd (false≢true its)
@@ -133,11 +134,11 @@ view_created-keeps db actor name base_name columns conditions valid acts named c
     let wanted = wanted_of (columns_of base.kind) columns in
     let counted = and_parts (is_count_of_conditions (length conditions)) (list_all (λ (c : Condition). is_name c.column && is_narrow c.value) conditions) are in
     let o : Object = new_object db actor name (View base.stamp wanted conditions) in
-    let all_among = among-wanted (columns_of base.kind) columns conditions (was_asked (are_named_among (columns_of base.kind) columns conditions) not_found z among) in
+    let all_among = among-wanted (columns_of base.kind) columns conditions (not_unless (are_named_among (columns_of base.kind) columns conditions) not_found z among) in
     let all_parts = and_parts (are_among wanted (columns_of base.kind)) _ all_among in
     named_anew-keeps db o valid refl (record {
       fits = rw (valid.counter, fits-actor db actor valid acts, there.fits, named, names.count, names.named, counted.0, counted.1) refl;
       short = short-view o base.stamp wanted conditions refl named names few;
-      maker = maker-actor db actor acts (was_asked (makes_objects actor) security_not_satisfied x may);
-      founded = rw (names.different, there.stamped, there.older, own-stamp actor base found.1, was_asked (may_have_view db.objects base) conditions_not_satisfied y deep, all_parts.0, all_parts.1) refl;
+      maker = maker-actor db actor acts (not_unless (makes_objects actor) security_not_satisfied x may);
+      founded = rw (names.different, there.stamped, there.older, own-stamp actor base found.1, not_unless (may_have_view db.objects base) conditions_not_satisfied y deep, all_parts.0, all_parts.1) refl;
     })

@@ -54,6 +54,7 @@ pub mod Naming
 pub mod NothingWritten
 pub mod PartsAgain
 pub mod Positions
+pub mod ReadFits
 pub mod ReadingIsShown
 pub mod ReadingSteps
 pub mod RecordLaws

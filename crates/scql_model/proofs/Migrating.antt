@@ -11,7 +11,7 @@ use Rattle.scql_model.specs.Migrating.{migrated}
 use Rattle.scql_model.proofs.LongerLists.{all-weaker}
 
 -- the limit of a valid database is one of two
-limit-cases : (limit : ℕ) → (limit == LARGEST_UNMIGRATED || limit == LARGEST) ≡ true → (limit ≡ 240) ⊎ (limit ≡ 1020)
+pub limit-cases : (limit : ℕ) → (limit == LARGEST_UNMIGRATED || limit == LARGEST) ≡ true → (limit ≡ 240) ⊎ (limit ≡ 1020)
 limit-cases limit either = grind arith
 
 -- a row of a valid database has at most 1,020 octets

@@ -6,6 +6,7 @@ use Rattle.std.specs.List.{list_any, list_all, find}
 use Rattle.std.proofs.lemmas.Bool.{cases_Bool, and_parts, eqb-true, eq-eqb}
 use Rattle.std.proofs.lemmas.List.Folds.{list_any-append, list_all-append, list_all-map}
 use Rattle.std.proofs.lemmas.Option.{none-some, same_Some}
+use Rattle.scql_model.proofs.FormedCommands.{not_refused}
 use Rattle.scql_model.proofs.LongerLists.{any-map, all-weaker}
 use Rattle.scql_base.specs.declared.words.StatusWord.{StatusWord}
 use Rattle.scql_base.specs.declared.records.User.{User}
@@ -113,10 +114,6 @@ bound-gives P (Err word) f each = record { each = λ x (is : Err word ≡ Ok x).
 
 pub done-gives : {A : Type 0} (P : A → Type 0) (x : A) → P x → Gives P (let r : Result A StatusWord = Ok x in r)
 done-gives P x holds = record { each = λ y (is : Ok x ≡ Ok y). subst P (same_Some x y (ap result_ok is)) holds }
-
-pub not_refused : {A : Type 0} (o : Option A) (word : StatusWord) (x : A) → or_refused o word ≡ Ok x → o ≡ Some x
-not_refused None word x is = cc
-not_refused (Some y) word x is = ap Some (same_Some y x (ap result_ok is))
 
 -- a record that is made takes the next stamp
 right-making : (db : Database) (r : AnyRecord) → record_stamp r ≡ db.next → counts_on db.next r ≡ true → AreRight db (making db r)

@@ -52,7 +52,7 @@ abbrev pub field_of : Operation → List ℕ
 field_of (Verify secret) = secret
 field_of operation = flat_map spelled (parameters_of operation)
 
--- two are the same operation
+-- two are the same operation, as the code's `==` says
 abbrev pub is_same : OperationKind → OperationKind → Bool
 is_same kind other = ghosts.eq kind other
 

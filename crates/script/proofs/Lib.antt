@@ -1,6 +1,8 @@
 pub mod Closing
+pub mod Completing
 pub mod Cutting
 mod ExampleLines
+pub mod Fresh
 pub mod Listing
 pub mod Locality
 pub mod Rows

@@ -57,7 +57,7 @@ fault-local : (A : Type 0) → IsLocal A (fault {A = A})
 fault-local A = record { reads = λ tokens. record { before = []; split = refl; again = λ others same. refl } }
 
 -- one token
-one-is : {A : Type 0} (meaning : List ℕ → Option A) (tokens : List Token) (x : Option A) → meaning (octets_of tokens) ≡ x → one meaning tokens ≡ read_token x tokens
+pub one-is : {A : Type 0} (meaning : List ℕ → Option A) (tokens : List Token) (x : Option A) → meaning (octets_of tokens) ≡ x → one meaning tokens ≡ read_token x tokens
 unfolding one
 one-is {A} meaning tokens x is = ap (λ (y : Option A). read_token y tokens) is
 
@@ -82,7 +82,7 @@ one-by meaning (token ∷ tokens) (Some x) is = turned (one meaning) (token ∷ 
 one-local : {A : Type 0} (meaning : List ℕ → Option A) → IsLocal A (one meaning)
 one-local meaning = record { reads = λ tokens. one-by meaning tokens (meaning (octets_of tokens)) refl }
 
-optional-is : {A : Type 0} (meaning : List ℕ → Option A) (otherwise : A) (tokens : List Token) (x : Option A) → meaning (octets_of tokens) ≡ x
+pub optional-is : {A : Type 0} (meaning : List ℕ → Option A) (otherwise : A) (tokens : List Token) (x : Option A) → meaning (octets_of tokens) ≡ x
     → optional meaning otherwise tokens ≡ read_or otherwise x tokens
 unfolding optional
 optional-is {A} meaning otherwise tokens x is = ap (λ (y : Option A). read_or otherwise y tokens) is
@@ -110,10 +110,10 @@ optional-local : {A : Type 0} (meaning : List ℕ → Option A) (otherwise : A) 
 optional-local meaning otherwise = record { reads = λ tokens. optional-by meaning otherwise tokens (meaning (octets_of tokens)) refl }
 
 -- a text, or another thing
-after-yes : {A : Type 0} (text : List ℕ) (r s : Reads A) (tokens : List Token) → is_next text tokens ≡ true → after text r s tokens ≡ r (behind tokens)
+pub after-yes : {A : Type 0} (text : List ℕ) (r s : Reads A) (tokens : List Token) → is_next text tokens ≡ true → after text r s tokens ≡ r (behind tokens)
 after-yes text r s tokens is = rw is refl
 
-after-no : {A : Type 0} (text : List ℕ) (r s : Reads A) (tokens : List Token) → is_next text tokens ≡ false → after text r s tokens ≡ s tokens
+pub after-no : {A : Type 0} (text : List ℕ) (r s : Reads A) (tokens : List Token) → is_next text tokens ≡ false → after text r s tokens ≡ s tokens
 after-no text r s tokens is = rw is refl
 
 after-by : {A : Type 0} (text : List ℕ) (r s : Reads A) (tokens : List Token) (next : Bool) → is_next text [] ≡ false → IsLocal A r → IsLocal A s
@@ -145,7 +145,7 @@ unfolding the
 the-local text none = after-local text (gives tt) fault none (gives-local tt) (fault-local (Unit {0}))
 
 -- one thing behind another
-bind-is : {A B : Type 0} (r : Reads A) (f : A → Reads B) (tokens : List Token) (x : Option A) (rest : List Token) → r tokens ≡ (x, rest)
+pub bind-is : {A B : Type 0} (r : Reads A) (f : A → Reads B) (tokens : List Token) (x : Option A) (rest : List Token) → r tokens ≡ (x, rest)
     → (r >>= f) tokens ≡ continued f x rest
 bind-is {A} r f tokens x rest is = ap (λ (p : Option A × List Token). continued f p.0 p.1) is
 

@@ -1,10 +1,10 @@
 -- The answer of all slots is that of those that are left, slot by slot.
-use Rattle.std.proofs.Common.{◌≡◌, ◌+◌, false, Some, Option, refl, sym, ◌∙◌, arith}
+use Rattle.std.proofs.Common.{◌≡◌, ◌+◌, false, Some, Option, refl, sym, ◌∙◌}
 use Rattle.std.specs.Prelude.{IfSome}
 use Rattle.std.specs.List.{find}
 use Rattle.eeprom.specs.StoreOf.{Slots}
 use Rattle.record_table.specs.Listed.{in_slots, slots_of}
-use Rattle.record_table.proofs.ListedSearches.{found-listed}
+use Rattle.record_table.proofs.ListedSearches.{found-listed, some-listed}
 use Rattle.record_table.proofs.Scan.{empty-told, left-all, left-behind, left-known, left-empty, passed_over, reads-none, reads-behind, reads-all}
 use Rattle.record_table.proofs.finding.find_by.Goals as goal
 use Rattle.record_table.proofs.finding.find_by.Goals.{in-Some+else-is, in_default}
@@ -27,6 +27,10 @@ returns-then-is-clause-first g c =
     let here = rw c.loop-slot.invariant.same at (rw c.in-Some.is at c.in_ok-value.ensures.value) in
     left-known g.R.Record.kind (λ slots. find (g.W.Wanted.wants c.args.wanted.now) (in_slots g.R.Record.kind slots)) (find (g.W.Wanted.wants c.args.wanted.now)) slots c.loop-slot.slot (Some c.in-Some.value) (Some c.in-Some.value) here
     (λ rest. rw (sym c.is.ensures ∙ c.if-is.true) refl) c.loop-slot.invariant.left
+
+pub returns-then-is-clause-some : goal.returns-then-is-clause-some
+returns-then-is-clause-some g c =
+    some-listed g.R.Record.kind (g.W.Wanted.wants c.args.wanted.now) (Some c.in-Some.value) (slots_of c.args.store.now c.args.side (g.B.Eeprom.chip c.args.bench.now)) (returns-then-is-clause-first g c)
 
 pub returns-then-is-clause-found : goal.returns-then-is-clause-found
 returns-then-is-clause-found g c =
@@ -61,6 +65,10 @@ pub returns-clause-first : goal.returns-clause-first
 returns-clause-first g c =
     left-empty g.R.Record.kind (λ slots. find (g.W.Wanted.wants c.args.wanted.now) (in_slots g.R.Record.kind slots)) (find (g.W.Wanted.wants c.args.wanted.now))
     (slots_of c.args.store.now c.args.side (g.B.Eeprom.chip c.args.bench.now)) c.slots_in_use-slot-end.result c.loop-slot.slot c.loop-slot-test.false c.loop-slot.invariant.empty c.loop-slot.invariant.left
+
+pub returns-clause-some : goal.returns-clause-some
+returns-clause-some g c =
+    some-listed g.R.Record.kind (g.W.Wanted.wants c.args.wanted.now) _ (slots_of c.args.store.now c.args.side (g.B.Eeprom.chip c.args.bench.now)) (returns-clause-first g c)
 
 pub returns-clause-found : goal.returns-clause-found
 returns-clause-found g c =

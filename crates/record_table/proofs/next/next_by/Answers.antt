@@ -1,5 +1,5 @@
 -- The nearest of all slots is the nearest of one so far and those that are left, slot by slot.
-use Rattle.std.proofs.Common.{◌≡◌, ◌+◌, ◌<◌, List, Option, Some, None, refl, sym, ap, ◌∙◌, inl, inr, arith}
+use Rattle.std.proofs.Common.{◌≡◌, ◌<◌, List, Option, Some, None, refl, sym, ◌∙◌, arith}
 use Rattle.std.specs.Prelude.{IfSome, option_map, filter}
 use Rattle.std.specs.List.{cons_option}
 use Rattle.eeprom.specs.StoreOf.{Slots}

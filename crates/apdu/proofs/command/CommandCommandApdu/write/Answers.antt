@@ -16,7 +16,7 @@ read_back c octets limit same formed built taken =
     subst (λ (octets : List ℕ). ReadsAs built_operations limit c [] octets (a_command c)) (sym same) (command-again built_operations limit c formed (HasLine-built (kind_of c.operation) built) taken)
 
 pub returns-clause-octets : goal.returns-clause-octets
-returns-clause-octets c = c.write_part.ensures ∙ part-one c.args.self.now c.requires.one
+returns-clause-octets c = c.write_part.ensures.octets ∙ part-one c.args.self.now c.requires.one
 
 pub returns-clause-read_back : goal.returns-clause-read_back
-returns-clause-read_back c = λ limit. read_back c.args.self.now c.write_part.new.out.items limit (c.write_part.ensures ∙ part-one c.args.self.now c.requires.one)
+returns-clause-read_back c = λ limit. read_back c.args.self.now c.write_part.new.out.items limit (c.write_part.ensures.octets ∙ part-one c.args.self.now c.requires.one)

@@ -1,24 +1,31 @@
--- The field that is put together is the command's, and its line is found in the table.
-use Rattle.apdu.proofs.PartsWritten.{the_field, field-there, part-found, part-not_found}
+-- The octets of a part are read back.
+use Rattle.std.proofs.Common.{subst, sym, ◌≡◌, ◌<◌, ◌+◌, ℕ, List, true}
+use Rattle.scql_base.specs.declared.operation.Command.{Command}
+use Rattle.scql_model.specs.Form.{Form, a_command, part_on}
+use Rattle.scql_model.specs.Operations.{IsBuilt, built_operations, has_secrets, kind_of}
+use Rattle.scql_model.specs.Spelling.{IsTaken, ReadsAs, cut, field_of, fits, part_at, part_count, part_octets}
+use Rattle.scql_model.specs.WellFormed.{IsWellFormed}
+use Rattle.scql_model.proofs.LinesFound.{HasLine-built}
+use Rattle.scql_model.proofs.PartsAgain.{part-read, last-read}
 use Rattle.apdu.proofs.command.CommandCommandApdu.write_part.Goals as goal
 
-pub written-requires : goal.written-requires
-written-requires c = field-there c.args.self.now c.field_of-field.result c.requires.fits c.field_of-field.ensures
+reads_as : (c : Command) (place limit : ℕ) (octets : List ℕ) (form : Form) → octets ≡ part_octets c place
+    → ReadsAs built_operations limit c (cut place (field_of c.operation)) (part_octets c place) form → ReadsAs built_operations limit c (cut place (field_of c.operation)) octets form
+reads_as c place limit octets form same reads = subst (λ (octets : List ℕ). ReadsAs built_operations limit c (cut place (field_of c.operation)) octets form) (sym same) reads
 
-pub put_part-requires-clause-short : goal.put_part-requires-clause-short
-put_part-requires-clause-short c =
-    let field = the_field c.args.self.now c.written.result.now c.field_of-field.result c.requires.fits c.field_of-field.ensures c.written.ensures in
-    rw field.same field.short
+part : (c : Command) (place : ℕ) (octets : List ℕ) → octets ≡ part_octets c place → fits c ≡ true → (limit : ℕ) → IsWellFormed c → IsBuilt (kind_of c.operation) → place + 1 < part_count c
+    → ReadsAs built_operations limit c (cut place (field_of c.operation)) octets (part_on c.channel (kind_of c.operation) (part_at place (field_of c.operation)))
+part c place octets same fit limit formed built more =
+    reads_as c place limit octets (part_on c.channel (kind_of c.operation) (part_at place (field_of c.operation))) same
+    (part-read built_operations limit c place formed fit more (HasLine-built (kind_of c.operation) built))
 
-pub put_part-requires-clause-there : goal.put_part-requires-clause-there
-put_part-requires-clause-there c =
-    let field = the_field c.args.self.now c.written.result.now c.field_of-field.result c.requires.fits c.field_of-field.ensures c.written.ensures in
-    rw field.same c.requires.there
+last : (c : Command) (place : ℕ) (octets : List ℕ) → octets ≡ part_octets c place → fits c ≡ true → (limit : ℕ) → IsWellFormed c → IsBuilt (kind_of c.operation) → place + 1 ≡ part_count c
+    → IsTaken (has_secrets built_operations) limit c.operation → ReadsAs built_operations limit c (cut place (field_of c.operation)) octets (a_command c)
+last c place octets same fit limit formed built ends taken =
+    reads_as c place limit octets (a_command c) same (last-read built_operations limit c place formed fit ends (HasLine-built (kind_of c.operation) built) taken)
 
-pub returns-in-Some : goal.returns-in-Some
-returns-in-Some c =
-    let field = the_field c.args.self.now c.written.result.now c.field_of-field.result c.requires.fits c.field_of-field.ensures c.written.ensures in
-    part-found c.args.self.now c.args.part c.kind_of.result c.in-Some.line c.written.result.now c.put_part.new.out.items c.kind_of.ensures c.in-Some.ensures field.same c.put_part.ensures
+pub returns-clause-part : goal.returns-clause-part
+returns-clause-part c = part c.args.self.now c.args.part c.write_at.new.out.items c.write_at.ensures c.requires.fits
 
-pub returns-in-None : goal.returns-in-None
-returns-in-None c = part-not_found c.args.self.now c.args.part c.kind_of.result c.clear.new.self.items c.kind_of.ensures c.in-None.ensures c.clear.ensures
+pub returns-clause-last : goal.returns-clause-last
+returns-clause-last c = last c.args.self.now c.args.part c.write_at.new.out.items c.write_at.ensures c.requires.fits

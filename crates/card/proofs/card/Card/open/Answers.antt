@@ -8,6 +8,7 @@ use Rattle.scql_model.specs.Opens.{Opens}
 use Rattle.card.specs.Card.{IsAt}
 use Rattle.card.specs.Sessions.{sessions_of}
 use Rattle.card.specs.Opening.{users_of}
+use Rattle.card.proofs.Leaving.{behind-opened}
 use Rattle.card.proofs.Starting.{opened, starts_at, opens-same}
 use Rattle.card.proofs.OpenedDatabase.{opens_told, invalid_told, read_told, closed-image}
 use Rattle.card.proofs.card.Card.open.Goals as goal
@@ -28,7 +29,7 @@ returns-clause-opens g c =
     let new = g.B.Eeprom.chip c.open_records.new.bench in
     kept-image (λ image. (db : Database) × Opens image db) (λ image. (db : Database) × Opens image db) old new c.in_ok-store.ensures.frame.store.keeps c.in_ok-store.ensures.told
     (λ left was same opens. (opens.0, opens-same left was same opens.0 opens.1))
-    (opens_told opened.store new.image opened.records.next (users_of opened.records.users) c.in_ok-are_valid.field-0 (subst IsSound c.store.view_is c.store.invariant.sound)
+    (opens_told opened.store new.image opened.records.next (users_of opened.records.users) c.in_ok-are_valid.field-0 (subst IsSound c.store.view_is c.store.invariant.weighed.sound)
     c.in_ok-store.ensures.over.stands c.in_ok-store.ensures.stored c.in_ok-store.ensures.gathers c.in_ok-are_valid.ensures.valid c.if-not-branch.false)
 
 pub returns-clause-octets_read : goal.returns-clause-octets_read
@@ -47,3 +48,15 @@ returns-then-not-branch-clause-not_a_card g c = λ _.
     (λ left was same none db opens. none db (opens-same was left (sym same) db opens))
     (invalid_told new.image opened.records.next (users_of opened.records.users) c.in_ok-are_valid.field-0 c.in_ok-store.ensures.gathers
     c.in_ok-are_valid.ensures.valid c.if-not-branch.true)
+
+pub returns-in_err-store-clause-behind : goal.returns-in_err-store-clause-behind
+returns-in_err-store-clause-behind g c = behind-opened (g.B.Eeprom.chip c.args.bench.now) (g.B.Eeprom.chip c.open_records.new.bench) c.in_err-store.ensures.frame.store
+
+pub returns-in_err-are_valid-clause-behind : goal.returns-in_err-are_valid-clause-behind
+returns-in_err-are_valid-clause-behind g c = behind-opened (g.B.Eeprom.chip c.args.bench.now) (g.B.Eeprom.chip c.open_records.new.bench) c.in_ok-store.ensures.frame.store
+
+pub returns-then-not-branch-clause-behind : goal.returns-then-not-branch-clause-behind
+returns-then-not-branch-clause-behind g c = behind-opened (g.B.Eeprom.chip c.args.bench.now) (g.B.Eeprom.chip c.open_records.new.bench) c.in_ok-store.ensures.frame.store
+
+pub returns-clause-behind : goal.returns-clause-behind
+returns-clause-behind g c = behind-opened (g.B.Eeprom.chip c.args.bench.now) (g.B.Eeprom.chip c.open_records.new.bench) c.in_ok-store.ensures.frame.store

@@ -1,12 +1,9 @@
 -- With which database a run begins that makes its card, or finds it there.
-use Rattle.std.proofs.Common.{ℕ, List, sym, subst}
+use Rattle.std.proofs.Common.{ℕ, List}
 use Rattle.eeprom.specs.Image.{overwrite}
 use Rattle.card.specs.Card.{fresh_card}
-use Rattle.card_cli.specs.declared.words.Form.{Form}
-use Rattle.card_cli.specs.Beginning.{Begins, LeavesUntilOpen}
-use Rattle.card_cli.proofs.Finishing.{keeps_same}
-use Rattle.card_cli.proofs.Preparing.{begins-new, began-new}
-use Rattle.card_cli.proofs.run.prepare.Goals as goal
+use Rattle.card_cli.proofs.Preparing.{begins-new, began-new, begins-there, leaves-there}
+use Rattle.card_cli.proofs.opening.prepare.Goals as goal
 
 pub returns-in-New-clause-begins : goal.returns-in-New-clause-begins
 returns-in-New-clause-begins g c =
@@ -19,7 +16,7 @@ returns-in-New-clause-began g c =
     c.format.ensures.image c.format.ensures.too_small
 
 pub returns-in-Apdu-clause-began : goal.returns-in-Apdu-clause-began
-returns-in-Apdu-clause-began g c = λ db opens. (db, subst (λ (f : Form). Begins f (g.B.Eeprom.chip c.args.bench.now) db) (sym c.in-Apdu.is) opens)
+returns-in-Apdu-clause-began g c = λ db opens. (db, begins-there c.args.form (g.B.Eeprom.chip c.args.bench.now) db c.in-Apdu.is opens)
 
 pub returns-in-Apdu-clause-leaves : goal.returns-in-Apdu-clause-leaves
-returns-in-Apdu-clause-leaves g c = subst (λ (f : Form). LeavesUntilOpen f (g.B.Eeprom.chip c.args.bench.now) (g.B.Eeprom.chip c.args.bench.now)) (sym c.in-Apdu.is) (keeps_same (g.B.Eeprom.chip c.args.bench.now))
+returns-in-Apdu-clause-leaves g c = leaves-there c.args.form (g.B.Eeprom.chip c.args.bench.now) c.in-Apdu.is

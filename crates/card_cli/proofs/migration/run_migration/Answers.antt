@@ -1,0 +1,63 @@
+-- A migration commits longer rows, and then its text goes out.
+use Rattle.std.proofs.Common.{List, ℕ, Option, ◌≡◌, ◌∙◌, ap, subst, arith, length, ◌+◌, ◌≤◌}
+use Rattle.eeprom.specs.Chip.{Chip, Still, Throughout}
+use Rattle.scql_model.specs.Database.{Database}
+use Rattle.scql_model.specs.Migrating.{migrate_text}
+use Rattle.card_cli.specs.Beginning.{IsOpenTo}
+use Rattle.card_cli.specs.CutOff.{IsCutShort}
+use Rattle.card_cli.specs.Migrating.{IsInMigration, IsMigratedFrom}
+use Rattle.card_cli.specs.RunState.{Prints}
+use Rattle.card_cli.proofs.LongerRows.{leaves-between, silent-moments, told-moments, migrated-from, migrated-same, text-migrated}
+use Rattle.card_cli.proofs.Moving.{gives-throughout}
+use Rattle.card_cli.proofs.migration.run_migration.Goals as goal
+use Rattle.card_cli.proofs.migration.run_migration.Goals.{After-give as Told}
+
+-- the text that goes out is that of the database
+text_is : (g : _) (c : Told g) (db : Database) → IsOpenTo (g.B.Eeprom.chip c.args.bench.now) db → c.text_of.result.now ≡ migrate_text db
+text_is g c db opens = text-migrated (g.B.Eeprom.chip c.args.bench.now) db c.in-Ok.migrates c.text_of.result.now opens c.in-Ok.ensures.migrates c.text_of.ensures
+
+-- what is said of it behind the migration is said of it from the beginning on
+said : (g : _) (c : Told g) (db : Database) (P : List ℕ → Option (List ℕ) → Type 0) → IsOpenTo (g.B.Eeprom.chip c.args.bench.now) db
+    → P c.text_of.result.now (g.B.Eeprom.chip c.migrate.new.bench).still.given → P (migrate_text db) (g.B.Eeprom.chip c.args.bench.now).still.given
+said g c db P opens behind =
+    subst (λ (s : Still). P (migrate_text db) s.given) c.migrate.ensures.still
+    (subst (λ (text : List ℕ). P text (g.B.Eeprom.chip c.migrate.new.bench).still.given) (text_is g c db opens) behind)
+
+longer : (g : _) (c : Told g) (db : Database) → IsOpenTo (g.B.Eeprom.chip c.args.bench.now) db → IsMigratedFrom db (g.B.Eeprom.chip c.migrate.new.bench)
+longer g c db opens = migrated-from (g.B.Eeprom.chip c.args.bench.now) (g.B.Eeprom.chip c.migrate.new.bench) db opens c.in-Ok.ensures.done
+
+moments : (g : _) (c : Told g) (db : Database) → IsOpenTo (g.B.Eeprom.chip c.args.bench.now) db
+    → (g.B.Eeprom.chip c.give.new.bench).still.mark ≤ (g.B.Eeprom.chip c.migrate.new.bench).still.mark + length c.text_of.result.now
+    → Throughout (g.B.Eeprom.chip c.args.bench.now) (g.B.Eeprom.chip c.give.new.bench) (IsInMigration db (g.B.Eeprom.chip c.args.bench.now).still.mark)
+moments g c db opens within =
+    let old : Chip = g.B.Eeprom.chip c.args.bench.now in
+    let mid : Chip = g.B.Eeprom.chip c.migrate.new.bench in
+    let new : Chip = g.B.Eeprom.chip c.give.new.bench in
+    told-moments db old mid new (leaves-between old mid db opens c.migrate.ensures.moments) c.migrate.ensures.still
+    (gives-throughout mid new (g.met.B.Eeprom.clocked c.migrate.new.bench) c.give.ensures.gives) (longer g c db opens) (omega (arith, within, ap length (text_is g c db opens)))
+
+pub returns-in_default-clause-moments : goal.returns-in_default-clause-moments
+returns-in_default-clause-moments g c = λ db opens told.
+    silent-moments db (g.B.Eeprom.chip c.args.bench.now) (g.B.Eeprom.chip c.migrate.new.bench)
+    (leaves-between (g.B.Eeprom.chip c.args.bench.now) (g.B.Eeprom.chip c.migrate.new.bench) db opens c.migrate.ensures.moments)
+
+pub returns-in-Ok-give-clause-migrates : goal.returns-in-Ok-give-clause-migrates
+returns-in-Ok-give-clause-migrates g c = λ db opens.
+    let told : Told g = (goal.at.returns-in-Ok-give-clause-migrates g c).After-give in (
+      said g told db (λ (text : List ℕ) (before : Option (List ℕ)). Prints text before (g.B.Eeprom.chip c.give.new.bench).still.given) opens c.in-Ok-give.ensures.text,
+      migrated-same (g.B.Eeprom.chip c.migrate.new.bench) (g.B.Eeprom.chip c.give.new.bench) db c.give.ensures.image (longer g told db opens),
+    )
+
+pub returns-in-Ok-give-clause-moments : goal.returns-in-Ok-give-clause-moments
+returns-in-Ok-give-clause-moments g c = λ db opens told. moments g (goal.at.returns-in-Ok-give-clause-moments g c).After-give db opens (c.give.ensures.within told)
+
+pub returns-in-Err-clause-migrates : goal.returns-in-Err-clause-migrates
+returns-in-Err-clause-migrates g c = λ db opens.
+    let told : Told g = (goal.at.returns-in-Err-clause-migrates g c).After-give in (
+      said g told db (λ (text : List ℕ) (before : Option (List ℕ)). IsCutShort text before (g.B.Eeprom.chip c.give.new.bench).still.given) opens c.in-Err.ensures.fails,
+      migrated-same (g.B.Eeprom.chip c.migrate.new.bench) (g.B.Eeprom.chip c.give.new.bench) db c.give.ensures.image (longer g told db opens),
+      c.give.ensures.faults ∙ c.in-Ok.ensures.cause.1,
+    )
+
+pub returns-in-Err-clause-moments : goal.returns-in-Err-clause-moments
+returns-in-Err-clause-moments g c = λ db opens told. moments g (goal.at.returns-in-Err-clause-moments g c).After-give db opens (c.give.ensures.within told)
