@@ -22,12 +22,12 @@ abbrev pub at_slot : {X : Type 0} → Kind X → ℕ → Slots → Option X
 at_slot {X} kind slot slots = in_slot (read_as kind) (slice_index_or slots slot None)
 
 -- the first octet of a slot's record is a mark of the kind
-abbrev pub is_marked : {X : Type 0} → Kind X → Option (List ℕ) → Bool
-is_marked {X} kind entry = option_map_or kind.marks (first_octet entry) false
+abbrev pub has_kind_mark : {X : Type 0} → Kind X → Option (List ℕ) → Bool
+has_kind_mark {X} kind entry = option_map_or kind.marks (first_octet entry) false
 
 -- how many cells the record of a slot has, if it is marked so, and how many all records that are
 abbrev pub own_cells : {X : Type 0} → Kind X → Option (List ℕ) → ℕ
-own_cells {X} kind entry = if is_marked kind entry then cells_of entry else 0
+own_cells {X} kind entry = if has_kind_mark kind entry then cells_of entry else 0
 
 abbrev pub cells_marked : {X : Type 0} → Kind X → Slots → ℕ
 cells_marked {X} kind slots = sum_by (own_cells kind) slots
