@@ -1,9 +1,9 @@
 -- What a power loss may leave of a card.
-use Rattle.std.proofs.Common.{◌≡◌, ℕ, List, drop, ◌∷◌, Option, Some, refl, sym, ap, subst, ◌∙◌, inl, arith}
+use Rattle.std.proofs.Common.{◌≡◌, ℕ, List, ◌∷◌, Option, Some, refl, sym, ap, subst, ◌∙◌, inl, arith}
 use Rattle.std.specs.Prelude.{IfSome}
 use Rattle.eeprom.specs.Chip.{Chip, Becomes, Keeps, RisesAtMost}
-use Rattle.eeprom.specs.StoreOf.{front_size, image_size, number_at}
-use Rattle.eeprom.proofs.Leaves.{leaves-weaker}
+use Rattle.eeprom.specs.StoreOf.{front_size, image_size}
+use Rattle.eeprom.proofs.Moments.{throughout-weaker}
 use Rattle.eeprom.proofs.SameFrom.{drop-from}
 use Rattle.record_store.specs.Recovery.{KeepsStore}
 use Rattle.record_store.specs.Held.{contents, with_limit, StandsFor}
@@ -14,7 +14,7 @@ use Rattle.scql_model.specs.Machine.{Machine}
 use Rattle.scql_model.specs.Opens.{Opens}
 use Rattle.card.specs.Card.{Kept, IsReady, IsAt, committed_slots}
 use Rattle.card.specs.Answering.{LeavesOneOf}
-use Rattle.card.specs.Opening.{LeavesBehind}
+use Rattle.card.specs.Behind.{KeepsBehind, own_cells}
 
 -- the image of a card that is at a machine opens to the machine's database
 pub Opens-at : (card : Kept) (chip : Chip) (m : Machine) → IsReady card chip → IsAt card chip m → (image : List ℕ) → chip.image ≡ Some image → Opens image m.committed
@@ -33,10 +33,13 @@ Keeps-none look old new same = subst (Keeps look old) (sym same) (record {
   only = λ t g left since there. inl there;
 })
 
-pub behind-opened : (old new : Chip) → KeepsStore old new → LeavesBehind old new
-behind-opened old new keeps =
-    leaves-weaker old new _ (λ was left. drop (image_size (number_at was 6)) left ≡ drop (image_size (number_at was 6)) was)
-    (λ was left told kept. drop-from (front_size (number_at was 6)) (image_size (number_at was 6)) left was (omega arith) kept.rest.cells) keeps.rest
+-- an opening writes the front alone
+pub behind-opened : (old new : Chip) → KeepsStore old new → KeepsBehind own_cells old new
+behind-opened old new keeps = throughout-weaker old new _ _ keeps.rest (λ g left during. (
+  during.1,
+  during.2,
+  drop-from (front_size (own_cells during.1)) (image_size (own_cells during.1)) left during.1 (omega arith) during.3.rest.cells,
+))
 
 pub rises-none : (most : ℕ) (old new : Chip) → new ≡ old → Becomes (RisesAtMost most) old.written new.written
 rises-none most old new same = λ after told. (after, subst (λ (chip : Chip). chip.written ≡ Some after) same told, omega arith)

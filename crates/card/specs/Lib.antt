@@ -1,5 +1,6 @@
 pub mod Adding
 pub mod Answering
+pub mod Behind
 pub mod Card
 pub mod Creating
 pub mod Making

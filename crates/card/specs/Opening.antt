@@ -1,9 +1,9 @@
 -- What the slots of a card hold, as far as they were read.
-use Rattle.std.specs.Prelude.{◌≡◌, ℕ, ◌+◌, ◌*◌, true, List, drop, [], ◌∷◌, Option, Some, None}
+use Rattle.std.specs.Prelude.{◌≡◌, ℕ, ◌+◌, ◌*◌, true, List, [], ◌∷◌, Option, Some, None}
 use Rattle.std.specs.List.{list_all, filter_map, AllByRecursion}
 use Rattle.std.specs.BTreeMap.{BTreeMap, values}
-use Rattle.eeprom.specs.Chip.{Chip, LeavesOf, RisesBy}
-use Rattle.eeprom.specs.StoreOf.{Slots, image_size, number_at}
+use Rattle.eeprom.specs.Chip.{RisesBy}
+use Rattle.eeprom.specs.StoreOf.{Slots}
 use Rattle.eeprom.specs.Slots.{AreApart, in_order, in_slot}
 use Rattle.record_store.specs.Opening.{front_octets}
 use Rattle.scql_model.specs.Records.{counter_record, user_record, counter_in, user_in}
@@ -36,10 +36,6 @@ pub record Gathers (slots : Slots) (found_counters : List ℕ) (found_users : Li
 -- the slots hold no valid database
 abbrev pub HoldNone : Slots → Type 0
 HoldNone slots = (db : Database) → Holds slots db → IsValid db → ⊥
-
--- At each moment what lies behind the image, by the number of cells in its header, is as it was.
-abbrev pub LeavesBehind : Chip → Chip → Type 0
-LeavesBehind old new = LeavesOf (λ was left. drop (image_size (number_at was 6)) left ≡ drop (image_size (number_at was 6)) was) old new
 
 -- So many octets are read where a card is opened at this database: those that begin its image, and as many as the cells of its records have.
 abbrev pub ReadsCard : Database → ℕ → ℕ → Type 0

@@ -2,7 +2,7 @@
 ghost use Rattle.std.specs.Prelude.{◌≡◌, ◌≢◌, ◌↔◌, ℕ, List, slice_get, ◌<◌, ◌≤◌, ◌+◌, ◌*◌, [], ◌∷◌, Some, None, true, false, map, is_some, length, drop, option_map, IfSome, IfOk, OnOk, IsTrue, IsErrOf};
 ghost use Rattle.eeprom.specs.Chip.{Chip, Becomes, Keeps, RisesAtMost};
 ghost use Rattle.eeprom.specs.Fault.{Counts, Rose};
-ghost use Rattle.eeprom.specs.StoreOf.{image_size, is_gate_open};
+ghost use Rattle.eeprom.specs.StoreOf.{fewest_cells, image_size, is_gate_open};
 ghost use Rattle.cell_store.specs.Reading.{ReadsAtMost};
 ghost use Rattle.record_store.specs.Held.{StandsFor};
 ghost use Rattle.record_store.specs.Faults.{is_open_fault};
@@ -15,11 +15,12 @@ ghost use Rattle.scql_model.specs.Opens.{Opens};
 ghost use Rattle.scql_base.specs.Words.{done, memory_failure};
 ghost use Rattle.scql_model.specs.Database.{Database, fresh};
 ghost use Rattle.eeprom.specs.Image.{overwrite};
+ghost use Rattle.card.specs.Behind.{KeepsBehind, own_cells};
 ghost use Rattle.card.specs.Card.{Kept, IsReady, IsAt, committed_slots, fresh_card};
 ghost use Rattle.card.specs.Answering.{Answers, IsAtAsBefore, IsDoneOrStays, LeavesOneOf, Performs, answer_to, committed_at_once, octets_if_made, with_session_for};
 ghost use Rattle.card.specs.Creating.{IsAddition, IsCounter};
 ghost use Rattle.card.specs.Making.{LeavesMade};
-ghost use Rattle.card.specs.Opening.{LeavesBehind, ReadsCard};
+ghost use Rattle.card.specs.Opening.{ReadsCard};
 ghost use Rattle.card.specs.Sessions.{proved_user, sessions_of};
 ghost use Rattle.scql_base.specs.declared.operation.Operation.TheVariants as operation;
 ghost use Rattle.scql_model.specs.Bound.{octets_bound, octets_carried_out, octets_changed, or_nothing};
@@ -99,6 +100,8 @@ impl Card {
         ensures starts { IfOk result (λ card. IfSome (B.chip bench.old).image (λ image.
             (db : Database) → Opens image db → IsAt card (B.chip bench.new) (machine.start db))) }
         ensures ready { IfOk result (λ card. IsReady card (B.chip bench.new)) }
+        // No card is smaller.
+        ensures cells { IfOk result (λ card. fewest_cells ≤ card.store.chains.cells) }
         // Where the gate is closed as many octets are read as begin the image, and as the cells of the records have.
         ensures octets_read { OnOk result (IfSome (B.chip bench.old).image (λ image. (db : Database) → Opens image db → is_gate_open image ≡ false
             → Becomes (ReadsCard db) (B.octets_read bench.old) (B.octets_read bench.new))) }
@@ -106,7 +109,7 @@ impl Card {
         ensures not_a_card { IsErrOf result OpenRefusal.NotACard → IfSome (B.chip bench.old).image (λ image. (db : Database) → Opens image db → ⊥) }
         // A power loss leaves an image that opens as before, also where it is refused; and where the gate is closed nothing is written.
         ensures recovers { Recovers is_open_fault B.chip B.faults bench.old bench.new result }
-        ensures behind { LeavesBehind (B.chip bench.old) (B.chip bench.new) }
+        ensures behind { KeepsBehind own_cells (B.chip bench.old) (B.chip bench.new) }
         ensures fault { IsErrOf result OpenRefusal.Fault → Rose (B.faults bench.old) (B.faults bench.new) }
         ensures quiet { ¬ IsErrOf result OpenRefusal.Fault → B.faults bench.new ≡ B.faults bench.old }
         ensures never_falls { B.faults bench.old ≤ B.faults bench.new }
@@ -147,7 +150,8 @@ impl Card {
         // No more octets are written than the step's bound.
         ensures octets_written { (m : machine.Machine) → IsAt self.old (B.chip bench.old) m → result ≡ Outcome.Replied
             → Becomes (RisesAtMost (octets_bound m command.now)) (B.chip bench.old).written (B.chip bench.new).written }
-        // Nothing is written behind the image, at no moment.
+        // It keeps its number of cells, and nothing is written behind the image, at no moment.
+        ensures cells { result ≡ Outcome.Replied → self.new.store.chains.cells ≡ self.old.store.chains.cells }
         ensures behind { Keeps (drop (image_size self.old.store.chains.cells)) (B.chip bench.old) (B.chip bench.new) }
     {
         reply.body.clear();
@@ -176,6 +180,7 @@ impl Card {
         requires live { IsTrue self.old.live }
         ensures at { (chip : Chip) (m : machine.Machine) → IsAt self.old chip m → IsAt self.new chip (machine.reset m) }
         ensures ready { (chip : Chip) → IsReady self.old chip → IsReady self.new chip }
+        ensures store { self.new.store ≡ self.old.store }
     {
         self.sessions = first_sessions();
         self.chains.clear();
@@ -191,6 +196,7 @@ impl Card {
             → Performs m (stepping.step m command.now) (octets_bound m command.now) result self.new (B.chip bench.old) (B.chip bench.new) }
         ensures ready { OnOk result (IsReady self.new (B.chip bench.new)) }
         ensures cause { Counts (B.faults bench.old) (B.faults bench.new) result }
+        ensures cells { OnOk result (self.new.store.chains.cells ≡ self.old.store.chains.cells) }
         ensures behind { Keeps (drop (image_size self.old.store.chains.cells)) (B.chip bench.old) (B.chip bench.new) }
         // None of the operations that are built answers another word than done where it changes the machine.
         ensures done_or_stays { (m : machine.Machine) → IsAt self.old (B.chip bench.old) m → IsDoneOrStays m command.now (stepping.step m command.now) }
@@ -215,6 +221,7 @@ impl Card {
             → Performs m (stepping.answered m (stepping.carried_out m command)) (or_nothing (octets_carried_out m command)) result self.new (B.chip bench.old) (B.chip bench.new) }
         ensures ready { OnOk result (IsReady self.new (B.chip bench.new)) }
         ensures cause { Counts (B.faults bench.old) (B.faults bench.new) result }
+        ensures cells { OnOk result (self.new.store.chains.cells ≡ self.old.store.chains.cells) }
         ensures behind { Keeps (drop (image_size self.old.store.chains.cells)) (B.chip bench.old) (B.chip bench.new) }
     {
         let channel = command.channel;
@@ -254,6 +261,7 @@ impl Card {
         ensures ready { OnOk result (IsReady self.new (B.chip bench.new)) }
         ensures cause { Counts (B.faults bench.old) (B.faults bench.new) result }
         ensures same { B.chip bench.new ≡ B.chip bench.old }
+        ensures store { self.new.store ≡ self.old.store }
     {
         if name.octets() == Name::PUBLIC {
             self.set_user(channel, None);
@@ -290,6 +298,7 @@ impl Card {
             (or_nothing (octets_changed m channel (operation.CreateUser name.now profile secret.now))) result self.new (B.chip bench.old) (B.chip bench.new) }
         ensures ready { OnOk result (IsReady self.new (B.chip bench.new)) }
         ensures cause { Counts (B.faults bench.old) (B.faults bench.new) result }
+        ensures cells { OnOk result (self.new.store.chains.cells ≡ self.old.store.chains.cells) }
         ensures behind { Keeps (drop (image_size self.old.store.chains.cells)) (B.chip bench.old) (B.chip bench.new) }
     {
         let mut octets = RecordOctets::new();
@@ -325,6 +334,7 @@ impl Card {
             (octets_if_made (created m.committed actor name profile secret) (making m.committed (of_user (new_user m.committed actor name profile secret)))) result self.new (B.chip bench.old) (B.chip bench.new) }
         ensures ready { OnOk result (IsReady self.new (B.chip bench.new)) }
         ensures cause { Counts (B.faults bench.old) (B.faults bench.new) result }
+        ensures cells { OnOk result (self.new.store.chains.cells ≡ self.old.store.chains.cells) }
         ensures behind { Keeps (drop (image_size self.old.store.chains.cells)) (B.chip bench.old) (B.chip bench.new) }
     {
         addition.user.encode(octets);

@@ -1,4 +1,5 @@
 mod Asking
+mod Behind
 mod Feeding
 mod Finishing
 mod Keeping

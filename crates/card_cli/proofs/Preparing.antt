@@ -53,32 +53,3 @@ begins-there form chip db (inr is) opens = subst (λ (f : Form). Begins f chip d
 pub leaves-there : (form : Form) (chip : Chip) → IsThere form → LeavesUntilOpen form chip chip
 leaves-there form chip (inl is) = subst (λ (f : Form). LeavesUntilOpen f chip chip) (sym is) (keeps_same chip)
 leaves-there form chip (inr is) = subst (λ (f : Form). LeavesUntilOpen f chip chip) (sym is) (keeps_same chip)
-
--- an image with a store has the header of one
-header-store : (image : List ℕ) (store : Stored) → store_of image ≡ Some store → has_header image ≡ true
-header-store image store is = of (starts_with_magic image) (has_header image) _ is
-  where
-    of : (magic header : Bool) (rest : Option Stored) → (if magic then (if header then rest else None) else None) ≡ Some store → header ≡ true
-    of false header rest is = absurd (cc)
-    of true false rest is = absurd (cc)
-    of true true rest is = refl
-
--- so it is no shorter than that of the smallest card
-long-enough : (image : List ℕ) → has_header image ≡ true → image_size fewest_cells ≤ length image
-long-enough image header =
-    let n = number_at image 6 in
-    let told = parts (slice_index image 4 == 2) (has_version image) (nat_le fewest_cells n) (nat_le n most_cells) (nat_le (image_size n) (length image)) header in
-    omega (arith, leb-true fewest_cells n told.0, leb-true (image_size n) (length image) told.1)
-  where
-    parts : (a b c d e : Bool) → (a && b && c && d && e) ≡ true → (c ≡ true) × (e ≡ true)
-    parts a b c d e all =
-        let size = and_parts (a && b && c && d) e all in
-        let most = and_parts (a && b && c) d size.0 in
-        let few = and_parts (a && b) c most.0 in (few.1, size.1)
-
-pub small-to_none : (chip : Chip) → IfSome chip.image (λ image. length image ≡ chip.still.size) → chip.still.size < image_size fewest_cells → IfSome chip.image OpensToNone
-small-to_none chip sized small = of chip.image sized
-  where
-    of : (o : Option (List ℕ)) → IfSome o (λ image. length image ≡ chip.still.size) → IfSome o OpensToNone
-    of None sized = tt
-    of (Some image) sized = λ db opens. absurd (omega (arith, small, sized, long-enough image (header-store image opens.store opens.stored)))

@@ -1,4 +1,5 @@
 pub mod Beginning
+pub mod Behind
 pub mod CutOff
 pub mod Ends
 pub mod FileChip

@@ -1,9 +1,10 @@
 // The answers to lines, as they come in.
-ghost use Rattle.std.specs.Prelude.{◌≡◌, ◌+◌, ◌*◌, ◌≤◌, ◌++◌, ◌∷◌, [], length, OnOk, OnErr, IfErr, codes};
+ghost use Rattle.std.specs.Prelude.{◌≡◌, ◌+◌, ◌*◌, ◌≤◌, ◌++◌, ◌∷◌, [], ℕ, List, length, OnOk, OnErr, IfErr, codes};
 ghost use Rattle.hex.specs.Hex.{encode_upper};
 ghost use Rattle.scql_model.specs.Machine.{Machine};
 ghost use Rattle.scql_model.specs.Step.{step};
 ghost use Rattle.scql_model.specs.Lines as model;
+ghost use Rattle.card.specs.Behind.{KeepsBehind};
 ghost use Rattle.card.specs.Card.{IsReady, IsAt};
 ghost use Rattle.card_cli.specs.Line.{line_octets, line_content};
 ghost use Rattle.card_cli.specs.RunState.{Prints, Feeds, Faults, Causes};
@@ -39,6 +40,9 @@ pub(crate) fn take_octets<B: Bench>(
         (record { card = card.new; line = line_octets line.new; chip = B.chip bench.new })) }
     ensures ready { OnOk result (IsReady card.new (B.chip bench.new)) }
     ensures causes { Causes (record { eeprom = B.faults bench.old; outlet = B.sink_faults bench.old }) (record { eeprom = B.faults bench.new; outlet = B.sink_faults bench.new }) result }
+    // The card keeps its number of cells, and nothing is written behind its image.
+    ensures cells { OnOk result (card.new.store.chains.cells ≡ card.old.store.chains.cells) }
+    ensures behind { KeepsBehind (λ was. card.old.store.chains.cells) (B.chip bench.old) (B.chip bench.new) }
 {
     for octet in octets {
         take_octet(card, bench, line, *octet)?;
@@ -60,6 +64,9 @@ fn take_octet<B: Bench>(
         (record { card = card.new; line = line_octets line.new; chip = B.chip bench.new })) }
     ensures ready { OnOk result (IsReady card.new (B.chip bench.new)) }
     ensures causes { Causes (record { eeprom = B.faults bench.old; outlet = B.sink_faults bench.old }) (record { eeprom = B.faults bench.new; outlet = B.sink_faults bench.new }) result }
+    // The card keeps its number of cells, and nothing is written behind its image.
+    ensures cells { OnOk result (card.new.store.chains.cells ≡ card.old.store.chains.cells) }
+    ensures behind { KeepsBehind (λ was. card.old.store.chains.cells) (B.chip bench.old) (B.chip bench.new) }
 {
     if octet != b'\n' {
         line.push(octet);
@@ -87,6 +94,9 @@ pub(crate) fn answer_line<B: Bench>(card: &mut Card, bench: &mut B, line: &Line)
         → IfErr result (λ stop. IfGiven (B.chip bench.new) (Throughout (B.chip bench.old) (B.chip bench.new) (IsInStopped stop m (line_content (line_octets line.now)) (B.chip bench.old).still.mark))) }
     ensures ready { OnOk result (IsReady card.new (B.chip bench.new)) }
     ensures causes { Causes (record { eeprom = B.faults bench.old; outlet = B.sink_faults bench.old }) (record { eeprom = B.faults bench.new; outlet = B.sink_faults bench.new }) result }
+    // The card keeps its number of cells, and nothing is written behind its image.
+    ensures cells { OnOk result (card.new.store.chains.cells ≡ card.old.store.chains.cells) }
+    ensures behind { KeepsBehind (λ was. card.old.store.chains.cells) (B.chip bench.old) (B.chip bench.new) }
 {
     match line.read() {
         LineContent::Nothing => Ok(()),
@@ -113,6 +123,9 @@ fn answer_command<B: Bench>(card: &mut Card, bench: &mut B, octets: &[u8]) -> Re
         → IfErr result (λ stop. IfGiven (B.chip bench.new) (Throughout (B.chip bench.old) (B.chip bench.new) (IsInStopped stop m (model.command octets.now) (B.chip bench.old).still.mark))) }
     ensures ready { OnOk result (IsReady card.new (B.chip bench.new)) }
     ensures causes { Causes (record { eeprom = B.faults bench.old; outlet = B.sink_faults bench.old }) (record { eeprom = B.faults bench.new; outlet = B.sink_faults bench.new }) result }
+    // The card keeps its number of cells, and nothing is written behind its image.
+    ensures cells { OnOk result (card.new.store.chains.cells ≡ card.old.store.chains.cells) }
+    ensures behind { KeepsBehind (λ was. card.old.store.chains.cells) (B.chip bench.old) (B.chip bench.new) }
 {
     let mut reply = Reply {
         body: ArrayVec::new(),
@@ -168,6 +181,7 @@ pub(crate) fn give<B: Bench>(bench: &mut B, text: &[u8]) -> Result<(), SinkFault
     ensures image { (B.chip bench.new).image ≡ (B.chip bench.old).image }
     ensures size { (B.chip bench.new).still.size ≡ (B.chip bench.old).still.size }
     ensures gives { Gives (B.chip bench.old) (B.chip bench.new) }
+    ensures behind { (cells : List ℕ → ℕ) → KeepsBehind cells (B.chip bench.old) (B.chip bench.new) }
     ensures mark { OnOk result (IfGiven (B.chip bench.new) ((B.chip bench.new).still.mark ≡ (B.chip bench.old).still.mark + length text.now)) }
     ensures within { IfGiven (B.chip bench.new) ((B.chip bench.new).still.mark ≤ (B.chip bench.old).still.mark + length text.now) }
     ensures counts { Counts (B.sink_faults bench.old) (B.sink_faults bench.new) result }

@@ -2,6 +2,7 @@
 ghost use Rattle.std.specs.Prelude.{◌≡◌, ◌<◌, ◌≤◌, [], true, false, length, OnOk, IfErr};
 ghost use Rattle.eeprom.specs.Chip.{Becomes};
 ghost use Rattle.scql_model.specs.Machine.{Machine};
+ghost use Rattle.card.specs.Behind.{KeepsBehind};
 ghost use Rattle.card.specs.Card.{IsReady, IsAt};
 ghost use Rattle.card_cli.specs.Line.{line_octets, line_content, is_empty_line};
 ghost use Rattle.card_cli.specs.Running.{Running, end_text, after_end};
@@ -37,6 +38,8 @@ pub(crate) fn answer_input<S: Source, B: Bench>(
     // At each moment a power loss leaves each commit of the lines that were heard by then, and else at most commits of the line after them.
     ensures moments { (m : Machine) → IsAt card.old (B.chip bench.old) m → IfGiven (B.chip bench.new)
         (Becomes (λ input left. KeepsTo result (B.faults bench.old) (B.faults bench.new) m input left (B.chip bench.old) (B.chip bench.new)) (S.left source.old) (S.left source.new)) }
+    // Nothing is written behind the card's image.
+    ensures behind { KeepsBehind (λ was. card.old.store.chains.cells) (B.chip bench.old) (B.chip bench.new) }
     ensures status { ends_input result ≡ true }
     ensures done { result ≡ Status.Done → Becomes (λ input left. (left ≡ []) × (length input ≤ longest_input)) (S.left source.old) (S.left source.new) }
     ensures too_long { result ≡ Status.TooLong → Becomes (λ input left. longest_input < length input) (S.left source.old) (S.left source.new) }
@@ -83,6 +86,7 @@ fn answer_last<B: Bench>(card: &mut Card, bench: &mut B, line: &Line) -> Result<
     ensures moments { (r : Running) → IsRunning (record { card = card.old; line = line_octets line.now; chip = B.chip bench.old }) r
         → IfErr result (λ stop. IfGiven (B.chip bench.new) (Throughout (B.chip bench.old) (B.chip bench.new) (IsInStopped stop r.machine (line_content r.begun) (B.chip bench.old).still.mark))) }
     ensures causes { Causes (record { eeprom = B.faults bench.old; outlet = B.sink_faults bench.old }) (record { eeprom = B.faults bench.new; outlet = B.sink_faults bench.new }) result }
+    ensures behind { KeepsBehind (λ was. card.old.store.chains.cells) (B.chip bench.old) (B.chip bench.new) }
 {
     if line.is_empty() {
         return Ok(());

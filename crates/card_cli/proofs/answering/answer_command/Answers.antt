@@ -14,6 +14,8 @@ use Rattle.card_cli.proofs.Moving.{gives-throughout, line-moments, answered-mome
 use Rattle.scql_model.specs.Lines.{command, content_text, reply_octets}
 use Rattle.card_cli.specs.declared.stop.Stop.TheVariants.{Eeprom, Outlet, Both}
 use Rattle.card_cli.specs.CutOff.{FailsIn, mute_text}
+use Rattle.card.specs.Behind.{KeepsBehind}
+use Rattle.card_cli.proofs.Behind.{behind-keeps, behind-on}
 use Rattle.card_cli.proofs.Stopping.{at_outlet, fails_giving, fails_mute, fails_both, mute_text-reply}
 use Rattle.card_cli.proofs.answering.answer_command.Goals.{After-give, After-give-in-Mute}
 use Rattle.card_cli.proofs.answering.answer_command.Goals as goal
@@ -93,3 +95,29 @@ returns-in-Ok-clause-moments g c = λ m at told. mute_moments g (goal.at.returns
 
 pub returns-in-Err-clause-moments : goal.returns-in-Err-clause-moments
 returns-in-Err-clause-moments g c = λ m at told. mute_moments g (goal.at.returns-in-Err-clause-moments g c).After-give-in-Mute m at
+
+-- what lies behind the image stays, whether it replied
+replied_behind : (g : _) (c : After-give g) → KeepsBehind (λ was. c.args.card.now.store.chains.cells) (g.B.Eeprom.chip c.args.bench.now) (g.B.Eeprom.chip c.give.new.bench)
+replied_behind g c =
+    let cells : ℕ = c.args.card.now.store.chains.cells in
+    let mid : Chip = g.B.Eeprom.chip c.answer.new.bench in
+    behind-on cells cells (g.B.Eeprom.chip c.args.bench.now) mid (g.B.Eeprom.chip c.give.new.bench) refl (behind-keeps cells (g.B.Eeprom.chip c.args.bench.now) mid c.answer.ensures.behind) (c.give.ensures.behind (λ was. cells))
+
+pub returns-in_ok-give-in-Replied-clause-behind : goal.returns-in_ok-give-in-Replied-clause-behind
+returns-in_ok-give-in-Replied-clause-behind g c = replied_behind g (goal.at.returns-in_ok-give-in-Replied-clause-behind g c).After-give
+
+pub returns-in_err-give-in-Replied-clause-behind : goal.returns-in_err-give-in-Replied-clause-behind
+returns-in_err-give-in-Replied-clause-behind g c = replied_behind g (goal.at.returns-in_err-give-in-Replied-clause-behind g c).After-give
+
+-- or went mute
+mute_behind : (g : _) (c : After-give-in-Mute g) → KeepsBehind (λ was. c.args.card.now.store.chains.cells) (g.B.Eeprom.chip c.args.bench.now) (g.B.Eeprom.chip c.give-in-Mute.new.bench)
+mute_behind g c =
+    let cells : ℕ = c.args.card.now.store.chains.cells in
+    let mid : Chip = g.B.Eeprom.chip c.answer.new.bench in
+    behind-on cells cells (g.B.Eeprom.chip c.args.bench.now) mid (g.B.Eeprom.chip c.give-in-Mute.new.bench) refl (behind-keeps cells (g.B.Eeprom.chip c.args.bench.now) mid c.answer.ensures.behind) (c.give-in-Mute.ensures.behind (λ was. cells))
+
+pub returns-in-Ok-clause-behind : goal.returns-in-Ok-clause-behind
+returns-in-Ok-clause-behind g c = mute_behind g (goal.at.returns-in-Ok-clause-behind g c).After-give-in-Mute
+
+pub returns-in-Err-clause-behind : goal.returns-in-Err-clause-behind
+returns-in-Err-clause-behind g c = mute_behind g (goal.at.returns-in-Err-clause-behind g c).After-give-in-Mute

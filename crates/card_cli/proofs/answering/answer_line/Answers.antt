@@ -6,6 +6,7 @@ use Rattle.std.specs.Prelude.{OnOk, codes}
 use Rattle.scql_model.specs.Lines as model
 use Rattle.card_cli.specs.RunState.{Prints}
 use Rattle.card_cli.specs.Line.{line_octets, line_content}
+use Rattle.card_cli.proofs.Behind.{behind-same}
 use Rattle.card_cli.proofs.Stopping.{fails_note, at_outlet}
 use Rattle.card_cli.proofs.answering.answer_line.Goals as goal
 
@@ -67,3 +68,25 @@ returns-in-Command-clause-text g c = λ m at.
     c.in-Command.ensures
     (subst (λ (octets : List ℕ). OnOk c.answer_command.result (Prints (model.content_text m (model.command octets)) (g.B.Eeprom.chip c.args.bench.now).still.given (g.B.Eeprom.chip c.answer_command.new.bench).still.given))
     c.deref.ensures.0 (c.answer_command.ensures.text m at))
+
+-- what lies behind the image stays
+pub returns-in_err-give-in-TooLong-clause-behind : goal.returns-in_err-give-in-TooLong-clause-behind
+returns-in_err-give-in-TooLong-clause-behind g c = c.give.ensures.behind (λ was. c.args.card.now.store.chains.cells)
+
+pub returns-in_ok-give-in-TooLong-clause-behind : goal.returns-in_ok-give-in-TooLong-clause-behind
+returns-in_ok-give-in-TooLong-clause-behind g c = c.give.ensures.behind (λ was. c.args.card.now.store.chains.cells)
+
+pub returns-in_err-give-in-Reset-clause-behind : goal.returns-in_err-give-in-Reset-clause-behind
+returns-in_err-give-in-Reset-clause-behind g c = c.give-in-Reset.ensures.behind (λ was. c.args.card.now.store.chains.cells)
+
+pub returns-in_ok-give-in-Reset-clause-behind : goal.returns-in_ok-give-in-Reset-clause-behind
+returns-in_ok-give-in-Reset-clause-behind g c = c.give-in-Reset.ensures.behind (λ was. c.args.card.now.store.chains.cells)
+
+pub returns-in_err-give-in-NotHexadecimal-clause-behind : goal.returns-in_err-give-in-NotHexadecimal-clause-behind
+returns-in_err-give-in-NotHexadecimal-clause-behind g c = c.give-in-NotHexadecimal.ensures.behind (λ was. c.args.card.now.store.chains.cells)
+
+pub returns-in_ok-give-in-NotHexadecimal-clause-behind : goal.returns-in_ok-give-in-NotHexadecimal-clause-behind
+returns-in_ok-give-in-NotHexadecimal-clause-behind g c = c.give-in-NotHexadecimal.ensures.behind (λ was. c.args.card.now.store.chains.cells)
+
+pub returns-in-Nothing-clause-behind : goal.returns-in-Nothing-clause-behind
+returns-in-Nothing-clause-behind g c = behind-same (λ was. c.args.card.now.store.chains.cells) (g.B.Eeprom.chip c.args.bench.now) (g.B.Eeprom.chip c.args.bench.now) refl

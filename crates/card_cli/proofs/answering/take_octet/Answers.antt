@@ -1,5 +1,7 @@
 use Rattle.std.proofs.lemmas.Result.{err_from_is_err_and}
+use Rattle.std.proofs.Common.{refl}
 use Rattle.eeprom.specs.Chip.{Chip}
+use Rattle.card_cli.proofs.Behind.{behind-same}
 use Rattle.card_cli.specs.declared.stop.Stop.{Stop}
 use Rattle.card_cli.specs.RunState.{RunState}
 use Rattle.card_cli.specs.Line.{line_octets}
@@ -27,3 +29,6 @@ returns-in_err-answer_line-clause-halts g c =
     let is = err_from_is_err_and c.from_residual.result c.from_residual.ensures.1 in
     rw (is.1, is.2) (Halts-line_feed stop c.args.octet old now c.if-octet-ne10.false
     (λ r running. FailsAt-begun stop old now r running.line (c.in_err-answer_line.ensures.fails r.machine running.at)) c.in_err-answer_line.ensures.moments)
+
+pub returns-then-octet-ne10-clause-behind : goal.returns-then-octet-ne10-clause-behind
+returns-then-octet-ne10-clause-behind g c = behind-same (λ was. c.args.card.now.store.chains.cells) (g.B.Eeprom.chip c.args.bench.now) (g.B.Eeprom.chip c.args.bench.now) refl

@@ -6,6 +6,7 @@ use Rattle.std.proofs.Math.Seq.{take-length}
 use Rattle.card_cli.specs.Halting.{Halts}
 use Rattle.card_cli.specs.Line.{line_octets}
 use Rattle.card_cli.specs.RunState.{RunState, Faults, Feeds}
+use Rattle.card_cli.proofs.Behind.{behind-same, behind-on}
 use Rattle.card_cli.proofs.Stopping.{Halts-within}
 use Rattle.card_cli.proofs.Feeding.{Feeds-nothing, Feeds-then}
 use Rattle.card_cli.proofs.answering.take_octets.Goals as goal
@@ -13,6 +14,8 @@ use Rattle.card_cli.proofs.answering.take_octets.Goals as goal
 pub loop-octet-init : goal.loop-octet-init
 loop-octet-init g c = record {
   ready = c.requires.ready;
+  cells = refl;
+  behind = behind-same (λ was. c.args.card.now.store.chains.cells) (g.B.Eeprom.chip c.args.bench.now) (g.B.Eeprom.chip c.args.bench.now) refl;
   faults = refl;
   sink_faults = refl;
   feeds = Feeds-nothing (record { card = c.args.card.now; line = line_octets c.args.line.now; chip = g.B.Eeprom.chip c.args.bench.now }) c.requires.ready;
@@ -26,6 +29,8 @@ loop-octet-preserved g c =
     let octet : ℕ = get_or c.args.octets.now c.loop-octet.octet-index 0 in
     record {
       ready = c.in_ok-take_octet.ensures.ready;
+      cells = c.in_ok-take_octet.ensures.cells ∙ c.loop-octet.invariant.cells;
+      behind = behind-on c.args.card.now.store.chains.cells c.loop-octet.card.store.chains.cells old.chip mid.chip new.chip c.loop-octet.invariant.cells c.loop-octet.invariant.behind c.take_octet.ensures.behind;
       faults = ap (λ (f : Faults). f.eeprom) c.in_ok-take_octet.ensures.causes.quiet ∙ c.loop-octet.invariant.faults;
       sink_faults = ap (λ (f : Faults). f.outlet) c.in_ok-take_octet.ensures.causes.quiet ∙ c.loop-octet.invariant.sink_faults;
       feeds = subst (λ (octets : List ℕ). Feeds octets old new) (sym (take_more c.args.octets.now c.loop-octet.octet-index 0 c.loop-octet-test.true))
@@ -52,3 +57,9 @@ returns-in_err-take_octet-clause-halts g c =
     let is = err_from_is_err_and c.from_residual.result c.from_residual.ensures.1 in
     rw (is.1, is.2) (subst (λ (x : List ℕ). Halts c.in_err-take_octet.field-0.0 x old (g.B.Eeprom.chip c.take_octet.new.bench)) split
     (Halts-within c.in_err-take_octet.field-0.0 (take at octets) here (drop (at + 1) octets) old mid (g.B.Eeprom.chip c.take_octet.new.bench) c.loop-octet.invariant.feeds c.in_err-take_octet.ensures.halts))
+
+-- and then another octet
+pub returns-in_err-take_octet-clause-behind : goal.returns-in_err-take_octet-clause-behind
+returns-in_err-take_octet-clause-behind g c =
+    behind-on c.args.card.now.store.chains.cells c.loop-octet.card.store.chains.cells (g.B.Eeprom.chip c.args.bench.now) (g.B.Eeprom.chip c.loop-octet.bench) (g.B.Eeprom.chip c.take_octet.new.bench)
+    c.loop-octet.invariant.cells c.loop-octet.invariant.behind c.take_octet.ensures.behind

@@ -9,9 +9,11 @@ use Rattle.card_cli.specs.declared.status.Status.TheVariants.{Done, ReadFault, T
 use Rattle.card_cli.specs.Line.{line_octets}
 use Rattle.card_cli.specs.RunState.{RunState, Faults, Feeds}
 use Rattle.card_cli.specs.Ends.{longest_input}
+use Rattle.card.specs.Behind.{KeepsBehind}
+use Rattle.card_cli.proofs.Behind.{behind-same, behind-on}
 use Rattle.card_cli.proofs.Taking.{counts-at, HasTaken, HasTaken-nothing, HasTaken-more, Ends, Ends-ended, Ends-keeps, Ends-read_fault, Ends-done, Ends-last, Ends-halted, Ends-too_long}
 use Rattle.card_cli.proofs.input.answer_input.Given as given
-use Rattle.card_cli.proofs.input.answer_input.Goals.{In_default, In-Ok-answer_last, After-status, After-status-in-Err-take_octets, Then-room-count}
+use Rattle.card_cli.proofs.input.answer_input.Goals.{In_default, In-Ok-answer_last, After-answer_last, After-take_octets, After-status, After-status-in-Err-take_octets, Then-room-count}
 use Rattle.card_cli.proofs.input.answer_input.Goals as goal
 
 abbrev faults : (g : given.Over) → g.row.B.Denot → Faults
@@ -31,6 +33,8 @@ loop-count-init g c =
     let left : Option (List ℕ) = g.S.Source.left c.args.source.now in
     record {
       ready = c.requires;
+      cells = refl;
+      behind = behind-same (λ was. c.args.card.now.store.chains.cells) (g.B.Eeprom.chip c.args.bench.now) (g.B.Eeprom.chip c.args.bench.now) refl;
       faults = refl;
       source_faults = refl;
       sink_faults = refl;
@@ -137,6 +141,8 @@ loop-count-preserved g c =
     let same : c.min-taken.result ≡ c.in-Ok.count = omega (arith, c.min-taken.ensures, fits) in
     record {
       ready = c.in_default-take_octets.ensures.ready;
+      cells = c.in_default-take_octets.ensures.cells ∙ c.loop-count.invariant.cells;
+      behind = behind-on c.args.card.now.store.chains.cells c.loop-count.card.store.chains.cells old.chip mid.chip new.chip c.loop-count.invariant.cells c.loop-count.invariant.behind c.take_octets.ensures.behind;
       faults = ap (λ (f : Faults). f.eeprom) c.in_default-take_octets.ensures.causes.quiet ∙ c.loop-count.invariant.faults;
       source_faults = c.in-Ok.ensures.cause.1 ∙ c.loop-count.invariant.source_faults;
       sink_faults = ap (λ (f : Faults). f.outlet) c.in_default-take_octets.ensures.causes.quiet ∙ c.loop-count.invariant.sink_faults;
@@ -144,3 +150,27 @@ loop-count-preserved g c =
           c.in-Ok.ensures.taken.fits fits c.loop-count.invariant.taken c.in-Ok.ensures.taken
           (subst (λ (count : ℕ). Feeds (take count c.read.new.into) mid new) same c.in_default-take_octets.ensures.feeds);
     }
+
+-- what lies behind the image stays to the last line
+last_behind : (g : given.Over) (c : After-answer_last g) → KeepsBehind (λ was. c.args.card.now.store.chains.cells) (g.B.Eeprom.chip c.args.bench.now) (g.B.Eeprom.chip c.answer_last.new.bench)
+last_behind g c =
+    behind-on c.args.card.now.store.chains.cells c.loop-count.card.store.chains.cells (g.B.Eeprom.chip c.args.bench.now) (g.B.Eeprom.chip c.loop-count.bench) (g.B.Eeprom.chip c.answer_last.new.bench)
+    c.loop-count.invariant.cells c.loop-count.invariant.behind c.answer_last.ensures.behind
+
+pub returns-in-Ok-answer_last-clause-behind : goal.returns-in-Ok-answer_last-clause-behind
+returns-in-Ok-answer_last-clause-behind g c = last_behind g (goal.at.returns-in-Ok-answer_last-clause-behind g c).After-answer_last
+
+pub returns-in-Err-clause-behind : goal.returns-in-Err-clause-behind
+returns-in-Err-clause-behind g c = last_behind g (goal.at.returns-in-Err-clause-behind g c).After-answer_last
+
+-- or to the octets that were taken last
+taken_behind : (g : given.Over) (c : After-take_octets g) → KeepsBehind (λ was. c.args.card.now.store.chains.cells) (g.B.Eeprom.chip c.args.bench.now) (g.B.Eeprom.chip c.take_octets.new.bench)
+taken_behind g c =
+    behind-on c.args.card.now.store.chains.cells c.loop-count.card.store.chains.cells (g.B.Eeprom.chip c.args.bench.now) (g.B.Eeprom.chip c.loop-count.bench) (g.B.Eeprom.chip c.take_octets.new.bench)
+    c.loop-count.invariant.cells c.loop-count.invariant.behind c.take_octets.ensures.behind
+
+pub returns-in-Err-take_octets-clause-behind : goal.returns-in-Err-take_octets-clause-behind
+returns-in-Err-take_octets-clause-behind g c = taken_behind g (goal.at.returns-in-Err-take_octets-clause-behind g c).After-take_octets
+
+pub returns-then-room-count-clause-behind : goal.returns-then-room-count-clause-behind
+returns-then-room-count-clause-behind g c = taken_behind g (goal.at.returns-then-room-count-clause-behind g c).After-take_octets

@@ -10,6 +10,7 @@ use Rattle.card_cli.specs.Moments.{IsInStopped, IsAtEnd, IfGiven}
 use Rattle.card_cli.proofs.Moving.{throughout-same, at_end-answered, on_given}
 use Rattle.card_cli.specs.RunState.{Prints}
 use Rattle.card_cli.proofs.Feeding.{end_text-begun, after_end-begun}
+use Rattle.card_cli.proofs.Behind.{behind-same}
 use Rattle.card_cli.proofs.Stopping.{fails_last}
 use Rattle.card_cli.proofs.input.answer_last.Goals as goal
 
@@ -47,3 +48,6 @@ returns-clause-moments g c = λ r running.
     let old = g.B.Eeprom.chip c.args.bench.now in
     let new = g.B.Eeprom.chip c.answer_line.new.bench in
     subst (λ (l : Option (List ℕ)). IfErr c.answer_line.result (λ (stop : Stop). IfGiven new (Throughout old new (IsInStopped stop r.machine (line_content l) old.still.mark)))) running.line (c.answer_line.ensures.moments r.machine running.at)
+
+pub returns-then-is_empty-clause-behind : goal.returns-then-is_empty-clause-behind
+returns-then-is_empty-clause-behind g c = behind-same (λ was. c.args.card.now.store.chains.cells) (g.B.Eeprom.chip c.args.bench.now) (g.B.Eeprom.chip c.args.bench.now) refl

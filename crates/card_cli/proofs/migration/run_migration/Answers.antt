@@ -3,9 +3,10 @@ use Rattle.std.proofs.Common.{List, ℕ, Option, ◌≡◌, ◌∙◌, ap, subst
 use Rattle.eeprom.specs.Chip.{Chip, Still, Throughout}
 use Rattle.scql_model.specs.Database.{Database}
 use Rattle.scql_model.specs.Migrating.{migrate_text}
+use Rattle.card.specs.Behind.{KeepsBehind, own_cells}
 use Rattle.card_cli.specs.Beginning.{IsOpenTo}
 use Rattle.card_cli.specs.CutOff.{IsCutShort}
-use Rattle.card_cli.specs.Migrating.{IsInMigration, IsMigratedFrom, KeepsBehind}
+use Rattle.card_cli.specs.Migrating.{IsInMigration, IsMigratedFrom}
 use Rattle.card_cli.specs.RunState.{Prints}
 use Rattle.card_cli.proofs.LongerRows.{leaves-between, silent-moments, told-moments, migration-behind, told-behind, migrated-from, migrated-same, text-migrated}
 use Rattle.card_cli.proofs.Moving.{gives-throughout}
@@ -66,10 +67,8 @@ pub returns-in_default-clause-behind : goal.returns-in_default-clause-behind
 returns-in_default-clause-behind g c = migration-behind (g.B.Eeprom.chip c.args.bench.now) (g.B.Eeprom.chip c.migrate.new.bench) c.migrate.ensures.moments
 
 -- what goes out behind a migration writes nothing
-behind : (g : _) (c : Told g) → KeepsBehind (g.B.Eeprom.chip c.args.bench.now) (g.B.Eeprom.chip c.give.new.bench)
-behind g c =
-    told-behind (g.B.Eeprom.chip c.args.bench.now) (g.B.Eeprom.chip c.migrate.new.bench) (g.B.Eeprom.chip c.give.new.bench) c.migrate.ensures.moments
-    (gives-throughout (g.B.Eeprom.chip c.migrate.new.bench) (g.B.Eeprom.chip c.give.new.bench) (g.met.B.Eeprom.clocked c.migrate.new.bench) c.give.ensures.gives)
+behind : (g : _) (c : Told g) → KeepsBehind own_cells (g.B.Eeprom.chip c.args.bench.now) (g.B.Eeprom.chip c.give.new.bench)
+behind g c = told-behind (g.B.Eeprom.chip c.args.bench.now) (g.B.Eeprom.chip c.migrate.new.bench) (g.B.Eeprom.chip c.give.new.bench) c.migrate.ensures.moments (c.give.ensures.behind own_cells)
 
 pub returns-in-Ok-give-clause-behind : goal.returns-in-Ok-give-clause-behind
 returns-in-Ok-give-clause-behind g c = behind g (goal.at.returns-in-Ok-give-clause-behind g c).After-give

@@ -1,7 +1,9 @@
 -- With which database a run begins that makes its card, or finds it there.
-use Rattle.std.proofs.Common.{ℕ, List}
+use Rattle.std.proofs.Common.{ℕ, List, refl, rules}
 use Rattle.eeprom.specs.Image.{overwrite}
 use Rattle.card.specs.Card.{fresh_card}
+use Rattle.card_cli.specs.Behind.{cells_for}
+use Rattle.card_cli.proofs.Behind.{behind-same, behind-new, cells-new, cells-there}
 use Rattle.card_cli.proofs.Preparing.{begins-new, began-new, begins-there, leaves-there}
 use Rattle.card_cli.proofs.opening.prepare.Goals as goal
 
@@ -20,3 +22,16 @@ returns-in-Apdu-clause-began g c = λ db opens. (db, begins-there c.args.form (g
 
 pub returns-in-Apdu-clause-leaves : goal.returns-in-Apdu-clause-leaves
 returns-in-Apdu-clause-leaves g c = leaves-there c.args.form (g.B.Eeprom.chip c.args.bench.now) c.in-Apdu.is
+
+-- how many cells the card has, and what lies behind its image
+pub returns-in-New-clause-cells : goal.returns-in-New-clause-cells
+returns-in-New-clause-cells g c = cells-new c.format.result (g.B.Eeprom.chip c.args.bench.now) (g.B.Eeprom.chip c.format.new.bench) c.args.form c.in-New.cells c.in-New.is (search rules) c.format.ensures.image
+
+pub returns-in-New-clause-behind : goal.returns-in-New-clause-behind
+returns-in-New-clause-behind g c = behind-new c.args.form c.in-New.cells (g.B.Eeprom.chip c.args.bench.now) (g.B.Eeprom.chip c.format.new.bench) c.in-New.is c.format.ensures.behind
+
+pub returns-in-Apdu-clause-cells : goal.returns-in-Apdu-clause-cells
+returns-in-Apdu-clause-cells g c = cells-there c.args.form (g.B.Eeprom.chip c.args.bench.now).image c.in-Apdu.is
+
+pub returns-in-Apdu-clause-behind : goal.returns-in-Apdu-clause-behind
+returns-in-Apdu-clause-behind g c = behind-same (cells_for c.args.form) (g.B.Eeprom.chip c.args.bench.now) (g.B.Eeprom.chip c.args.bench.now) refl

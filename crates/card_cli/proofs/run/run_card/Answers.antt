@@ -5,16 +5,19 @@ use Rattle.std.specs.String.{string_bytes}
 use Rattle.eeprom.specs.Chip.{Chip, Still, Becomes}
 use Rattle.scql_model.specs.Database.{Database}
 use Rattle.scql_model.specs.Machine.{start}
+use Rattle.card.specs.Behind.{KeepsBehind, own_cells}
 use Rattle.card.specs.Card.{IsAt}
 use Rattle.card_cli.specs.declared.status.Status.{Status}
 use Rattle.card_cli.specs.declared.status.Status.TheVariants.{Done, Eeprom, ReadFault, WriteFault, TooLong}
 use Rattle.card_cli.specs.declared.words.Form.{Form}
 use Rattle.card_cli.specs.declared.words.Form.TheVariants.{Migrate}
+use Rattle.card_cli.specs.Behind.{cells_for}
 use Rattle.card_cli.specs.Beginning.{IsOpenTo, BeginsWith, Begins, LacksCard, LeavesUntilOpen, FindsNoCard}
 use Rattle.card_cli.specs.Ends.{AllFaults, EndsBy, EndsAs}
 use Rattle.card_cli.specs.Keeping.{KeepsTo}
 use Rattle.card_cli.specs.Migrating.{MigratesTo}
 use Rattle.card_cli.specs.Words.{form_in}
+use Rattle.card_cli.proofs.Behind.{behind-then, cells-over}
 use Rattle.card_cli.proofs.Finishing.{answers_all, same_faults}
 use Rattle.card_cli.proofs.LongerRows.{open-at, open-told, Migrates-opened, Migrates-unopened}
 use Rattle.card_cli.proofs.Asking.{lines-asked, eeprom-rose}
@@ -85,7 +88,7 @@ returns-in-Migrate-clause-migrate g c = λ asked.
     (λ told. let first = c.in-Ok.ensures.begins told in (first.0, subst (λ (f : Form). Begins f old first.0) (migrating g run asked) first.1))
     (λ db opens. open-at c.in-Ok.card mid db c.in-Ok.ensures.ready (c.in-Ok.ensures.starts db (found g run db asked opens)))
     (λ db opens. subst (λ (from : ℕ). MigratesTo c.run_migration.result from (g.B.Eeprom.faults c.run_migration.new.bench) db mid.still.given new) counted (c.run_migration.ensures.migrates db opens))
-    c.run_migration.ensures.moments c.run_migration.ensures.behind
+    c.run_migration.ensures.moments
     (subst (λ (f : AllFaults). EndsBy c.run_migration.result f now) same (c.run_migration.ensures.ends (g.S.Source.source_faults c.args.source.now)))
 
 -- It was opened to answer lines.
@@ -149,6 +152,13 @@ returns-clause-text g c = λ db begins quiet input left from to short.
     c.answer_input.ensures.status (subst (λ (f : AllFaults). EndsBy c.answer_input.result f new) same c.answer_input.ensures.ends) quiet from to short c.answer_input.ensures.too_long
     (ended g run c.answer_input.result refl db begins) (g.met.B.Bench.output c.answer_input.new.bench).0
 
+pub returns-clause-ends : goal.returns-clause-ends
+returns-clause-ends g c =
+    let sink = outlet_stays g (goal.at.returns-clause-ends g c).After-open_card in
+    let now : AllFaults = record { eeprom = g.B.Eeprom.faults c.answer_input.new.bench; source = g.S.Source.source_faults c.answer_input.new.source; outlet = g.B.Outlet.sink_faults c.answer_input.new.bench } in
+    let same = same_faults (g.B.Eeprom.faults c.open_card.new.bench) (g.B.Eeprom.faults c.args.bench.now) (g.S.Source.source_faults c.args.source.now) (g.B.Outlet.sink_faults c.open_card.new.bench) (g.B.Outlet.sink_faults c.args.bench.now) c.in-Ok.ensures.quiet sink in
+    subst (λ (f : AllFaults). EndsBy c.answer_input.result f now) same c.answer_input.ensures.ends
+
 pub returns-clause-moments : goal.returns-clause-moments
 returns-clause-moments g c = inr (λ db begins given input last.
     let run : Ended g = (goal.at.returns-clause-moments g c).After-answer_input in
@@ -164,3 +174,29 @@ returns-clause-moments g c = inr (λ db begins given input last.
         runs = subst (λ (from : ℕ). KeepsTo c.answer_input.result from (g.B.Eeprom.faults c.answer_input.new.bench) (start db) moments.0 input now (g.B.Eeprom.chip c.answer_input.new.bench)) c.in-Ok.ensures.quiet moments.2;
       },
     ))
+
+-- What lies behind the image.
+
+-- what holds of the form that was read holds of the one that the words ask for
+asked_behind : (g : given.Over) (c : Opened g) (new : Chip) → KeepsBehind (cells_for c.in-Some.form) (g.B.Eeprom.chip c.args.bench.now) new
+    → (form : Form) → form_in (map string_bytes c.args.words.now) ≡ Some form → KeepsBehind (cells_for form) (g.B.Eeprom.chip c.args.bench.now) new
+asked_behind g c new behind form asked =
+    let same : c.in-Some.form ≡ form = cc (c.in-Some.ensures, asked) in
+    subst (λ (f : Form). KeepsBehind (cells_for f) (g.B.Eeprom.chip c.args.bench.now) new) same behind
+
+pub returns-in-Err-clause-behind : goal.returns-in-Err-clause-behind
+returns-in-Err-clause-behind g c = asked_behind g (goal.at.returns-in-Err-clause-behind g c).After-open_card (g.B.Eeprom.chip c.open_card.new.bench) c.open_card.ensures.behind
+
+pub returns-in-Migrate-clause-behind : goal.returns-in-Migrate-clause-behind
+returns-in-Migrate-clause-behind g c =
+    let old : Chip = g.B.Eeprom.chip c.args.bench.now in
+    let mid : Chip = g.B.Eeprom.chip c.open_card.new.bench in
+    let new : Chip = g.B.Eeprom.chip c.run_migration.new.bench in
+    asked_behind g (goal.at.returns-in-Migrate-clause-behind g c).After-open_card new
+    (behind-then (cells_for c.in-Some.form) own_cells old mid new (cells-over c.in-Some.form c.in-Ok.card old mid c.in-Ok.ensures.ready c.in-Ok.ensures.cells) c.open_card.ensures.behind c.run_migration.ensures.behind)
+
+pub returns-clause-behind : goal.returns-clause-behind
+returns-clause-behind g c =
+    let new : Chip = g.B.Eeprom.chip c.answer_input.new.bench in
+    asked_behind g (goal.at.returns-clause-behind g c).After-open_card new
+    (behind-then (cells_for c.in-Some.form) (λ was. c.in-Ok.card.store.chains.cells) (g.B.Eeprom.chip c.args.bench.now) (g.B.Eeprom.chip c.open_card.new.bench) new c.in-Ok.ensures.cells c.open_card.ensures.behind c.answer_input.ensures.behind)

@@ -1,0 +1,106 @@
+-- How what lies behind the image of a card stays, from call to call.
+use Rattle.std.proofs.Common.{◌≡◌, ◌≤◌, inl, inr, ℕ, List, length, drop, Option, Some, None, IfSome, Result, Ok, Err, refl, sym, ap, subst, ◌∙◌, arith}
+use Rattle.std.specs.Prelude.{OnOk, option_map}
+use Rattle.eeprom.specs.Chip.{Chip, Becomes, Gives, Keeps}
+use Rattle.eeprom.specs.Image.{overwrite}
+use Rattle.eeprom.specs.StoreOf.{image_size}
+use Rattle.eeprom.proofs.Leaves.{at-told}
+use Rattle.eeprom.proofs.Moments.{throughout-weaker}
+use Rattle.record_store.specs.Held.{StandsFor}
+use Rattle.record_store.specs.Recovery.{KeepsStore}
+use Rattle.card.specs.Behind.{KeepsBehind, own_cells}
+use Rattle.card.specs.Card.{Kept, IsReady, fresh_card}
+use Rattle.card_cli.specs.declared.words.Form.{Form}
+use Rattle.card_cli.specs.declared.words.Form.TheVariants.{New}
+use Rattle.card_cli.specs.Behind.{cells_for}
+use Rattle.card_cli.proofs.Finishing.{front-cells}
+use Rattle.card_cli.proofs.Moving.{gives-throughout, throughout-same}
+use Rattle.card_cli.proofs.Preparing.{IsThere}
+
+-- nothing is written
+pub behind-same : (cells : List ℕ → ℕ) (old new : Chip) → new ≡ old → KeepsBehind cells old new
+behind-same cells old new same = subst (λ (chip : Chip). KeepsBehind cells old chip) (sym same) (throughout-same old _ (λ image told. (image, told, refl)))
+
+-- a piece of output goes out
+pub behind-gives : (cells : List ℕ → ℕ) (old new : Chip) → IfSome old.past (λ past. length past ≡ old.clock) → Gives old new → KeepsBehind cells old new
+behind-gives cells old new clocked gives = throughout-weaker old new _ _ (gives-throughout old new clocked gives) (λ g left during. (left, during.2, refl))
+
+-- a call gives nothing, and keeps what lies behind so many cells
+pub behind-keeps : (cells : ℕ) (old new : Chip) → Keeps (drop (image_size cells)) old new → KeepsBehind (λ was. cells) old new
+behind-keeps cells old new keeps = record {
+  later = keeps.later;
+  only = λ t g left since there. elim (keeps.only t g left since there) [
+    | inl before ↦ inl before
+    | inr now ↦ inr (now.1, now.2, now.3)
+  ];
+  now = keeps.image;
+}
+
+-- one call, and then another that speaks of as many cells
+pub behind-then : (first second : List ℕ → ℕ) (old mid new : Chip) → Becomes (λ was between. second between ≡ first was) old.image mid.image → KeepsBehind first old mid → KeepsBehind second mid new → KeepsBehind first old new
+behind-then first second old mid new alike before after = record {
+  later = omega (arith, before.later, after.later);
+  only = λ t g left since there. elim (after.only t g left (omega (arith, since, before.later)) there) [
+    | inl earlier ↦ before.only t g left since earlier
+    | inr now ↦ inr (both left now.0 now.1 now.2)
+  ];
+  now = λ image told. let now = after.now image told in both image now.0 now.1 now.2;
+}
+  where
+    both : (left between : List ℕ) → mid.image ≡ Some between → drop (image_size (second between)) left ≡ drop (image_size (second between)) between
+        → (was : List ℕ) × (old.image ≡ Some was) × (drop (image_size (first was)) left ≡ drop (image_size (first was)) was)
+    both left between told stays =
+        let from = before.now between told in
+        let cells = alike between told in
+        let same : cells.0 ≡ from.0 = cc (cells.1, from.1) in
+        let number : second between ≡ first from.0 = subst (λ (was : List ℕ). second between ≡ first was) same cells.2 in
+        (from.0, from.1, subst (λ (n : ℕ). drop (image_size n) left ≡ drop (image_size n) between) number stays ∙ from.2)
+
+-- the same over a card whose number of cells stays
+pub behind-on : (first second : ℕ) (old mid new : Chip) → second ≡ first → KeepsBehind (λ was. first) old mid → KeepsBehind (λ was. second) mid new → KeepsBehind (λ was. first) old new
+behind-on first second old mid new same before after =
+    behind-then (λ was. first) (λ was. second) old mid new (λ between told. let from = before.now between told in (from.0, from.1, same)) before after
+
+-- The number of cells of a run's card.
+
+-- a new card has those that it is to have
+made-cells : (image : List ℕ) (n : ℕ) → n ≤ 2048 → own_cells (overwrite image 0 (fresh_card n)) ≡ n
+made-cells image n many = omega (arith, many)
+
+pub cells-new : {E : Type 0} (result : Result (Unit {0}) E) (old new : Chip) (form : Form) (n : ℕ) → form ≡ New n → n ≤ 2048 → OnOk result (new.image ≡ option_map (λ image. overwrite image 0 (fresh_card n)) old.image)
+    → OnOk result (Becomes (λ was now. own_cells now ≡ cells_for form was) old.image new.image)
+cells-new (Err e) old new form n is many made = tt
+cells-new (Ok x) old new form n is many made = λ now told. of old.image made now told
+  where
+    of : (o : Option (List ℕ)) → new.image ≡ option_map (λ image. overwrite image 0 (fresh_card n)) o → (now : List ℕ) → new.image ≡ Some now → (was : List ℕ) × (o ≡ Some was) × (own_cells now ≡ cells_for form was)
+    of None made now told = absurd cc
+    of (Some was) made now told =
+        let same : overwrite was 0 (fresh_card n) ≡ now = cc (made, told) in
+        (was, refl, subst (λ (f : Form). own_cells now ≡ cells_for f was) (sym is) (subst (λ (image : List ℕ). own_cells image ≡ n) same (made-cells was n many)))
+
+-- one that is there has its own
+pub cells-there : (form : Form) (image : Option (List ℕ)) → IsThere form → Becomes (λ was now. own_cells now ≡ cells_for form was) image image
+cells-there form image (inl is) = λ now told. (now, told, subst (λ (f : Form). own_cells now ≡ cells_for f now) (sym is) refl)
+cells-there form image (inr is) = λ now told. (now, told, subst (λ (f : Form). own_cells now ≡ cells_for f now) (sym is) refl)
+
+-- a card is over an image that says how many cells it has
+cells-ready : (card : Kept) (chip : Chip) → IsReady card chip → (image : List ℕ) → chip.image ≡ Some image → own_cells image ≡ card.store.chains.cells
+cells-ready card chip ready image told = (at-told (StandsFor card.store) chip.image image told ready.over.stands).begins.cells
+
+-- and the card that is opened has as many
+pub cells-opened : (form : Form) (card : Kept) (old mid new : Chip) → IsReady card new → KeepsStore mid new → Becomes (λ was now. own_cells now ≡ cells_for form was) old.image mid.image
+    → Becomes (λ was now. card.store.chains.cells ≡ cells_for form was) old.image new.image
+cells-opened form card old mid new ready keeps made = λ now told.
+    let from = keeps.rest.now now told in
+    let was = made from.1 from.2 in
+    (was.0, was.1, sym (cells-ready card new ready now told) ∙ (front-cells from.1 now from.3.rest.front ∙ was.2))
+
+pub cells-over : (form : Form) (card : Kept) (old new : Chip) → IsReady card new → Becomes (λ was now. card.store.chains.cells ≡ cells_for form was) old.image new.image
+    → Becomes (λ was now. own_cells now ≡ cells_for form was) old.image new.image
+cells-over form card old new ready cells = λ now told.
+    let was = cells now told in
+    (was.0, was.1, cells-ready card new ready now told ∙ was.2)
+
+-- of a new card
+pub behind-new : (form : Form) (n : ℕ) (old new : Chip) → form ≡ New n → Keeps (drop (image_size n)) old new → KeepsBehind (cells_for form) old new
+behind-new form n old new is keeps = subst (λ (f : Form). KeepsBehind (cells_for f) old new) (sym is) (behind-keeps n old new keeps)
