@@ -1,0 +1,2 @@
+pub mod OneCounter
+pub mod Weight

@@ -1,0 +1,22 @@
+use Rattle.std.proofs.Common.{◌≡◌, ◌≤◌, ◌^◌, ℕ}
+use Rattle.std.specs.Prelude.{IfSome}
+use Rattle.std.specs.List.{list_any}
+use Rattle.eeprom.specs.Chip.{Becomes}
+use Rattle.catalog_codec.specs.Catalog.{grant_kind}
+use Rattle.record_table.specs.Listed.{in_slots, slots_of}
+use Rattle.record_table.proofs.Scan.{AreEmptyFrom, IsOfLeft, ReadsUpTo}
+use Rattle.privilege_table.specs.Granted.{gives_bit}
+use Rattle.privilege_table.proofs.Bits.{any_left}
+use Rattle.privilege_table.proofs.privileges.held.Given as goal
+
+abbrev pub invariant-loop-slot : goal.invariant-loop-slot
+invariant-loop-slot g l = record {
+  same : g.B.Eeprom.chip l.bench ≡ g.B.Eeprom.chip l.fn.bench;
+  faults : g.B.Eeprom.faults l.bench ≡ g.B.Eeprom.faults l.fn.bench;
+  bound : l.slot-end ≤ l.store.chains.cells;
+  empty : IfSome (slots_of l.store l.side (g.B.Eeprom.chip l.fn.bench)) (AreEmptyFrom l.slot-end);
+  left : (i : ℕ) → IfSome (slots_of l.store l.side (g.B.Eeprom.chip l.fn.bench))
+      (IsOfLeft grant_kind (λ slots. list_any (gives_bit l.object l.grantee (2 ^ i)) (in_slots grant_kind slots)) (any_left l.bits (gives_bit l.object l.grantee (2 ^ i)) i) l.slot);
+  read : IfSome (slots_of l.store l.side (g.B.Eeprom.chip l.fn.bench))
+      (λ slots. Becomes (ReadsUpTo grant_kind l.slot slots) (g.B.Eeprom.octets_read l.fn.bench) (g.B.Eeprom.octets_read l.bench));
+}

@@ -1,0 +1,10 @@
+//! The grants of a card in the slots of a store.
+#![tactic(auto)]
+
+mod changing;
+mod finding;
+mod privileges;
+
+pub use changing::{add, change, remove};
+pub use finding::{find_pair, find_stamp, next_after};
+pub use privileges::held;
