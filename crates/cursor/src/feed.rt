@@ -8,6 +8,7 @@ ghost use Rattle.scql_base.specs.declared.cursor.Place.{Place};
 ghost use Rattle.scql_model.specs.Moves as moves;
 ghost use Rattle.scql_model.specs.Objects.{StampedRow};
 ghost use Rattle.cursor.specs.Costs.{Cost, RisesBetween, cost_behind, cost_of};
+ghost use Rattle.cursor.specs.Feed.{Stays};
 ghost use Rattle.cursor.specs.Moved.{handed};
 
 use eeprom::EepromFault;
@@ -21,6 +22,14 @@ pub trait RowFeed {
     /// Stamps in rising order with what reading the rows there may cost, where told.
     ghost costs: { Self → Option (List Cost) };
 
+    /// When the feed may be read.
+    ghost can_read: { Self → Type 0 };
+
+    /// What else no call changes, such as which references it holds.
+    ghost Kept: { Type 0 };
+
+    ghost kept: { Self → Self.Kept };
+
     /// What the EEPROM of the rows has become.
     ghost chip: { Self → Chip };
 
@@ -32,18 +41,18 @@ pub trait RowFeed {
 
     /// The least stamp above this one, if there is one.
     fn next_after(&mut self, stamp: u32) -> Result<Option<u32>, EepromFault>
+        requires { can_read self.old }
         ensures next { IfOk result (λ next. IfSome (rows self.old) (λ rows. next ≡ option_map (λ row. row.stamp) (moves.row_behind (Place.At stamp) rows))) }
         ensures read { IfOk result (λ next. IfSome (costs self.old) (λ costs. Becomes (RisesBetween 0 (cost_behind stamp next costs)) (octets_read self.old) (octets_read self.new))) }
-        ensures rows { rows self.new ≡ rows self.old }
-        ensures costs { costs self.new ≡ costs self.old }
+        ensures stays { Stays rows costs kept can_read self.old self.new }
         ensures frame { Reads each_error chip faults self.old self.new result };
 
     /// Hands out the row of a stamp, and answers whether there is one. Where there is one, at least its octets are read.
     fn row_at(&mut self, stamp: u32, out: &mut Row) -> Result<bool, EepromFault>
+        requires { can_read self.old }
         ensures there { IfOk result (λ there. IfSome (rows self.old) (λ rows. handed there out.new ≡ option_map (λ row. row.values) (moves.row_at stamp rows))) }
         ensures read { IfOk result (λ there. IfSome (costs self.old)
             (λ costs. Becomes (RisesBetween (if there then row_size out.new else 0) (cost_of stamp costs)) (octets_read self.old) (octets_read self.new))) }
-        ensures rows { rows self.new ≡ rows self.old }
-        ensures costs { costs self.new ≡ costs self.old }
+        ensures stays { Stays rows costs kept can_read self.old self.new }
         ensures frame { Reads each_error chip faults self.old self.new result };
 }

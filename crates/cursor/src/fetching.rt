@@ -7,6 +7,7 @@ ghost use Rattle.scql_base.specs.Words as words;
 ghost use Rattle.scql_base.specs.declared.cursor.Cursor.{Cursor};
 ghost use Rattle.scql_model.specs.Moves.{gave, gave_next, row_behind};
 ghost use Rattle.cursor.specs.Costs.{RisesBetween, cost_at, cost_between, least_read};
+ghost use Rattle.cursor.specs.Feed.{Stays};
 ghost use Rattle.cursor.specs.Moved as moved;
 
 use crate::RowFeed;
@@ -21,12 +22,12 @@ pub fn fetch<F: RowFeed>(
     le: u16,
     out: &mut Row,
 ) -> Result<StatusWord, EepromFault>
+    requires { F.can_read feed.old }
     ensures fetched { IfOk result (λ word. IfSome (F.rows feed.old)
         (λ rows. (c : Cursor) → moved.fetched place.now c le word out.new ≡ gave c le place.now rows)) }
     ensures read { IfOk result (λ word. IfSome (F.costs feed.old)
         (λ costs. Becomes (RisesBetween (least_read word out.new) (cost_at place.now costs)) (F.octets_read feed.old) (F.octets_read feed.new))) }
-    ensures rows { F.rows feed.new ≡ F.rows feed.old }
-    ensures costs { F.costs feed.new ≡ F.costs feed.old }
+    ensures stays { Stays F.rows F.costs F.kept F.can_read feed.old feed.new }
     ensures frame { Reads each_error F.chip F.faults feed.old feed.new result }
 {
     match *place {
@@ -47,6 +48,7 @@ pub fn fetch_step<F: RowFeed>(
     le: u16,
     out: &mut Row,
 ) -> Result<StatusWord, EepromFault>
+    requires { F.can_read feed.old }
     ensures fetched { IfOk result (λ word. IfSome (F.rows feed.old)
         (λ rows. (c : Cursor) → moved.fetched place.new c le word out.new ≡ gave_next c le (row_behind place.old rows))) }
     ensures refused { IfOk result (λ word. IsTrue (moved.refuses word) → place.new ≡ place.old) }
@@ -54,8 +56,7 @@ pub fn fetch_step<F: RowFeed>(
     ensures read { IfOk result (λ word. IfSome (F.rows feed.old) (λ rows. IfSome (F.costs feed.old)
         (λ costs. Becomes (RisesBetween (least_read word out.new) (2 * cost_between place.old (moved.place_of (row_behind place.old rows)) costs))
         (F.octets_read feed.old) (F.octets_read feed.new)))) }
-    ensures rows { F.rows feed.new ≡ F.rows feed.old }
-    ensures costs { F.costs feed.new ≡ F.costs feed.old }
+    ensures stays { Stays F.rows F.costs F.kept F.can_read feed.old feed.new }
     ensures frame { Reads each_error F.chip F.faults feed.old feed.new result }
 {
     let reached = place_behind(feed, *place)?;
