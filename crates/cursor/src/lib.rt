@@ -8,3 +8,6 @@ mod moving;
 pub use feed::RowFeed;
 pub use fetching::{fetch, fetch_step};
 pub use moving::{first, step};
+
+#[cfg(test)]
+mod tests;
