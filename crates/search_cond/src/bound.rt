@@ -1,5 +1,5 @@
 // Conditions that are bound to columns once, and then tell of each row whether it meets them.
-ghost use Rattle.std.specs.Prelude.{◌≡◌, None, Some, IfErr, IfOk, option_map, position};
+ghost use Rattle.std.specs.Prelude.{◌≡◌, None, Some, [], IfErr, IfOk, position};
 ghost use Rattle.std.specs.Str.{bytes_eq};
 ghost use Rattle.search_cond.specs.Bound.{Binds, first_unknown, holds, passes};
 
@@ -34,6 +34,17 @@ impl Bound {
             .as_slice()
             .iter()
             .all(|condition| holds_at(row, condition))
+    }
+}
+
+impl Default for Bound {
+    ghost is_default = { λ bound. bound ≡ [] };
+
+    /// No conditions, which each row meets.
+    fn default() -> Bound {
+        Bound {
+            held: ArrayVec::new_in(Blank),
+        }
     }
 }
 
