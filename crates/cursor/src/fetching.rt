@@ -1,0 +1,97 @@
+// The moves that hand out a row.
+ghost use Rattle.std.specs.Prelude.{◌≡◌, ◌*◌, IfOk, IfSome, IsTrue, OnErr};
+ghost use Rattle.eeprom.specs.Chip.{Becomes};
+ghost use Rattle.eeprom.specs.Fault.{each_error};
+ghost use Rattle.eeprom.specs.Frame.{Reads};
+ghost use Rattle.scql_base.specs.Words as words;
+ghost use Rattle.scql_base.specs.declared.cursor.Cursor.{Cursor};
+ghost use Rattle.scql_model.specs.Moves.{gave, gave_next, row_behind};
+ghost use Rattle.cursor.specs.Costs.{RisesBetween, cost_at, cost_between, least_read};
+ghost use Rattle.cursor.specs.Feed.{Stays};
+ghost use Rattle.cursor.specs.Moved as moved;
+
+use crate::RowFeed;
+use crate::moving::place_behind;
+use eeprom::EepromFault;
+use scql_base::{Place, Row, StatusWord};
+
+/// FETCH: hands out the row at the cursor's place, where it is still there and Le allows it. The caller gives it as far as Le allows.
+pub fn fetch<F: RowFeed>(
+    feed: &mut F,
+    place: &Place,
+    le: u16,
+    out: &mut Row,
+) -> Result<StatusWord, EepromFault>
+    requires { F.can_read feed.old }
+    ensures fetched { IfOk result (λ word. IfSome (F.rows feed.old)
+        (λ rows. (c : Cursor) → moved.fetched place.now c le word out.new ≡ gave c le place.now rows)) }
+    ensures read { IfOk result (λ word. IfSome (F.costs feed.old)
+        (λ costs. Becomes (RisesBetween (least_read word out.new) (cost_at place.now costs)) (F.octets_read feed.old) (F.octets_read feed.new))) }
+    ensures stays { Stays F.rows F.costs F.kept F.can_read feed.old feed.new }
+    ensures frame { Reads each_error F.chip F.faults feed.old feed.new result }
+{
+    match *place {
+        Place::NotOpen => Ok(StatusWord::CONDITIONS_NOT_SATISFIED),
+        Place::End => Ok(StatusWord::END_REACHED),
+        Place::At { stamp } => {
+            let there = feed.row_at(stamp, out)?;
+            Ok(word_of(there, out, le))
+        }
+    }
+}
+
+/// FETCH NEXT: hands out the next row, where Le allows it, and the cursor goes there; where there is none it goes to its end.
+/// After a refusal or a fault it stays where it was.
+pub fn fetch_step<F: RowFeed>(
+    feed: &mut F,
+    place: &mut Place,
+    le: u16,
+    out: &mut Row,
+) -> Result<StatusWord, EepromFault>
+    requires { F.can_read feed.old }
+    ensures fetched { IfOk result (λ word. IfSome (F.rows feed.old)
+        (λ rows. (c : Cursor) → moved.fetched place.new c le word out.new ≡ gave_next c le (row_behind place.old rows))) }
+    ensures refused { IfOk result (λ word. IsTrue (moved.refuses word) → place.new ≡ place.old) }
+    ensures fault { OnErr result (place.new ≡ place.old) }
+    ensures read { IfOk result (λ word. IfSome (F.rows feed.old) (λ rows. IfSome (F.costs feed.old)
+        (λ costs. Becomes (RisesBetween (least_read word out.new) (2 * cost_between place.old (moved.place_of (row_behind place.old rows)) costs))
+        (F.octets_read feed.old) (F.octets_read feed.new)))) }
+    ensures stays { Stays F.rows F.costs F.kept F.can_read feed.old feed.new }
+    ensures frame { Reads each_error F.chip F.faults feed.old feed.new result }
+{
+    let reached = place_behind(feed, *place)?;
+    let word = fetch(feed, &reached, le, out)?;
+    if !refuses(word) {
+        *place = reached;
+    }
+    Ok(word)
+}
+
+// The word for a row that is there or isn't: one that is longer than Le is refused, but where Le is 256.
+fn word_of(there: bool, row: &Row, le: u16) -> StatusWord
+    ensures { result ≡ moved.word_of there row.now le }
+{
+    if !there {
+        return StatusWord::RECORD_NOT_FOUND;
+    }
+    let size = row.octets().len();
+    if size <= usize::from(le) || le == 256 {
+        return StatusWord::DONE;
+    }
+    wrong_le(size)
+}
+
+fn wrong_le(size: usize) -> StatusWord
+    ensures { result ≡ words.wrong_le size }
+{
+    let available = if size < 256 { size as u16 } else { 0 };
+    StatusWord {
+        word: 0x6C00 + available,
+    }
+}
+
+fn refuses(word: StatusWord) -> bool
+    ensures { result ≡ moved.refuses word }
+{
+    word.word != StatusWord::DONE.word && word.word != StatusWord::END_REACHED.word
+}

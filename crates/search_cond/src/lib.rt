@@ -1,0 +1,9 @@
+//! Conditions on the rows of some columns, bound to the places of those columns.
+#![tactic(auto)]
+
+mod bound;
+mod comparing;
+mod placed;
+
+pub use bound::{Bound, bind};
+pub use placed::Placed;
