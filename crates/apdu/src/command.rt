@@ -1,5 +1,5 @@
 // Commands, read from octets and written (ISO/IEC 7816-4, command APDU).
-ghost use Rattle.std.specs.Prelude.{◌≡◌, ◌<◌, ◌+◌, [], ℕ, Bool, Some, true, IfOk, slice_get, min};
+ghost use Rattle.std.specs.Prelude.{◌≡◌, ◌<◌, ◌+◌, [], ℕ, Bool, List, Some, true, IfOk, slice_get, min};
 ghost use Rattle.scql_model.specs.Form as form;
 ghost use Rattle.scql_model.specs.Operations as table;
 ghost use Rattle.scql_model.specs.Spelling as spelling;
@@ -19,32 +19,46 @@ pub trait CommandApdu: Sized {
     /// How many parts it has.
     ghost part_count: { Self → ℕ };
 
+    /// Its octets.
+    ghost octets: { Self → List ℕ };
+
+    /// The octets of its part at a place.
+    ghost part_octets: { Self → ℕ → List ℕ };
+
     /// The command that octets are, where these channels are open and a row has at most so many octets, and never more than
     /// 1,020, or the status word of the first refusal. A part of a command is refused.
     fn read(octets: &[u8], channels: [bool; 4], limit: u16) -> Result<Self, StatusWord>;
 
     /// Whether the data field has at most 255 octets, and that of INSERT or UPDATE at most 1,275.
-    fn fits(&self) -> bool;
+    fn fits(&self) -> bool
+        ensures { result ≡ can_be_written self.now };
 
     /// The least number of parts of 255 octets that hold the data field, and at least 1.
     fn parts(&self) -> u8
-        requires { can_be_written self.now ≡ true };
+        requires { can_be_written self.now ≡ true }
+        ensures { result ≡ part_count self.now };
 
     /// Writes a command of one part.
     fn write(&self, out: &mut CommandOctets)
         requires fits { can_be_written self.now ≡ true }
-        requires one { part_count self.now ≡ 1 };
+        requires one { part_count self.now ≡ 1 }
+        ensures { out.new.items ≡ octets self.now };
 
     /// Writes the part at a place, counted from 0. All but the last say that the command goes on.
     fn write_part(&self, part: u8, out: &mut CommandOctets)
         requires fits { can_be_written self.now ≡ true }
-        requires there { part < part_count self.now };
+        requires there { part < part_count self.now }
+        ensures { out.new.items ≡ part_octets self.now part };
 }
 
 impl CommandApdu for Command {
     ghost can_be_written = { spelling.fits };
 
     ghost part_count = { spelling.part_count };
+
+    ghost octets = { spelling.octets_of };
+
+    ghost part_octets = { spelling.part_octets };
 
     fn read(octets: &[u8], channels: [bool; 4], limit: u16) -> Result<Command, StatusWord>
         ensures command { result ≡ form.as_command (form.form_of table.built_operations octets.now channels form.no_chain (min limit 1020)) }

@@ -1,6 +1,6 @@
 -- The sessions and the chains of a card, as the model sees them.
 use Rattle.std.proofs.Common.{◌≡◌, ℕ, zero, suc, Bool, true, false, List, [], ◌∷◌, length, Option, Some, None, is_some, refl, ap, sym, subst, ◌∙◌, arith}
-use Rattle.std.specs.Prelude.{IfSome, map, option_map, option_and_then, slice_get, slice_index_or, slice_set}
+use Rattle.std.specs.Prelude.{map, option_map, option_and_then, slice_get, slice_index_or, slice_set}
 use Rattle.std.specs.Option.{option_flatten}
 use Rattle.std.proofs.lemmas.Option.{none-some, same_Some}
 use Rattle.std.proofs.lemmas.Bool.{false≢true}

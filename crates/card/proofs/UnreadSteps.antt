@@ -1,5 +1,5 @@
 -- What the operations that are built do at a machine of a card, whose sessions read nothing, and which has no transaction.
-use Rattle.std.proofs.Common.{◌≡◌, ℕ, zero, suc, List, [], ◌∷◌, Option, Some, None, Result, Ok, Err, refl, sym, ap, subst, ◌∙◌, ◌≤◌, inl, inr}
+use Rattle.std.proofs.Common.{◌≡◌, ℕ, zero, suc, List, [], ◌∷◌, Option, Some, None, Result, Ok, Err, refl, sym, ap, subst, ◌∙◌, inl, inr}
 use Rattle.std.specs.Prelude.{◌⊎◌, IfOk, IfSome, option_map, slice_get}
 use Rattle.std.specs.Option.{option_flatten}
 use Rattle.eeprom.specs.Chip.{Chip}
@@ -9,7 +9,6 @@ use Rattle.scql_base.specs.declared.words.Profile.{Profile}
 use Rattle.scql_base.specs.declared.operation.Command.{Command}
 use Rattle.scql_base.specs.declared.operation.Operation.{Operation}
 use Rattle.scql_base.specs.declared.operation.Operation.TheVariants.{PresentUser, CreateUser}
-use Rattle.scql_base.specs.declared.operation.OperationKind.{OperationKind}
 use Rattle.scql_base.specs.declared.operation.OperationKind.TheVariants as kind
 use Rattle.scql_base.specs.Words.{done}
 use Rattle.scql_model.specs.Refusals.{◌>>=◌}

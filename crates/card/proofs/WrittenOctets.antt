@@ -1,5 +1,5 @@
 -- How many octets the bound of the machine has for what the card writes.
-use Rattle.std.proofs.Common.{◌≡◌, ℕ, ◌+◌, ◌*◌, Bool, true, false, List, length, Option, None, Result, Ok, Err, not, refl, sym, ap, ◌∙◌, arith}
+use Rattle.std.proofs.Common.{◌≡◌, ℕ, Bool, true, false, List, Option, None, Result, Ok, Err, not, refl, sym, ap, ◌∙◌, arith}
 use Rattle.eeprom.specs.Chip.{Chip}
 use Rattle.scql_base.specs.declared.words.StatusWord.{StatusWord}
 use Rattle.scql_base.specs.declared.words.Actor.{Actor}

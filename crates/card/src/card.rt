@@ -141,14 +141,14 @@ impl Card {
         // What commits nothing writes nothing.
         ensures unwritten { (m : machine.Machine) → IsAt self.old (B.chip bench.old) m → result ≡ Outcome.Replied
             → (stepping.step m command.now).commits ≡ [] → B.chip bench.new ≡ B.chip bench.old }
+        // So a refused command writes nothing, and leaves all as it was, but that its channel may have lost the parts of a command.
+        ensures refused { (m : machine.Machine) → IsAt self.old (B.chip bench.old) m → result ≡ Outcome.Replied → reply.new.word ≢ done
+            → (B.chip bench.new ≡ B.chip bench.old) × IsAtAsBefore self.new (B.chip bench.new) m (channel_named command.now) }
         // No more octets are written than the step's bound.
         ensures octets_written { (m : machine.Machine) → IsAt self.old (B.chip bench.old) m → result ≡ Outcome.Replied
             → Becomes (RisesAtMost (octets_bound m command.now)) (B.chip bench.old).written (B.chip bench.new).written }
         // Nothing is written behind the image, at no moment.
         ensures behind { Keeps (drop (image_size self.old.store.chains.cells)) (B.chip bench.old) (B.chip bench.new) }
-        // So a refused command writes nothing, and leaves all as it was, but that its channel may have lost the parts of a command.
-        ensures refused { (m : machine.Machine) → IsAt self.old (B.chip bench.old) m → result ≡ Outcome.Replied → reply.new.word ≢ done
-            → (B.chip bench.new ≡ B.chip bench.old) × IsAtAsBefore self.new (B.chip bench.new) m (channel_named command.now) }
     {
         reply.body.clear();
         match self.word_of(bench, command) {

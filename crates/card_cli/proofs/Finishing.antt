@@ -1,13 +1,17 @@
 -- How the run of a card ends that was opened.
-use Rattle.std.proofs.Common.{◌≡◌, ◌⊎◌, ℕ, ◌<◌, ◌≤◌, true, false, List, length, Option, Some, None, refl, sym, ap, subst, ◌∙◌, arith, inl, inr}
+use Rattle.std.proofs.Common.{◌≡◌, ◌⊎◌, ℕ, ◌<◌, ◌≤◌, true, false, List, length, take, slice_index, get_or, get_or-take, Option, Some, None, refl, sym, ap, subst, ◌∙◌, arith, inl, inr}
 use Rattle.std.specs.Prelude.{IsSome, IfSome}
 use Rattle.eeprom.specs.Chip.{Chip, Becomes}
 use Rattle.scql_model.specs.Database.{Database, fresh}
 use Rattle.scql_model.specs.Machine.{Machine, start}
 use Rattle.scql_model.specs.Lines.{lines, run_text}
 use Rattle.scql_model.specs.Opens.{Opens}
-use Rattle.eeprom.specs.StoreOf.{store_of, is_gate_open}
+use Rattle.eeprom.specs.StoreOf.{store_of, is_gate_open, number_at}
+use Rattle.eeprom.proofs.Leaves.{leaves-then, leaves-last}
 use Rattle.eeprom.proofs.Moments.{throughout-then}
+use Rattle.journal.specs.Journal.{KeepsDirectory}
+use Rattle.journal.proofs.Finishing.{leaves-same, keeps-none}
+use Rattle.journal.proofs.Outside.{rest-then}
 use Rattle.record_store.specs.Recovery.{KeepsStore}
 use Rattle.record_store.proofs.Fronts.{Keeps-then}
 use Rattle.card.specs.Making.{LeavesMade, OpensAsBefore, OpensToNone}
@@ -95,10 +99,28 @@ kept_open mid new db keeps opens = found new.image refl
         let same : opens.0 ≡ at.0 = cc (opens.1, at.1) in
         opens-same opens.0 left (ap store_of same ∙ sym at.2) db opens.2
 
+-- the front of an image says how many cells it has
+pub front-cells : (was left : List ℕ) → take 8 left ≡ take 8 was → number_at left 6 ≡ number_at was 6
+front-cells was left front = rw (octet 6 (omega arith), octet 7 (omega arith)) refl
+  where
+    octet : (k : ℕ) → k < 8 → slice_index left k ≡ slice_index was k
+    octet k inside = sym (get_or-take 8 left k 0 inside) ∙ ap (λ (xs : List ℕ). get_or xs k 0) front ∙ get_or-take 8 was k 0 inside
+
+-- the octets that an opening keeps, by the image's own number of cells
+abbrev pub KeepsOutside : List ℕ → List ℕ → Type 0
+KeepsOutside was left = KeepsDirectory (number_at was 6) was left
+
+outside-then : (was mid left : List ℕ) → KeepsOutside was mid → KeepsOutside mid left → KeepsOutside was left
+outside-then was mid left first second =
+    let cells : number_at mid 6 ≡ number_at was 6 = front-cells was mid first.rest.front in
+    let then' : KeepsDirectory (number_at was 6) mid left = subst (λ (n : ℕ). KeepsDirectory n mid left) cells second in
+    record { rest = rest-then (number_at was 6) was mid left first.rest then'.rest; same = then'.same ∙ first.same }
+
 -- nothing happens, or more is done
 pub keeps_same : (chip : Chip) → KeepsStore chip chip
 keeps_same chip = record {
   keeps = record { still = refl; image = λ now told. (now, told, refl); later = omega arith; only = λ t g left since there. inl there };
+  rest = leaves-same KeepsOutside chip chip refl (λ was. keeps-none (number_at was 6) was);
   closed = nothing chip.image;
 }
   where
@@ -107,7 +129,11 @@ keeps_same chip = record {
     nothing (Some image) = λ closed. refl
 
 keeps_then : (old mid new : Chip) → KeepsStore old mid → KeepsStore mid new → KeepsStore old new
-keeps_then old mid new first second = record { keeps = Keeps-then store_of old mid new first.keeps second.keeps; closed = both old.image refl first.closed }
+keeps_then old mid new first second = record {
+  keeps = Keeps-then store_of old mid new first.keeps second.keeps;
+  rest = leaves-then old mid new KeepsOutside KeepsOutside KeepsOutside first.keeps.still (leaves-last KeepsOutside old mid first.rest) outside-then first.rest second.rest;
+  closed = both old.image refl first.closed;
+}
   where
     both : (image : Option (List ℕ)) → old.image ≡ image → IfSome image (λ image. is_gate_open image ≡ false → mid ≡ old) → IfSome image (λ image. is_gate_open image ≡ false → new ≡ old)
     both None is closed = tt

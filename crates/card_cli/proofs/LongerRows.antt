@@ -1,12 +1,13 @@
 -- What a migration leaves of the database of a card, and what it says.
-use Rattle.std.proofs.Common.{◌≡◌, ◌⊎◌, inl, inr, ℕ, ◌+◌, ◌≤◌, ◌==◌, Bool, true, false, if◌then◌else◌, List, ◌∷◌, length, Option, Some, None, option_map, refl, sym, ap, subst, ◌∙◌, arith}
+use Rattle.std.proofs.Common.{◌≡◌, ◌⊎◌, inl, inr, ℕ, ◌+◌, ◌<◌, ◌≤◌, ◌==◌, Bool, true, false, if◌then◌else◌, List, ◌∷◌, length, take, drop, slice_index, get_or, get_or-take, get_or-drop, Option, Some, None, option_map, refl, sym, ap, subst, ◌∙◌, arith}
 use Rattle.std.specs.Prelude.{IsSome, IfSome, codes}
 use Rattle.std.proofs.lemmas.Bool.{cases_Bool, false≢true}
 use Rattle.eeprom.specs.Chip.{Chip, Still, Becomes, LeavesOf, Throughout}
-use Rattle.eeprom.specs.StoreOf.{store_of, row_limit}
+use Rattle.eeprom.specs.StoreOf.{store_of, row_limit, number_at, image_size, front_size}
+use Rattle.eeprom.proofs.SameFrom.{drop-from}
 use Rattle.eeprom.proofs.Moments.{throughout-weaker, throughout-then}
 use Rattle.eeprom.proofs.Leaves.{at-told}
-use Rattle.migrate.specs.Migration.{IsMigrated, IsBetween, with_limit}
+use Rattle.migrate.specs.Migration.{KeepsRest, IsMigrated, IsBetween, with_limit}
 use Rattle.record_store.specs.Recovery.{KeepsStore}
 use Rattle.scql_model.specs.Database.{Database, IsValid}
 use Rattle.scql_model.specs.Machine.{start}
@@ -20,9 +21,9 @@ use Rattle.card_cli.specs.declared.status.Status.{Status}
 use Rattle.card_cli.specs.declared.status.Status.TheVariants.{Done, Eeprom, ReadFault, WriteFault, NoMemory, TooLong}
 use Rattle.card_cli.specs.Beginning.{IsOpenTo}
 use Rattle.card_cli.specs.Ends.{AllFaults, EndsBy, ends_opening, has_opened}
-use Rattle.card_cli.specs.Migrating.{IsInMigration, IsMigratedFrom, MigratesTo, Migrates, StaysMigrating}
+use Rattle.card_cli.specs.Migrating.{KeepsEnd, KeepsBehind, IsInMigration, IsMigratedFrom, MigratesTo, Migrates, StaysMigrating}
 use Rattle.card_cli.specs.Run.{IsQuiet, AnswersAll}
-use Rattle.card_cli.proofs.Finishing.{kept_open}
+use Rattle.card_cli.proofs.Finishing.{kept_open, front-cells}
 use Rattle.card_cli.proofs.Moving.{IsInPiece, throughout-both}
 
 -- the image that is told opens to the database
@@ -167,6 +168,65 @@ unopened ReadFault opening opened = false≢true opening
 unopened WriteFault opening opened = false≢true opening
 unopened status opening opened = false≢true opened
 
+-- Behind the image.
+
+-- what holds of two calls one after the other
+behind-then : (old mid new : Chip) → KeepsBehind old mid → KeepsBehind mid new → KeepsBehind old new
+behind-then old mid new first second = record {
+  later = omega (arith, first.later, second.later);
+  only = λ t g left since there. elim (second.only t g left (omega (arith, since, first.later)) there) [
+    | inl before ↦ first.only t g left since before
+    | inr now ↦ (let from = first.now now.0 now.1 in inr (from.0, from.1, end-then from.0 now.0 left from.2 now.2))
+  ];
+  now = λ image told.
+      let now = second.now image told in
+      let from = first.now now.0 now.1 in
+      (from.0, from.1, end-then from.0 now.0 image from.2 now.2);
+}
+  where
+    end-then : (was mid left : List ℕ) → KeepsEnd was mid → KeepsEnd mid left → KeepsEnd was left
+    end-then was mid left first second = record {
+      cells = second.cells ∙ first.cells;
+      behind = subst (λ (n : ℕ). drop (image_size n) left ≡ drop (image_size n) mid) first.cells second.behind ∙ first.behind;
+    }
+
+-- an opening writes the front alone
+opening-behind : (old mid : Chip) → KeepsStore old mid → KeepsBehind old mid
+opening-behind old mid keeps = throughout-weaker old mid _ _ keeps.rest (λ g left during. (
+  during.1,
+  during.2,
+  record {
+    cells = front-cells during.1 left during.3.rest.front;
+    behind = drop-from (front_size (number_at during.1 6)) (image_size (number_at during.1 6)) left during.1 (omega arith) during.3.rest.cells;
+  },
+))
+
+-- a migration writes three octets of it
+pub migration-behind : (old mid : Chip) → LeavesOf IsBetween old mid → KeepsBehind old mid
+migration-behind old mid leaves = throughout-weaker old mid _ _ leaves (λ g left during. (
+  during.1,
+  during.2,
+  record {
+    cells = between-cells during.1 left during.3.rest;
+    behind = drop-from 11 (image_size (number_at during.1 6)) left during.1 (omega arith) during.3.rest.behind_limit;
+  },
+))
+  where
+    octet : (was left : List ℕ) (k : ℕ) → k < 3 → KeepsRest was left → slice_index left (6 + k) ≡ slice_index was (6 + k)
+    octet was left k inside rest =
+        sym (get_or-take 3 (drop 6 left) k 0 inside ∙ get_or-drop 6 left k 0)
+        ∙ ap (λ (xs : List ℕ). get_or xs k 0) rest.between ∙ get_or-take 3 (drop 6 was) k 0 inside ∙ get_or-drop 6 was k 0
+
+    between-cells : (was left : List ℕ) → KeepsRest was left → number_at left 6 ≡ number_at was 6
+    between-cells was left rest = rw (octet was left 0 (omega arith) rest, octet was left 1 (omega arith) rest) refl
+
+-- and a piece of output nothing
+piece-behind : (mid new : Chip) → Throughout mid new (IsInPiece mid new.still.mark) → KeepsBehind mid new
+piece-behind mid new gives = throughout-weaker mid new _ _ gives (λ g left during. (left, during.2, record { cells = refl; behind = refl }))
+
+pub told-behind : (old mid new : Chip) → LeavesOf IsBetween old mid → Throughout mid new (IsInPiece mid new.still.mark) → KeepsBehind old new
+told-behind old mid new leaves gives = behind-then old mid new (migration-behind old mid leaves) (piece-behind mid new gives)
+
 -- what a run of `migrate` owes whose card wasn't opened,
 pub Migrates-unopened : {S : Type 0} (status : Status) (source : S) (old new : Chip) (was now : AllFaults) → ends_opening status ≡ true
     → ((db : Database) → IsOpenTo old db → (status ≡ NoMemory) ⊎ (status ≡ Eeprom)) → EndsBy status was now → KeepsStore old new → Migrates status source source old new was now
@@ -179,14 +239,15 @@ Migrates-unopened status source old new was now opening stopped ends keeps =
       ends = to;
       text = λ db opens quiet. text-quiet status db was now old.still.given new (to db opens) ends quiet;
       moments = λ db opens told. silent-moments db old new (leaves-opening old new db opens keeps);
+      behind = opening-behind old new keeps;
     }
 
 -- and whose card was opened, and migrated then
 pub Migrates-opened : {S : Type 0} (status : Status) (source : S) (old mid new : Chip) (was now : AllFaults) → KeepsStore old mid
     → (IsSome old.image → (db : Database) × IsOpenTo old db) → ((db : Database) → IsOpenTo old db → IsOpenTo mid db)
     → ((db : Database) → IsOpenTo mid db → MigratesTo status was.eeprom now.eeprom db mid.still.given new)
-    → ((db : Database) → IsOpenTo mid db → StaysMigrating db mid new) → EndsBy status was now → Migrates status source source old new was now
-Migrates-opened status source old mid new was now keeps begins stays migrates moments ends =
+    → ((db : Database) → IsOpenTo mid db → StaysMigrating db mid new) → KeepsBehind mid new → EndsBy status was now → Migrates status source source old new was now
+Migrates-opened status source old mid new was now keeps begins stays migrates moments behind ends =
     let to : (db : Database) → IsOpenTo old db → MigratesTo status was.eeprom now.eeprom db old.still.given new =
     λ db opens. subst (λ (s : Still). MigratesTo status was.eeprom now.eeprom db s.given new) keeps.keeps.still (migrates db (stays db opens)) in
     record {
@@ -196,4 +257,5 @@ Migrates-opened status source old mid new was now keeps begins stays migrates mo
       text = λ db opens quiet. text-quiet status db was now old.still.given new (to db opens) ends quiet;
       moments = λ db opens told. throughout-then old mid new (IsInMigration db old.still.mark) (silent-moments db old mid (leaves-opening old mid db opens keeps))
           (subst (λ (s : Still). Throughout mid new (IsInMigration db s.mark)) keeps.keeps.still (moments db (stays db opens) told));
+      behind = behind-then old mid new (opening-behind old mid keeps) behind;
     }

@@ -1,6 +1,7 @@
 -- How a run of `migrate` ends, and what a power loss leaves at any moment of it.
-use Rattle.std.specs.Prelude.{◌≡◌, ℕ, ◌+◌, ◌<◌, ◌≤◌, Bool, true, false, List, ◌∷◌, length, Option, IsSome, IfSome}
+use Rattle.std.specs.Prelude.{◌≡◌, ℕ, ◌+◌, ◌<◌, ◌≤◌, Bool, true, false, List, ◌∷◌, length, drop, Option, Some, IsSome, IfSome}
 use Rattle.eeprom.specs.Chip.{Chip, Throughout}
+use Rattle.eeprom.specs.StoreOf.{number_at, image_size}
 use Rattle.scql_model.specs.Database.{Database}
 use Rattle.scql_model.specs.Migrating.{migrated, migrate_text, migrate_commits}
 use Rattle.scql_model.specs.Opens.{Opens, OpensToOneOf}
@@ -12,6 +13,15 @@ use Rattle.card_cli.specs.Ends.{AllFaults, has_opened}
 use Rattle.card_cli.specs.Moments.{IfGiven}
 use Rattle.card_cli.specs.Run.{IsQuiet, AnswersAll}
 use Rattle.card_cli.specs.RunState.{Prints}
+
+-- The image has as many cells as before, and behind it all octets are as they were.
+pub record KeepsEnd (was left : List ℕ) : Type 0 where
+  pub cells : number_at left 6 ≡ number_at was 6
+  pub behind : drop (image_size (number_at was 6)) left ≡ drop (image_size (number_at was 6)) was
+
+-- at each moment from old on to new it is so, where the image was told
+abbrev pub KeepsBehind : Chip → Chip → Type 0
+KeepsBehind old new = Throughout old new (λ g left. (was : List ℕ) × (old.image ≡ Some was) × KeepsEnd was left)
 
 -- While a card of this database is migrated, from this mark on: the image opens to it, or to the one that is committed. At most the text goes out, and the first octet of it not before the rows are longer.
 pub record IsInMigration (db : Database) (mark g : ℕ) (image : List ℕ) : Type 0 where
@@ -55,3 +65,5 @@ pub record Migrates {S : Type 0} (status : Status) (before after : S) (old new :
   pub text : (db : Database) → IsOpenTo old db → IsQuiet was now → AnswersAll status (migrate_text db) old.still.given new.still.given
   -- At each moment a power loss leaves the database as it was, or with longer rows.
   pub moments : (db : Database) → IsOpenTo old db → StaysMigrating db old new
+  -- Nothing is written behind the image, whatever it is.
+  pub behind : KeepsBehind old new

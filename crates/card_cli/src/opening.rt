@@ -45,6 +45,7 @@ pub(crate) fn open_card<B: Bench>(alloc: Global, form: Form, bench: &mut B) -> R
         Err(FormatRefusal::Fault) => return Err(Status::Eeprom),
         Ok(()) => {}
     }
+    // No card is smaller, and what is done with one may rely on its size.
     if bench.size() < image_size(FEWEST_CELLS) {
         return Err(Status::NotACard);
     }

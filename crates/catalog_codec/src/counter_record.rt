@@ -3,7 +3,7 @@ ghost use Rattle.std.specs.Prelude.{◌≡◌};
 
 use crate::{Counter, Record};
 use cell_store::RecordOctets;
-use row_codec::{number_at, put_number};
+use row_codec::{number_and_rest, put_number};
 
 const MARK: u8 = 0x00;
 
@@ -19,7 +19,7 @@ impl Record for Counter {
         let [MARK, octets @ ..] = octets else {
             return None;
         };
-        let (next, rest) = number_at(octets)?;
+        let (next, rest) = number_and_rest(octets)?;
         if rest.is_empty() {
             Some(Counter { next })
         } else {

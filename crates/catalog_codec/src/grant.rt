@@ -4,7 +4,7 @@ ghost use Rattle.std.specs.Prelude.{◌≡◌};
 use crate::Record;
 use crate::fields::privileges_at;
 use cell_store::RecordOctets;
-use row_codec::{number_at, put_number};
+use row_codec::{number_and_rest, put_number};
 use scql_base::Grant;
 
 const MARK: u8 = 0x05;
@@ -21,9 +21,9 @@ impl Record for Grant {
         let [MARK, octets @ ..] = octets else {
             return None;
         };
-        let (stamp, rest) = number_at(octets)?;
-        let (object, rest) = number_at(rest)?;
-        let (grantee, rest) = number_at(rest)?;
+        let (stamp, rest) = number_and_rest(octets)?;
+        let (object, rest) = number_and_rest(rest)?;
+        let (grantee, rest) = number_and_rest(rest)?;
         let Some((privileges, rest)) = privileges_at(rest) else {
             return None;
         };

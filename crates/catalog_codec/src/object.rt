@@ -7,7 +7,7 @@ use crate::fields::{name_at, subject_at};
 use crate::lists::{columns_at, conditions_at, put_columns, put_conditions};
 use crate::writing::put_text;
 use cell_store::RecordOctets;
-use row_codec::{number_at, put_number};
+use row_codec::{number_and_rest, put_number};
 use scql_base::{Object, ObjectKind};
 
 const TABLE: u8 = 0x02;
@@ -84,8 +84,8 @@ fn object_at(octets: &[u8]) -> Option<(Object, &[u8])>
 fn table_at(fields: &[u8]) -> Option<(Object, &[u8])>
     ensures { option_map (λ x. (x.0, x.1.now)) result ≡ object_from (0x02 ∷ fields.now) }
 {
-    let (stamp, rest) = number_at(fields)?;
-    let (owner, rest) = number_at(rest)?;
+    let (stamp, rest) = number_and_rest(fields)?;
+    let (owner, rest) = number_and_rest(rest)?;
     let (name, rest) = name_at(rest)?;
     let (columns, rest) = columns_at(rest)?;
     let kind = ObjectKind::Table { columns };
@@ -103,9 +103,9 @@ fn table_at(fields: &[u8]) -> Option<(Object, &[u8])>
 fn view_at(fields: &[u8]) -> Option<(Object, &[u8])>
     ensures { option_map (λ x. (x.0, x.1.now)) result ≡ object_from (0x03 ∷ fields.now) }
 {
-    let (stamp, rest) = number_at(fields)?;
-    let (owner, rest) = number_at(rest)?;
-    let (base, rest) = number_at(rest)?;
+    let (stamp, rest) = number_and_rest(fields)?;
+    let (owner, rest) = number_and_rest(rest)?;
+    let (base, rest) = number_and_rest(rest)?;
     let (name, rest) = name_at(rest)?;
     let (columns, rest) = columns_at(rest)?;
     let (conditions, rest) = conditions_at(rest)?;
@@ -128,8 +128,8 @@ fn view_at(fields: &[u8]) -> Option<(Object, &[u8])>
 fn dictionary_at(fields: &[u8]) -> Option<(Object, &[u8])>
     ensures { option_map (λ x. (x.0, x.1.now)) result ≡ object_from (0x04 ∷ fields.now) }
 {
-    let (stamp, rest) = number_at(fields)?;
-    let (owner, rest) = number_at(rest)?;
+    let (stamp, rest) = number_and_rest(fields)?;
+    let (owner, rest) = number_and_rest(rest)?;
     let (name, rest) = name_at(rest)?;
     let (subject, rest) = subject_at(rest)?;
     let kind = ObjectKind::Dictionary { subject };

@@ -5,7 +5,7 @@ use crate::Record;
 use crate::fields::{name_at, profile_at, secret_at, tries_at};
 use crate::writing::put_text;
 use cell_store::RecordOctets;
-use row_codec::{number_at, put_number};
+use row_codec::{number_and_rest, put_number};
 use scql_base::User;
 
 const MARK: u8 = 0x01;
@@ -22,8 +22,8 @@ impl Record for User {
         let [MARK, octets @ ..] = octets else {
             return None;
         };
-        let (stamp, rest) = number_at(octets)?;
-        let (owner, rest) = number_at(rest)?;
+        let (stamp, rest) = number_and_rest(octets)?;
+        let (owner, rest) = number_and_rest(rest)?;
         let (profile, rest) = profile_at(rest)?;
         let (tries, rest) = tries_at(rest)?;
         let (name, rest) = name_at(rest)?;

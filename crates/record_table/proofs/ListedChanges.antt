@@ -10,8 +10,13 @@ use Rattle.eeprom.specs.StoreOf.{Slots}
 use Rattle.eeprom.specs.Slots.{in_slot, in_order, Rises, replaced, without}
 use Rattle.eeprom.proofs.Kept.{kept-split, kept-set, kept-other, kept-new, kept-changed, kept-removed}
 use Rattle.catalog_codec.specs.Kinds.{Kind, IsKind, HaveOtherMarks, read_as, starts}
-use Rattle.record_table.specs.Listed.{listed, at_slot, is_of}
+use Rattle.record_table.specs.Listed.{listed, at_slot}
 use Rattle.record_table.specs.Changed.{IsAdded, IsChanged, IsRemoved}
+
+-- a slot is empty, or its record begins with a mark of the kind
+abbrev pub is_of : {X : Type 0} → Kind X → Option (List ℕ) → Bool
+is_of {X} kind None = true
+is_of {X} kind (Some octets) = starts kind.marks octets
 
 -- what is empty, or begins with a mark of a kind, is no record of a kind with other marks
 pub no_other : {X Y : Type 0} (kind : Kind X) (other : Kind Y) (entry : Option (List ℕ)) → IsKind other → HaveOtherMarks kind other → is_of kind entry ≡ true

@@ -8,7 +8,7 @@ use Rattle.cell_store.specs.Reading.{ReadsRecord}
 use Rattle.record_store.specs.Held.{Held, contents, record_at, StandsFor}
 use Rattle.record_store.specs.declared.side.Side.{Side}
 use Rattle.catalog_codec.specs.Kinds.{Kind, IsKind, read_as}
-use Rattle.record_table.specs.Listed.{at_slot, is_marked, own_cells}
+use Rattle.record_table.specs.Listed.{at_slot, has_kind_mark, own_cells}
 
 -- what holds of the record of a slot, said of the slots
 at_record : (contents : List ℕ → Option Slots) (image : Option (List ℕ)) (slot : ℕ) (P : Option (List ℕ) → Type 0)
@@ -25,27 +25,27 @@ stood : (P Q : List ℕ → Type 0) (image : Option (List ℕ)) → IfSome image
 stood P Q None h says = tt
 stood P Q (Some image) h says = says image h
 
-unmarked : {X : Type 0} (kind : Kind X) (entry : Option (List ℕ)) → IsKind kind → is_marked kind entry ≡ false → in_slot (read_as kind) entry ≡ None
+unmarked : {X : Type 0} (kind : Kind X) (entry : Option (List ℕ)) → IsKind kind → has_kind_mark kind entry ≡ false → in_slot (read_as kind) entry ≡ None
 unmarked kind None is other = refl
 unmarked kind (Some []) is other = is.others [] refl
 unmarked kind (Some (octet ∷ octets)) is other = is.others (octet ∷ octets) other
 
 -- a record with another first octet is none of the kind
 pub none-unmarked : {X : Type 0} (kind : Kind X) (store : Held) (side : Side) (slot : ℕ) (image : Option (List ℕ)) (marked : Bool) → IsKind kind → IfSome image (StandsFor store)
-    → ((image : List ℕ) → StandsFor store image → marked ≡ is_marked kind (record_at store side slot image)) → marked ≡ false
+    → ((image : List ℕ) → StandsFor store image → marked ≡ has_kind_mark kind (record_at store side slot image)) → marked ≡ false
     → IfSome (option_and_then (contents store side) image) (λ slots. None ≡ at_slot kind slot slots)
 none-unmarked kind store side slot image marked is stands says other =
     at_record (contents store side) image slot (λ entry. None ≡ in_slot (read_as kind) entry)
     (stood (StandsFor store) (λ image. None ≡ in_slot (read_as kind) (record_at store side slot image)) image stands
     (λ image over. sym (unmarked kind (record_at store side slot image) is (sym (says image over) ∙ other))))
 
-own : {X : Type 0} (kind : Kind X) (entry : Option (List ℕ)) (a b : Option ℕ) → is_marked kind entry ≡ true → Becomes (ReadsRecord entry) a b → Becomes (RisesAtMost (cell_size * own_cells kind entry)) a b
+own : {X : Type 0} (kind : Kind X) (entry : Option (List ℕ)) (a b : Option ℕ) → has_kind_mark kind entry ≡ true → Becomes (ReadsRecord entry) a b → Becomes (RisesAtMost (cell_size * own_cells kind entry)) a b
 own kind None a b marked reads = λ after told. let r = reads after told in (r.0, r.1, omega (arith, r.2))
 own kind (Some octets) a b marked reads = λ after told. let r = reads after told in (r.0, r.1, rw marked r.2.1)
 
 -- one with a mark of the kind costs its cells at most
 pub reads-marked : {X : Type 0} (kind : Kind X) (store : Held) (side : Side) (slot : ℕ) (image : Option (List ℕ)) (marked : Bool) (entry : Option (List ℕ)) (a b : Option ℕ) → IfSome image (StandsFor store)
-    → ((image : List ℕ) → StandsFor store image → marked ≡ is_marked kind (record_at store side slot image)) → marked ≡ true
+    → ((image : List ℕ) → StandsFor store image → marked ≡ has_kind_mark kind (record_at store side slot image)) → marked ≡ true
     → IfSome image (λ image. record_at store side slot image ≡ entry) → IfSome image (λ _. Becomes (ReadsRecord entry) a b)
     → IfSome (option_and_then (contents store side) image) (λ slots. Becomes (RisesAtMost (cell_size * own_cells kind (get_or slots slot None))) a b)
 reads-marked kind store side slot None marked entry a b stands says own_mark is reads = tt

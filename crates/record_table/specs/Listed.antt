@@ -1,5 +1,5 @@
 -- The records of one kind in the slots of a store.
-use Rattle.std.specs.Prelude.{ℕ, Bool, true, false, List, Option, Some, None, if◌then◌else◌, option_and_then, slice_index_or}
+use Rattle.std.specs.Prelude.{ℕ, Bool, false, List, Option, None, if◌then◌else◌, option_and_then, slice_index_or}
 use Rattle.std.specs.List.{filter_map, sum_by}
 use Rattle.std.specs.Option.{option_map_or}
 use Rattle.eeprom.specs.Chip.{Chip}
@@ -7,7 +7,7 @@ use Rattle.eeprom.specs.Slots.{kept, in_slot}
 use Rattle.eeprom.specs.StoreOf.{Slots, cells_of}
 use Rattle.record_store.specs.Held.{Held, contents, first_octet}
 use Rattle.record_store.specs.declared.side.Side.{Side}
-use Rattle.catalog_codec.specs.Kinds.{Kind, read_as, starts}
+use Rattle.catalog_codec.specs.Kinds.{Kind, read_as}
 
 -- the records of a kind, in rising order of their keys
 abbrev pub listed : {X : Type 0} → Kind X → Slots → List X
@@ -21,18 +21,13 @@ in_slots {X} kind slots = filter_map (in_slot (read_as kind)) slots
 abbrev pub at_slot : {X : Type 0} → Kind X → ℕ → Slots → Option X
 at_slot {X} kind slot slots = in_slot (read_as kind) (slice_index_or slots slot None)
 
--- a slot is empty, or its record begins with a mark of the kind
-abbrev pub is_of : {X : Type 0} → Kind X → Option (List ℕ) → Bool
-is_of {X} kind None = true
-is_of {X} kind (Some octets) = starts kind.marks octets
-
 -- the first octet of a slot's record is a mark of the kind
-abbrev pub is_marked : {X : Type 0} → Kind X → Option (List ℕ) → Bool
-is_marked {X} kind entry = option_map_or kind.marks (first_octet entry) false
+abbrev pub has_kind_mark : {X : Type 0} → Kind X → Option (List ℕ) → Bool
+has_kind_mark {X} kind entry = option_map_or kind.marks (first_octet entry) false
 
 -- how many cells the record of a slot has, if it is marked so, and how many all records that are
 abbrev pub own_cells : {X : Type 0} → Kind X → Option (List ℕ) → ℕ
-own_cells {X} kind entry = if is_marked kind entry then cells_of entry else 0
+own_cells {X} kind entry = if has_kind_mark kind entry then cells_of entry else 0
 
 abbrev pub cells_marked : {X : Type 0} → Kind X → Slots → ℕ
 cells_marked {X} kind slots = sum_by (own_cells kind) slots

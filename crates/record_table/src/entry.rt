@@ -40,7 +40,7 @@ pub(crate) fn read_entry<R: Marked, B: Eeprom>(
 // Whether the first octet of a slot's record is a mark of the kind.
 fn is_marked<R: Marked>(store: &Store, side: Side, slot: u16) -> bool
     requires { slot < store.now.chains.cells }
-    ensures { (image : List ℕ) → StandsFor store.now image → result ≡ listed.is_marked R.kind (record_at store.now side slot image) }
+    ensures { (image : List ℕ) → StandsFor store.now image → result ≡ listed.has_kind_mark R.kind (record_at store.now side slot image) }
 {
     match store.kind(side, slot) {
         Some(octet) => R::has_mark(octet),

@@ -1,11 +1,13 @@
 // Users and the counter in the slots of a store.
-ghost use Rattle.std.specs.Prelude.{◌≡◌, ◌==◌};
+ghost use Rattle.std.specs.Prelude.{◌≡◌, ◌<◌, ◌==◌, IsTrue, OnOk};
+ghost use Rattle.record_store.specs.Held.{IsOver};
 
-use crate::{Wanted, find_by, find_stamp, next_after};
+use crate::{Wanted, add, change, find_by, find_stamp, next_after, remove};
 use catalog_codec::Counter;
-use eeprom::{FaultPlan, MemBench};
-use record_store::{Side, Store};
+use eeprom::{Eeprom, FaultPlan, MemBench};
+use record_store::{Side, Store, StoreRefusal};
 use scql_base::User;
+use std::alloc::{AllocError, Global};
 use std::test::Fail;
 
 /// The counter before stamp 2, and the user of stamp 1, as they are written.
@@ -24,9 +26,8 @@ impl Wanted<User> for MadeBy {
     }
 }
 
-#[test]
-fn records_are_found(rt: HostRuntime) -> Result<(), Fail> {
-    let alloc = rt.alloc();
+// A store of 16 cells with the counter and the user.
+fn made(alloc: Global) -> Result<MemBench, AllocError> {
     let plan = FaultPlan {
         reads: Vec::new(alloc),
         writes: Vec::new(alloc),
@@ -34,8 +35,15 @@ fn records_are_found(rt: HostRuntime) -> Result<(), Fail> {
         fill: 0,
     };
     let mut bench = MemBench::new(alloc, vec![in alloc; 0u8; 1154]?, plan)?;
-    let made = Store::format(&mut bench, 16, &COUNTER, &OWNER);
-    assert!(rt; made.is_ok());
+    // Where this fails the store doesn't open.
+    let _made = Store::format(&mut bench, 16, &COUNTER, &OWNER);
+    Ok(bench)
+}
+
+#[test]
+fn records_are_found(rt: HostRuntime) -> Result<(), Fail> {
+    let alloc = rt.alloc();
+    let mut bench = made(alloc)?;
     let opened = Store::open(alloc, &mut bench);
     assert!(rt; opened.is_ok());
     if let Ok(store) = opened {
@@ -52,6 +60,40 @@ fn records_are_found(rt: HostRuntime) -> Result<(), Fail> {
         assert!(rt; matches!(&none, Ok(None)));
         let counter = next_after::<Counter, MemBench>(&store, &mut bench, Side::Working, 1);
         assert!(rt; matches!(&counter, Ok(Some(found)) if found.slot == 0));
+    }
+    Ok(())
+}
+
+// The counter is changed, and another one is added and removed.
+fn change_some<B: Eeprom>(store: &mut Store, bench: &mut B) -> Result<(), StoreRefusal>
+    requires begun { IsTrue store.old.begun }
+    requires slot { 0 < store.old.chains.cells }
+    requires over { IsOver store.old (B.chip bench.old) }
+    ensures { OnOk result (IsOver store.new (B.chip bench.new)) }
+{
+    change(store, bench, 0, &Counter { next: 3 })?;
+    let slot = add(store, bench, &Counter { next: 9 })?;
+    remove(store, slot);
+    Ok(())
+}
+
+#[test]
+fn records_are_changed(rt: HostRuntime) -> Result<(), Fail> {
+    let alloc = rt.alloc();
+    let mut bench = made(alloc)?;
+    let opened = Store::open(alloc, &mut bench);
+    assert!(rt; opened.is_ok());
+    if let Ok(mut store) = opened {
+        store.begin();
+        assert_eq!(rt; store.cells(), 16);
+        let changed = change_some(&mut store, &mut bench);
+        assert!(rt; changed.is_ok());
+        if let Ok(()) = changed {
+            let next = next_after::<Counter, MemBench>(&store, &mut bench, Side::Working, 2);
+            assert!(rt; matches!(&next, Ok(Some(found)) if found.value.next == 3));
+            let last = next_after::<Counter, MemBench>(&store, &mut bench, Side::Working, 3);
+            assert!(rt; matches!(&last, Ok(None)));
+        }
     }
     Ok(())
 }

@@ -4,5 +4,5 @@
 mod parts;
 mod row;
 
-pub use parts::{number_at, put, put_number};
+pub use parts::{number_and_rest, put, put_number};
 pub use row::{decode, encode};

@@ -8,7 +8,7 @@ ghost use Rattle.scql_model.specs.Fields as fields;
 use cell_store::RecordOctets;
 
 /// A number in four octets, the highest first, and the octets behind it.
-pub fn number_at(octets: &[u8]) -> Option<(u32, &[u8])>
+pub fn number_and_rest(octets: &[u8]) -> Option<(u32, &[u8])>
     ensures { option_map (λ x. (x.0, x.1.now)) result ≡ fields.number_from octets.now }
 {
     let [a, b, c, d, rest @ ..] = octets else {

@@ -5,7 +5,7 @@ ghost use Rattle.scql_base.specs.declared.records.RowRecord.{RowRecord};
 ghost use Rattle.scql_model.specs.Records.{row_record, values_to_the_end};
 ghost use Rattle.row_codec.specs.Rows as rows;
 
-use crate::{number_at, put, put_number};
+use crate::{number_and_rest, put, put_number};
 use cell_store::RecordOctets;
 use scql_base::{Row, RowRecord};
 
@@ -38,8 +38,8 @@ fn row_in(octets: &[u8]) -> Option<RowRecord>
     let [MARK, octets @ ..] = octets else {
         return None;
     };
-    let (stamp, rest) = number_at(octets)?;
-    let (table, rest) = number_at(rest)?;
+    let (stamp, rest) = number_and_rest(octets)?;
+    let (table, rest) = number_and_rest(rest)?;
     let row = row_to_the_end(rest)?;
     Some(RowRecord { stamp, table, row })
 }

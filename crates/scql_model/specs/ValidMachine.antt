@@ -1,4 +1,4 @@
--- The machines that a card may be in.
+-- Machines whose databases are valid, and whose sessions present users of them.
 use Rattle.std.specs.Prelude.{◌≡◌, ◌<◌, ◌==◌, false, List, length, Option, IfSome, option_and_then}
 use Rattle.std.specs.List.{AllByRecursion}
 use Rattle.scql_base.specs.declared.cursor.Presented.{Presented}

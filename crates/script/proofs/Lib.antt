@@ -6,4 +6,5 @@ pub mod Fresh
 pub mod Listing
 pub mod Locality
 pub mod Rows
+pub mod Spelled
 pub mod Undoubling

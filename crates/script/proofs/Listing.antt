@@ -1,5 +1,5 @@
 -- Lists of items, read one by one.
-use Rattle.std.proofs.Common.{◌≡◌, ℕ, zero, suc, ◌-◌, ◌<◌, true, false, List, Some, None, refl, sym, ◌∙◌, arith}
+use Rattle.std.proofs.Common.{◌≡◌, ℕ, zero, suc, ◌-◌, ◌<◌, true, false, List, Option, Some, None, refl, sym, ◌∙◌, arith}
 use Rattle.script.specs.Tokens.{Token}
 use Rattle.script.specs.Reading.{Reads, behind, is_next, continued, more, listed}
 
@@ -21,33 +21,36 @@ unfolding more
 more-none zero separator item items tokens none = refl
 more-none (suc n) separator item items tokens none = absurd (omega arith)
 
--- the first item
-pub listed-begun : {A : Type 0} (most n : ℕ) (separator : List ℕ) (item : A → Reads A) (none items : A) (tokens rest : List Token)
-    → item none tokens ≡ (Some items, rest) → n ≡ most - 1 → more n separator item items rest ≡ listed most separator item none tokens
-unfolding listed
-listed-begun most n separator item none items tokens rest read same = rw (read, same) refl
-
 pub listed-fault : {A : Type 0} (most : ℕ) (separator : List ℕ) (item : A → Reads A) (none : A) (tokens rest : List Token)
     → item none tokens ≡ (None, rest) → listed most separator item none tokens ≡ (None, rest)
 unfolding listed
 listed-fault most separator item none tokens rest read = rw read refl
 
--- a further item
-pub more-next : {A : Type 0} (n m : ℕ) (separator : List ℕ) (item : A → Reads A) (items longer : A) (tokens rest : List Token)
-    → 0 < n → is_next separator tokens ≡ true → item items (behind tokens) ≡ (Some longer, rest) → m ≡ n - 1
-    → more m separator item longer rest ≡ more n separator item items tokens
-more-next n m separator item items longer tokens rest some next read same = sym (more-read n separator item items tokens some next ∙ rw (read, ← same) refl)
+-- A list is being read, and so many items may still come: the items so far, with those that the tokens have, are the whole of it.
+pub record IsReading {A : Type 0} (n : ℕ) (separator : List ℕ) (item : A → Reads A) (whole : Option A × List Token) (items : A) (tokens : List Token) : Type 0 where
+  pub same : more n separator item items tokens ≡ whole
 
-pub more-fault : {A : Type 0} (n : ℕ) (separator : List ℕ) (item : A → Reads A) (items : A) (tokens rest : List Token)
-    → 0 < n → is_next separator tokens ≡ true → item items (behind tokens) ≡ (None, rest)
-    → more n separator item items tokens ≡ (None, rest)
-more-fault n separator item items tokens rest some next read = more-read n separator item items tokens some next ∙ rw read refl
+pub begins : {A : Type 0} {n : ℕ} {separator : List ℕ} {item : A → Reads A} {items : A} {rest : List Token} (most : ℕ) (none : A) (tokens : List Token)
+    → item none tokens ≡ (Some items, rest) → n ≡ most - 1 → IsReading n separator item (listed most separator item none tokens) items rest
+unfolding listed
+begins most none tokens read left = record { same = rw (read, left) refl }
 
--- the end
-pub more-over : {A : Type 0} (n : ℕ) (separator : List ℕ) (item : A → Reads A) (items : A) (tokens : List Token) → is_next separator tokens ≡ false
-    → more n separator item items tokens ≡ (Some items, tokens)
-more-over n separator item items tokens other = more-ended n separator item items tokens other
+pub goes_on : {A : Type 0} {n m : ℕ} {separator : List ℕ} {item : A → Reads A} {whole : Option A × List Token} {items longer : A} {tokens rest : List Token}
+    → IsReading n separator item whole items tokens → 0 < n → is_next separator tokens ≡ true → item items (behind tokens) ≡ (Some longer, rest) → m ≡ n - 1
+    → IsReading m separator item whole longer rest
+goes_on {n = n} {separator = separator} {item = item} {items = items} {tokens = tokens} reading some next read left = record {
+  same = sym (more-read n separator item items tokens some next ∙ rw (read, ← left) refl) ∙ reading.same;
+}
 
-pub more-full : {A : Type 0} (n : ℕ) (separator : List ℕ) (item : A → Reads A) (items : A) (tokens : List Token) → n ≡ 0
-    → more n separator item items tokens ≡ (Some items, tokens)
-more-full n separator item items tokens none = more-none n separator item items tokens none
+pub fails : {A : Type 0} {n : ℕ} {separator : List ℕ} {item : A → Reads A} {whole : Option A × List Token} {items : A} {tokens rest : List Token}
+    → IsReading n separator item whole items tokens → 0 < n → is_next separator tokens ≡ true → item items (behind tokens) ≡ (None, rest) → whole ≡ (None, rest)
+fails {n = n} {separator = separator} {item = item} {items = items} {tokens = tokens} reading some next read =
+    sym reading.same ∙ (more-read n separator item items tokens some next ∙ rw read refl)
+
+pub ends : {A : Type 0} {n : ℕ} {separator : List ℕ} {item : A → Reads A} {whole : Option A × List Token} {items : A} {tokens : List Token}
+    → IsReading n separator item whole items tokens → is_next separator tokens ≡ false → whole ≡ (Some items, tokens)
+ends {n = n} {separator = separator} {item = item} {items = items} {tokens = tokens} reading other = sym reading.same ∙ more-ended n separator item items tokens other
+
+pub is_full : {A : Type 0} {n : ℕ} {separator : List ℕ} {item : A → Reads A} {whole : Option A × List Token} {items : A} {tokens : List Token}
+    → IsReading n separator item whole items tokens → n ≡ 0 → whole ≡ (Some items, tokens)
+is_full {n = n} {separator = separator} {item = item} {items = items} {tokens = tokens} reading none = sym reading.same ∙ more-none n separator item items tokens none

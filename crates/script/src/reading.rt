@@ -13,7 +13,7 @@ impl Statement {
     /// The statement that a line of at most 1,000 octets is.
     ///
     /// `At` comes exactly where the line is in no statement's grammar. `TooLarge` comes exactly where it is a statement, but
-    /// a row is over 1,020 octets, or a command's data field over 255, and over 1,275 for an UPDATE.
+    /// a row is over 1,020 octets, or a command doesn't fit: its data field is over 255, and over 1,275 for INSERT and UPDATE.
     pub fn read(line: &[u8]) -> Result<Statement, ScriptFault>
         requires { length line.now ≤ 1000 }
         ensures { result ≡ lines.statement_of line.now }

@@ -204,9 +204,17 @@ fn short_images(rt: HostRuntime) -> Result<(), Fail> {
     for size in [0, 8, 10, 34, 1153] {
         let mut image = fresh_card(alloc)?;
         image.truncate(size);
-        let (status, bench) = run_over(alloc, &["apdu"], PRESENT_OWNER, &image, no_faults(alloc))?;
-        assert!(rt; status == Status::NotACard, "{size} octets");
-        assert_eq!(rt; bench.image(), image.as_slice(), "{size} octets");
+        for word in ["apdu", "migrate"] {
+            let (status, bench) = run_over(
+                alloc,
+                &[word],
+                PRESENT_OWNER,
+                &image,
+                no_faults(alloc),
+            )?;
+            assert!(rt; status == Status::NotACard, "{word}: {size} octets");
+            assert_eq!(rt; bench.image(), image.as_slice(), "{word}: {size} octets");
+        }
     }
     Ok(())
 }

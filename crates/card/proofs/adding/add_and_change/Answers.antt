@@ -1,5 +1,5 @@
 -- A transaction that was just begun has the committed records of the store before it.
-use Rattle.std.proofs.Common.{◌≡◌, ℕ, List, Option, drop, ap, sym, ◌∙◌, subst, rules}
+use Rattle.std.proofs.Common.{◌≡◌, ℕ, List, Option, drop, ap, ◌∙◌, subst, rules}
 use Rattle.std.specs.Prelude.{OnOk, IfSome}
 use Rattle.eeprom.specs.Chip.{Becomes, Keeps}
 use Rattle.eeprom.specs.StoreOf.{Slots, image_size}

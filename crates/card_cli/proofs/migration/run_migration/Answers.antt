@@ -5,9 +5,9 @@ use Rattle.scql_model.specs.Database.{Database}
 use Rattle.scql_model.specs.Migrating.{migrate_text}
 use Rattle.card_cli.specs.Beginning.{IsOpenTo}
 use Rattle.card_cli.specs.CutOff.{IsCutShort}
-use Rattle.card_cli.specs.Migrating.{IsInMigration, IsMigratedFrom}
+use Rattle.card_cli.specs.Migrating.{IsInMigration, IsMigratedFrom, KeepsBehind}
 use Rattle.card_cli.specs.RunState.{Prints}
-use Rattle.card_cli.proofs.LongerRows.{leaves-between, silent-moments, told-moments, migrated-from, migrated-same, text-migrated}
+use Rattle.card_cli.proofs.LongerRows.{leaves-between, silent-moments, told-moments, migration-behind, told-behind, migrated-from, migrated-same, text-migrated}
 use Rattle.card_cli.proofs.Moving.{gives-throughout}
 use Rattle.card_cli.proofs.migration.run_migration.Goals as goal
 use Rattle.card_cli.proofs.migration.run_migration.Goals.{After-give as Told}
@@ -61,3 +61,18 @@ returns-in-Err-clause-migrates g c = λ db opens.
 
 pub returns-in-Err-clause-moments : goal.returns-in-Err-clause-moments
 returns-in-Err-clause-moments g c = λ db opens told. moments g (goal.at.returns-in-Err-clause-moments g c).After-give db opens (c.give.ensures.within told)
+
+pub returns-in_default-clause-behind : goal.returns-in_default-clause-behind
+returns-in_default-clause-behind g c = migration-behind (g.B.Eeprom.chip c.args.bench.now) (g.B.Eeprom.chip c.migrate.new.bench) c.migrate.ensures.moments
+
+-- what goes out behind a migration writes nothing
+behind : (g : _) (c : Told g) → KeepsBehind (g.B.Eeprom.chip c.args.bench.now) (g.B.Eeprom.chip c.give.new.bench)
+behind g c =
+    told-behind (g.B.Eeprom.chip c.args.bench.now) (g.B.Eeprom.chip c.migrate.new.bench) (g.B.Eeprom.chip c.give.new.bench) c.migrate.ensures.moments
+    (gives-throughout (g.B.Eeprom.chip c.migrate.new.bench) (g.B.Eeprom.chip c.give.new.bench) (g.met.B.Eeprom.clocked c.migrate.new.bench) c.give.ensures.gives)
+
+pub returns-in-Ok-give-clause-behind : goal.returns-in-Ok-give-clause-behind
+returns-in-Ok-give-clause-behind g c = behind g (goal.at.returns-in-Ok-give-clause-behind g c).After-give
+
+pub returns-in-Err-clause-behind : goal.returns-in-Err-clause-behind
+returns-in-Err-clause-behind g c = behind g (goal.at.returns-in-Err-clause-behind g c).After-give

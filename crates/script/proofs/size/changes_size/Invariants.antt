@@ -1,7 +1,7 @@
 -- The size of so many as were counted.
 use Rattle.std.proofs.Common.{◌≡◌, ◌≤◌, ◌*◌, length, take}
 use Rattle.std.specs.List.{sum_by}
-use Rattle.script.specs.Sizes.{change_size}
+use Rattle.script.proofs.Spelled.{change_size}
 use Rattle.script.proofs.size.changes_size.Given as goal
 
 abbrev pub invariant-loop-change : goal.invariant-loop-change

@@ -1,5 +1,5 @@
 -- A channel with a session is open.
-use Rattle.std.proofs.Common.{refl, sym, ◌∙◌}
+use Rattle.std.proofs.Common.{sym, ◌∙◌}
 use Rattle.card.proofs.SeenSessions.{four-sessions, open-card}
 use Rattle.card.proofs.card.Card.open_channels.Goals as goal
 

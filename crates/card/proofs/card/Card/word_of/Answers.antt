@@ -1,6 +1,6 @@
 -- What was taken with the card's open channels and chains is what the machine takes with its own.
-use Rattle.std.proofs.Common.{◌≡◌, ◌≤◌, ◌∙◌, ℕ, min, [], drop, ap, Result, Ok, Err, refl, sym, subst, inl, inr, arith}
-use Rattle.eeprom.specs.Chip.{Chip, Keeps}
+use Rattle.std.proofs.Common.{◌≡◌, ◌≤◌, ◌∙◌, ℕ, min, [], drop, ap, Ok, Err, refl, sym, subst, inl, inr, arith}
+use Rattle.eeprom.specs.Chip.{Keeps}
 use Rattle.eeprom.specs.StoreOf.{image_size}
 use Rattle.scql_base.specs.declared.words.StatusWord.{StatusWord}
 use Rattle.scql_base.specs.Words.{done}
@@ -15,7 +15,7 @@ use Rattle.card.specs.Card.{Kept, IsAt}
 use Rattle.card.specs.Answering.{IsDoneOrStays, Performs}
 use Rattle.card.specs.Sessions.{sessions_of, AreUnread}
 use Rattle.card.proofs.SeenSessions.{unread-sessions}
-use Rattle.card.proofs.TakenForms.{taken_at, outcome_of, step-taken, IsAt-taken, bound-taken, octets_taken, octets-whole, taken-committed, taken-transaction, taken-refused, taken-kept, outcome-whole, built-taken, done_or_stays-taken}
+use Rattle.card.proofs.TakenForms.{taken_at, outcome_of, step-taken, IsAt-taken, bound-taken, octets_taken, octets-whole, taken-committed, taken-refused, taken-kept, outcome-whole, built-taken, done_or_stays-taken}
 use Rattle.card.proofs.UnreadSteps.{carried_out-done, DoneOrStays}
 use Rattle.card.proofs.Leaving.{Keeps-none}
 use Rattle.card.proofs.Performing.{Performs-from, Performs-unwritten}

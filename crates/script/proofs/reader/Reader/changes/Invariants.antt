@@ -1,11 +1,10 @@
--- What is still to be read makes the whole list of what is read.
-use Rattle.std.proofs.Common.{◌≡◌, ◌-◌, length, codes}
-use Rattle.script.specs.Reading.{more}
+use Rattle.std.proofs.Common.{◌-◌, length, codes}
 use Rattle.script.specs.Grammar as grammar
+use Rattle.script.proofs.Listing.{IsReading}
 use Rattle.script.proofs.reader.Reader.changes.Given as goal
 
 abbrev pub invariant-loop-self : goal.invariant-loop-self
-invariant-loop-self l = more (15 - length l.changes) (codes ",") grammar.with_change l.changes l.self ≡ grammar.changes l.fn.self
+invariant-loop-self l = IsReading (15 - length l.changes) (codes ",") grammar.with_change (grammar.changes l.fn.self) l.changes l.self
 
 abbrev pub decreases-loop-self : goal.decreases-loop-self
 decreases-loop-self l = 15 - length l.changes

@@ -1,11 +1,10 @@
--- What is still to be read makes the whole list of what is read.
-use Rattle.std.proofs.Common.{◌≡◌, ◌-◌, length, codes}
-use Rattle.script.specs.Reading.{more}
+use Rattle.std.proofs.Common.{◌-◌, length, codes}
 use Rattle.script.specs.Grammar as grammar
+use Rattle.script.proofs.Listing.{IsReading}
 use Rattle.script.proofs.reader.Reader.conditions.Given as goal
 
 abbrev pub invariant-loop-self : goal.invariant-loop-self
-invariant-loop-self l = more (8 - length l.conditions) (codes "AND") grammar.with_condition l.conditions l.self ≡ grammar.conditions l.fn.self
+invariant-loop-self l = IsReading (8 - length l.conditions) (codes "AND") grammar.with_condition (grammar.conditions l.fn.self) l.conditions l.self
 
 abbrev pub decreases-loop-self : goal.decreases-loop-self
 decreases-loop-self l = 8 - length l.conditions

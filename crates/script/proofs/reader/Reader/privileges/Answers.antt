@@ -1,7 +1,7 @@
-use Rattle.std.proofs.Common.{◌-◌, ◌+◌, codes, sym, ◌∙◌, arith}
+use Rattle.std.proofs.Common.{codes, sym, arith}
 use Rattle.script.specs.Grammar as grammar
 use Rattle.script.specs.Grammar.{privileges}
-use Rattle.script.proofs.Listing.{listed-begun, listed-fault, more-next, more-fault, more-over, more-full}
+use Rattle.script.proofs.Listing.{listed-fault, begins, goes_on, fails, ends, is_full}
 use Rattle.script.proofs.reader.Reader.privileges.Goals as goal
 use Rattle.script.proofs.reader.Reader.privileges.Goals.{then-loop-count-test+else-takes, else-loop-count-test}
 
@@ -13,23 +13,20 @@ returns-in_err-bits c =
 pub loop-count-init : goal.loop-count-init
 unfolding privileges
 loop-count-init c = record {
-  whole = listed-begun 500 499 (codes ",") grammar.with_privilege 0 c.in_ok-bits.bits c.args.self.now c.with_privilege.new.self c.in_ok-bits.ensures.value (omega arith);
+  whole = begins 500 0 c.args.self.now c.in_ok-bits.ensures.value (omega arith);
   some = c.in_ok-bits.ensures.some.0;
   within = c.in_ok-bits.ensures.some.1;
 }
 
 pub returns-in_err-bits-2 : goal.returns-in_err-bits-2
 returns-in_err-bits-2 c =
-    rw c.from_residual-in_err-bits-2.ensures (sym c.loop-count.invariant.whole
-    ∙ more-fault (500 - c.loop-count.count) (codes ",") grammar.with_privilege c.loop-count.bits c.loop-count.self c.with_privilege-in-loop-count.new.self
-    (omega (arith, c.loop-count-test.true)) (sym c.if-takes.ensures.value) (rw c.if-takes.ensures.rest at c.in_err-bits-2.ensures.value))
+    rw c.from_residual-in_err-bits-2.ensures (fails c.loop-count.invariant.whole (omega (arith, c.loop-count-test.true))
+    (sym c.if-takes.ensures.value) (rw c.if-takes.ensures.rest at c.in_err-bits-2.ensures.value))
 
 pub loop-count-preserved : goal.loop-count-preserved
 loop-count-preserved c = record {
-  whole = more-next (500 - c.loop-count.count) (500 - (c.loop-count.count + 1)) (codes ",") grammar.with_privilege c.loop-count.bits c.in_ok-bits-2.bits
-      c.loop-count.self c.with_privilege-in-loop-count.new.self (omega (arith, c.loop-count-test.true)) (sym c.if-takes.ensures.value)
-      (rw c.if-takes.ensures.rest at c.in_ok-bits-2.ensures.value) (omega arith)
-      ∙ c.loop-count.invariant.whole;
+  whole = goes_on c.loop-count.invariant.whole (omega (arith, c.loop-count-test.true)) (sym c.if-takes.ensures.value)
+      (rw c.if-takes.ensures.rest at c.in_ok-bits-2.ensures.value) (omega arith);
   some = c.in_ok-bits-2.ensures.some.0;
   within = c.in_ok-bits-2.ensures.some.1;
 }
@@ -37,10 +34,6 @@ loop-count-preserved c = record {
 pub returns : goal.returns
 returns c =
     elim c.loop-count-test.branch [
-      | then-loop-count-test+else-takes w ↦
-          rw (w.self-is, w.if-takes.ensures.rest) (sym c.loop-count.invariant.whole
-          ∙ more-over (500 - c.loop-count.count) (codes ",") grammar.with_privilege c.loop-count.bits c.loop-count.self (sym w.if-takes.ensures.value))
-      | else-loop-count-test w ↦
-          rw w.self-is (sym c.loop-count.invariant.whole
-          ∙ more-full (500 - c.loop-count.count) (codes ",") grammar.with_privilege c.loop-count.bits c.loop-count.self (omega (arith, w.loop-count-test.false)))
+      | then-loop-count-test+else-takes w ↦ rw (w.self-is, w.if-takes.ensures.rest) (ends c.loop-count.invariant.whole (sym w.if-takes.ensures.value))
+      | else-loop-count-test w ↦ rw w.self-is (is_full c.loop-count.invariant.whole (omega (arith, w.loop-count-test.false)))
     ]

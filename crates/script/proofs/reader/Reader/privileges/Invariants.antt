@@ -1,12 +1,11 @@
--- What is still to be read makes the whole of what is read.
-use Rattle.std.proofs.Common.{◌≡◌, ◌≤◌, ◌-◌, codes}
-use Rattle.script.specs.Reading.{more}
+use Rattle.std.proofs.Common.{◌≤◌, ◌-◌, codes}
 use Rattle.script.specs.Grammar as grammar
+use Rattle.script.proofs.Listing.{IsReading}
 use Rattle.script.proofs.reader.Reader.privileges.Given as goal
 
 abbrev pub invariant-loop-count : goal.invariant-loop-count
 invariant-loop-count l = record {
-  whole : more (500 - l.count) (codes ",") grammar.with_privilege l.bits l.self ≡ grammar.privileges l.fn.self;
+  whole : IsReading (500 - l.count) (codes ",") grammar.with_privilege (grammar.privileges l.fn.self) l.bits l.self;
   some : 1 ≤ l.bits;
   within : l.bits ≤ 15;
 }
