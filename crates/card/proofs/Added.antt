@@ -21,9 +21,9 @@ use Rattle.scql_model.proofs.Room.{cells-filled}
 use Rattle.scql_model.proofs.CreatingWeight.{weight-with_user}
 use Rattle.scql_model.proofs.Creating.{ok-from_IsCreated, IsValid-created}
 use Rattle.scql_model.proofs.CreatingSlots.{other_slot, Holds-created}
-use Rattle.card.specs.Adding.{IsAdded, IsAsLong, HasNoRoom, IfCommitted}
+use Rattle.card.specs.Adding.{IsAddedBeside, IsAsLong, HasNoRoom, IfCommitted}
 use Rattle.card.specs.Card.{committed_slots}
-use Rattle.card.specs.Creating.{IsAddition, IsCounter}
+use Rattle.card.specs.Creating.{IsAddition, IsCounterSlot}
 use Rattle.card.specs.declared.creating.Addition.{Addition}
 
 -- a counter's record is as long as any other
@@ -35,12 +35,12 @@ as_long-counter (Some octets) next counts = go (counter_in octets) refl counts
     go None is counts = absurd (false≢true counts)
     go (Some n) is counts = ap (λ (size : ℕ). Some (cells_for size)) (length-counter_in octets n is)
 
-pub as_long-slots : (store : Held) (image : Option (List ℕ)) (slot next : ℕ) → IfSome (committed_slots store image) (IsCounter slot) → IfCommitted store image (IsAsLong slot (counter_record.spell next))
+pub as_long-slots : (store : Held) (image : Option (List ℕ)) (slot next : ℕ) → IfSome (committed_slots store image) (IsCounterSlot slot) → IfCommitted store image (IsAsLong slot (counter_record.spell next))
 unfolding committed_slots
 as_long-slots store None slot next counts = tt
 as_long-slots store (Some image) slot next counts = go (contents store Committed image) counts
   where
-    go : (o : Option Slots) → IfSome o (IsCounter slot) → IfSome o (IsAsLong slot (counter_record.spell next))
+    go : (o : Option Slots) → IfSome o (IsCounterSlot slot) → IfSome o (IsAsLong slot (counter_record.spell next))
     go None counts = tt
     go (Some slots) counts = as_long-counter (slice_index_or slots slot None) next counts
 
@@ -62,7 +62,7 @@ pub record IsNow (db : Database) (actor : Actor) (name : List ℕ) (profile : Pr
 
 pub created-added : (db : Database) (actor : Actor) (name : List ℕ) (profile : Profile) (secret : List ℕ) (slots after : Slots) (addition : Addition) → IsAddition db actor name profile secret slots addition
     → Holds slots db → IsValid db → addition.counter_slot < length slots
-    → IsAdded db.cells (user_record.spell (new_user db actor name profile secret)) addition.counter_slot (counter_record.spell (db.next + 1)) slots after
+    → IsAddedBeside db.cells (user_record.spell (new_user db actor name profile secret)) addition.counter_slot (counter_record.spell (db.next + 1)) slots after
     → IsNow db actor name profile secret after (with_user db (new_user db actor name profile secret))
 created-added db actor name profile secret slots after addition is holds valid within there =
     let u : User = new_user db actor name profile secret in

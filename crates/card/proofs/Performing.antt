@@ -33,7 +33,7 @@ use Rattle.scql_model.proofs.Acting.{IsActorOf-actor}
 use Rattle.scql_model.proofs.Naming.{user_stamped-slots}
 use Rattle.card.specs.Sessions.{proved_stamp, proved_user}
 use Rattle.scql_model.specs.Edits.{Edit, making, of_user, octets_for}
-use Rattle.card.specs.Adding.{IsAdded, AddedTo, LeavesAdded, HasBothRecords, HasNoRoom, IfCommitted, octets_for_both}
+use Rattle.card.specs.Adding.{IsAddedBeside, AddedTo, LeavesAdded, HasBothRecords, HasNoRoom, IfCommitted, octets_for_both}
 use Rattle.card.specs.Card.{Kept, IsReady, IsAt, committed_slots}
 use Rattle.card.specs.Answering.{Answers, LeavesOneOf, Performs, answer_to, committed_at_once, octets_if_made}
 use Rattle.card.specs.Creating.{IsAddition}
@@ -185,9 +185,9 @@ module _ (card : Kept) (old : Chip) (m : Machine) (at : IsAt card old m) (ready 
         now.0,
         now.1,
         created-added m.committed who name profile secret at.slots now.0 addition is at.holds at.valid there'
-            (subst (λ (octets : List ℕ). IsAdded m.committed.cells (user_record.spell the_user) addition.counter_slot octets at.slots now.0) counter
-            (subst (λ (octets : List ℕ). IsAdded m.committed.cells octets addition.counter_slot counter_octets at.slots now.0) user
-            (subst (λ (n : ℕ). IsAdded n user_octets addition.counter_slot counter_octets at.slots now.0) cells now.2))),
+            (subst (λ (octets : List ℕ). IsAddedBeside m.committed.cells (user_record.spell the_user) addition.counter_slot octets at.slots now.0) counter
+            (subst (λ (octets : List ℕ). IsAddedBeside m.committed.cells octets addition.counter_slot counter_octets at.slots now.0) user
+            (subst (λ (n : ℕ). IsAddedBeside n user_octets addition.counter_slot counter_octets at.slots now.0) cells now.2))),
       )
 
   -- what a power loss leaves meanwhile

@@ -13,7 +13,7 @@ use Rattle.record_store.specs.Put.{IsPut, IsWithin, IsFull, weight_with}
 use Rattle.record_store.specs.Transaction.{Commits, IsCommitted}
 use Rattle.record_store.specs.declared.side.Side.TheVariants.{Committed, Working}
 use Rattle.eeprom.proofs.Moments.{throughout-then}
-use Rattle.card.specs.Adding.{IsAdded, AddedTo, IsStoreWith, LeavesAdded, HasBothRecords, IsAsLong, IfCommitted, octets_for_both}
+use Rattle.card.specs.Adding.{IsAddedBeside, AddedTo, IsStoreWith, LeavesAdded, HasBothRecords, IsAsLong, IfCommitted, octets_for_both}
 use Rattle.record_store.proofs.Weights.{store_of-stands}
 use Rattle.card.proofs.SlotCount.{length-committed}
 
@@ -41,7 +41,7 @@ pub added_to : (cells found slot : ℕ) (added changed : List ℕ) (o o1 o2 : Op
     → o2 ≡ option_map (λ (slots : Slots). slice_set slots slot (Some changed)) o1 → AddedTo cells added slot changed o o2
 added_to cells found slot added changed None o1 o2 inside empty room first second = λ slots is. absurd (none-some slots is)
 added_to cells found slot added changed (Some was) o1 o2 inside empty room first second = λ slots is.
-    subst (λ (slots : Slots). (after : Slots) × (o2 ≡ Some after) × IsAdded cells added slot changed slots after) (same_Some was slots is) (
+    subst (λ (slots : Slots). (after : Slots) × (o2 ≡ Some after) × IsAddedBeside cells added slot changed slots after) (same_Some was slots is) (
       slice_set (slice_set was found (Some added)) slot (Some changed),
       second ∙ ap (option_map (λ (slots : Slots). slice_set slots slot (Some changed))) first,
       record { found = found; inside = inside; empty = empty; room = room; is = refl },

@@ -8,7 +8,7 @@ use Rattle.record_store.specs.declared.side.Side.TheVariants.{Committed}
 use Rattle.scql_model.specs.Edits.{octets_for_cells, octets_for_commit}
 
 -- A slot of these was empty, the records have room with the one that is added there, and the new slots have both records.
-pub record IsAdded (cells : ℕ) (added : List ℕ) (slot : ℕ) (changed : List ℕ) (slots new : Slots) : Type 0 where
+pub record IsAddedBeside (cells : ℕ) (added : List ℕ) (slot : ℕ) (changed : List ℕ) (slots new : Slots) : Type 0 where
   pub found : ℕ
   pub inside : found < cells
   pub empty : slice_index_or slots found None ≡ None
@@ -18,7 +18,7 @@ pub record IsAdded (cells : ℕ) (added : List ℕ) (slot : ℕ) (changed : List
 -- the same of the slots of a store
 abbrev pub AddedTo : ℕ → List ℕ → ℕ → List ℕ → Option Slots → Option Slots → Type 0
 AddedTo cells added slot changed old new =
-    (slots : Slots) → old ≡ Some slots → (after : Slots) × (new ≡ Some after) × IsAdded cells added slot changed slots after
+    (slots : Slots) → old ≡ Some slots → (after : Slots) × (new ≡ Some after) × IsAddedBeside cells added slot changed slots after
 
 -- the store of an image has both records besides those that are committed in another
 abbrev pub IsStoreWith : Held → List ℕ → ℕ → List ℕ → List ℕ → List ℕ → Type 0

@@ -12,8 +12,8 @@ use Rattle.card.specs.declared.creating.Prepared.{Prepared}
 use Rattle.card.specs.declared.creating.Prepared.TheVariants.{Ready, Refused}
 
 -- a slot has a counter
-abbrev pub IsCounter : ℕ → Slots → Type 0
-IsCounter slot slots = is_some (in_slot counter_in (slice_index_or slots slot None)) ≡ true
+abbrev pub IsCounterSlot : ℕ → Slots → Type 0
+IsCounterSlot slot slots = is_some (in_slot counter_in (slice_index_or slots slot None)) ≡ true
 
 -- the user that is to be made of what is asked, and the slot of the counter
 pub record IsAddition (db : Database) (actor : Actor) (name : List ℕ) (profile : Profile) (secret : List ℕ) (slots : Slots) (addition : Addition) : Type 0 where

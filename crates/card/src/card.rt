@@ -18,7 +18,7 @@ ghost use Rattle.eeprom.specs.Image.{overwrite};
 ghost use Rattle.card.specs.Behind.{KeepsBehind, own_cells};
 ghost use Rattle.card.specs.Card.{Kept, IsReady, IsAt, committed_slots, fresh_card};
 ghost use Rattle.card.specs.Answering.{Answers, IsAtAsBefore, IsDoneOrStays, LeavesOneOf, Performs, answer_to, committed_at_once, octets_if_made, with_session_for};
-ghost use Rattle.card.specs.Creating.{IsAddition, IsCounter};
+ghost use Rattle.card.specs.Creating.{IsAddition, IsCounterSlot};
 ghost use Rattle.card.specs.Making.{LeavesMade};
 ghost use Rattle.card.specs.Opening.{ReadsCard};
 ghost use Rattle.card.specs.Sessions.{proved_user, sessions_of};
@@ -327,7 +327,7 @@ impl Card {
         requires ready { IsReady self.old (B.chip bench.old) }
         requires slot { addition.now.counter_slot < self.old.store.chains.cells }
         requires stamp { addition.now.user.stamp < 4294967295 }
-        requires counter { IfSome (committed_slots self.old.store (B.chip bench.old).image) (IsCounter addition.now.counter_slot) }
+        requires counter { IfSome (committed_slots self.old.store (B.chip bench.old).image) (IsCounterSlot addition.now.counter_slot) }
         ensures performs { (m : machine.Machine) (actor : Actor) (name : List ℕ) (profile : Profile) (secret : List ℕ) → (at : IsAt self.old (B.chip bench.old) m)
             → IsAddition m.committed actor name profile secret at.slots addition.now
             → Performs m (stepping.answered m (committed_at_once m (created m.committed actor name profile secret)))

@@ -11,7 +11,7 @@ ghost use Rattle.scql_model.specs.Opens.{Holds};
 ghost use Rattle.scql_model.specs.Creating as model;
 ghost use Rattle.scql_model.specs.Creating.{IsAsked, may_create, actor_stamp};
 ghost use Rattle.card.specs.Card.{committed_slots};
-ghost use Rattle.card.specs.Creating.{Prepares, IfReady, IsCounter};
+ghost use Rattle.card.specs.Creating.{Prepares, IfReady, IsCounterSlot};
 
 use crate::counter::find_counter;
 use crate::users::{Wanted, find_user};
@@ -46,7 +46,7 @@ pub(crate) fn prepare_user<B: Eeprom>(
     ensures prepares { (slots : Slots) (db : Database) → committed_slots store.now (B.chip bench.old).image ≡ Some slots → Holds slots db → IsValid db
         → IsAsked db actor name.now profile secret.now → IfOk result (Prepares db actor name.now profile secret.now slots) }
     ensures ready { IfOk result (IfReady (λ addition. (addition.counter_slot < store.now.chains.cells) × (addition.user.stamp < 4294967295))) }
-    ensures counter { IfOk result (IfReady (λ addition. IfSome (committed_slots store.now (B.chip bench.old).image) (IsCounter addition.counter_slot))) }
+    ensures counter { IfOk result (IfReady (λ addition. IfSome (committed_slots store.now (B.chip bench.old).image) (IsCounterSlot addition.counter_slot))) }
     ensures frame { Reads each_error B.chip B.faults bench.old bench.new result }
 {
     let Some(owner) = owner_for(actor, profile) else {

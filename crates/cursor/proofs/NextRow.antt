@@ -17,7 +17,7 @@ use Rattle.scql_model.specs.ReadingCommands.{Move, fitting, row_octets}
 use Rattle.scql_model.specs.Refusals.{◌>>=◌, or_refused}
 use Rattle.scql_model.proofs.LongerLists.{find-passes}
 use Rattle.cursor.specs.Costs.{Cost, RisesBetween, cost_at, cost_behind, cost_between, cost_of}
-use Rattle.cursor.specs.Moved.{fetched, place_of, refuses}
+use Rattle.cursor.specs.Moved.{fetched, place_reached, refuses}
 
 -- the first row above a stamp is the first of its own stamp
 there : (stamp : ℕ) (rows : List StampedRow) (r : StampedRow) → find (λ (x : StampedRow). nat_lt stamp x.stamp) rows ≡ Some r → row_at r.stamp rows ≡ Some r
@@ -31,14 +31,14 @@ there stamp (x ∷ rows) r found =
           rw (ne_eqb x.stamp r.stamp (λ same. omega (arith, same, above, below))) (there stamp rows r later))
     ]
 
-gave_found : (c : Cursor) (le stamp : ℕ) (rows : List StampedRow) (found : Option StampedRow) → find (λ (x : StampedRow). nat_lt stamp x.stamp) rows ≡ found → gave c le (place_of found) rows ≡ gave_next c le found
+gave_found : (c : Cursor) (le stamp : ℕ) (rows : List StampedRow) (found : Option StampedRow) → find (λ (x : StampedRow). nat_lt stamp x.stamp) rows ≡ found → gave c le (place_reached found) rows ≡ gave_next c le found
 gave_found c le stamp rows None is = refl
 gave_found c le stamp rows (Some r) is =
     let at : Option StampedRow → Result (Move Reading) StatusWord = λ o. or_refused o record_not_found >>= (λ (x : StampedRow). fitting le (row_octets x.values) >>= (λ (octets : List ℕ). Ok (giving (At r.stamp) c le octets))) in
     ap at (there stamp rows r is)
 
 -- to fetch at the next row is to fetch the next row
-gave-behind : (c : Cursor) (le : ℕ) (place : Place) (rows : List StampedRow) → gave c le (place_of (row_behind place rows)) rows ≡ gave_next c le (row_behind place rows)
+gave-behind : (c : Cursor) (le : ℕ) (place : Place) (rows : List StampedRow) → gave c le (place_reached (row_behind place rows)) rows ≡ gave_next c le (row_behind place rows)
 gave-behind c le NotOpen rows = refl
 gave-behind c le (At stamp) rows = gave_found c le stamp rows _ refl
 gave-behind c le End rows = refl
@@ -55,7 +55,7 @@ fetched-now now reached c le word values (inr refused) = fetched-refused now rea
 
 -- the two calls of FETCH NEXT, where the rows are told
 pub fetched-behind : (before between : Option (List StampedRow)) (place reached now : Place) (le : ℕ) (word : StatusWord) (values : Values) → between ≡ before
-    → IfSome before (λ rows. reached ≡ place_of (row_behind place rows)) → IfSome between (λ rows. (c : Cursor) → fetched reached c le word values ≡ gave c le reached rows)
+    → IfSome before (λ rows. reached ≡ place_reached (row_behind place rows)) → IfSome between (λ rows. (c : Cursor) → fetched reached c le word values ≡ gave c le reached rows)
     → (now ≡ reached) ⊎ (refuses word ≡ true)
     → IfSome before (λ rows. (c : Cursor) → fetched now c le word values ≡ gave_next c le (row_behind place rows))
 fetched-behind None between place reached now le word values same behind fetch stands = tt
@@ -74,11 +74,11 @@ cost_of-behind stamp last costs above =
     sum_by-le-sum_by _ _ costs (λ (cost : Cost). within (cost.stamp == last) (nat_lt stamp cost.stamp && nat_le cost.stamp last) cost.octets
     (λ same. let is = eqb-true cost.stamp last same in and_from _ _ (lt-ltb stamp cost.stamp (omega (arith, is, above))) (le-leb cost.stamp last (omega (arith, is)))))
 
-cost_found : (stamp : ℕ) (rows : List StampedRow) (costs : List Cost) (found : Option StampedRow) → find (λ (x : StampedRow). nat_lt stamp x.stamp) rows ≡ found → cost_at (place_of found) costs ≤ cost_between (At stamp) (place_of found) costs
+cost_found : (stamp : ℕ) (rows : List StampedRow) (costs : List Cost) (found : Option StampedRow) → find (λ (x : StampedRow). nat_lt stamp x.stamp) rows ≡ found → cost_at (place_reached found) costs ≤ cost_between (At stamp) (place_reached found) costs
 cost_found stamp rows costs None is = omega arith
 cost_found stamp rows costs (Some r) is = cost_of-behind stamp r.stamp costs (ltb-true stamp r.stamp (find-passes (λ (x : StampedRow). nat_lt stamp x.stamp) rows r is))
 
-cost-behind : (place : Place) (rows : List StampedRow) (costs : List Cost) → cost_at (place_of (row_behind place rows)) costs ≤ cost_between place (place_of (row_behind place rows)) costs
+cost-behind : (place : Place) (rows : List StampedRow) (costs : List Cost) → cost_at (place_reached (row_behind place rows)) costs ≤ cost_between place (place_reached (row_behind place rows)) costs
 cost-behind NotOpen rows costs = omega arith
 cost-behind (At stamp) rows costs = cost_found stamp rows costs _ refl
 cost-behind End rows costs = omega arith
@@ -91,9 +91,9 @@ both least most own a b c fewer first second = λ after told.
     (earlier.0, earlier.1, (omega (arith, earlier.2.0, later.2.0), omega (arith, earlier.2.1, later.2.1, fewer)))
 
 pub read-behind : (rows : Option (List StampedRow)) (before between : Option (List Cost)) (place reached : Place) (least : ℕ) (a b c : Option ℕ) → between ≡ before
-    → IfSome rows (λ rows. reached ≡ place_of (row_behind place rows)) → IfSome before (λ costs. Becomes (RisesBetween 0 (cost_between place reached costs)) a b)
+    → IfSome rows (λ rows. reached ≡ place_reached (row_behind place rows)) → IfSome before (λ costs. Becomes (RisesBetween 0 (cost_between place reached costs)) a b)
     → IfSome between (λ costs. Becomes (RisesBetween least (cost_at reached costs)) b c)
-    → IfSome rows (λ rows. IfSome before (λ costs. Becomes (RisesBetween least (2 * cost_between place (place_of (row_behind place rows)) costs)) a c))
+    → IfSome rows (λ rows. IfSome before (λ costs. Becomes (RisesBetween least (2 * cost_between place (place_reached (row_behind place rows)) costs)) a c))
 read-behind None before between place reached least a b c same behind first second = tt
 read-behind (Some rows) None between place reached least a b c same behind first second = tt
 read-behind (Some rows) (Some costs) between place reached least a b c same behind first second =

@@ -21,9 +21,9 @@ abbrev pub place_at : Option ℕ → Place
 place_at None = End
 place_at (Some stamp) = At stamp
 
-abbrev pub place_of : Option StampedRow → Place
-place_of None = End
-place_of (Some r) = At r.stamp
+abbrev pub place_reached : Option StampedRow → Place
+place_reached None = End
+place_reached (Some r) = At r.stamp
 
 -- the word of a move to a place
 abbrev pub word_at : Place → StatusWord
@@ -40,8 +40,8 @@ abbrev pub refuses : StatusWord → Bool
 refuses word = not (word.word == done.word || word.word == end_reached.word)
 
 -- the word for a row that is there or isn't, by Le
-abbrev pub word_of : Bool → Values → ℕ → StatusWord
-word_of there values le =
+abbrev pub fetch_word : Bool → Values → ℕ → StatusWord
+fetch_word there values le =
     if there then (if nat_le (length (row_octets values)) le || le == 256 then done else wrong_le (length (row_octets values)))
     else record_not_found
 

@@ -54,7 +54,7 @@ pub fn fetch_step<F: RowFeed>(
     ensures refused { IfOk result (λ word. IsTrue (moved.refuses word) → place.new ≡ place.old) }
     ensures fault { OnErr result (place.new ≡ place.old) }
     ensures read { IfOk result (λ word. IfSome (F.rows feed.old) (λ rows. IfSome (F.costs feed.old)
-        (λ costs. Becomes (RisesBetween (least_read word out.new) (2 * cost_between place.old (moved.place_of (row_behind place.old rows)) costs))
+        (λ costs. Becomes (RisesBetween (least_read word out.new) (2 * cost_between place.old (moved.place_reached (row_behind place.old rows)) costs))
         (F.octets_read feed.old) (F.octets_read feed.new)))) }
     ensures stays { Stays F.rows F.costs F.kept F.can_read feed.old feed.new }
     ensures frame { Reads each_error F.chip F.faults feed.old feed.new result }
@@ -69,7 +69,7 @@ pub fn fetch_step<F: RowFeed>(
 
 // The word for a row that is there or isn't: one that is longer than Le is refused, but where Le is 256.
 fn word_of(there: bool, row: &Row, le: u16) -> StatusWord
-    ensures { result ≡ moved.word_of there row.now le }
+    ensures { result ≡ moved.fetch_word there row.now le }
 {
     if !there {
         return StatusWord::RECORD_NOT_FOUND;

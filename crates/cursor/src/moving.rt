@@ -46,7 +46,7 @@ pub fn step<F: RowFeed>(feed: &mut F, place: &mut Place) -> Result<StatusWord, E
 /// The place of the next row, or the end where there is none. Where a cursor isn't opened there is none.
 pub(crate) fn place_behind<F: RowFeed>(feed: &mut F, place: Place) -> Result<Place, EepromFault>
     requires { F.can_read feed.old }
-    ensures reached { IfOk result (λ reached. IfSome (F.rows feed.old) (λ rows. reached ≡ moved.place_of (row_behind place rows))) }
+    ensures reached { IfOk result (λ reached. IfSome (F.rows feed.old) (λ rows. reached ≡ moved.place_reached (row_behind place rows))) }
     ensures read { IfOk result (λ reached. IfSome (F.costs feed.old)
         (λ costs. Becomes (RisesBetween 0 (cost_between place reached costs)) (F.octets_read feed.old) (F.octets_read feed.new))) }
     ensures stays { Stays F.rows F.costs F.kept F.can_read feed.old feed.new }

@@ -10,7 +10,7 @@ ghost use Rattle.record_store.specs.Held.{IsOver};
 ghost use Rattle.scql_model.specs.Objects.{object_stamped};
 ghost use Rattle.catalog_codec.specs.Catalog.{object_kind};
 ghost use Rattle.record_table.specs.Listed.{at_slot, cells_marked, in_slots, listed, slots_of};
-ghost use Rattle.object_table.specs.Named.{is_named, object_named};
+ghost use Rattle.object_table.specs.Named.{has_name, object_named};
 
 use eeprom::{Eeprom, EepromFault};
 use record_store::{Found, Side, Store};
@@ -22,7 +22,7 @@ use scql_base::{Name, Object};
 struct Named(Name);
 
 impl Wanted<Object> for Named {
-    ghost wants = { λ wanted object. is_named wanted.0 object };
+    ghost wants = { λ wanted object. has_name wanted.0 object };
 
     fn is(&self, entry: &Object) -> bool {
         self.0.octets() == entry.name.octets()
@@ -61,11 +61,11 @@ pub fn find_name<B: Eeprom>(
     ensures at { IfOk result (λ found. IfSome found (λ found. IfSome (slots_of store.now side (B.chip bench.old))
         (λ slots. Some found.value ≡ at_slot object_kind found.slot slots))) }
     ensures some { IfOk result (λ found. IfSome (slots_of store.now side (B.chip bench.old))
-        (λ slots. is_some found ≡ list_any (is_named name) (listed object_kind slots))) }
+        (λ slots. is_some found ≡ list_any (has_name name) (listed object_kind slots))) }
     ensures first { IfOk result (λ found. IfSome (slots_of store.now side (B.chip bench.old))
-        (λ slots. option_map (λ found. found.value) found ≡ find (is_named name) (in_slots object_kind slots))) }
+        (λ slots. option_map (λ found. found.value) found ≡ find (has_name name) (in_slots object_kind slots))) }
     ensures found { IfOk result (λ found. IfSome (slots_of store.now side (B.chip bench.old))
-        (λ slots. count_by (is_named name) (listed object_kind slots) ≤ 1 → option_map (λ found. found.value) found ≡ object_named (listed object_kind slots) name)) }
+        (λ slots. count_by (has_name name) (listed object_kind slots) ≤ 1 → option_map (λ found. found.value) found ≡ object_named (listed object_kind slots) name)) }
     ensures octets_read { IfOk result (λ _. IfSome (slots_of store.now side (B.chip bench.old))
         (λ slots. Becomes (RisesAtMost (cell_size * cells_marked object_kind slots)) (B.octets_read bench.old) (B.octets_read bench.new))) }
     ensures frame { Reads each_error B.chip B.faults bench.old bench.new result }

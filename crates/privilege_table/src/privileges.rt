@@ -7,7 +7,7 @@ ghost use Rattle.eeprom.specs.StoreOf.{cell_size};
 ghost use Rattle.record_store.specs.Held.{IsOver, StandsFor, record_at};
 ghost use Rattle.scql_model.specs.Rights.{has_bit};
 ghost use Rattle.catalog_codec.specs.Catalog.{grant_kind};
-ghost use Rattle.record_table.specs.Listed.{at_slot, cells_marked, has_kind_mark, listed, own_cells, slots_of};
+ghost use Rattle.record_table.specs.Listed.{at_slot, cells_marked, has_kind_mark, listed, kind_cells, slots_of};
 ghost use Rattle.privilege_table.specs.Granted.{AreHeld, gives_bit};
 
 use catalog_codec::Record;
@@ -63,7 +63,7 @@ fn read_grant<B: Eeprom>(
     requires slot { slot < store.now.chains.cells }
     ensures value { IfOk result (λ value. IfSome (slots_of store.now side (B.chip bench.old)) (λ slots. value ≡ at_slot grant_kind slot slots)) }
     ensures octets_read { IfOk result (λ _. IfSome (slots_of store.now side (B.chip bench.old))
-        (λ slots. Becomes (RisesAtMost (cell_size * own_cells grant_kind (slice_index_or slots slot None))) (B.octets_read bench.old) (B.octets_read bench.new))) }
+        (λ slots. Becomes (RisesAtMost (cell_size * kind_cells grant_kind (slice_index_or slots slot None))) (B.octets_read bench.old) (B.octets_read bench.new))) }
     ensures frame { Reads each_error B.chip B.faults bench.old bench.new result }
 {
     if !is_grant(store, side, slot) {

@@ -11,7 +11,7 @@ use Rattle.eeprom.specs.Slots.{in_slot, in_order, Rises, replaced, without}
 use Rattle.eeprom.proofs.Kept.{kept-split, kept-set, kept-other, kept-new, kept-changed, kept-removed}
 use Rattle.catalog_codec.specs.Kinds.{Kind, IsKind, HaveOtherMarks, read_as, starts}
 use Rattle.record_table.specs.Listed.{listed, at_slot}
-use Rattle.record_table.specs.Changed.{IsAdded, IsChanged, IsRemoved}
+use Rattle.record_table.specs.Changed.{IsAdded, IsChanged, IsEmptied}
 
 -- a slot is empty, or its record begins with a mark of the kind
 abbrev pub is_of : {X : Type 0} → Kind X → Option (List ℕ) → Bool
@@ -95,7 +95,7 @@ module _ {X : Type 0} (kind : Kind X) (is : IsKind kind) where
       ap (listed kind) changed ∙ kept-changed kind.key (in_slot (read_as kind)) old slot (Some (kind.form.spell y)) x y (within-at kind old slot _ at) at (is.again y fits) same rises
 
   -- a record that is removed is missing, and all others stay
-  pub listed-removed : (x : X) (slot : ℕ) (old new : Slots) → IsRemoved slot old new → at_slot kind slot old ≡ Some x → Rises kind.key (listed kind old)
+  pub listed-removed : (x : X) (slot : ℕ) (old new : Slots) → IsEmptied slot old new → at_slot kind slot old ≡ Some x → Rises kind.key (listed kind old)
       → listed kind new ≡ without kind.key (kind.key x) (listed kind old)
   listed-removed x slot old new removed at rises =
       ap (listed kind) removed ∙ kept-removed kind.key (in_slot (read_as kind)) old slot None x (within-at kind old slot _ at) at refl rises
@@ -112,7 +112,7 @@ module _ {X : Type 0} (kind : Kind X) (is : IsKind kind) where
       ap (listed other) changed
       ∙ listed-other kind other old slot (Some (kind.form.spell y)) theirs apart (within-at kind old slot _ at) (is_of-read kind (get_or old slot None) x is at) (is.begins y)
 
-  pub other-removed : {Y : Type 0} (other : Kind Y) (x : X) (slot : ℕ) (old new : Slots) → IsKind other → HaveOtherMarks kind other → IsRemoved slot old new → at_slot kind slot old ≡ Some x
+  pub other-removed : {Y : Type 0} (other : Kind Y) (x : X) (slot : ℕ) (old new : Slots) → IsKind other → HaveOtherMarks kind other → IsEmptied slot old new → at_slot kind slot old ≡ Some x
       → listed other new ≡ listed other old
   other-removed other x slot old new theirs apart removed at =
       ap (listed other) removed ∙ listed-other kind other old slot None theirs apart (within-at kind old slot _ at) (is_of-read kind (get_or old slot None) x is at) refl

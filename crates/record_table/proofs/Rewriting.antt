@@ -8,7 +8,7 @@ use Rattle.record_store.specs.Put.{IsPut}
 use Rattle.record_store.specs.Put as put
 use Rattle.record_store.specs.declared.side.Side.TheVariants.{Working}
 use Rattle.catalog_codec.specs.Kinds.{Kind}
-use Rattle.record_table.specs.Changed.{IsAdded, IsChanged, IsRemoved, Rewrites}
+use Rattle.record_table.specs.Changed.{IsAdded, IsChanged, IsEmptied, Rewrites}
 
 -- a store is over an EEPROM of the same size, whose image it stands for
 pub over-told : (old new : Held) (before after : Chip) → IsOver old before → new.chains.cells ≡ old.chains.cells → after.still ≡ before.still → IfSome after.image (StandsFor new) → IsOver new after
@@ -44,7 +44,7 @@ put-changed kind x old new slot octets was now spelled p = record {
 }
 
 -- a record is taken out
-pub removed : (old new : Held) (slot : ℕ) (image : List ℕ) → put.IsRemoved old new slot image → Rewrites (IsRemoved slot) old new image image
+pub removed : (old new : Held) (slot : ℕ) (image : List ℕ) → put.IsRemoved old new slot image → Rewrites (IsEmptied slot) old new image image
 removed old new slot image r = record {
   stands = r.stands;
   committed = r.committed;

@@ -10,7 +10,7 @@ use Rattle.eeprom.specs.StoreOf.{Slots, cell_size}
 use Rattle.record_store.specs.Held.{Held, contents, record_at, StandsFor}
 use Rattle.record_store.specs.declared.side.Side.{Side}
 use Rattle.catalog_codec.specs.Kinds.{Kind}
-use Rattle.record_table.specs.Listed.{in_slots, at_slot, own_cells, cells_marked}
+use Rattle.record_table.specs.Listed.{in_slots, at_slot, kind_cells, cells_marked}
 
 -- what is told of the slots that a search saw
 pub stronger : {A E : Type 0} (result : Result A E) (slots : Option Slots) (P Q : A → Slots → Type 0) → ((a : A) (slots : Slots) → P a slots → Q a slots)
@@ -96,9 +96,9 @@ module _ {X : Type 0} (kind : Kind X) where
   abbrev pub ReadsUpTo : ℕ → Slots → ℕ → ℕ → Type 0
   ReadsUpTo slot slots before after = after + cell_size * cells_marked kind (drop slot slots) ≤ before + cell_size * cells_marked kind slots
 
-  cells-from : (slots : Slots) (slot : ℕ) → cells_marked kind (drop slot slots) ≡ own_cells kind (get_or slots slot None) + cells_marked kind (drop (suc slot) slots)
+  cells-from : (slots : Slots) (slot : ℕ) → cells_marked kind (drop slot slots) ≡ kind_cells kind (get_or slots slot None) + cells_marked kind (drop (suc slot) slots)
   cells-from [] slot = ap (cells_marked kind) (drop-nil slot)
-  cells-from (entry ∷ slots) zero = sum_by-cons (own_cells kind) entry slots
+  cells-from (entry ∷ slots) zero = sum_by-cons (kind_cells kind) entry slots
   cells-from (entry ∷ slots) (suc slot) = cells-from slots slot
 
   pub reads-none : (slots : Option Slots) (a : Option ℕ) → IfSome slots (λ slots. Becomes (ReadsUpTo 0 slots) a a)
@@ -106,7 +106,7 @@ module _ {X : Type 0} (kind : Kind X) where
   reads-none (Some slots) a = λ after told. (after, told, omega arith)
 
   pub reads-behind : (slots : Option Slots) (slot : ℕ) (a b c : Option ℕ) → IfSome slots (λ slots. Becomes (ReadsUpTo slot slots) a b)
-      → IfSome slots (λ slots. Becomes (RisesAtMost (cell_size * own_cells kind (get_or slots slot None))) b c) → IfSome slots (λ slots. Becomes (ReadsUpTo (slot + 1) slots) a c)
+      → IfSome slots (λ slots. Becomes (RisesAtMost (cell_size * kind_cells kind (get_or slots slot None))) b c) → IfSome slots (λ slots. Becomes (ReadsUpTo (slot + 1) slots) a c)
   reads-behind None slot a b c so_far here = tt
   reads-behind (Some slots) slot a b c so_far here = λ after told.
       let h = here after told in

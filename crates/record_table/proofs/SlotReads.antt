@@ -8,7 +8,7 @@ use Rattle.cell_store.specs.Reading.{ReadsRecord}
 use Rattle.record_store.specs.Held.{Held, contents, record_at, StandsFor}
 use Rattle.record_store.specs.declared.side.Side.{Side}
 use Rattle.catalog_codec.specs.Kinds.{Kind, IsKind, read_as}
-use Rattle.record_table.specs.Listed.{at_slot, has_kind_mark, own_cells}
+use Rattle.record_table.specs.Listed.{at_slot, has_kind_mark, kind_cells}
 
 -- what holds of the record of a slot, said of the slots
 at_record : (contents : List ℕ → Option Slots) (image : Option (List ℕ)) (slot : ℕ) (P : Option (List ℕ) → Type 0)
@@ -39,7 +39,7 @@ none-unmarked kind store side slot image marked is stands says other =
     (stood (StandsFor store) (λ image. None ≡ in_slot (read_as kind) (record_at store side slot image)) image stands
     (λ image over. sym (unmarked kind (record_at store side slot image) is (sym (says image over) ∙ other))))
 
-own : {X : Type 0} (kind : Kind X) (entry : Option (List ℕ)) (a b : Option ℕ) → has_kind_mark kind entry ≡ true → Becomes (ReadsRecord entry) a b → Becomes (RisesAtMost (cell_size * own_cells kind entry)) a b
+own : {X : Type 0} (kind : Kind X) (entry : Option (List ℕ)) (a b : Option ℕ) → has_kind_mark kind entry ≡ true → Becomes (ReadsRecord entry) a b → Becomes (RisesAtMost (cell_size * kind_cells kind entry)) a b
 own kind None a b marked reads = λ after told. let r = reads after told in (r.0, r.1, omega (arith, r.2))
 own kind (Some octets) a b marked reads = λ after told. let r = reads after told in (r.0, r.1, rw marked r.2.1)
 
@@ -47,8 +47,8 @@ own kind (Some octets) a b marked reads = λ after told. let r = reads after tol
 pub reads-marked : {X : Type 0} (kind : Kind X) (store : Held) (side : Side) (slot : ℕ) (image : Option (List ℕ)) (marked : Bool) (entry : Option (List ℕ)) (a b : Option ℕ) → IfSome image (StandsFor store)
     → ((image : List ℕ) → StandsFor store image → marked ≡ has_kind_mark kind (record_at store side slot image)) → marked ≡ true
     → IfSome image (λ image. record_at store side slot image ≡ entry) → IfSome image (λ _. Becomes (ReadsRecord entry) a b)
-    → IfSome (option_and_then (contents store side) image) (λ slots. Becomes (RisesAtMost (cell_size * own_cells kind (get_or slots slot None))) a b)
+    → IfSome (option_and_then (contents store side) image) (λ slots. Becomes (RisesAtMost (cell_size * kind_cells kind (get_or slots slot None))) a b)
 reads-marked kind store side slot None marked entry a b stands says own_mark is reads = tt
 reads-marked kind store side slot (Some image) marked entry a b stands says own_mark is reads =
-    at_record (contents store side) (Some image) slot (λ entry. Becomes (RisesAtMost (cell_size * own_cells kind entry)) a b)
+    at_record (contents store side) (Some image) slot (λ entry. Becomes (RisesAtMost (cell_size * kind_cells kind entry)) a b)
     (own kind (record_at store side slot image) a b (sym (says image stands) ∙ own_mark) (rw is reads))

@@ -15,8 +15,8 @@ abbrev pub IsChanged : {X : Type 0} → Kind X → X → ℕ → Slots → Slots
 IsChanged {X} kind x slot old new = new ≡ slice_set old slot (Some (kind.form.spell x))
 
 -- the slot is empty, and all others are as they were
-abbrev pub IsRemoved : ℕ → Slots → Slots → Type 0
-IsRemoved slot old new = new ≡ slice_set old slot None
+abbrev pub IsEmptied : ℕ → Slots → Slots → Type 0
+IsEmptied slot old new = new ≡ slice_set old slot None
 
 -- the working records go one step on, and what is committed stays
 pub record Rewrites (step : Slots → Slots → Type 0) (old new : Held) (was now : List ℕ) : Type 0 where

@@ -26,11 +26,11 @@ abbrev pub has_kind_mark : {X : Type 0} → Kind X → Option (List ℕ) → Boo
 has_kind_mark {X} kind entry = option_map_or kind.marks (first_octet entry) false
 
 -- how many cells the record of a slot has, if it is marked so, and how many all records that are
-abbrev pub own_cells : {X : Type 0} → Kind X → Option (List ℕ) → ℕ
-own_cells {X} kind entry = if has_kind_mark kind entry then cells_of entry else 0
+abbrev pub kind_cells : {X : Type 0} → Kind X → Option (List ℕ) → ℕ
+kind_cells {X} kind entry = if has_kind_mark kind entry then cells_of entry else 0
 
 abbrev pub cells_marked : {X : Type 0} → Kind X → Slots → ℕ
-cells_marked {X} kind slots = sum_by (own_cells kind) slots
+cells_marked {X} kind slots = sum_by (kind_cells kind) slots
 
 -- the slots of a side, where the EEPROM tells its image
 abbrev pub slots_of : Held → Side → Chip → Option Slots

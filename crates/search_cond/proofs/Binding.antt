@@ -11,7 +11,7 @@ use Rattle.std.proofs.lemmas.Option.{none-some, same_Some, unwrap_or-slice_get}
 use Rattle.std.proofs.lemmas.Iterator.Adapters.{position_from-zero}
 use Rattle.scql_base.specs.declared.condition.Condition.{Condition}
 use Rattle.scql_model.specs.Matching.{Columns, Values, value_of, meets, matches}
-use Rattle.search_cond.specs.Bound.{first_unknown, holds, passes}
+use Rattle.search_cond.specs.Bound.{first_unknown, is_met, passes}
 use Rattle.search_cond.specs.declared.placed.Placed.{Placed}
 
 -- a column that is found, counted from a number on: it is among the columns, and a row's value in it is the one at its place
@@ -52,12 +52,12 @@ known-None columns column none = not_found (bytes_eq column) columns 0 (sym (pos
 
 -- a row meets a condition exactly where the condition holds at the place of its column
 meets_at : (columns : Columns) (values : Values) (c : Condition) (k at : ℕ) → k ≡ at → list_any (bytes_eq c.column) columns ≡ true → value_of columns values c.column ≡ get_or values at []
-    → meets columns values c ≡ holds values (record { place = k; comparison = c.comparison; value = c.value })
+    → meets columns values c ≡ is_met values (record { place = k; comparison = c.comparison; value = c.value })
 meets_at columns values c k at same known value = rw (known, value, same) refl
 
-pub meets-holds : (columns : Columns) (values : Values) (c : Condition) (k : ℕ) → position (bytes_eq c.column) columns ≡ Some k
-    → meets columns values c ≡ holds values (record { place = k; comparison = c.comparison; value = c.value })
-meets-holds columns values c k found =
+pub meets-is_met : (columns : Columns) (values : Values) (c : Condition) (k : ℕ) → position (bytes_eq c.column) columns ≡ Some k
+    → meets columns values c ≡ is_met values (record { place = k; comparison = c.comparison; value = c.value })
+meets-is_met columns values c k found =
     let there = found_at columns values c.column 0 k (sym (position_from-zero (bytes_eq c.column) columns) ∙ found) in
     meets_at columns values c k there.at (omega (arith, there.is)) there.known there.value
 
@@ -73,10 +73,10 @@ pub drop-first : {X : Type 0} (xs : List X) (i : ℕ) (x : X) → i < length xs 
 drop-first xs i x within is = drop_more xs i x within ∙ ap (λ y. y ∷ drop (i + 1) xs) (sym is)
 
 -- one condition more is bound, and one less is left
-pub met_more : (columns : Columns) (values : Values) (bound : List Placed) (p : Placed) (c : Condition) (rest : List Condition) → meets columns values c ≡ holds values p
+pub met_more : (columns : Columns) (values : Values) (bound : List Placed) (p : Placed) (c : Condition) (rest : List Condition) → meets columns values c ≡ is_met values p
     → (passes values (bound ++ p ∷ []) && matches columns rest values) ≡ (passes values bound && matches columns (c ∷ rest) values)
 met_more columns values bound p c rest same =
-    ap (λ b. b && matches columns rest values) (list_all-append (holds values) bound (p ∷ []) ∙ ap (λ b. passes values bound && b) (and-true (holds values p) ∙ sym same))
+    ap (λ b. b && matches columns rest values) (list_all-append (is_met values) bound (p ∷ []) ∙ ap (λ b. passes values bound && b) (and-true (is_met values p) ∙ sym same))
     ∙ and_assoc (passes values bound) (meets columns values c) (matches columns rest values)
 
 -- the value at a place, and nothing where there is none

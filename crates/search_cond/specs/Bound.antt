@@ -7,12 +7,12 @@ use Rattle.search_cond.specs.declared.placed.Placed.{Placed}
 use Rattle.scql_model.specs.Matching.{Columns, Values, compares, matches}
 
 -- the comparison is true of the value at the condition's place, where a row that has none there counts as empty
-abbrev pub holds : Values → Placed → Bool
-holds values p = compares p.comparison (slice_index_or values p.place []) p.value
+abbrev pub is_met : Values → Placed → Bool
+is_met values p = compares p.comparison (slice_index_or values p.place []) p.value
 
 -- all conditions hold
 abbrev pub passes : Values → List Placed → Bool
-passes values bound = list_all (holds values) bound
+passes values bound = list_all (is_met values) bound
 
 -- a row passes exactly where it meets the conditions
 abbrev pub Binds : List Placed → Columns → List Condition → Type 0

@@ -1,7 +1,7 @@
 // Conditions that are bound to columns once, and then tell of each row whether it meets them.
 ghost use Rattle.std.specs.Prelude.{◌≡◌, None, Some, [], IfErr, IfOk, position};
 ghost use Rattle.std.specs.Str.{bytes_eq};
-ghost use Rattle.search_cond.specs.Bound.{Binds, first_unknown, holds, passes};
+ghost use Rattle.search_cond.specs.Bound.{Binds, first_unknown, is_met, passes};
 
 use crate::Placed;
 use crate::comparing::compares;
@@ -85,7 +85,7 @@ fn placed_at(place: usize, condition: &Condition) -> Placed
 }
 
 fn holds_at(row: &Row, condition: &Placed) -> bool
-    ensures { result ≡ holds row.now condition.now }
+    ensures { result ≡ is_met row.now condition.now }
 {
     let value = row.get(condition.place).unwrap_or(&[]);
     compares(condition.comparison, value, condition.value.as_slice())

@@ -8,7 +8,7 @@ ghost use Rattle.record_store.specs.Held.{IsOver, StandsFor};
 ghost use Rattle.record_store.specs.Put.{IsFull, IsWithin};
 ghost use Rattle.record_store.specs.Transaction.{entries};
 ghost use Rattle.catalog_codec.specs.Catalog.{user_kind};
-ghost use Rattle.record_table.specs.Changed.{IsAdded, IsChanged, IsRemoved, Rewrites};
+ghost use Rattle.record_table.specs.Changed.{IsAdded, IsChanged, IsEmptied, Rewrites};
 
 use eeprom::Eeprom;
 use record_store::{Store, StoreRefusal};
@@ -69,7 +69,7 @@ pub fn change<B: Eeprom>(
 pub fn remove(store: &mut Store, slot: u16)
     requires begun { IsTrue store.old.begun }
     requires slot { slot < store.old.chains.cells }
-    ensures removed { (image : List ℕ) → StandsFor store.old image → Rewrites (IsRemoved slot) store.old store.new image image }
+    ensures removed { (image : List ℕ) → StandsFor store.old image → Rewrites (IsEmptied slot) store.old store.new image image }
     ensures over { (chip : Chip) → IsOver store.old chip → IsOver store.new chip }
     ensures begun { store.new.begun ≡ store.old.begun }
     ensures cells { store.new.chains.cells ≡ store.old.chains.cells }

@@ -11,7 +11,7 @@ use Rattle.scql_model.specs.Creating.{created, new_user}
 use Rattle.scql_model.specs.Edits.{making, of_user}
 use Rattle.scql_model.specs.Step.{answered}
 use Rattle.card.specs.Adding.{IsAsLong, IfCommitted}
-use Rattle.card.specs.Creating.{IsCounter}
+use Rattle.card.specs.Creating.{IsCounterSlot}
 use Rattle.card.specs.Answering.{Performs, committed_at_once, octets_if_made}
 use Rattle.card.specs.Card.{Kept, committed_slots}
 use Rattle.card.proofs.Performing.{Performs-added}
@@ -30,7 +30,7 @@ add_and_change-added-requires-clause-may_add g c =
       changed_size = search rules;
       as_long = subst (λ (octets : List ℕ). IfCommitted c.self.inside.store (g.B.Eeprom.chip c.args.bench.now).image (IsAsLong c.args.addition.now.counter_slot octets)) (sym counter)
           (as_long-slots c.self.inside.store (g.B.Eeprom.chip c.args.bench.now).image c.args.addition.now.counter_slot (c.args.addition.now.user.stamp + 1)
-          (subst (λ (s : Held). IfSome (committed_slots s (g.B.Eeprom.chip c.args.bench.now).image) (IsCounter c.args.addition.now.counter_slot)) (sym store) c.requires.counter));
+          (subst (λ (s : Held). IfSome (committed_slots s (g.B.Eeprom.chip c.args.bench.now).image) (IsCounterSlot c.args.addition.now.counter_slot)) (sym store) c.requires.counter));
     }
 
 pub returns-clause-performs : goal.returns-clause-performs
