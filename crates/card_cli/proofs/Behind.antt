@@ -1,5 +1,5 @@
 -- How what lies behind the image of a card stays, from call to call.
-use Rattle.std.proofs.Common.{◌≡◌, ◌≤◌, inl, inr, ℕ, List, length, drop, Option, Some, None, IfSome, Result, Ok, Err, refl, sym, ap, subst, ◌∙◌, arith}
+use Rattle.std.proofs.Common.{◌≡◌, ◌≤◌, inl, inr, ℕ, List, length, drop, Option, Some, None, IfSome, Result, Ok, Err, refl, sym, subst, ◌∙◌, arith}
 use Rattle.std.specs.Prelude.{OnOk, option_map}
 use Rattle.eeprom.specs.Chip.{Chip, Becomes, Gives, Keeps}
 use Rattle.eeprom.specs.Image.{overwrite}

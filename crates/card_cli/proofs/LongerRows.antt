@@ -1,9 +1,9 @@
 -- What a migration leaves of the database of a card, and what it says.
-use Rattle.std.proofs.Common.{◌≡◌, ◌⊎◌, inl, inr, ℕ, ◌+◌, ◌<◌, ◌≤◌, ◌==◌, Bool, true, false, if◌then◌else◌, List, ◌∷◌, length, take, drop, slice_index, get_or, get_or-take, get_or-drop, Option, Some, None, option_map, refl, sym, ap, subst, ◌∙◌, arith}
+use Rattle.std.proofs.Common.{◌≡◌, ◌⊎◌, inl, inr, ℕ, ◌+◌, ◌<◌, ◌≤◌, ◌==◌, Bool, true, false, if◌then◌else◌, List, ◌∷◌, length, drop, slice_index, get_or, get_or-take, get_or-drop, Option, Some, None, option_map, refl, sym, ap, subst, ◌∙◌, arith}
 use Rattle.std.specs.Prelude.{IsSome, IfSome, codes}
 use Rattle.std.proofs.lemmas.Bool.{cases_Bool, false≢true}
-use Rattle.eeprom.specs.Chip.{Chip, Still, Becomes, LeavesOf, Throughout}
-use Rattle.eeprom.specs.StoreOf.{store_of, row_limit, number_at, image_size, front_size}
+use Rattle.eeprom.specs.Chip.{Chip, Still, Becomes, Gives, LeavesOf, Throughout}
+use Rattle.eeprom.specs.StoreOf.{store_of, row_limit, is_gate_open, image_size}
 use Rattle.eeprom.proofs.SameFrom.{drop-from}
 use Rattle.eeprom.proofs.Moments.{throughout-weaker, throughout-then}
 use Rattle.eeprom.proofs.Leaves.{at-told}
@@ -22,11 +22,11 @@ use Rattle.card_cli.specs.declared.status.Status.{Status}
 use Rattle.card_cli.specs.declared.status.Status.TheVariants.{Done, Eeprom, ReadFault, WriteFault, NoMemory, TooLong}
 use Rattle.card_cli.specs.Beginning.{IsOpenTo}
 use Rattle.card_cli.specs.Ends.{AllFaults, EndsBy, ends_opening, has_opened}
-use Rattle.card_cli.specs.Migrating.{IsInMigration, IsMigratedFrom, MigratesTo, Migrates, StaysMigrating}
+use Rattle.card_cli.specs.Migrating.{IsInMigration, IsMigratedFrom, KeepsOthers, LeavesLongRows, WritesNothing, MigratesTo, Migrates, StaysMigrating}
 use Rattle.card_cli.specs.Run.{IsQuiet, AnswersAll}
 use Rattle.card_cli.proofs.Behind.{behind-then}
 use Rattle.card_cli.proofs.Finishing.{kept_open}
-use Rattle.card_cli.proofs.Moving.{IsInPiece, throughout-both}
+use Rattle.card_cli.proofs.Moving.{IsInPiece, throughout-both, throughout-same}
 
 -- the image that is told opens to the database
 opens-told : (chip : Chip) (db : Database) (image : List ℕ) → IsOpenTo chip db → chip.image ≡ Some image → Opens image db
@@ -194,6 +194,37 @@ pub told-behind : (old mid new : Chip) → LeavesOf IsBetween old mid → KeepsB
 told-behind old mid new leaves after =
     behind-then own_cells own_cells old mid new (λ now told. let from = leaves.now now told in (from.1, from.2, migration-cells from.1 now from.3.rest)) (migration-behind old mid leaves) after
 
+-- What is written.
+
+nothing-same : (old new : Chip) → new ≡ old → WritesNothing old new
+nothing-same old new same = subst (λ (chip : Chip). WritesNothing old chip) (sym same) (record { image = refl; written = refl; moments = throughout-same old _ (λ image told. told) })
+
+-- nothing by a migration of rows that are long already, and by what goes out behind it
+pub long-untold : (old mid : Chip) → ((image : List ℕ) → old.image ≡ Some image → row_limit image ≡ 1020 → mid ≡ old) → LeavesLongRows old mid
+long-untold old mid same = λ image told long. nothing-same old mid (same image told long)
+
+pub long-told : (old mid new : Chip) → ((image : List ℕ) → old.image ≡ Some image → row_limit image ≡ 1020 → mid ≡ old) → Gives mid new → Throughout mid new (IsInPiece mid new.still.mark) → LeavesLongRows old new
+long-told old mid new same gives piece = λ image told long.
+    subst (λ (chip : Chip). WritesNothing chip new) (same image told long)
+    (record { image = gives.image; written = gives.written; moments = throughout-weaker mid new _ _ piece (λ g left during. during.2) })
+
+-- and else no octets but the version and the row limit
+pub others-untold : (old mid : Chip) → LeavesOf IsBetween old mid → KeepsOthers old mid
+others-untold old mid leaves = throughout-weaker old mid _ _ leaves (λ g left during. (during.1, during.2, during.3.rest))
+
+pub others-told : (old mid new : Chip) → LeavesOf IsBetween old mid → Throughout mid new (IsInPiece mid new.still.mark) → KeepsOthers old new
+others-told old mid new leaves piece =
+    throughout-then old mid new _ (others-untold old mid leaves)
+    (throughout-weaker mid new _ _ piece (λ g left during. let from = leaves.now left during.2 in (from.1, from.2, from.3.rest)))
+
+-- no octets at all are written behind an opening that fails
+others-none : (chip : Chip) → KeepsOthers chip chip
+others-none chip = throughout-same chip _ (λ image told. (image, told, record { size = refl; before_version = refl; between = refl; behind_limit = refl }))
+
+-- a closed gate is left so
+opened-closed : (old new : Chip) → KeepsStore old new → (image : List ℕ) → old.image ≡ Some image → is_gate_open image ≡ false → new ≡ old
+opened-closed old new keeps image told = at-told (λ image. is_gate_open image ≡ false → new ≡ old) old.image image told keeps.closed
+
 -- what a run of `migrate` owes whose card wasn't opened,
 pub Migrates-unopened : {S : Type 0} (status : Status) (source : S) (old new : Chip) (was now : AllFaults) → ends_opening status ≡ true
     → ((db : Database) → IsOpenTo old db → (status ≡ NoMemory) ⊎ (status ≡ Eeprom)) → EndsBy status was now → KeepsStore old new → Migrates status source source old new was now
@@ -206,14 +237,16 @@ Migrates-unopened status source old new was now opening stopped ends keeps =
       ends = to;
       text = λ db opens quiet. text-quiet status db was now old.still.given new (to db opens) ends quiet;
       moments = λ db opens told. silent-moments db old new (leaves-opening old new db opens keeps);
+      already = λ image told long shut. nothing-same old new (opened-closed old new keeps image told shut);
+      others = (new, keeps, others-none new);
     }
 
 -- and whose card was opened, and migrated then
 pub Migrates-opened : {S : Type 0} (status : Status) (source : S) (old mid new : Chip) (was now : AllFaults) → KeepsStore old mid
     → (IsSome old.image → (db : Database) × IsOpenTo old db) → ((db : Database) → IsOpenTo old db → IsOpenTo mid db)
     → ((db : Database) → IsOpenTo mid db → MigratesTo status was.eeprom now.eeprom db mid.still.given new)
-    → ((db : Database) → IsOpenTo mid db → StaysMigrating db mid new) → EndsBy status was now → Migrates status source source old new was now
-Migrates-opened status source old mid new was now keeps begins stays migrates moments ends =
+    → ((db : Database) → IsOpenTo mid db → StaysMigrating db mid new) → LeavesLongRows mid new → KeepsOthers mid new → EndsBy status was now → Migrates status source source old new was now
+Migrates-opened status source old mid new was now keeps begins stays migrates moments already others ends =
     let to : (db : Database) → IsOpenTo old db → MigratesTo status was.eeprom now.eeprom db old.still.given new =
     λ db opens. subst (λ (s : Still). MigratesTo status was.eeprom now.eeprom db s.given new) keeps.keeps.still (migrates db (stays db opens)) in
     record {
@@ -223,4 +256,8 @@ Migrates-opened status source old mid new was now keeps begins stays migrates mo
       text = λ db opens quiet. text-quiet status db was now old.still.given new (to db opens) ends quiet;
       moments = λ db opens told. throughout-then old mid new (IsInMigration db old.still.mark) (silent-moments db old mid (leaves-opening old mid db opens keeps))
           (subst (λ (s : Still). Throughout mid new (IsInMigration db s.mark)) keeps.keeps.still (moments db (stays db opens) told));
+      already = λ image told long shut.
+          let same : mid ≡ old = opened-closed old mid keeps image told shut in
+          subst (λ (chip : Chip). WritesNothing chip new) same (already image (subst (λ (chip : Chip). chip.image ≡ Some image) (sym same) told) long);
+      others = (mid, keeps, others);
     }

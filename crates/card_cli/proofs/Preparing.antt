@@ -1,10 +1,8 @@
 -- With which database a run begins: a card that was just made is open to the fresh one, and any other is there.
-use Rattle.std.proofs.Common.{◌≡◌, ◌⊎◌, inl, inr, ℕ, ◌<◌, ◌≤◌, Bool, true, false, ◌&&◌, ◌==◌, nat_le, if◌then◌else◌, List, length, slice_index, Option, Some, None, Result, Ok, Err, refl, sym, subst, arith}
+use Rattle.std.proofs.Common.{◌≡◌, ◌⊎◌, inl, inr, ℕ, ◌<◌, ◌≤◌, List, Option, Some, None, Result, Ok, Err, refl, sym, subst, arith}
 use Rattle.std.specs.Prelude.{◌↔◌, IsSome, IfSome, OnOk, IsErrOf, option_map}
 use Rattle.eeprom.specs.Chip.{Chip}
-use Rattle.eeprom.specs.StoreOf.{Stored, store_of, starts_with_magic, has_header, has_version, number_at, fewest_cells, most_cells, image_size}
-use Rattle.std.proofs.lemmas.Bool.{and_parts, leb-true}
-use Rattle.card.specs.Making.{OpensToNone}
+use Rattle.eeprom.specs.StoreOf.{image_size}
 use Rattle.scql_model.specs.Database.{Database, fresh}
 use Rattle.scql_model.specs.Opens.{Opens}
 use Rattle.card_cli.specs.declared.words.Form.{Form}

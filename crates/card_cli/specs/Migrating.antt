@@ -1,7 +1,10 @@
 -- How a run of `migrate` ends, and what a power loss leaves at any moment of it.
-use Rattle.std.specs.Prelude.{◌≡◌, ℕ, ◌+◌, ◌<◌, ◌≤◌, Bool, true, false, List, ◌∷◌, length, drop, Option, Some, IsSome, IfSome}
+use Rattle.std.specs.Prelude.{◌≡◌, ℕ, ◌+◌, ◌<◌, ◌≤◌, Bool, true, false, List, ◌∷◌, length, Option, Some, IsSome, IfSome}
 use Rattle.eeprom.specs.Chip.{Chip, Throughout}
-use Rattle.eeprom.specs.StoreOf.{number_at, image_size}
+use Rattle.eeprom.specs.StoreOf.{row_limit, is_gate_open}
+use Rattle.eeprom.specs.declared.layout.TheConstants.{MIGRATED_ROW_LIMIT}
+use Rattle.migrate.specs.Migration.{KeepsRest}
+use Rattle.record_store.specs.Recovery.{KeepsStore}
 use Rattle.scql_model.specs.Database.{Database}
 use Rattle.scql_model.specs.Migrating.{migrated, migrate_text, migrate_commits}
 use Rattle.scql_model.specs.Opens.{Opens, OpensToOneOf}
@@ -44,6 +47,20 @@ ends_migration WriteFault = true
 ends_migration Eeprom = true
 ends_migration status = false
 
+-- Nothing is written: the EEPROM is as it was but for what went out, at each moment.
+pub record WritesNothing (old new : Chip) : Type 0 where
+  pub image : new.image ≡ old.image
+  pub written : new.written ≡ old.written
+  pub moments : Throughout old new (λ g left. old.image ≡ Some left)
+
+-- nothing is written where the rows are long already
+abbrev pub LeavesLongRows : Chip → Chip → Type 0
+LeavesLongRows old new = (image : List ℕ) → old.image ≡ Some image → row_limit image ≡ MIGRATED_ROW_LIMIT → WritesNothing old new
+
+-- at each moment from old on to new all octets but the version and the row limit are as they were
+abbrev pub KeepsOthers : Chip → Chip → Type 0
+KeepsOthers old new = Throughout old new (λ g left. (was : List ℕ) × (old.image ≡ Some was) × KeepsRest was left)
+
 -- What a run of `migrate` owes that ended so.
 pub record Migrates {S : Type 0} (status : Status) (before after : S) (old new : Chip) (was now : AllFaults) : Type 0 where
   -- It reads no input.
@@ -56,3 +73,7 @@ pub record Migrates {S : Type 0} (status : Status) (before after : S) (old new :
   pub text : (db : Database) → IsOpenTo old db → IsQuiet was now → AnswersAll status (migrate_text db) old.still.given new.still.given
   -- At each moment a power loss leaves the database as it was, or with longer rows.
   pub moments : (db : Database) → IsOpenTo old db → StaysMigrating db old new
+  -- An image whose rows are long already and whose gate is closed isn't written,
+  pub already : (image : List ℕ) → old.image ≡ Some image → row_limit image ≡ MIGRATED_ROW_LIMIT → is_gate_open image ≡ false → WritesNothing old new
+  -- and of any other no octets but the version and the row limit are, from the opening on.
+  pub others : (opened : Chip) × KeepsStore old opened × KeepsOthers opened new

@@ -6,7 +6,7 @@ ghost use Rattle.scql_model.specs.Database.{Database};
 ghost use Rattle.card.specs.Behind.{KeepsBehind, own_cells};
 ghost use Rattle.card_cli.specs.Beginning.{IsOpenTo};
 ghost use Rattle.card_cli.specs.Ends.{AllFaults, EndsBy};
-ghost use Rattle.card_cli.specs.Migrating.{MigratesTo, StaysMigrating, ends_migration};
+ghost use Rattle.card_cli.specs.Migrating.{KeepsOthers, LeavesLongRows, MigratesTo, StaysMigrating, ends_migration};
 
 use crate::answering::give;
 use crate::status::Status;
@@ -19,6 +19,8 @@ pub(crate) fn run_migration<B: Bench>(bench: &mut B) -> Status
     ensures migrates { (db : Database) → IsOpenTo (B.chip bench.old) db
         → MigratesTo result (B.faults bench.old) (B.faults bench.new) db (B.chip bench.old).still.given (B.chip bench.new) }
     ensures moments { (db : Database) → IsOpenTo (B.chip bench.old) db → StaysMigrating db (B.chip bench.old) (B.chip bench.new) }
+    ensures already { LeavesLongRows (B.chip bench.old) (B.chip bench.new) }
+    ensures others { KeepsOthers (B.chip bench.old) (B.chip bench.new) }
     ensures behind { KeepsBehind own_cells (B.chip bench.old) (B.chip bench.new) }
     ensures status { ends_migration result ≡ true }
     ensures ends { (source : ℕ) → EndsBy result

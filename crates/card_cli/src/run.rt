@@ -84,7 +84,7 @@ pub fn run_card<S: Source, B: Bench>(
     ensures moments { EndsUnread (map string_bytes words.now) source.old source.new (B.chip bench.old) (B.chip bench.new)
         ⊎ ((db : Database) → (starts : BeginsWith (map string_bytes words.now) (B.chip bench.old) db) → IfGiven (B.chip bench.new)
         (Becomes (λ input left. OpensAndRuns starts.form db result (B.faults bench.old) (B.faults bench.new) input left (B.chip bench.old) (B.chip bench.new)) (S.left source.old) (S.left source.new))) }
-    // At no moment anything is written behind the card's image, however the run ends.
+    // At no moment is anything written behind the card's image, however the run ends.
     ensures behind { (form : Form) → form_in (map string_bytes words.now) ≡ Some form → KeepsBehind (cells_for form) (B.chip bench.old) (B.chip bench.new) }
     // A run of `migrate` reads no line.
     ensures migrate { form_in (map string_bytes words.now) ≡ Some Form.Migrate → Migrates result source.old source.new (B.chip bench.old) (B.chip bench.new)

@@ -6,9 +6,9 @@ use Rattle.scql_model.specs.Migrating.{migrate_text}
 use Rattle.card.specs.Behind.{KeepsBehind, own_cells}
 use Rattle.card_cli.specs.Beginning.{IsOpenTo}
 use Rattle.card_cli.specs.CutOff.{IsCutShort}
-use Rattle.card_cli.specs.Migrating.{IsInMigration, IsMigratedFrom}
+use Rattle.card_cli.specs.Migrating.{KeepsOthers, LeavesLongRows, IsInMigration, IsMigratedFrom}
 use Rattle.card_cli.specs.RunState.{Prints}
-use Rattle.card_cli.proofs.LongerRows.{leaves-between, silent-moments, told-moments, migration-behind, told-behind, migrated-from, migrated-same, text-migrated}
+use Rattle.card_cli.proofs.LongerRows.{long-untold, long-told, others-untold, others-told, leaves-between, silent-moments, told-moments, migration-behind, told-behind, migrated-from, migrated-same, text-migrated}
 use Rattle.card_cli.proofs.Moving.{gives-throughout}
 use Rattle.card_cli.proofs.migration.run_migration.Goals as goal
 use Rattle.card_cli.proofs.migration.run_migration.Goals.{After-give as Told}
@@ -75,3 +75,34 @@ returns-in-Ok-give-clause-behind g c = behind g (goal.at.returns-in-Ok-give-clau
 
 pub returns-in-Err-clause-behind : goal.returns-in-Err-clause-behind
 returns-in-Err-clause-behind g c = behind g (goal.at.returns-in-Err-clause-behind g c).After-give
+
+-- what is written before the text and while it goes out
+pub returns-in_default-clause-already : goal.returns-in_default-clause-already
+returns-in_default-clause-already g c = long-untold (g.B.Eeprom.chip c.args.bench.now) (g.B.Eeprom.chip c.migrate.new.bench) c.migrate.ensures.already
+
+pub returns-in_default-clause-others : goal.returns-in_default-clause-others
+returns-in_default-clause-others g c = others-untold (g.B.Eeprom.chip c.args.bench.now) (g.B.Eeprom.chip c.migrate.new.bench) c.migrate.ensures.moments
+
+already : (g : _) (c : Told g) → LeavesLongRows (g.B.Eeprom.chip c.args.bench.now) (g.B.Eeprom.chip c.give.new.bench)
+already g c =
+    let mid : Chip = g.B.Eeprom.chip c.migrate.new.bench in
+    let new : Chip = g.B.Eeprom.chip c.give.new.bench in
+    long-told (g.B.Eeprom.chip c.args.bench.now) mid new c.migrate.ensures.already c.give.ensures.gives (gives-throughout mid new (g.met.B.Eeprom.clocked c.migrate.new.bench) c.give.ensures.gives)
+
+others : (g : _) (c : Told g) → KeepsOthers (g.B.Eeprom.chip c.args.bench.now) (g.B.Eeprom.chip c.give.new.bench)
+others g c =
+    let mid : Chip = g.B.Eeprom.chip c.migrate.new.bench in
+    let new : Chip = g.B.Eeprom.chip c.give.new.bench in
+    others-told (g.B.Eeprom.chip c.args.bench.now) mid new c.migrate.ensures.moments (gives-throughout mid new (g.met.B.Eeprom.clocked c.migrate.new.bench) c.give.ensures.gives)
+
+pub returns-in-Ok-give-clause-already : goal.returns-in-Ok-give-clause-already
+returns-in-Ok-give-clause-already g c = already g (goal.at.returns-in-Ok-give-clause-already g c).After-give
+
+pub returns-in-Ok-give-clause-others : goal.returns-in-Ok-give-clause-others
+returns-in-Ok-give-clause-others g c = others g (goal.at.returns-in-Ok-give-clause-others g c).After-give
+
+pub returns-in-Err-clause-already : goal.returns-in-Err-clause-already
+returns-in-Err-clause-already g c = already g (goal.at.returns-in-Err-clause-already g c).After-give
+
+pub returns-in-Err-clause-others : goal.returns-in-Err-clause-others
+returns-in-Err-clause-others g c = others g (goal.at.returns-in-Err-clause-others g c).After-give

@@ -88,7 +88,7 @@ returns-in-Migrate-clause-migrate g c = λ asked.
     (λ told. let first = c.in-Ok.ensures.begins told in (first.0, subst (λ (f : Form). Begins f old first.0) (migrating g run asked) first.1))
     (λ db opens. open-at c.in-Ok.card mid db c.in-Ok.ensures.ready (c.in-Ok.ensures.starts db (found g run db asked opens)))
     (λ db opens. subst (λ (from : ℕ). MigratesTo c.run_migration.result from (g.B.Eeprom.faults c.run_migration.new.bench) db mid.still.given new) counted (c.run_migration.ensures.migrates db opens))
-    c.run_migration.ensures.moments
+    c.run_migration.ensures.moments c.run_migration.ensures.already c.run_migration.ensures.others
     (subst (λ (f : AllFaults). EndsBy c.run_migration.result f now) same (c.run_migration.ensures.ends (g.S.Source.source_faults c.args.source.now)))
 
 -- It was opened to answer lines.
