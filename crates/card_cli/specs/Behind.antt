@@ -5,6 +5,6 @@ use Rattle.card_cli.specs.declared.words.Form.{Form}
 use Rattle.card_cli.specs.declared.words.Form.TheVariants.{New}
 
 -- how many cells the card of a run of this form has: those that a new card is to have, or those that the image says that is there
-abbrev pub cells_for : Form → List ℕ → ℕ
-cells_for (New n) was = n
-cells_for form was = own_cells was
+abbrev pub run_cells : Form → List ℕ → ℕ
+run_cells (New n) was = n
+run_cells form was = own_cells was

@@ -10,7 +10,7 @@ ghost use Rattle.card.specs.Behind.{KeepsBehind, own_cells};
 ghost use Rattle.card.specs.Card.{IsReady, IsAt};
 ghost use Rattle.card.specs.Making.{OpensToNone};
 ghost use Rattle.card_cli.specs.Words.{IsWithinLimits};
-ghost use Rattle.card_cli.specs.Behind.{cells_for};
+ghost use Rattle.card_cli.specs.Behind.{run_cells};
 ghost use Rattle.card_cli.specs.Beginning.{IsOpenTo, Begins, LacksCard, LeavesUntilOpen};
 ghost use Rattle.card_cli.specs.Ends.{AllFaults, EndsBy, ends_opening};
 ghost use Rattle.card_cli.specs.Run.{IsWithoutCard};
@@ -30,8 +30,8 @@ pub(crate) fn open_card<B: Bench>(alloc: Global, form: Form, bench: &mut B) -> R
     ensures found { OnOk result (LacksCard form (B.chip bench.old) → ⊥) }
     // No card is smaller than the smallest one. It has as many cells as its form says, and nothing is written behind its image.
     ensures room { OnOk result (HasRoom fewest_cells (B.chip bench.old)) }
-    ensures cells { IfOk result (λ card. Becomes (λ was now. card.store.chains.cells ≡ cells_for form was) (B.chip bench.old).image (B.chip bench.new).image) }
-    ensures behind { KeepsBehind (cells_for form) (B.chip bench.old) (B.chip bench.new) }
+    ensures cells { IfOk result (λ card. Becomes (λ was now. card.store.chains.cells ≡ run_cells form was) (B.chip bench.old).image (B.chip bench.new).image) }
+    ensures behind { KeepsBehind (run_cells form) (B.chip bench.old) (B.chip bench.new) }
     // Where a database is there to begin with, the card opens unless the EEPROM fails or there is no memory.
     ensures stopped { IfErr result (λ status. (db : Database) → Begins form (B.chip bench.old) db → (status ≡ Status.NoMemory) ⊎ (status ≡ Status.Eeprom)) }
     ensures without { IfErr result (λ status. LacksCard form (B.chip bench.old) → IsWithoutCard status) }
@@ -67,8 +67,8 @@ fn prepare<B: Bench>(form: Form, bench: &mut B) -> Result<(), FormatRefusal>
     ensures told { OnOk result (IsSome (B.chip bench.old).image → IsSome (B.chip bench.new).image) }
     ensures lacks { OnOk result (IsSome (B.chip bench.old).image → IfSome (B.chip bench.new).image OpensToNone → LacksCard form (B.chip bench.old)) }
     ensures leaves { LeavesUntilOpen form (B.chip bench.old) (B.chip bench.new) }
-    ensures cells { OnOk result (Becomes (λ was now. own_cells now ≡ cells_for form was) (B.chip bench.old).image (B.chip bench.new).image) }
-    ensures behind { KeepsBehind (cells_for form) (B.chip bench.old) (B.chip bench.new) }
+    ensures cells { OnOk result (Becomes (λ was now. own_cells now ≡ run_cells form was) (B.chip bench.old).image (B.chip bench.new).image) }
+    ensures behind { KeepsBehind (run_cells form) (B.chip bench.old) (B.chip bench.new) }
     ensures still { (B.chip bench.new).still ≡ (B.chip bench.old).still }
     ensures too_small { IsErrOf result FormatRefusal.TooSmall ↔ ((n : ℕ) × (form ≡ Form.New n) × ((B.chip bench.old).still.size < image_size n)) }
     ensures unchanged { IsErrOf result FormatRefusal.TooSmall → bench.new ≡ bench.old }

@@ -10,7 +10,7 @@ ghost use Rattle.record_store.specs.Recovery.{KeepsStore};
 ghost use Rattle.card_cli.specs.Words.{form_in, ask_for_lines};
 ghost use Rattle.card_cli.specs.declared.stop.Stop.TheVariants as stop;
 ghost use Rattle.card.specs.Behind.{KeepsBehind};
-ghost use Rattle.card_cli.specs.Behind.{cells_for};
+ghost use Rattle.card_cli.specs.Behind.{run_cells};
 ghost use Rattle.card_cli.specs.Beginning.{BeginsWith, FindsNoCard, EndsUnread};
 ghost use Rattle.card_cli.specs.CutOff.{HasAnswered, StopsIn, OutletFails};
 ghost use Rattle.card_cli.specs.Ends.{longest_input, has_opened, AllFaults, EndsBy};
@@ -85,7 +85,7 @@ pub fn run_card<S: Source, B: Bench>(
         ⊎ ((db : Database) → (starts : BeginsWith (map string_bytes words.now) (B.chip bench.old) db) → IfGiven (B.chip bench.new)
         (Becomes (λ input left. OpensAndRuns starts.form db result (B.faults bench.old) (B.faults bench.new) input left (B.chip bench.old) (B.chip bench.new)) (S.left source.old) (S.left source.new))) }
     // At no moment is anything written behind the card's image, however the run ends.
-    ensures behind { (form : Form) → form_in (map string_bytes words.now) ≡ Some form → KeepsBehind (cells_for form) (B.chip bench.old) (B.chip bench.new) }
+    ensures behind { (form : Form) → form_in (map string_bytes words.now) ≡ Some form → KeepsBehind (run_cells form) (B.chip bench.old) (B.chip bench.new) }
     // A run of `migrate` reads no line.
     ensures migrate { form_in (map string_bytes words.now) ≡ Some Form.Migrate → Migrates result source.old source.new (B.chip bench.old) (B.chip bench.new)
         (record { eeprom = B.faults bench.old; source = S.source_faults source.old; outlet = B.sink_faults bench.old })

@@ -1,7 +1,7 @@
 -- The card that was opened is at the start of the database with which its run begins.
 use Rattle.std.proofs.Common.{refl}
 use Rattle.card.specs.Behind.{KeepsBehind, own_cells}
-use Rattle.card_cli.specs.Behind.{cells_for}
+use Rattle.card_cli.specs.Behind.{run_cells}
 use Rattle.card_cli.specs.Beginning.{LeavesUntilOpen}
 use Rattle.card_cli.proofs.Finishing.{is_at, open_to, not_to_none, lacks_none, until_open}
 use Rattle.card_cli.proofs.Behind.{behind-then, cells-opened}
@@ -41,9 +41,9 @@ returns-in-Ok-open-clause-found g c = λ lacks.
     lacks_none c.args.form (g.B.Eeprom.chip c.args.bench.now) (g.B.Eeprom.chip c.prepare.new.bench) lacks c.in-Ok.ensures.leaves c.in-Ok.ensures.told c.in-Ok-open.ensures.opens
 
 -- what lies behind the image stays while it is made and opened
-behind : (g : _) (c : Opened g) → KeepsBehind (cells_for c.args.form) (g.B.Eeprom.chip c.args.bench.now) (g.B.Eeprom.chip c.open.new.bench)
+behind : (g : _) (c : Opened g) → KeepsBehind (run_cells c.args.form) (g.B.Eeprom.chip c.args.bench.now) (g.B.Eeprom.chip c.open.new.bench)
 behind g c =
-    behind-then (cells_for c.args.form) own_cells (g.B.Eeprom.chip c.args.bench.now) (g.B.Eeprom.chip c.prepare.new.bench) (g.B.Eeprom.chip c.open.new.bench) c.in-Ok.ensures.cells c.prepare.ensures.behind c.open.ensures.behind
+    behind-then (run_cells c.args.form) own_cells (g.B.Eeprom.chip c.args.bench.now) (g.B.Eeprom.chip c.prepare.new.bench) (g.B.Eeprom.chip c.open.new.bench) c.in-Ok.ensures.cells c.prepare.ensures.behind c.open.ensures.behind
 
 pub returns-in-Err-NoMemory-clause-behind : goal.returns-in-Err-NoMemory-clause-behind
 returns-in-Err-NoMemory-clause-behind g c = behind g (goal.at.returns-in-Err-NoMemory-clause-behind g c).After-open

@@ -2,7 +2,7 @@
 use Rattle.std.proofs.Common.{ℕ, List, refl, rules}
 use Rattle.eeprom.specs.Image.{overwrite}
 use Rattle.card.specs.Card.{fresh_card}
-use Rattle.card_cli.specs.Behind.{cells_for}
+use Rattle.card_cli.specs.Behind.{run_cells}
 use Rattle.card_cli.proofs.Behind.{behind-same, behind-new, cells-new, cells-there}
 use Rattle.card_cli.proofs.Preparing.{begins-new, began-new, begins-there, leaves-there}
 use Rattle.card_cli.proofs.opening.prepare.Goals as goal
@@ -34,4 +34,4 @@ pub returns-in-Apdu-clause-cells : goal.returns-in-Apdu-clause-cells
 returns-in-Apdu-clause-cells g c = cells-there c.args.form (g.B.Eeprom.chip c.args.bench.now).image c.in-Apdu.is
 
 pub returns-in-Apdu-clause-behind : goal.returns-in-Apdu-clause-behind
-returns-in-Apdu-clause-behind g c = behind-same (cells_for c.args.form) (g.B.Eeprom.chip c.args.bench.now) (g.B.Eeprom.chip c.args.bench.now) refl
+returns-in-Apdu-clause-behind g c = behind-same (run_cells c.args.form) (g.B.Eeprom.chip c.args.bench.now) (g.B.Eeprom.chip c.args.bench.now) refl

@@ -11,7 +11,7 @@ use Rattle.card_cli.specs.declared.status.Status.{Status}
 use Rattle.card_cli.specs.declared.status.Status.TheVariants.{Done, Eeprom, ReadFault, WriteFault, TooLong}
 use Rattle.card_cli.specs.declared.words.Form.{Form}
 use Rattle.card_cli.specs.declared.words.Form.TheVariants.{Migrate}
-use Rattle.card_cli.specs.Behind.{cells_for}
+use Rattle.card_cli.specs.Behind.{run_cells}
 use Rattle.card_cli.specs.Beginning.{IsOpenTo, BeginsWith, Begins, LacksCard, LeavesUntilOpen, FindsNoCard}
 use Rattle.card_cli.specs.Ends.{AllFaults, EndsBy, EndsAs}
 use Rattle.card_cli.specs.Keeping.{KeepsTo}
@@ -178,11 +178,11 @@ returns-clause-moments g c = inr (λ db begins given input last.
 -- What lies behind the image.
 
 -- what holds of the form that was read holds of the one that the words ask for
-asked_behind : (g : given.Over) (c : Opened g) (new : Chip) → KeepsBehind (cells_for c.in-Some.form) (g.B.Eeprom.chip c.args.bench.now) new
-    → (form : Form) → form_in (map string_bytes c.args.words.now) ≡ Some form → KeepsBehind (cells_for form) (g.B.Eeprom.chip c.args.bench.now) new
+asked_behind : (g : given.Over) (c : Opened g) (new : Chip) → KeepsBehind (run_cells c.in-Some.form) (g.B.Eeprom.chip c.args.bench.now) new
+    → (form : Form) → form_in (map string_bytes c.args.words.now) ≡ Some form → KeepsBehind (run_cells form) (g.B.Eeprom.chip c.args.bench.now) new
 asked_behind g c new behind form asked =
     let same : c.in-Some.form ≡ form = cc (c.in-Some.ensures, asked) in
-    subst (λ (f : Form). KeepsBehind (cells_for f) (g.B.Eeprom.chip c.args.bench.now) new) same behind
+    subst (λ (f : Form). KeepsBehind (run_cells f) (g.B.Eeprom.chip c.args.bench.now) new) same behind
 
 pub returns-in-Err-clause-behind : goal.returns-in-Err-clause-behind
 returns-in-Err-clause-behind g c = asked_behind g (goal.at.returns-in-Err-clause-behind g c).After-open_card (g.B.Eeprom.chip c.open_card.new.bench) c.open_card.ensures.behind
@@ -193,10 +193,10 @@ returns-in-Migrate-clause-behind g c =
     let mid : Chip = g.B.Eeprom.chip c.open_card.new.bench in
     let new : Chip = g.B.Eeprom.chip c.run_migration.new.bench in
     asked_behind g (goal.at.returns-in-Migrate-clause-behind g c).After-open_card new
-    (behind-then (cells_for c.in-Some.form) own_cells old mid new (cells-over c.in-Some.form c.in-Ok.card old mid c.in-Ok.ensures.ready c.in-Ok.ensures.cells) c.open_card.ensures.behind c.run_migration.ensures.behind)
+    (behind-then (run_cells c.in-Some.form) own_cells old mid new (cells-over c.in-Some.form c.in-Ok.card old mid c.in-Ok.ensures.ready c.in-Ok.ensures.cells) c.open_card.ensures.behind c.run_migration.ensures.behind)
 
 pub returns-clause-behind : goal.returns-clause-behind
 returns-clause-behind g c =
     let new : Chip = g.B.Eeprom.chip c.answer_input.new.bench in
     asked_behind g (goal.at.returns-clause-behind g c).After-open_card new
-    (behind-then (cells_for c.in-Some.form) (λ was. c.in-Ok.card.store.chains.cells) (g.B.Eeprom.chip c.args.bench.now) (g.B.Eeprom.chip c.open_card.new.bench) new c.in-Ok.ensures.cells c.open_card.ensures.behind c.answer_input.ensures.behind)
+    (behind-then (run_cells c.in-Some.form) (λ was. c.in-Ok.card.store.chains.cells) (g.B.Eeprom.chip c.args.bench.now) (g.B.Eeprom.chip c.open_card.new.bench) new c.in-Ok.ensures.cells c.open_card.ensures.behind c.answer_input.ensures.behind)
