@@ -73,7 +73,7 @@ fn cut_migration(rt: HostRuntime) -> Result<(), Fail> {
     Ok(())
 }
 
-// Each call of a device fails in turn. Where a write does nothing is said.
+// Each call of a device fails in turn. Where a write does nothing is said, and the users are the same.
 #[test]
 fn failing_migration(rt: HostRuntime) -> Result<(), Fail> {
     let alloc = rt.alloc();
@@ -85,6 +85,15 @@ fn failing_migration(rt: HostRuntime) -> Result<(), Fail> {
         let (status, failed) = run_over(alloc, &["migrate"], "", &image, plan)?;
         assert!(rt; status == Status::Eeprom, "{write}");
         assert_eq!(rt; failed.given(), b"".as_slice(), "{write}");
+        let (status, opened) = run_over(
+            alloc,
+            &["apdu"],
+            PRESENT_TWO,
+            failed.image(),
+            no_faults(alloc),
+        )?;
+        assert!(rt; status == Status::Done, "{write}");
+        assert_eq!(rt; opened.given(), ANN_ALONE, "{write}");
     }
     let mut plan = no_faults(alloc);
     plan.gives.push(0)?;

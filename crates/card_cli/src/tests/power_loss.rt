@@ -18,6 +18,9 @@ const PRESENT_THREE: &str = "001400800403414E4E
 001400800403455645
 ";
 
+/// For each of the three its cell, the counter's, the journal, the gate, two numbers of the directory that aren't neighbours, and the gate.
+const WRITES_FOR_THREE: usize = 3 * 7;
+
 /// What is answered to these, by how many of the three are there.
 const ANSWERS: [&str; 4] = [
     "6A88\n6A88\n6A88\n",
@@ -146,16 +149,16 @@ fn cut_in_each_write(rt: HostRuntime) -> Result<(), Fail> {
     let fresh = fresh_card(alloc)?;
     let mut with_ann = fresh_card(alloc)?;
     lay(with_ann.as_mut_slice(), &WITH_ANN);
-    let rows: [(&[&str], &[u8], Option<usize>); 3] = [
-        (&["apdu"], &fresh, None),
-        (&["new", "16"], &[0xA5; 1154], Some(0)),
-        (&["new", "16"], &with_ann, Some(1)),
+    // `new` writes all octets behind the first four in one piece, and then those four; before that, where they are a card's, zeros over them.
+    let rows: [(&[&str], &[u8], Option<usize>, usize); 3] = [
+        (&["apdu"], &fresh, None, WRITES_FOR_THREE),
+        (&["new", "16"], &[0xA5; 1154], Some(0), 2 + WRITES_FOR_THREE),
+        (&["new", "16"], &with_ann, Some(1), 3 + WRITES_FOR_THREE),
     ];
-    for (words, image, before) in rows {
+    for (words, image, before, writes) in rows {
         let (status, bench) = run_over(alloc, words, MAKES_THREE, image, no_faults(alloc))?;
         assert!(rt; status == Status::Done, "{before:?}");
-        // Each user's two records, journal, gate, directory and gate again.
-        assert!(rt; 18 <= bench.writes(), "{before:?}");
+        assert_eq!(rt; bench.writes(), writes, "{before:?}");
         // For each user the first write of the gate with FF, each of the directory's two, and the last of the gate with FF.
         assert!(rt; 24 <= count_open(alloc, &bench)?, "{before:?}");
         assert!(rt;
