@@ -1,2 +1,4 @@
 pub mod Changed
 pub mod Listed
+pub mod Making
+pub mod Opens

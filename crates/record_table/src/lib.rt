@@ -6,12 +6,15 @@ mod entry;
 mod finding;
 mod marked;
 mod next;
+mod stop;
 mod wanted;
 
 pub use changing::{add, change, remove};
+pub use entry::read_entry;
 pub use finding::{find_by, find_stamp};
 pub use marked::Marked;
 pub use next::{next_after, next_by};
+pub use stop::Stop;
 pub use wanted::{Any, Stamped, Wanted};
 
 #[cfg(test)]
