@@ -1,3 +1,4 @@
+pub mod ChangedDatabase
 pub mod HeldRecords
 pub mod ListedChanges
 pub mod ListedSearches

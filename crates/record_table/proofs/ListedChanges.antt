@@ -26,7 +26,7 @@ no_other kind other (Some []) is apart of_kind = is.others [] refl
 no_other kind other (Some (octet ∷ octets)) is apart of_kind = is.others (octet ∷ octets) (apart octet of_kind)
 
 -- a slot that has a record of a kind is one of the slots
-within-at : {X : Type 0} (kind : Kind X) (slots : Slots) (slot : ℕ) (x : X) → at_slot kind slot slots ≡ Some x → slot < length slots
+pub within-at : {X : Type 0} (kind : Kind X) (slots : Slots) (slot : ℕ) (x : X) → at_slot kind slot slots ≡ Some x → slot < length slots
 within-at kind slots slot x at =
     elim (cases_Bool (ltb slot (length slots))) [
       | inl t ↦ ltb-true slot (length slots) t

@@ -1,4 +1,6 @@
 pub mod Changed
+pub mod Editable
+pub mod EditableLaws
 pub mod Listed
 pub mod Making
 pub mod Opens

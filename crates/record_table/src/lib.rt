@@ -2,6 +2,7 @@
 #![tactic(auto)]
 
 mod changing;
+mod editable;
 mod entry;
 mod finding;
 mod marked;
@@ -10,6 +11,7 @@ mod stop;
 mod wanted;
 
 pub use changing::{add, change, remove};
+pub use editable::Editable;
 pub use entry::read_entry;
 pub use finding::{find_by, find_stamp};
 pub use marked::Marked;
