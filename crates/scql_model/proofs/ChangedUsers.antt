@@ -20,7 +20,7 @@ use Rattle.scql_model.proofs.LongerLists.{all-weaker, all-filtered, any-map, fin
 use Rattle.scql_model.proofs.ChangedLists.{Rises-replaced, list_all-replaced, any_keys-replaced, map-replaced, filter-replaced, found-replaced, found-only}
 use Rattle.scql_model.proofs.RecordsOf.{behind_users, records_of-users}
 use Rattle.scql_model.proofs.Stored.{IsStored-changed, cells_of_records-around}
-use Rattle.scql_model.proofs.Validity.{storable-fitting}
+use Rattle.scql_model.proofs.RecordLengths.{storable-user}
 
 abbrev stamp_of : User → ℕ
 stamp_of u = u.stamp
@@ -142,7 +142,7 @@ IsValid-with_tries db q u tries valid found few some =
       limit = valid.limit;
       next = valid.next;
       counter = valid.counter;
-      stored = IsStored-changed stored_user [] (behind_users db) db.users new (records_of-users db) (records_of-users (with_user_changed db new)) valid.stored (storable-fitting new fits) (omega arith);
+      stored = IsStored-changed stored_user [] (behind_users db) db.users new (records_of-users db) (records_of-users (with_user_changed db new)) valid.stored (storable-user new fits) (omega arith);
       users = AreUsers-tries db.users q u tries valid.users found few some;
       objects = AreObjects-tries db.users u tries db.objects only valid.objects;
       grants = AreGrants-tries db.users u tries db.objects db.grants valid.grants;

@@ -3,7 +3,10 @@ use Rattle.std.proofs.Common.{◌≡◌, ℕ, zero, suc, ◌≤◌, ◌-◌, Opt
 use Rattle.std.proofs.lemmas.List.{length-replicate}
 use Rattle.eeprom.specs.StoreOf.{store_of, fresh_slots, fresh_store}
 use Rattle.scql_base.specs.declared.records.User.{User}
-use Rattle.scql_model.specs.Records.{counter_record, user_record, counter_in, user_in}
+use Rattle.scql_base.specs.declared.records.Object.{Object}
+use Rattle.scql_base.specs.declared.records.Grant.{Grant}
+use Rattle.scql_base.specs.declared.records.RowRecord.{RowRecord}
+use Rattle.scql_model.specs.Records.{counter_record, user_record, counter_in, user_in, object_in, grant_in, row_in}
 use Rattle.scql_model.specs.Stored.{StoredRecord}
 use Rattle.scql_model.specs.Rules.{owner}
 use Rattle.scql_model.specs.Database.{IsValid, fresh, stored_user}
@@ -40,9 +43,9 @@ Holds-fresh n few = record {
   spelled = list_all-replicate_none (n - 2);
   counter = ap (λ (xs : List ℕ). in_order counter_stamp (2 ∷ xs)) (filter_map-replicate_none counter_in (n - 2));
   users = ap (λ (xs : List User). in_order (λ (u : User). u.stamp) (owner ∷ xs)) (filter_map-replicate_none user_in (n - 2));
-  objects = refl;
-  grants = refl;
-  rows = refl;
+  objects = ap (λ (xs : List Object). in_order (λ (o : Object). o.stamp) xs) (filter_map-replicate_none object_in (n - 2));
+  grants = ap (λ (xs : List Grant). in_order (λ (g : Grant). g.stamp) xs) (filter_map-replicate_none grant_in (n - 2));
+  rows = ap (λ (xs : List RowRecord). in_order (λ (r : RowRecord). r.stamp) xs) (filter_map-replicate_none row_in (n - 2));
 }
 
 pub Opens-fresh : (n : ℕ) (image : List ℕ) → 16 ≤ n → n ≤ 2048 → store_of image ≡ Some (fresh_store n (counter_record.spell 2) (user_record.spell owner))
@@ -53,4 +56,5 @@ Opens-fresh n image few many stored = record {
   limit = refl;
   holds = Holds-fresh n few;
   valid = IsValid-fresh n few many;
+  tables = refl;
 }

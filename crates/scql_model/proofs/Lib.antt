@@ -25,8 +25,6 @@ pub mod CommandsAgain
 pub mod ContentsRise
 pub mod CounterSlot
 pub mod Creating
-pub mod CreatingSlots
-pub mod CreatingWeight
 pub mod Depths
 pub mod EditLaws
 pub mod FewerObjects
@@ -45,6 +43,7 @@ pub mod KeepsRows
 pub mod KeepsUsers
 pub mod KeepsValid
 pub mod KeepsViews
+pub mod KindsApart
 pub mod LastCommits
 pub mod LinesFound
 pub mod LongerLists
@@ -74,4 +73,3 @@ pub mod TakenFields
 pub mod Touching
 pub mod UsersFollow
 pub mod ValidSteps
-pub mod Validity

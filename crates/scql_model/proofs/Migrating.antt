@@ -55,6 +55,7 @@ Opens-migrated was left db opens stored = record {
     rows = opens.holds.rows;
   };
   valid = IsValid-migrated db opens.valid;
+  tables = opens.tables;
 }
 
 -- the row limit of a store is that of its image

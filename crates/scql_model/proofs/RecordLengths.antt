@@ -9,16 +9,17 @@ use Rattle.scql_base.specs.Row.{is_narrow, row_size}
 use Rattle.scql_base.specs.Strings.{spelled}
 use Rattle.scql_base.proofs.RowOctets.{row_size-spelled}
 use Rattle.scql_base.specs.declared.words.Subject.{Subject}
+use Rattle.scql_base.specs.declared.records.User.{User}
 use Rattle.scql_base.specs.declared.records.Object.{Object}
 use Rattle.scql_base.specs.declared.records.ObjectKind.{ObjectKind}
 use Rattle.scql_base.specs.declared.records.ObjectKind.TheVariants.{Table, View, Dictionary}
 use Rattle.scql_base.specs.declared.records.Grant.{Grant}
 use Rattle.scql_base.specs.declared.records.RowRecord.{RowRecord}
-use Rattle.scql_model.specs.Records.{subject_code, is_count_of_columns, is_row, object_spelling, object_fits, row_record}
+use Rattle.scql_model.specs.Records.{user_record, is_secret, subject_code, is_count_of_columns, is_row, object_spelling, object_fits, row_record}
 use Rattle.scql_model.specs.Rules.{is_short}
 use Rattle.scql_model.specs.Stored.{is_storable}
-use Rattle.scql_model.specs.Database.{stored_object, stored_grant, stored_row}
-use Rattle.scql_model.proofs.Creating.{name-size}
+use Rattle.scql_model.specs.Database.{stored_user, stored_object, stored_grant, stored_row}
+use Rattle.scql_model.proofs.Creating.{name-size, user-short}
 
 pub names-size : (names : List (List ℕ)) → list_all is_name names ≡ true → length (flat_map spelled names) ≤ 9 * length names
 names-size [] right = omega arith
@@ -52,7 +53,13 @@ short-dictionary o subject is fits =
     let b = length-append o.name (subject_code subject ∷ []) in
     rw is (le-leb _ 512 (omega arith))
 
--- so an object's record has a length that a store takes
+-- so each record has a length that a store takes
+pub storable-user : (u : User) → user_record.fits u ≡ true → is_storable (stored_user u) ≡ true
+storable-user u fits = user-short u (parts u fits).0 (parts u fits).1
+  where
+    parts : (u : User) → user_record.fits u ≡ true → (is_name u.name ≡ true) × (is_secret u.secret ≡ true)
+    parts u fits = grind (arith, and_parts)
+
 pub storable-object : (o : Object) → is_short o ≡ true → is_storable (stored_object o) ≡ true
 storable-object o short =
     let few = leb-true (length (object_spelling o)) 512 short in

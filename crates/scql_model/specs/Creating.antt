@@ -1,5 +1,5 @@
 -- CREATE USER (ISO/IEC 7816-7): the edits that it makes and the database with them, or the first refusal that applies.
-use Rattle.std.specs.Prelude.{◌≡◌, ℕ, ◌==◌, not, ◌||◌, Bool, true, false, List, length, set, get_or, ◌<◌, Some, None, option_map, Result, Ok}
+use Rattle.std.specs.Prelude.{◌≡◌, ℕ, ◌==◌, not, ◌||◌, Bool, true, false, List, Some, option_map, Result, Ok}
 use Rattle.std.specs.List.{list_any}
 use Rattle.std.specs.Str.{bytes_eq}
 use Rattle.scql_base.specs.declared.records.TheConstants.User.{ALL_TRIES}
@@ -9,11 +9,9 @@ use Rattle.scql_base.specs.declared.words.Profile.{Profile}
 use Rattle.scql_base.specs.declared.words.Profile.TheVariants.{DbO, Dboo, Dbbu}
 use Rattle.scql_base.specs.declared.words.StatusWord.{StatusWord}
 use Rattle.scql_base.specs.Words.{security_not_satisfied, already_exists}
-use Rattle.eeprom.specs.StoreOf.{Slots}
-use Rattle.eeprom.specs.Slots.{in_slot}
 use Rattle.scql_base.specs.Name.{is_name}
 use Rattle.scql_base.specs.declared.records.User.{User}
-use Rattle.scql_model.specs.Records.{is_secret, counter_record, user_record, counter_in}
+use Rattle.scql_model.specs.Records.{is_secret}
 use Rattle.scql_model.specs.Refusals.{◌>>=◌, provided}
 use Rattle.scql_model.specs.Edits.{Edit, of_user, making, applied, with_edits}
 pub use Rattle.scql_model.specs.Edits.{stamps_end, is_overfull}
@@ -75,14 +73,3 @@ abbrev pub created : Database → Actor → List ℕ → Profile → List ℕ �
 created db actor name profile secret = do
   edits ← user_added db actor name profile secret
   with_edits db edits
-
--- the slots with the counter and the user written
-abbrev pub with_user_written : Slots → ℕ → ℕ → ℕ → User → Slots
-with_user_written slots counter_slot slot next u = set (set slots counter_slot (Some (counter_record.spell next))) slot (Some (user_record.spell u))
-
--- one slot has the counter, and another is empty
-pub record AreReady (slots : Slots) (db : Database) (counter_slot slot : ℕ) : Type 0 where
-  pub counter_within : counter_slot < length slots
-  pub within : slot < length slots
-  pub counts : in_slot counter_in (get_or slots counter_slot None) ≡ Some db.next
-  pub empty : get_or slots slot None ≡ None

@@ -38,6 +38,5 @@ pub mod Stored
 pub mod Transactions
 pub mod Users
 pub mod ValidMachine
-pub mod Validity
 pub mod WellFormed
 pub mod Writing

@@ -179,9 +179,18 @@ record_spelling (of_object o) = object_spelling o
 record_spelling (of_grant g) = grant_record.spell g
 record_spelling (of_row r) = row_record.spell r
 
--- The readers of the kinds that are built. What is read has the kind's spelling and limits, with nothing left over.
+-- The readers of each kind's records. What is read has the kind's spelling and limits, with nothing left over.
 abbrev pub counter_in : List ℕ → Option ℕ
 counter_in octets = whole counter_record.read octets
 
 abbrev pub user_in : List ℕ → Option User
 user_in octets = whole user_record.read octets
+
+abbrev pub object_in : List ℕ → Option Object
+object_in octets = whole object_record.read octets
+
+abbrev pub grant_in : List ℕ → Option Grant
+grant_in octets = whole grant_record.read octets
+
+abbrev pub row_in : List ℕ → Option RowRecord
+row_in octets = whole row_record.read octets
