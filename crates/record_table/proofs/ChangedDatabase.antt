@@ -18,7 +18,7 @@ use Rattle.record_table.specs.Listed.{listed, at_slot}
 use Rattle.record_table.specs.Changed.{IsAdded, IsChanged, IsEmptied}
 use Rattle.record_table.specs.Editable.{IsEditable, LeavesOthers}
 use Rattle.record_table.specs.EditableLaws.{spelled-counter}
-use Rattle.record_table.specs.Opens.{Holds, is_spelled, counter_stamp}
+use Rattle.scql_model.specs.Opens.{Holds, is_spelled, counter_stamp}
 use Rattle.record_table.proofs.ListedChanges.{is_of, is_of-read, listed-other, listed-added, listed-changed, listed-removed, no_other, within-at}
 
 all-set : {X : Type 0} (p : X → Bool) (xs : List X) (i : ℕ) (v : X) → list_all p xs ≡ true → p v ≡ true → list_all p (set xs i v) ≡ true

@@ -9,7 +9,7 @@ use Rattle.scql_model.specs.Edits.{Action, edited, is_counter, list_after}
 use Rattle.catalog_codec.specs.Kinds.{Kind, HaveOtherMarks}
 use Rattle.catalog_codec.specs.Catalog.{counter_kind, user_kind, object_kind, grant_kind, row_kind}
 use Rattle.record_table.specs.Listed.{listed}
-use Rattle.record_table.specs.Opens.{Holds, is_spelled, counter_stamp}
+use Rattle.scql_model.specs.Opens.{Holds, is_spelled, counter_stamp}
 
 -- There are as many slots as before, each is spelled, and the records of all kinds with other marks are as they were.
 pub record LeavesOthers {X : Type 0} (kind : Kind X) (old new : Slots) : Type 0 where

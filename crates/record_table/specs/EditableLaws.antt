@@ -5,7 +5,7 @@ use Rattle.scql_base.specs.declared.records.User.{User}
 use Rattle.scql_base.specs.declared.records.Object.{Object}
 use Rattle.scql_base.specs.declared.records.Grant.{Grant}
 use Rattle.scql_base.specs.declared.records.RowRecord.{RowRecord}
-use Rattle.scql_model.specs.Records.{of_user, of_object, of_grant, of_row, counter_in, user_in}
+use Rattle.scql_model.specs.Records.{of_user, of_object, of_grant, of_row, counter_in, user_in, object_in, grant_in, row_in}
 use Rattle.scql_model.specs.Database.{Database, IsValid, stored_user, stored_object, stored_grant, stored_row}
 use Rattle.scql_model.proofs.RecordsOf.{before_rows, before_grants, behind_grants, before_objects, behind_objects, behind_users, records_of-users, records_of-objects, records_of-grants, records_of-rows}
 use Rattle.scql_model.proofs.Stored.{below-of_kind}
@@ -13,7 +13,7 @@ use Rattle.catalog_codec.specs.Catalog.{counter_kind, user_kind, object_kind, gr
 use Rattle.catalog_codec.specs.Kinds.{HaveOtherMarks}
 use Rattle.catalog_codec.specs.KindLaws.{HaveOtherMarks-sym}
 use Rattle.catalog_codec.specs.CatalogLaws.{IsKind-user, IsKind-object, IsKind-grant, IsKind-row, HaveOtherMarks-counter-user, HaveOtherMarks-counter-object, HaveOtherMarks-counter-grant, HaveOtherMarks-user-object, HaveOtherMarks-user-grant, HaveOtherMarks-grant-object, HaveOtherMarks-row-counter, HaveOtherMarks-row-user, HaveOtherMarks-row-object, HaveOtherMarks-row-grant}
-use Rattle.record_table.specs.Opens.{object_in, grant_in, row_in, is_spelled}
+use Rattle.scql_model.specs.Opens.{is_spelled}
 use Rattle.record_table.specs.Editable.{IsEditable}
 
 -- one of five readers gives something
@@ -71,14 +71,14 @@ IsEditable-user = record {
   limits = λ db valid. valid.users.limits;
   after = λ action u db. refl;
   holds = λ action u old new db holds others list. record {
-      cells = others.cells ∙ holds.cells;
-      spelled = others.spelled;
-      counter = others.counter (HaveOtherMarks-sym counter_kind user_kind HaveOtherMarks-counter-user) ∙ holds.counter;
-      users = list;
-      objects = others.objects HaveOtherMarks-user-object ∙ holds.objects;
-      grants = others.grants HaveOtherMarks-user-grant ∙ holds.grants;
-      rows = others.rows (HaveOtherMarks-sym row_kind user_kind HaveOtherMarks-row-user) ∙ holds.rows;
-    };
+    cells = others.cells ∙ holds.cells;
+    spelled = others.spelled;
+    counter = others.counter (HaveOtherMarks-sym counter_kind user_kind HaveOtherMarks-counter-user) ∙ holds.counter;
+    users = list;
+    objects = others.objects HaveOtherMarks-user-object ∙ holds.objects;
+    grants = others.grants HaveOtherMarks-user-grant ∙ holds.grants;
+    rows = others.rows (HaveOtherMarks-sym row_kind user_kind HaveOtherMarks-row-user) ∙ holds.rows;
+  };
   counts = λ action u next db. refl;
 }
 
@@ -95,14 +95,14 @@ IsEditable-object = record {
   limits = λ db valid. valid.objects.limits;
   after = λ action o db. refl;
   holds = λ action o old new db holds others list. record {
-      cells = others.cells ∙ holds.cells;
-      spelled = others.spelled;
-      counter = others.counter (HaveOtherMarks-sym counter_kind object_kind HaveOtherMarks-counter-object) ∙ holds.counter;
-      users = others.users (HaveOtherMarks-sym user_kind object_kind HaveOtherMarks-user-object) ∙ holds.users;
-      objects = list;
-      grants = others.grants (HaveOtherMarks-sym grant_kind object_kind HaveOtherMarks-grant-object) ∙ holds.grants;
-      rows = others.rows (HaveOtherMarks-sym row_kind object_kind HaveOtherMarks-row-object) ∙ holds.rows;
-    };
+    cells = others.cells ∙ holds.cells;
+    spelled = others.spelled;
+    counter = others.counter (HaveOtherMarks-sym counter_kind object_kind HaveOtherMarks-counter-object) ∙ holds.counter;
+    users = others.users (HaveOtherMarks-sym user_kind object_kind HaveOtherMarks-user-object) ∙ holds.users;
+    objects = list;
+    grants = others.grants (HaveOtherMarks-sym grant_kind object_kind HaveOtherMarks-grant-object) ∙ holds.grants;
+    rows = others.rows (HaveOtherMarks-sym row_kind object_kind HaveOtherMarks-row-object) ∙ holds.rows;
+  };
   counts = λ action o next db. refl;
 }
 
@@ -119,14 +119,14 @@ IsEditable-grant = record {
   limits = λ db valid. valid.grants.limits;
   after = λ action g db. refl;
   holds = λ action g old new db holds others list. record {
-      cells = others.cells ∙ holds.cells;
-      spelled = others.spelled;
-      counter = others.counter (HaveOtherMarks-sym counter_kind grant_kind HaveOtherMarks-counter-grant) ∙ holds.counter;
-      users = others.users (HaveOtherMarks-sym user_kind grant_kind HaveOtherMarks-user-grant) ∙ holds.users;
-      objects = others.objects HaveOtherMarks-grant-object ∙ holds.objects;
-      grants = list;
-      rows = others.rows (HaveOtherMarks-sym row_kind grant_kind HaveOtherMarks-row-grant) ∙ holds.rows;
-    };
+    cells = others.cells ∙ holds.cells;
+    spelled = others.spelled;
+    counter = others.counter (HaveOtherMarks-sym counter_kind grant_kind HaveOtherMarks-counter-grant) ∙ holds.counter;
+    users = others.users (HaveOtherMarks-sym user_kind grant_kind HaveOtherMarks-user-grant) ∙ holds.users;
+    objects = others.objects HaveOtherMarks-grant-object ∙ holds.objects;
+    grants = list;
+    rows = others.rows (HaveOtherMarks-sym row_kind grant_kind HaveOtherMarks-row-grant) ∙ holds.rows;
+  };
   counts = λ action g next db. refl;
 }
 
@@ -143,13 +143,13 @@ IsEditable-row = record {
   limits = λ db valid. valid.rows.limits;
   after = λ action r db. refl;
   holds = λ action r old new db holds others list. record {
-      cells = others.cells ∙ holds.cells;
-      spelled = others.spelled;
-      counter = others.counter HaveOtherMarks-row-counter ∙ holds.counter;
-      users = others.users HaveOtherMarks-row-user ∙ holds.users;
-      objects = others.objects HaveOtherMarks-row-object ∙ holds.objects;
-      grants = others.grants HaveOtherMarks-row-grant ∙ holds.grants;
-      rows = list;
-    };
+    cells = others.cells ∙ holds.cells;
+    spelled = others.spelled;
+    counter = others.counter HaveOtherMarks-row-counter ∙ holds.counter;
+    users = others.users HaveOtherMarks-row-user ∙ holds.users;
+    objects = others.objects HaveOtherMarks-row-object ∙ holds.objects;
+    grants = others.grants HaveOtherMarks-row-grant ∙ holds.grants;
+    rows = list;
+  };
   counts = λ action r next db. refl;
 }

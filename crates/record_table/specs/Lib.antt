@@ -3,4 +3,3 @@ pub mod Editable
 pub mod EditableLaws
 pub mod Listed
 pub mod Making
-pub mod Opens

@@ -10,16 +10,19 @@ use Rattle.scql_base.specs.declared.words.StatusWord.{StatusWord}
 use Rattle.scql_model.specs.Database.{Database, IsValid}
 use Rattle.scql_model.specs.Edits.{Edit, applied, cells_written, lacks_room, octets_for_cells, touched, with_edits}
 use Rattle.scql_model.specs.Refusals.{◌>>=◌}
-use Rattle.catalog_codec.specs.Catalog.{row_kind}
+use Rattle.catalog_codec.specs.Kinds.{Kind}
+use Rattle.catalog_codec.specs.Catalog.{counter_kind, row_kind}
+use Rattle.record_table.specs.Changed.{IsAdded, IsChanged}
 use Rattle.record_table.specs.Listed.{at_slot, slots_of}
-use Rattle.record_table.specs.Opens.{Holds}
+use Rattle.scql_model.specs.Opens.{Holds}
 use Rattle.record_table.specs.declared.stop.Stop.{Stop}
 use Rattle.record_table.specs.declared.stop.Stop.TheVariants.{Refused, Fault}
 
--- A side of a store holds a valid database with the store's row limit, where its image is told.
+-- A side of a store holds a valid database with the store's cells and row limit, where its image is told.
 pub record IsHeld (store : Held) (side : Side) (chip : Chip) (db : Database) : Type 0 where
   pub slots : Slots
   pub told : slots_of store side chip ≡ Some slots
+  pub cells : db.cells ≡ store.chains.cells
   pub limit : db.limit ≡ store.row_limit
   pub holds : Holds slots db
   pub valid : IsValid db
@@ -33,12 +36,16 @@ pub record Makes (db : Database) (edits : List Edit) (old new : Held) (before af
   pub octets : Becomes (RisesAtMost (octets_for_cells (cells_written edits))) before.written after.written
   pub entries : entries new ≤ entries old + length (touched edits)
 
+-- the database with the edits is valid, where there is room for them
+abbrev pub IsValidWith : Database → List Edit → Type 0
+IsValidWith db edits = lacks_room db edits ≡ false → IsValid (applied db edits)
+
 -- How an operation ends on the working side, of which these are the edits or the first refusal: its edits are made; or it is refused, also where there is
 -- no room for them, and nothing was done; or the EEPROM failed.
-abbrev pub Ends : Database → Result (List Edit) StatusWord → Result (Unit {0}) Stop → Held → Held → Chip → Chip → Type 0
-Ends db outcome (Ok x) old new before after = (edits : List Edit) × (outcome ≡ Ok edits) × Makes db edits old new before after
-Ends db outcome (Err (Refused word)) old new before after = ((outcome >>= with_edits db) ≡ Err word) × (new ≡ old) × (after ≡ before)
-Ends db outcome (Err Fault) old new before after = Unit {0}
+abbrev pub Ends : {T : Type 0} → Database → Result (List Edit) StatusWord → Result T Stop → Held → Held → Chip → Chip → Type 0
+Ends {T} db outcome (Ok x) old new before after = (edits : List Edit) × (outcome ≡ Ok edits) × Makes db edits old new before after
+Ends {T} db outcome (Err (Refused word)) old new before after = ((outcome >>= with_edits db) ≡ Err word) × (new ≡ old) × (after ≡ before)
+Ends {T} db outcome (Err Fault) old new before after = Unit {0}
 
 -- The store goes on, whatever its EEPROM tells: begun as before, with as many cells and the same row limit, over an EEPROM that tells as much.
 pub record GoesOn (old new : Held) (before after : Chip) : Type 0 where
@@ -52,6 +59,12 @@ pub record GoesOn (old new : Held) (before after : Chip) : Type 0 where
 abbrev pub is_stop_fault : Stop → Bool
 is_stop_fault (Refused word) = false
 is_stop_fault Fault = true
+
+-- a record was added in a slot, and then the counter in another slot counts on to the next stamp
+pub record IsMade {X : Type 0} (kind : Kind X) (x : X) (slot counter next : ℕ) (old new : Slots) : Type 0 where
+  pub between : Slots
+  pub added : IsAdded kind x slot old between
+  pub counted : IsChanged counter_kind next counter between new
 
 -- every row of the slots stays in its slot, and no other slot has one
 abbrev pub KeepsRows : Option Slots → Option Slots → Type 0
