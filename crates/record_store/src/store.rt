@@ -316,6 +316,7 @@ impl Store {
         ensures unchanged { OnErr result (self.new ≡ self.old) }
         ensures cause { Counts (B.faults bench.old) (B.faults bench.new) result }
     {
+        self.touched.sort();
         let slots = self.touched.slots();
         let working = self.working.as_slice();
         take_entries(&mut self.entries, slots, self.committed.as_slice(), working);

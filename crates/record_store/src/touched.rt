@@ -1,5 +1,6 @@
 // The slots that a transaction touched: each once, without a look at all slots of the store.
-ghost use Rattle.std.specs.Prelude.{◌≡◌, ◌≤◌, ◌<◌, ℕ, [], true, false, length, IfOk};
+ghost use Rattle.std.specs.Prelude.{◌≡◌, ◌≤◌, ◌<◌, ℕ, [], true, false, length, IfOk, IsPermutation};
+ghost use Rattle.std.specs.List.Sorted.{IsNonDecreasing};
 ghost use Rattle.cell_store.specs.Chains.{is_among};
 ghost use Rattle.cell_store.specs.Marks.{is_marked};
 ghost use Rattle.record_store.specs.Touched.{none_touched, with_touched, AreSlots};
@@ -58,6 +59,15 @@ impl Touched {
         }
         self.marks[slot as usize] = true;
         self.slots.push_reserved(slot);
+    }
+
+    /// Puts the slots into rising order.
+    pub fn sort(&mut self)
+        ensures slots { IsPermutation self.old.slots self.new.slots }
+        ensures rising { IsNonDecreasing self.new.slots }
+        ensures size { self.new.size ≡ self.old.size }
+    {
+        self.slots.sort_unstable();
     }
 
     /// Forgets all slots.
