@@ -1,7 +1,7 @@
 -- What a store of cells keeps in memory, and which images link its cells so.
 use Rattle.std.specs.Prelude.{◌≡◌, ℕ, ◌*◌, ◌≤◌, Bool, true, false, List, length, replicate, slice_index}
 use Rattle.std.specs.List.{AllByRecursion}
-use Rattle.eeprom.specs.StoreOf.{number_at, cell_place, longest_chain}
+use Rattle.eeprom.specs.StoreOf.{most_cells, no_cell, number_at, cell_place, longest_chain}
 use Rattle.cell_store.specs.Marks.{is_marked}
 use Rattle.cell_store.specs.Chains.{AreLinked, with_unmarked}
 
@@ -14,7 +14,7 @@ pub record Cells : Type 0 where
 -- what holds of each store, whatever an EEPROM tells
 pub record IsInRange (store : Cells) : Type 0 where
   pub few : 16 ≤ store.cells
-  pub many : store.cells ≤ 2048
+  pub many : store.cells ≤ most_cells
   pub used_count : length store.used ≡ 2 * store.cells
   pub links_count : length store.links ≡ 2 * store.cells
 
@@ -24,7 +24,7 @@ cells_from n used links = record { cells = n; used = used; links = links }
 
 -- no cell is used
 abbrev pub all_free : ℕ → Cells
-all_free n = cells_from n (replicate (2 * n) false) (replicate (2 * n) 65535)
+all_free n = cells_from n (replicate (2 * n) false) (replicate (2 * n) no_cell)
 
 -- the link of a cell in memory
 abbrev pub link_in : List ℕ → ℕ → ℕ

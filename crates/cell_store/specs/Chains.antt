@@ -1,12 +1,12 @@
 -- Chains of cells along links, and marks of their cells.
 use Rattle.std.specs.Prelude.{◌≡◌, ℕ, zero, suc, ◌*◌, ◌<◌, ◌==◌, nat_lt, Bool, true, false, List, [], ◌∷◌, length, set, Some, if◌then◌else◌, slice_index}
 use Rattle.std.specs.List.{AllByRecursion, list_any}
-use Rattle.eeprom.specs.StoreOf.{chain_of, is_record, is_distinct, number_at, cell_place}
+use Rattle.eeprom.specs.StoreOf.{no_cell, chain_of, is_record, is_distinct, number_at, cell_place}
 use Rattle.cell_store.specs.Marks.{is_marked}
 
 -- the cells from this one on, each below a number and linked to the next one, and the last to none
 abbrev pub AreLinked : (ℕ → ℕ) → ℕ → ℕ → List ℕ → Type 0
-AreLinked link size cell [] = cell ≡ 65535
+AreLinked link size cell [] = cell ≡ no_cell
 AreLinked link size cell (first ∷ rest) = (first ≡ cell) × (cell < size) × AreLinked link size (link cell) rest
 
 -- the link of a cell in an image

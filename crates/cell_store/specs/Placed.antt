@@ -2,7 +2,7 @@
 use Rattle.std.specs.Prelude.{◌≡◌, ℕ, ◌+◌, ◌*◌, ◌<◌, ◌≤◌, Bool, true, false, List, length, take, drop, Some, slice_index, slice_range}
 use Rattle.std.specs.List.{flat_map, AllByRecursion}
 use Rattle.eeprom.specs.Chip.{Chip, LeavesOf}
-use Rattle.eeprom.specs.StoreOf.{chain_of, cell_place, payload_of, number_at, is_distinct, piece_size, image_size}
+use Rattle.eeprom.specs.StoreOf.{front_size, chain_of, cell_place, payload_of, number_at, is_distinct, piece_size, image_size}
 use Rattle.cell_store.specs.Marks.{is_marked}
 use Rattle.cell_store.specs.Chains.{AreLinked, AreFree, with_marked}
 use Rattle.cell_store.specs.Cells.{link_in, StayLinked}
@@ -15,7 +15,7 @@ pub record SameCell (left was : List ℕ) (n cell : ℕ) : Type 0 where
 -- all before the cells and behind them is the same, and each marked cell
 pub record Keeping (marks : List Bool) (n : ℕ) (left was : List ℕ) : Type 0 where
   pub size : length left ≡ length was
-  pub front : take (34 + 6 * n) left ≡ take (34 + 6 * n) was
+  pub front : take (front_size n) left ≡ take (front_size n) was
   pub behind : drop (image_size n) left ≡ drop (image_size n) was
   pub cells : (cell : ℕ) → is_marked marks cell ≡ true → SameCell left was n cell
 

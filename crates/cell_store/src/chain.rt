@@ -5,7 +5,7 @@ ghost use Rattle.arrayvec.specs.ArrayVec.{array_vec_len};
 ghost use Rattle.eeprom.specs.Chip.{Becomes};
 ghost use Rattle.eeprom.specs.Fault.{each_error};
 ghost use Rattle.eeprom.specs.Frame.{HasRoom, Reads};
-ghost use Rattle.eeprom.specs.StoreOf.{chain_of, payload_of, slot_of, record_in, number_at, cell_place, piece_size, longest_record, longest_chain};
+ghost use Rattle.eeprom.specs.StoreOf.{most_cells, chain_of, payload_of, slot_of, record_in, number_at, cell_place, piece_size, longest_record, longest_chain};
 ghost use Rattle.cell_store.specs.Chains.{IsRecordChain};
 ghost use Rattle.cell_store.specs.Reading.{Extends, ReadsCells, ReadsRecord};
 
@@ -26,7 +26,7 @@ pub fn read_record<B: Eeprom>(
     first: u16,
     out: &mut RecordOctets,
 ) -> Result<(), EepromFault>
-    requires many { cells ≤ 2048 }
+    requires many { cells ≤ most_cells }
     requires room { HasRoom cells (B.chip bench.old) }
     ensures record { OnOk result (IfSome (B.chip bench.old).image (λ image. (chain : List ℕ) → IsRecordChain image cells first chain → slot_of image cells chain ≡ Some out.new.items)) }
     ensures octets_read { OnOk result (IfSome (B.chip bench.old).image (λ image. (chain : List ℕ) → IsRecordChain image cells first chain
@@ -46,7 +46,7 @@ fn read_payload<B: Eeprom>(
     first: u16,
     payload: &mut Payload,
 ) -> Result<(), EepromFault>
-    requires many { cells ≤ 2048 }
+    requires many { cells ≤ most_cells }
     requires room { HasRoom cells (B.chip bench.old) }
     ensures payload { OnOk result (IfSome (B.chip bench.old).image (λ image. (chain : List ℕ) → chain_of image cells (2 * cells) first ≡ Some chain
         → length chain ≤ longest_chain → payload.new.items ≡ flat_map (payload_of image cells) chain)) }
@@ -72,7 +72,7 @@ pub fn read_cell<B: Eeprom>(
     cell: u16,
     payload: &mut Payload,
 ) -> Result<u16, EepromFault>
-    requires many { cells ≤ 2048 }
+    requires many { cells ≤ most_cells }
     requires inside { cell < 2 * cells }
     requires room { HasRoom cells (B.chip bench.old) }
     requires fits { array_vec_len payload.old + piece_size ≤ piece_size * longest_chain }

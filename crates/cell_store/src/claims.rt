@@ -4,7 +4,7 @@ ghost use Rattle.std.specs.List.{flat_map};
 ghost use Rattle.arrayvec.specs.ArrayVec.{array_vec_len};
 ghost use Rattle.eeprom.specs.Chip.{Becomes, RisesAtMost};
 ghost use Rattle.eeprom.specs.Frame.{HasRoom, Reads};
-ghost use Rattle.eeprom.specs.StoreOf.{chain_of, number_at, cell_place, payload_of, cell_size, piece_size, longest_chain};
+ghost use Rattle.eeprom.specs.StoreOf.{most_cells, chain_of, number_at, cell_place, payload_of, cell_size, piece_size, longest_chain};
 ghost use Rattle.cell_store.specs.Cells.{cells_from, AreLinkedIn};
 ghost use Rattle.cell_store.specs.Claims.{TakesChain, HasRecord, HasNoRecord};
 ghost use Rattle.cell_store.specs.Claiming.{ClaimsCell, IsTakenCell, record_cells};
@@ -28,7 +28,7 @@ pub fn claim_cells<B: Eeprom>(
     first: u16,
     payload: &mut Payload,
 ) -> Result<u16, ClaimRefusal>
-    requires many { cells ≤ 2048 }
+    requires many { cells ≤ most_cells }
     requires room { HasRoom cells (B.chip bench.old) }
     requires used { length used.old ≡ 2 * cells }
     requires links { length links.old ≡ 2 * cells }
@@ -70,7 +70,7 @@ fn claim_cell<B: Eeprom>(
     cell: u16,
     payload: &mut Payload,
 ) -> Result<u16, ClaimRefusal>
-    requires many { cells ≤ 2048 }
+    requires many { cells ≤ most_cells }
     requires room { HasRoom cells (B.chip bench.old) }
     requires used { length used.old ≡ 2 * cells }
     requires links { length links.old ≡ 2 * cells }

@@ -4,7 +4,7 @@ ghost use Rattle.arrayvec.specs.ArrayVec.{array_vec_len};
 ghost use Rattle.eeprom.specs.Chip.{Becomes, RisesBy};
 ghost use Rattle.eeprom.specs.Fault.{Counts};
 ghost use Rattle.eeprom.specs.Frame.{HasRoom};
-ghost use Rattle.eeprom.specs.StoreOf.{number_at, cells_for, record_in, two_octets, cell_size, piece_size, longest_record, longest_chain};
+ghost use Rattle.eeprom.specs.StoreOf.{most_cells, number_at, cells_for, record_in, two_octets, cell_size, piece_size, longest_record, longest_chain};
 ghost use Rattle.cell_store.specs.Marks.{IsFreeRun, unmarked};
 ghost use Rattle.cell_store.specs.Placed.{IsLaid, IsPlaced, KeepsMarked};
 ghost use Rattle.cell_store.specs.Cells.{StayLinked};
@@ -91,7 +91,7 @@ pub fn write_cells<B: Eeprom>(
     payload: &[u8],
     count: u16,
 ) -> Result<u16, EepromFault>
-    requires many { cells ≤ 2048 }
+    requires many { cells ≤ most_cells }
     requires room { HasRoom cells (B.chip bench.old) }
     requires marks { length marks.old ≡ 2 * cells }
     requires links { length links.old ≡ 2 * cells }

@@ -3,7 +3,7 @@ ghost use Rattle.std.specs.Prelude.{◌≡◌, ◌↔◌, ◌+◌, ◌*◌, ◌�
 ghost use Rattle.eeprom.specs.Chip.{Becomes, RisesAtMost, RisesBy};
 ghost use Rattle.eeprom.specs.Fault.{CountsFaults, each_error};
 ghost use Rattle.eeprom.specs.Frame.{HasRoom, Reads};
-ghost use Rattle.eeprom.specs.StoreOf.{slot_of, cell_size, longest_record, longest_chain};
+ghost use Rattle.eeprom.specs.StoreOf.{most_cells, slot_of, cell_size, longest_record, longest_chain};
 ghost use Rattle.eeprom.specs.StoreOf as image;
 ghost use Rattle.cell_store.specs.Marks.{StaysMarked, unmarked};
 ghost use Rattle.cell_store.specs.Chains.{IsRecordChain, steps};
@@ -46,7 +46,7 @@ impl CellStore {
     /// A store of cells of which none is used. All memory that it needs is taken here.
     pub fn with_room(alloc: Global, cells: u16) -> Result<CellStore, AllocError>
         requires few { 16 ≤ cells }
-        requires many { cells ≤ 2048 }
+        requires many { cells ≤ most_cells }
         ensures { IfOk result (λ store. store ≡ all_free cells) }
     {
         let count = 2 * cells;
@@ -61,7 +61,7 @@ impl CellStore {
     pub fn cells(&self) -> u16
         ensures number { result ≡ self.now.cells }
         ensures few { 16 ≤ result }
-        ensures many { result ≤ 2048 }
+        ensures many { result ≤ most_cells }
     {
         self.cells
     }

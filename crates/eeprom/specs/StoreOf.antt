@@ -166,9 +166,16 @@ fewest_cells = 16
 abbrev pub most_cells : ℕ
 most_cells = 2048
 
+-- how many octets a row may have on a card that wasn't migrated, and on one that was
+abbrev pub fresh_row_limit : ℕ
+fresh_row_limit = 240
+
+abbrev pub migrated_row_limit : ℕ
+migrated_row_limit = 1020
+
 -- how many octets a row may have, by the version: an even one says that the card wasn't migrated, an odd one that it was
 abbrev pub row_limit : List ℕ → ℕ
-row_limit image = if slice_index image 5 % 2 == 0 then 240 else 1020
+row_limit image = if slice_index image 5 % 2 == 0 then fresh_row_limit else migrated_row_limit
 
 -- an even version, or an odd one and behind the gate the number 1,020, which is 03 FC
 abbrev pub has_version : List ℕ → Bool
@@ -203,4 +210,4 @@ fresh_slots n first second = Some first ∷ Some second ∷ replicate (n - 2) No
 
 -- a new store, of a card that wasn't migrated
 abbrev pub fresh_store : ℕ → List ℕ → List ℕ → Stored
-fresh_store n first second = record { row_limit = 240; slots = fresh_slots n first second }
+fresh_store n first second = record { row_limit = fresh_row_limit; slots = fresh_slots n first second }

@@ -41,16 +41,23 @@ pub fn journal_place(cells: u16) -> usize
     HEADER_SIZE + 2 * cells as usize
 }
 
+/// How many octets stand before the cells: header, directory and journal, with room for an entry of each slot.
+pub fn front_size(cells: u16) -> usize
+    ensures { result ≡ image.front_size cells }
+{
+    journal_place(cells) + 2 + 4 * cells as usize
+}
+
 /// Where a cell begins.
 pub fn cell_place(cells: u16, cell: u16) -> usize
     ensures { result ≡ image.cell_place cells cell }
 {
-    34 + 6 * cells as usize + CELL_SIZE * cell as usize
+    front_size(cells) + CELL_SIZE * cell as usize
 }
 
 /// How many octets an image of so many cells has at least.
 pub fn image_size(cells: u16) -> usize
     ensures { result ≡ image.image_size cells }
 {
-    70 * cells as usize + 34
+    front_size(cells) + 2 * CELL_SIZE * cells as usize
 }

@@ -1,13 +1,13 @@
 -- What a commit and a replay make of an image, and what a power loss may leave of it.
 use Rattle.std.specs.Prelude.{◌≡◌, ◌⊎◌, ℕ, false, List, length, take, drop, slice_range, Some}
-use Rattle.eeprom.specs.StoreOf.{front_size, written_directory, directory, with_entries, is_gate_open}
+use Rattle.eeprom.specs.StoreOf.{front_size, header_size, written_directory, directory, with_entries, is_gate_open}
 use Rattle.eeprom.specs.declared.entry.Entry.{Entry}
 
 -- all octets but those of the gate, the directory and the journal are as they were
 pub record KeepsRest (n : ℕ) (was left : List ℕ) : Type 0 where
   pub size : length left ≡ length was
   pub front : take 8 left ≡ take 8 was
-  pub behind_gate : slice_range left 9 32 ≡ slice_range was 9 32
+  pub behind_gate : slice_range left 9 header_size ≡ slice_range was 9 header_size
   pub cells : drop (front_size n) left ≡ drop (front_size n) was
 
 -- after a commit the gate is closed, and the directory has the entries

@@ -1,7 +1,7 @@
 // The octets of a journal: the number of its entries in two octets, and each entry in four.
 ghost use Rattle.std.specs.Prelude.{◌≡◌, ◌+◌, ◌*◌, ◌≤◌, [], ◌++◌, true, false, length, IfSome, IfNone, MatchOption};
 ghost use Rattle.std.specs.List.{list_all};
-ghost use Rattle.eeprom.specs.StoreOf.{number_at, entries_at, two_octets};
+ghost use Rattle.eeprom.specs.StoreOf.{most_cells, number_at, entries_at, two_octets};
 ghost use Rattle.eeprom.specs.StoreOf as image;
 
 use arrayvec::ArrayVec;
@@ -26,7 +26,7 @@ pub type Entries = ArrayVec<Entry, MOST_ENTRIES>;
 /// Makes these the octets of a journal with these entries, where there are none yet.
 pub fn push_journal<const CAP: usize>(octets: &mut ArrayVec<u8, CAP>, entries: &[Entry])
     requires none { octets.old.items ≡ [] }
-    requires few { length entries.now ≤ 2048 }
+    requires few { length entries.now ≤ most_cells }
     requires fits { 2 + 4 * length entries.now ≤ CAP }
     ensures number { number_at octets.new.items 0 ≡ length entries.now }
     ensures entries { entries_at octets.new.items 2 (length entries.now) ≡ entries.now }
@@ -41,7 +41,7 @@ pub fn push_journal<const CAP: usize>(octets: &mut ArrayVec<u8, CAP>, entries: &
 
 /// Makes these the so many entries of octets.
 pub fn take_entries(octets: &[u8], count: u16, entries: &mut Entries)
-    requires few { count ≤ 2048 }
+    requires few { count ≤ most_cells }
     requires size { length octets.now ≡ 4 * count }
     ensures entries { entries.new.items ≡ entries_at octets.now 0 count }
     ensures count { length entries.new.items ≡ count }
@@ -54,7 +54,7 @@ pub fn take_entries(octets: &[u8], count: u16, entries: &mut Entries)
 
 /// Whether each of these entries is in range.
 pub fn are_entries(entries: &[Entry], cells: u16) -> bool
-    requires few { cells ≤ 2048 }
+    requires few { cells ≤ most_cells }
     ensures { result ≡ list_all (image.is_entry cells) entries.now }
 {
     entries.iter().all(|entry| is_entry(*entry, cells))
@@ -74,7 +74,7 @@ fn entry_at(octets: &[u8], place: usize) -> Entry
 
 /// Whether an entry names a slot, and a cell or none.
 fn is_entry(entry: Entry, cells: u16) -> bool
-    requires few { cells ≤ 2048 }
+    requires few { cells ≤ most_cells }
     ensures { result ≡ image.is_entry cells entry }
 {
     entry.slot < cells && (entry.first < 2 * cells || entry.first == NO_CELL)

@@ -3,7 +3,7 @@ ghost use Rattle.std.specs.Prelude.{◌≡◌, ◌+◌, ◌*◌, ◌≤◌, ◌<
 ghost use Rattle.std.specs.List.{list_all};
 ghost use Rattle.eeprom.specs.Chip.{Becomes, RisesAtMost, RisesBy};
 ghost use Rattle.eeprom.specs.Frame.{HasRoom, Reads};
-ghost use Rattle.eeprom.specs.StoreOf.{is_entry, is_in_range, number_at, entries_at, journal_place};
+ghost use Rattle.eeprom.specs.StoreOf.{most_cells, is_entry, is_in_range, number_at, entries_at, journal_place};
 ghost use Rattle.journal.specs.Faults.{is_replay_fault};
 ghost use Rattle.journal.specs.Redo.{HasJournal};
 
@@ -17,7 +17,7 @@ pub fn read_journal<B: Eeprom>(
     cells: u16,
     entries: &mut Entries,
 ) -> Result<(), ReplayRefusal>
-    requires many { cells ≤ 2048 }
+    requires many { cells ≤ most_cells }
     requires room { HasRoom cells (B.chip bench.old) }
     ensures journal { OnOk result (IfSome (B.chip bench.old).image (HasJournal cells entries.new.items)) }
     ensures few { OnOk result (length entries.new.items ≤ cells) }
@@ -56,7 +56,7 @@ fn read_entries<B: Eeprom>(
     count: u16,
     entries: &mut Entries,
 ) -> Result<(), ReplayRefusal>
-    requires many { cells ≤ 2048 }
+    requires many { cells ≤ most_cells }
     requires few { count ≤ cells }
     requires room { HasRoom cells (B.chip bench.old) }
     ensures entries { OnOk result (IfSome (B.chip bench.old).image (λ image. entries.new.items ≡ entries_at image (journal_place cells + 2) count)) }

@@ -4,7 +4,7 @@ ghost use Rattle.std.specs.List.{list_all};
 ghost use Rattle.eeprom.specs.Chip.{Becomes, RisesBy, LeavesOf};
 ghost use Rattle.eeprom.specs.Fault.{Counts};
 ghost use Rattle.eeprom.specs.Frame.{HasRoom};
-ghost use Rattle.eeprom.specs.StoreOf.{is_entry};
+ghost use Rattle.eeprom.specs.StoreOf.{most_cells, is_entry};
 ghost use Rattle.journal.specs.Journal.{IsReplayed, KeepsDirectory};
 ghost use Rattle.journal.specs.Redo.{IsOpenWith, WritesEntries};
 
@@ -18,7 +18,7 @@ const CLOSED: [u8; 1] = [0];
 
 /// Makes the entries of the journal those of the directory, and closes the gate. They are the same however often it is begun.
 pub fn redo<B: Eeprom>(bench: &mut B, cells: u16, entries: &[Entry]) -> Result<(), EepromFault>
-    requires many { cells ≤ 2048 }
+    requires many { cells ≤ most_cells }
     requires few { length entries.now ≤ cells }
     requires entries { IsTrue (list_all (is_entry cells) entries.now) }
     requires over { IfSome (B.chip bench.old).image (IsOpenWith cells entries.now) }
@@ -37,7 +37,7 @@ pub fn redo<B: Eeprom>(bench: &mut B, cells: u16, entries: &[Entry]) -> Result<(
 
 /// Writes the entries into the directory, those of neighbouring slots together.
 fn write_entries<B: Eeprom>(bench: &mut B, cells: u16, entries: &[Entry]) -> Result<(), EepromFault>
-    requires many { cells ≤ 2048 }
+    requires many { cells ≤ most_cells }
     requires few { length entries.now ≤ cells }
     requires entries { IsTrue (list_all (is_entry cells) entries.now) }
     requires room { HasRoom cells (B.chip bench.old) }
@@ -61,7 +61,7 @@ fn write_runs<B: Eeprom, const CAP: usize>(
     entries: &[Entry],
     run: &mut Run<CAP>,
 ) -> Result<(), EepromFault>
-    requires many { cells ≤ 2048 }
+    requires many { cells ≤ most_cells }
     requires fits { 2 * length entries.now ≤ CAP }
     requires entries { IsTrue (list_all (is_entry cells) entries.now) }
     requires first { run.old.slot ≡ 0 }

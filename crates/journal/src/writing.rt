@@ -3,7 +3,7 @@ ghost use Rattle.std.specs.Prelude.{◌≡◌, ◌+◌, ◌*◌, ◌≤◌, [], 
 ghost use Rattle.std.specs.List.{list_all};
 ghost use Rattle.eeprom.specs.Fault.{Counts};
 ghost use Rattle.eeprom.specs.Frame.{HasRoom};
-ghost use Rattle.eeprom.specs.StoreOf.{is_entry};
+ghost use Rattle.eeprom.specs.StoreOf.{most_cells, is_entry};
 ghost use Rattle.journal.specs.Writing.{WritesJournal};
 
 use crate::octets::{FEW_ENTRIES, LARGEST_JOURNAL, SMALL_JOURNAL, push_journal};
@@ -16,7 +16,7 @@ pub fn write_journal<B: Eeprom>(
     cells: u16,
     entries: &[Entry],
 ) -> Result<(), EepromFault>
-    requires many { cells ≤ 2048 }
+    requires many { cells ≤ most_cells }
     requires few { length entries.now ≤ cells }
     requires entries { IsTrue (list_all (is_entry cells) entries.now) }
     requires room { HasRoom cells (B.chip bench.old) }
@@ -48,7 +48,7 @@ fn write_out_of<B: Eeprom, const CAP: usize>(
     entries: &[Entry],
     octets: &mut ArrayVec<u8, CAP>,
 ) -> Result<(), EepromFault>
-    requires many { cells ≤ 2048 }
+    requires many { cells ≤ most_cells }
     requires few { length entries.now ≤ cells }
     requires none { octets.old.items ≡ [] }
     requires fits { 2 + 4 * length entries.now ≤ CAP }

@@ -19,6 +19,7 @@ pub mod Replacing
 pub mod Replaying
 pub mod SameSlots
 pub mod Sides
+pub mod Sorting
 pub mod Touching
 pub mod Transacting
 pub mod Weighing

@@ -1,9 +1,11 @@
 -- Slots that are touched, and what is done with each of them.
 use Rattle.std.proofs.Common.{◌≡◌, ◌≢◌, inl, inr, ℕ, zero, suc, ◌+◌, ◌<◌, ◌≤◌, ◌==◌, ◌||◌, not, if◌then◌else◌, Bool, true, false, List, [], ◌∷◌, ◌++◌, length, take, drop, set, get_or, slice_index, replicate, sym, refl, ap, ◌∙◌, arith, true≢false, eqb-true, eq-eqb, length-append}
+use Rattle.std.specs.Prelude.{IsPermutation}
 use Rattle.std.proofs.lemmas.Bool.{and_parts, false_from_ne_true, or_cases, or_left, or_right}
 use Rattle.std.proofs.lemmas.Bool.Decides.{nat_tests}
 use Rattle.std.proofs.lemmas.Grind.{same_number_lists}
 use Rattle.std.proofs.lemmas.List.{get_or_default, drop_all, drop_more, length-replicate, length-set, get_or-set_same, get_or-set_other, take-append-drop}
+use Rattle.std.proofs.lemmas.List.Sorted.{length_permutation}
 use Rattle.eeprom.specs.StoreOf.{is_distinct}
 use Rattle.cell_store.specs.Chains.{is_among}
 use Rattle.cell_store.specs.Marks.{is_marked, marked}
@@ -12,6 +14,7 @@ use Rattle.cell_store.proofs.Marking.{marked-all, marked-inside, marked-set, unm
 use Rattle.record_store.specs.Touched.{AreSlots, AreMarkedOnce, SameOutside, with_touched}
 use Rattle.record_store.proofs.ClaimedSlots.{none-marked}
 use Rattle.record_store.proofs.Putting.{count-marked}
+use Rattle.record_store.proofs.Sorting.{among-sorted, distinct-sorted}
 use Rattle.record_store.proofs.Sides.{among-all, not-among-all, same-or-other}
 
 -- a slot is among those that it is one of
@@ -85,6 +88,15 @@ marked-cleared slots marks now room m none size = record {
   count = (let few = count-marked [] now (λ slot is. absurd (true≢false (sym is ∙ none slot))) in omega (arith, few));
   room_is = omega (arith, size, m.room_is);
   many = omega (arith, size, m.many);
+}
+
+pub marked-sorted : (slots now : List ℕ) (marks : List Bool) (room : ℕ) → IsPermutation slots now → AreMarkedOnce slots marks room → AreMarkedOnce now marks room
+marked-sorted slots now marks room moved m = record {
+  marks_are = λ slot. m.marks_are slot ∙ sym (among-sorted slot slots now moved);
+  distinct = distinct-sorted slots now moved m.distinct;
+  count = length_permutation slots now moved ∙ m.count;
+  room_is = m.room_is;
+  many = m.many;
 }
 
 pub touch-room : (slots : List ℕ) (marks : List Bool) (room slot : ℕ) → AreMarkedOnce slots marks room → slot < length marks → is_marked marks slot ≡ false → length slots < room

@@ -1,5 +1,6 @@
 -- The slots that a transaction touches, as slots are emptied and filled and as it begins and ends.
 use Rattle.std.proofs.Common.{◌≡◌, ℕ, true, false, List, [], length, set, slice_index, sym, refl, ap, ◌∙◌, arith, subst, true≢false}
+use Rattle.std.specs.Prelude.{IsPermutation}
 use Rattle.std.proofs.lemmas.Grind.{same_number_lists}
 use Rattle.std.proofs.lemmas.List.{get_or-set_other}
 use Rattle.eeprom.specs.StoreOf.{is_distinct}
@@ -15,6 +16,7 @@ use Rattle.record_store.specs.Weighed.{walk, IsWeighed}
 use Rattle.record_store.specs.declared.side.Side.TheVariants.{Working}
 use Rattle.record_store.proofs.InUse.{in_use-begun}
 use Rattle.record_store.proofs.OpeningSlots.{finished}
+use Rattle.record_store.proofs.Sorting.{among-sorted, none-sorted}
 use Rattle.record_store.proofs.Touching.{none-touched}
 
 -- where no transaction is begun both sides are the same
@@ -63,6 +65,15 @@ touched-kept held new touched room cells t = record { size = t.size ∙ sym cell
 
 pub touched-room : (held : Held) (touched : TouchedSlots) (room now : ℕ) → now ≡ room → IsTouched held touched room → IsTouched held touched now
 touched-room held touched room now same t = record { size = t.size; others = t.others; idle = t.idle; room_is = omega (arith, same, t.room_is) }
+
+-- they are put into another order
+pub touched-sorted : (held : Held) (touched now : TouchedSlots) (room : ℕ) → IsPermutation touched.slots now.slots → now.size ≡ touched.size → IsTouched held touched room → IsTouched held now room
+touched-sorted held touched now room moved size t = record {
+  size = size ∙ t.size;
+  others = λ slot none. t.others slot (sym (among-sorted slot touched.slots now.slots moved) ∙ none);
+  idle = λ idle. none-sorted touched.slots now.slots (t.idle idle) moved;
+  room_is = t.room_is;
+}
 
 pub touched-committed : (held : Held) (new : Cells) (firsts : List ℕ) (touched now : TouchedSlots) (room later : ℕ) → new.cells ≡ held.chains.cells → firsts ≡ held.working → now.slots ≡ [] → now.size ≡ touched.size → later ≡ room → IsTouched held touched room
     → IsTouched (record held { chains = new; committed = firsts; begun = false }) now later

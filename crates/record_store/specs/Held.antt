@@ -2,7 +2,7 @@
 use Rattle.std.specs.Prelude.{◌≡◌, ℕ, ◌==◌, ◌||◌, Bool, true, false, if◌then◌else◌, List, Option, Some, None, IsSome, IfSome, option_map, option_and_then, slice_index, slice_index_or, length, ◌<◌}
 use Rattle.eeprom.specs.Chip.{Chip}
 use Rattle.eeprom.specs.Frame.{HasRoom}
-use Rattle.eeprom.specs.StoreOf.{no_cell, Slots, Stored, slots_at, starts_with_magic, has_header, number_at, row_limit, is_gate_open, written_directory}
+use Rattle.eeprom.specs.StoreOf.{fresh_row_limit, migrated_row_limit, no_cell, Slots, Stored, slots_at, starts_with_magic, has_header, number_at, row_limit, is_gate_open, written_directory}
 use Rattle.cell_store.specs.Cells.{Cells, AreLinkedIn}
 use Rattle.record_store.specs.declared.side.Side.{Side}
 use Rattle.record_store.specs.declared.side.Side.TheVariants.{Committed, Working}
@@ -23,7 +23,7 @@ firsts held Working = if held.begun then held.working else held.committed
 
 -- how many octets a row may have: 240, or 1,020 on a card that was migrated
 abbrev pub IsRowLimit : ℕ → Type 0
-IsRowLimit limit = (limit == 240 || limit == 1020) ≡ true
+IsRowLimit limit = (limit == fresh_row_limit || limit == migrated_row_limit) ≡ true
 
 -- the records of a side
 abbrev pub contents : Held → Side → List ℕ → Option Slots

@@ -1,6 +1,6 @@
 -- What putting a record makes of a store, and taking one out of it.
 use Rattle.std.specs.Prelude.{◌≡◌, ℕ, ◌+◌, ◌<◌, ◌≤◌, Bool, List, length, Option, None, Some, IfSome, option_map, slice_set}
-use Rattle.eeprom.specs.StoreOf.{Slots, cells_for}
+use Rattle.eeprom.specs.StoreOf.{no_cell, Slots, cells_for}
 use Rattle.record_store.specs.Held.{Held, contents, StandsFor}
 use Rattle.eeprom.specs.StoreOf.{weight_of}
 use Rattle.record_store.specs.declared.side.Side.TheVariants.{Committed, Working}
@@ -36,4 +36,4 @@ IsFull held slot octets image = IfSome (contents held Working image) (λ slots. 
 
 -- a slot was emptied, and these cells are used then
 abbrev pub emptied : Held → ℕ → List Bool → Held
-emptied held slot used = record held { chains = record held.chains { used = used }; working = slice_set held.working slot 65535 }
+emptied held slot used = record held { chains = record held.chains { used = used }; working = slice_set held.working slot no_cell }

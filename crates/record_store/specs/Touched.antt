@@ -1,6 +1,6 @@
 -- The slots that a transaction touched, among all slots of a store.
 use Rattle.std.specs.Prelude.{◌≡◌, ℕ, ◌<◌, ◌≤◌, Bool, true, false, if◌then◌else◌, List, [], ◌∷◌, ◌++◌, length, slice_index}
-use Rattle.eeprom.specs.StoreOf.{is_distinct}
+use Rattle.eeprom.specs.StoreOf.{most_cells, is_distinct}
 use Rattle.cell_store.specs.Chains.{is_among}
 use Rattle.cell_store.specs.Marks.{is_marked, marked}
 
@@ -29,7 +29,7 @@ pub record AreMarkedOnce (slots : List ℕ) (marks : List Bool) (room : ℕ) : T
   pub distinct : is_distinct slots ≡ true
   pub count : length slots ≡ marked marks
   pub room_is : length marks ≤ room
-  pub many : length marks ≤ 2048
+  pub many : length marks ≤ most_cells
 
 -- in all other slots two lists have the same numbers
 abbrev pub SameOutside : List ℕ → List ℕ → List ℕ → Type 0

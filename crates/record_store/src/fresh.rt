@@ -4,7 +4,7 @@ ghost use Rattle.eeprom.specs.Chip.{Keeps};
 ghost use Rattle.eeprom.specs.Fault.{Counts, CountsFaults};
 ghost use Rattle.eeprom.specs.Frame.{HasRoom};
 ghost use Rattle.eeprom.specs.Image.{overwrite};
-ghost use Rattle.eeprom.specs.StoreOf.{starts_with_magic, store_of, fresh_store, image_size};
+ghost use Rattle.eeprom.specs.StoreOf.{cell_size, most_cells, starts_with_magic, store_of, fresh_store, image_size};
 ghost use Rattle.record_store.specs.Appends.{Appends, end_of};
 ghost use Rattle.record_store.specs.Faults.{is_format_fault};
 ghost use Rattle.record_store.specs.FreshImage.{LeavesFormatted, LeavesCleared, fresh_image, fresh_body, fresh_header, fresh_directory, fresh_cell};
@@ -25,7 +25,7 @@ impl Store {
         second: &[u8],
     ) -> Result<(), FormatRefusal>
         requires few { 16 ≤ cells }
-        requires many { cells ≤ 2048 }
+        requires many { cells ≤ most_cells }
         requires first { (1 ≤ length first.now) × (length first.now ≤ 28) }
         requires second { (1 ≤ length second.now) × (length second.now ≤ 28) }
         ensures image { OnOk result
@@ -74,7 +74,7 @@ fn write_body<B: Eeprom>(
     second: &[u8],
 ) -> Result<(), EepromFault>
     requires few { 16 ≤ cells }
-    requires many { cells ≤ 2048 }
+    requires many { cells ≤ most_cells }
     requires first { length first.now ≤ 28 }
     requires second { length second.now ≤ 28 }
     requires room { HasRoom cells (B.chip bench.old) }
@@ -138,11 +138,11 @@ fn write_cell<B: Eeprom>(
 ) -> Result<(), EepromFault>
     requires short { length octets.now ≤ 28 }
     requires behind { 4 ≤ writer.old.at }
-    requires room { end_of writer.old + 32 ≤ (B.chip bench.old).still.size }
+    requires room { end_of writer.old + cell_size ≤ (B.chip bench.old).still.size }
     ensures appends { OnOk result (Appends (fresh_cell octets.now) writer.old writer.new (B.chip bench.old) (B.chip bench.new)) }
     ensures behind { OnOk result (4 ≤ writer.new.at) }
     ensures front { Keeps (take 4) (B.chip bench.old) (B.chip bench.new) }
-    ensures after { (limit : ℕ) → end_of writer.old + 32 ≤ limit → Keeps (drop limit) (B.chip bench.old) (B.chip bench.new) }
+    ensures after { (limit : ℕ) → end_of writer.old + cell_size ≤ limit → Keeps (drop limit) (B.chip bench.old) (B.chip bench.new) }
     ensures cause { Counts (B.faults bench.old) (B.faults bench.new) result }
 {
     writer.append(bench, &[0xFF, 0xFF, 0, octets.len() as u8])?;

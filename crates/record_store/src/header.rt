@@ -2,7 +2,7 @@
 ghost use Rattle.std.specs.Prelude.{◌≡◌, ◌+◌, ◌*◌, ◌%◌, ◌<◌, ◌==◌, ◌&&◌, if◌then◌else◌, Some, None, length, is_some, slice_index, IfSome, IfOk, OnOk, IsErrOf};
 ghost use Rattle.eeprom.specs.Chip.{Becomes, RisesBy, RisesAtMost};
 ghost use Rattle.eeprom.specs.Frame.{Reads};
-ghost use Rattle.eeprom.specs.StoreOf.{store_of, number_at, numbers_at, row_limit, is_gate_open, written_directory};
+ghost use Rattle.eeprom.specs.StoreOf.{fresh_row_limit, migrated_row_limit, store_of, number_at, numbers_at, row_limit, is_gate_open, written_directory};
 ghost use Rattle.record_store.specs.Header.{begins_store, IsHeader, IsHeaderOf};
 ghost use Rattle.record_store.specs.Faults.{is_open_fault};
 
@@ -83,7 +83,7 @@ fn header_of(octets: &[u8; FRONT], size: usize) -> Option<Header>
 
 /// How many octets a row may have, by the version and the two octets that repeat the limit on a card that was migrated.
 fn row_limit_of(version: u8, limit: [u8; 2]) -> Option<u16>
-    ensures { result ≡ (if version % 2 == 0 then Some 240 else (if (slice_index limit 0 == 0x03) && (slice_index limit 1 == 0xFC) then Some 1020 else None)) }
+    ensures { result ≡ (if version % 2 == 0 then Some fresh_row_limit else (if (slice_index limit 0 == 0x03) && (slice_index limit 1 == 0xFC) then Some migrated_row_limit else None)) }
 {
     if version % 2 == 0 {
         Some(ROW_LIMIT)

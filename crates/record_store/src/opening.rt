@@ -3,7 +3,7 @@
 ghost use Rattle.std.specs.Prelude.{◌≡◌, ◌≢◌, ◌+◌, ◌*◌, ◌≤◌, ◌<◌, ◌++◌, false, [], ◌∷◌, None, length, is_some, option_map, IfSome, IfOk, IsErrOf, OnOk};
 ghost use Rattle.eeprom.specs.Chip.{Becomes, RisesBy, RisesAtMost};
 ghost use Rattle.eeprom.specs.Frame.{HasRoom, Reads};
-ghost use Rattle.eeprom.specs.StoreOf.{store_of, is_gate_open, cells_of, cell_size, longest_chain, most_cells};
+ghost use Rattle.eeprom.specs.StoreOf.{no_cell, store_of, is_gate_open, cells_of, cell_size, longest_chain, most_cells};
 ghost use Rattle.cell_store.specs.Reading.{ReadsCells};
 ghost use Rattle.cell_store.specs.Claims.{HasNoRecord};
 ghost use Rattle.cell_store.specs.Cells.{AreLinkedIn};
@@ -92,7 +92,7 @@ impl Opening {
     pub fn cells(&self) -> u16
         ensures number { result ≡ self.now.chains.cells }
         ensures few { 16 ≤ result }
-        ensures many { result ≤ 2048 }
+        ensures many { result ≤ most_cells }
     {
         self.chains.cells()
     }
@@ -189,7 +189,7 @@ fn claim_slot<B: Eeprom>(
     ensures count { IfOk result (λ count. count ≡ cells_of (slot_with out.new.items)) }
     ensures octets_read { IfOk result (λ count. Becomes (ReadsCells count) (B.octets_read bench.old) (B.octets_read bench.new)) }
     ensures most_read { Becomes (RisesAtMost (cell_size * longest_chain)) (B.octets_read bench.old) (B.octets_read bench.new) }
-    ensures bad_chain { IsErrOf result ClaimRefusal.BadChain → (first ≢ 65535) × IfSome (B.chip bench.old).image (HasNoRecord chains.old first) }
+    ensures bad_chain { IsErrOf result ClaimRefusal.BadChain → (first ≢ no_cell) × IfSome (B.chip bench.old).image (HasNoRecord chains.old first) }
     ensures frame { Reads is_claim_fault B.chip B.faults bench.old bench.new result }
 {
     if first == NO_CELL {

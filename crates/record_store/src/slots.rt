@@ -1,5 +1,6 @@
 // Slots by the first cells of their chains: an empty one, and chains that others replace.
 ghost use Rattle.std.specs.Prelude.{◌≡◌, ◌≤◌, ◌<◌, ℕ, List, true, if◌then◌else◌, length, is_some, slice_index, Some, None, IfSome, IfNone, All};
+ghost use Rattle.eeprom.specs.StoreOf.{most_cells, no_cell};
 ghost use Rattle.cell_store.specs.Marks.{StaysMarked, is_marked};
 ghost use Rattle.record_store.specs.Kept.{AreEmptyBehind};
 ghost use Rattle.record_store.specs.Slots.{AreUsedChains, AreReplaced};
@@ -44,12 +45,12 @@ pub fn copy_slots(slots: &[u16], from: &[u16], to: &mut Vec<u16>)
 
 /// The slot that is named, or else one whose chain begins nowhere. It is searched from a slot to the last, and then from the first.
 pub fn named_or_empty(slot: Option<u16>, firsts: &[u16], from: u16) -> Option<u16>
-    requires few { length firsts.now ≤ 2048 }
+    requires few { length firsts.now ≤ most_cells }
     requires named { IfSome slot (λ slot. slot < length firsts.now) }
     ensures there { IfSome result (λ found. found < length firsts.now) }
     ensures named { IfSome slot (λ slot. result ≡ Some slot) }
-    ensures empty { slot ≡ None → IfSome result (λ found. slice_index firsts.now found ≡ 65535) }
-    ensures none { IfNone result ((slot ≡ None) × All (λ first. ¬ (first ≡ 65535)) firsts.now) }
+    ensures empty { slot ≡ None → IfSome result (λ found. slice_index firsts.now found ≡ no_cell) }
+    ensures none { IfNone result ((slot ≡ None) × All (λ first. ¬ (first ≡ no_cell)) firsts.now) }
 {
     if let Some(_) = slot {
         return slot;
@@ -73,7 +74,7 @@ pub fn search_from(named: Option<u16>, found: u16, from: u16) -> u16
 
 /// Behind so many slots no chain begins.
 pub fn slots_in_use(firsts: &[u16]) -> u16
-    requires few { length firsts.now ≤ 2048 }
+    requires few { length firsts.now ≤ most_cells }
     ensures most { result ≤ length firsts.now }
     ensures empty { AreEmptyBehind result firsts.now }
 {
@@ -88,10 +89,10 @@ pub fn slots_in_use(firsts: &[u16]) -> u16
 
 /// The first slot from one on whose chain begins nowhere.
 fn empty_from(firsts: &[u16], from: u16) -> Option<u16>
-    requires few { length firsts.now ≤ 2048 }
+    requires few { length firsts.now ≤ most_cells }
     ensures there { IfSome result (λ slot. slot < length firsts.now) }
-    ensures empty { IfSome result (λ slot. slice_index firsts.now slot ≡ 65535) }
-    ensures none { IfNone result (from ≡ 0 → All (λ first. ¬ (first ≡ 65535)) firsts.now) }
+    ensures empty { IfSome result (λ slot. slice_index firsts.now slot ≡ no_cell) }
+    ensures none { IfNone result (from ≡ 0 → All (λ first. ¬ (first ≡ no_cell)) firsts.now) }
 {
     for slot in from..firsts.len() as u16 {
         if firsts[slot as usize] == NO_CELL {

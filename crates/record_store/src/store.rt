@@ -3,7 +3,7 @@ ghost use Rattle.std.specs.Prelude.{◌≡◌, ◌↔◌, ◌+◌, ◌*◌, ◌�
 ghost use Rattle.eeprom.specs.Chip.{Becomes, RisesBy, RisesAtMost, Keeps};
 ghost use Rattle.eeprom.specs.Fault.{Counts, CountsFaults, each_error};
 ghost use Rattle.eeprom.specs.Frame.{Reads};
-ghost use Rattle.eeprom.specs.StoreOf.{no_cell, Slots, Stored, store_of, is_gate_open, cell_size, longest_record};
+ghost use Rattle.eeprom.specs.StoreOf.{migrated_row_limit, most_cells, no_cell, Slots, Stored, store_of, is_gate_open, cell_size, longest_record};
 ghost use Rattle.eeprom.specs.StoreOf as image;
 ghost use Rattle.record_store.specs.Held.{firsts, contents, stored, record_at, first_octet, StandsFor, IsOver, IsRowLimit};
 ghost use Rattle.record_store.specs.Opening.{StandsSoFar, ReadsStore, most_octets, slots_so_far};
@@ -119,7 +119,7 @@ impl Store {
     pub fn cells(&self) -> u16
         ensures number { result ≡ self.now.chains.cells }
         ensures few { 16 ≤ result }
-        ensures many { result ≤ 2048 }
+        ensures many { result ≤ most_cells }
     {
         self.chains.cells()
     }
@@ -128,7 +128,7 @@ impl Store {
     pub fn row_limit(&self) -> u16
         ensures limit { result ≡ self.now.row_limit }
         ensures one { IsRowLimit result }
-        ensures most { result ≤ 1020 }
+        ensures most { result ≤ migrated_row_limit }
     {
         self.row_limit
     }
@@ -294,7 +294,7 @@ impl Store {
         requires slot { slot < self.now.chains.cells }
         ensures weight { result ≡ steps_without self.now.chains.links self.now.working slot }
         ensures few { result ≤ self.now.chains.cells }
-        ensures many { self.now.chains.cells ≤ 2048 }
+        ensures many { self.now.chains.cells ≤ most_cells }
     {
         self.working_weight - self.chains.length_of_chain(self.working[slot as usize])
     }
@@ -316,6 +316,7 @@ impl Store {
         ensures unchanged { OnErr result (self.new ≡ self.old) }
         ensures cause { Counts (B.faults bench.old) (B.faults bench.new) result }
     {
+        self.touched.sort();
         let slots = self.touched.slots();
         let working = self.working.as_slice();
         take_entries(&mut self.entries, slots, self.committed.as_slice(), working);

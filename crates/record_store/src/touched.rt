@@ -1,5 +1,7 @@
 // The slots that a transaction touched: each once, without a look at all slots of the store.
-ghost use Rattle.std.specs.Prelude.{◌≡◌, ◌≤◌, ◌<◌, ℕ, [], true, false, length, IfOk};
+ghost use Rattle.std.specs.Prelude.{◌≡◌, ◌≤◌, ◌<◌, ℕ, [], true, false, length, IfOk, IsPermutation};
+ghost use Rattle.std.specs.List.Sorted.{IsNonDecreasing};
+ghost use Rattle.eeprom.specs.StoreOf.{most_cells};
 ghost use Rattle.cell_store.specs.Chains.{is_among};
 ghost use Rattle.cell_store.specs.Marks.{is_marked};
 ghost use Rattle.record_store.specs.Touched.{none_touched, with_touched, AreSlots};
@@ -30,7 +32,7 @@ impl Model for Touched {
 impl Touched {
     /// None of so many slots. All memory that is needed is taken here.
     pub fn with_room(alloc: Global, size: u16) -> Result<Touched, AllocError>
-        requires few { size ≤ 2048 }
+        requires few { size ≤ most_cells }
         ensures { IfOk result (λ touched. touched ≡ none_touched size) }
     {
         Ok(Touched {
@@ -58,6 +60,15 @@ impl Touched {
         }
         self.marks[slot as usize] = true;
         self.slots.push_reserved(slot);
+    }
+
+    /// Puts the slots into rising order.
+    pub fn sort(&mut self)
+        ensures slots { IsPermutation self.old.slots self.new.slots }
+        ensures rising { IsNonDecreasing self.new.slots }
+        ensures size { self.new.size ≡ self.old.size }
+    {
+        self.slots.sort_unstable();
     }
 
     /// Forgets all slots.

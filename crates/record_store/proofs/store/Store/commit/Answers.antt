@@ -4,14 +4,15 @@ use Rattle.cell_store.specs.Marks.{StaysMarked}
 use Rattle.eeprom.specs.Chip.{Keeps}
 use Rattle.eeprom.specs.StoreOf.{image_size}
 use Rattle.record_store.specs.Held.{Held}
+use Rattle.record_store.specs.Kept.{IsTouched}
 use Rattle.record_store.specs.Transaction.{Commits}
 use Rattle.record_store.proofs.Commit.{Ready, ready-from, changed-few, commits-from, commit-done}
 use Rattle.record_store.proofs.Filling.{commit-sound, commit-view}
 use Rattle.record_store.proofs.InUse.{in_use-committed}
 use Rattle.record_store.proofs.Keeping.{behind-commit}
-use Rattle.record_store.proofs.Transacting.{touched-slots, working-others, committed-others, touched-room, touched-committed}
+use Rattle.record_store.proofs.Transacting.{touched-sorted, touched-slots, working-others, committed-others, touched-room, touched-committed}
 use Rattle.record_store.proofs.Weighing.{weighed-committed}
-use Rattle.record_store.proofs.store.Store.commit.Goals.{After-take_entries, After-commit}
+use Rattle.record_store.proofs.store.Store.commit.Goals.{After-sort, After-take_entries, After-commit}
 use Rattle.record_store.proofs.store.Store.commit.Goals as goal
 
 ready : (g : _) (c : After-take_entries g) → Ready c.args.self.now c.take_entries.new.entries.items
@@ -29,6 +30,11 @@ pub commit-requires-clause-entries : goal.commit-requires-clause-entries
 commit-requires-clause-entries g c =
     let r = ready g (goal.at.commit-requires-clause-entries g c).After-take_entries in
     rw (c.as_slice-2.ensures.value, c.cells.ensures.number, ap (λ (held : Held). held.chains.cells) c.self.view_is) (r.range)
+
+-- the slots that were touched, in rising order
+sorted : (g : _) (c : After-sort g)
+    → IsTouched (record { chains = c.self.inside.chains; row_limit = c.self.inside.row_limit; committed = c.self.inside.committed.items; working = c.self.inside.working.items; begun = c.self.inside.begun; first_octets = c.self.inside.first_octets.items }) c.sort.new.self (vec_capacity c.self.inside.entries)
+sorted g c = touched-sorted _ c.self.inside.touched c.sort.new.self _ c.sort.ensures.slots c.sort.ensures.size c.self.invariant.transaction
 
 moments : (g : _) (c : After-commit g) → Commits c.args.self.now (g.B.Eeprom.chip c.args.bench.now) (g.B.Eeprom.chip c.commit.new.bench)
 moments g c =
@@ -48,15 +54,15 @@ invariant_of-self-2 g c =
       weighed = weighed-committed whole c.free_replaced.new.cells _ c.self.inside.committed_weight c.self.inside.working_weight c.self.invariant.weighed begun c.free_replaced.ensures.links same
           (commit-sound whole c.free_replaced.new.cells _ c.as_slice-3.result.now c.as_slice-working.result.now c.self.invariant.weighed.sound begun c.as_slice-3.ensures.value c.as_slice-working.ensures.value
           c.free_replaced.ensures.cells c.free_replaced.ensures.links same c.free_replaced.ensures.freed c.free_replaced.ensures.others c.free_replaced.ensures.fewer c.free_replaced.ensures.count);
-      transaction = touched-committed whole c.free_replaced.new.cells _ c.self.inside.touched c.clear.new.self (vec_capacity c.self.inside.entries) (vec_capacity c.take_entries.new.entries) c.free_replaced.ensures.cells same c.clear.ensures.slots c.clear.ensures.size
-          c.take_entries.ensures.room c.self.invariant.transaction;
+      transaction = touched-committed whole c.free_replaced.new.cells _ c.sort.new.self c.clear.new.self (vec_capacity c.self.inside.entries) (vec_capacity c.take_entries.new.entries) c.free_replaced.ensures.cells same c.clear.ensures.slots c.clear.ensures.size
+          c.take_entries.ensures.room (sorted g (goal.at.invariant_of-self-2 g c).After-sort);
     }
 
 pub invariant_of-self : goal.invariant_of-self
 invariant_of-self g c = record {
   weighed = c.self.invariant.weighed;
   in_use = c.self.invariant.in_use;
-  transaction = touched-room _ c.self.inside.touched (vec_capacity c.self.inside.entries) (vec_capacity c.take_entries.new.entries) c.take_entries.ensures.room c.self.invariant.transaction;
+  transaction = touched-room _ c.sort.new.self (vec_capacity c.self.inside.entries) (vec_capacity c.take_entries.new.entries) c.take_entries.ensures.room (sorted g (goal.at.invariant_of-self g c).After-sort);
 }
 
 pub returns-clause-done : goal.returns-clause-done
@@ -86,24 +92,24 @@ returns-clause-behind g c = behind g (goal.at.returns-clause-behind g c).After-c
 
 pub take_entries-requires-clause-slots : goal.take_entries-requires-clause-slots
 take_entries-requires-clause-slots g c =
-    touched-slots _ c.self.inside.touched _ c.as_slice.result.now c.slots-slots.result.now c.self.invariant.transaction c.slots-slots.ensures.are c.slots-slots.ensures.slots (ap (length {A = ℕ}) c.as_slice.ensures.value ∙ c.self.invariant.weighed.sound.committed_count)
+    touched-slots _ c.sort.new.self _ c.as_slice.result.now c.slots-slots.result.now (sorted g (goal.at.take_entries-requires-clause-slots g c).After-sort) c.slots-slots.ensures.are c.slots-slots.ensures.slots (ap (length {A = ℕ}) c.as_slice.ensures.value ∙ c.self.invariant.weighed.sound.committed_count)
 
 pub take_entries-requires-clause-others : goal.take_entries-requires-clause-others
 take_entries-requires-clause-others g c =
-    working-others _ c.self.inside.touched _ c.slots-slots.result.now c.as_slice-working.result.now c.as_slice.result.now c.self.invariant.transaction c.slots-slots.ensures.slots c.as_slice-working.ensures.value c.as_slice.ensures.value
+    working-others _ c.sort.new.self _ c.slots-slots.result.now c.as_slice-working.result.now c.as_slice.result.now (sorted g (goal.at.take_entries-requires-clause-others g c).After-sort) c.slots-slots.ensures.slots c.as_slice-working.ensures.value c.as_slice.ensures.value
 
 pub free_replaced-requires-clause-slots : goal.free_replaced-requires-clause-slots
 free_replaced-requires-clause-slots g c =
-    touched-slots _ c.self.inside.touched _ c.as_slice-3.result.now c.slots-slots.result.now c.self.invariant.transaction c.slots-slots.ensures.are c.slots-slots.ensures.slots (ap (length {A = ℕ}) c.as_slice-3.ensures.value ∙ c.self.invariant.weighed.sound.committed_count)
+    touched-slots _ c.sort.new.self _ c.as_slice-3.result.now c.slots-slots.result.now (sorted g (goal.at.free_replaced-requires-clause-slots g c).After-sort) c.slots-slots.ensures.are c.slots-slots.ensures.slots (ap (length {A = ℕ}) c.as_slice-3.ensures.value ∙ c.self.invariant.weighed.sound.committed_count)
 
 pub free_replaced-requires-clause-others : goal.free_replaced-requires-clause-others
 free_replaced-requires-clause-others g c =
-    committed-others _ c.self.inside.touched _ c.slots-slots.result.now c.as_slice-working.result.now c.as_slice-3.result.now c.self.invariant.transaction c.slots-slots.ensures.slots c.as_slice-working.ensures.value c.as_slice-3.ensures.value
+    committed-others _ c.sort.new.self _ c.slots-slots.result.now c.as_slice-working.result.now c.as_slice-3.result.now (sorted g (goal.at.free_replaced-requires-clause-others g c).After-sort) c.slots-slots.ensures.slots c.as_slice-working.ensures.value c.as_slice-3.ensures.value
 
 pub copy_slots-requires-clause-slots : goal.copy_slots-requires-clause-slots
 copy_slots-requires-clause-slots g c =
-    touched-slots _ c.self.inside.touched _ c.as_slice-working.result.now c.slots-slots.result.now c.self.invariant.transaction c.slots-slots.ensures.are c.slots-slots.ensures.slots (ap (length {A = ℕ}) c.as_slice-working.ensures.value ∙ c.self.invariant.weighed.sound.working_count)
+    touched-slots _ c.sort.new.self _ c.as_slice-working.result.now c.slots-slots.result.now (sorted g (goal.at.copy_slots-requires-clause-slots g c).After-sort) c.slots-slots.ensures.are c.slots-slots.ensures.slots (ap (length {A = ℕ}) c.as_slice-working.ensures.value ∙ c.self.invariant.weighed.sound.working_count)
 
 pub copy_slots-requires-clause-others : goal.copy_slots-requires-clause-others
 copy_slots-requires-clause-others g c =
-    committed-others _ c.self.inside.touched _ c.slots-slots.result.now c.as_slice-working.result.now c.self.inside.committed.items c.self.invariant.transaction c.slots-slots.ensures.slots c.as_slice-working.ensures.value refl
+    committed-others _ c.sort.new.self _ c.slots-slots.result.now c.as_slice-working.result.now c.self.inside.committed.items (sorted g (goal.at.copy_slots-requires-clause-others g c).After-sort) c.slots-slots.ensures.slots c.as_slice-working.ensures.value refl
