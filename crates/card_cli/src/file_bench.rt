@@ -3,11 +3,12 @@ ghost use Rattle.std.specs.Prelude.{◌≡◌, ◌≤◌, ◌+◌, None, IfOk, l
 ghost use Rattle.card_cli.specs.FileChip.{file_chip};
 ghost use Rattle.std.proofs.Common.{rules};
 
+use crate::card_file::CardFile;
 use crate::fault_count::count_fault;
 use eeprom::{Bench, Eeprom, EepromFault, Outlet, SinkFault};
-use std::fs::{Files, OpenFile, OpenOptions};
+use std::fs::{File, Files};
 use std::io;
-use std::io::{Read, Seek, SeekFrom, Write};
+use std::io::Write;
 use thiserror::Error;
 
 /// The octets of the image, however short the file is.
@@ -20,26 +21,21 @@ pub struct FileFault;
 
 /// A file and standard output. It tells no contents, neither of the image nor of what was given.
 #[derive(Drop)]
-pub struct FileBench<R: Files + Print + Drop> {
+pub struct FileBench<R: Print + Drop> {
     rt: R,
-    file: R::File,
+    file: CardFile,
     faults: u64,
     sink_faults: u64,
 }
 
-impl<R: Files + Print + Drop> FileBench<R> {
+impl<R: Files<File = File> + Print + Drop> FileBench<R> {
     /// Opens the file, which is made where it is missing and `create` says so.
     pub fn open(rt: R, path: &str, create: bool) -> Result<FileBench<R>, FileFault>
-        ensures size { IfOk result (λ bench. (⟦<FileBench<R> as Eeprom>⟧.chip bench).still.size ≡ 262144) }
+        ensures size { IfOk result (λ bench. (⟦<FileBench<R> as Eeprom>⟧.chip bench).still.size ≡ FILE_SIZE) }
         ensures faults { IfOk result (λ bench. ⟦<FileBench<R> as Eeprom>⟧.faults bench ≡ 0) }
         ensures sink_faults { IfOk result (λ bench. ⟦<FileBench<R> as Outlet>⟧.sink_faults bench ≡ 0) }
     {
-        let opened = OpenOptions::new()
-            .read(true)
-            .write(true)
-            .create(create)
-            .open(&rt, path);
-        match opened {
+        match CardFile::open(&rt, path, create) {
             Ok(file) => Ok(FileBench {
                 rt,
                 file,
@@ -51,7 +47,7 @@ impl<R: Files + Print + Drop> FileBench<R> {
     }
 }
 
-impl<R: Files + Print + Drop> Eeprom for FileBench<R> {
+impl<R: Print + Drop> Eeprom for FileBench<R> {
     ghost chip = { λ bench. file_chip bench.sink_faults };
 
     ghost octets_read = { λ _. None };
@@ -63,12 +59,12 @@ impl<R: Files + Print + Drop> Eeprom for FileBench<R> {
     }
 
     fn read(&mut self, at: usize, into: &mut [u8]) -> Result<(), EepromFault> {
-        let answer = read_at(&mut self.file, at as u64, into);
+        let answer = self.file.read(at, into);
         count_fault(&mut self.faults, answer, EepromFault)
     }
 
     fn write(&mut self, at: usize, from: &[u8]) -> Result<(), EepromFault> {
-        let answer = write_at(&mut self.file, at as u64, from);
+        let answer = self.file.write(at, from);
         count_fault(&mut self.faults, answer, EepromFault)
     }
 
@@ -79,7 +75,7 @@ impl<R: Files + Print + Drop> Eeprom for FileBench<R> {
     ghost sized = { λ _. tt };
 }
 
-impl<R: Files + Print + Drop> Outlet for FileBench<R> {
+impl<R: Print + Drop> Outlet for FileBench<R> {
     ghost given = { λ _. None };
 
     ghost sink_faults = { λ bench. bench.sink_faults };
@@ -92,37 +88,12 @@ impl<R: Files + Print + Drop> Outlet for FileBench<R> {
     }
 }
 
-impl<R: Files + Print + Drop> Bench for FileBench<R> {
+impl<R: Print + Drop> Bench for FileBench<R> {
     ghost output = { λ _. (refl, refl) };
 
     ghost mark = { λ _. tt };
 
     ghost gives = { λ _ _ kept. (Prim.search rules, kept, refl) };
-}
-
-// What lies past the file's end reads as 00.
-fn read_at<F: Read + Seek>(file: &mut F, at: u64, into: &mut [u8]) -> io::Result<()> {
-    file.seek(SeekFrom::Start(at))?;
-    into.fill(0);
-    let mut filled = 0;
-    while filled < into.len() {
-        let count = file.read(&mut into[filled..])?;
-        if count == 0 {
-            break;
-        }
-        filled += count;
-    }
-    Ok(())
-}
-
-// A file that ends before the place is extended with 00 first.
-fn write_at<F: Write + Seek + OpenFile>(file: &mut F, at: u64, from: &[u8]) -> io::Result<()> {
-    if file.metadata()?.len() < at {
-        file.set_len(at)?;
-    }
-    file.seek(SeekFrom::Start(at))?;
-    file.write_all(from)?;
-    file.sync_all()
 }
 
 // Each piece is gone when the call answers.

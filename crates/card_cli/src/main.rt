@@ -2,6 +2,7 @@
 #![tactic(auto)]
 
 mod answering;
+mod card_file;
 mod ending;
 mod fault_count;
 mod file_bench;

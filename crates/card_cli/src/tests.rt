@@ -25,12 +25,12 @@ const FRESH_CARD: [(usize, &[u8]); 5] = [
     ),
 ];
 
-/// What is different in it after OWNER made ANN, a basic user. The journal has the user's slot first, which is put first.
+/// What is different in it after OWNER made ANN, a basic user.
 const WITH_ANN: [(usize, &[u8]); 4] = [
     (32, &[0x00, 0x03, 0x00, 0x01, 0x00, 0x02]),
     (
         64,
-        &[0x00, 0x02, 0x00, 0x02, 0x00, 0x02, 0x00, 0x00, 0x00, 0x03],
+        &[0x00, 0x02, 0x00, 0x00, 0x00, 0x03, 0x00, 0x02, 0x00, 0x02],
     ),
     (
         194,

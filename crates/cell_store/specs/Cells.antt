@@ -1,7 +1,7 @@
 -- What a store of cells keeps in memory, and which images link its cells so.
 use Rattle.std.specs.Prelude.{◌≡◌, ℕ, ◌*◌, ◌≤◌, Bool, true, false, List, length, replicate, slice_index}
 use Rattle.std.specs.List.{AllByRecursion}
-use Rattle.eeprom.specs.StoreOf.{most_cells, no_cell, number_at, cell_place, longest_chain}
+use Rattle.eeprom.specs.StoreOf.{fewest_cells, most_cells, no_cell, number_at, cell_place, longest_chain}
 use Rattle.cell_store.specs.Marks.{is_marked}
 use Rattle.cell_store.specs.Chains.{AreLinked, with_unmarked}
 
@@ -13,7 +13,7 @@ pub record Cells : Type 0 where
 
 -- what holds of each store, whatever an EEPROM tells
 pub record IsInRange (store : Cells) : Type 0 where
-  pub few : 16 ≤ store.cells
+  pub few : fewest_cells ≤ store.cells
   pub many : store.cells ≤ most_cells
   pub used_count : length store.used ≡ 2 * store.cells
   pub links_count : length store.links ≡ 2 * store.cells

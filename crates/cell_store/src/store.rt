@@ -3,7 +3,7 @@ ghost use Rattle.std.specs.Prelude.{◌≡◌, ◌↔◌, ◌+◌, ◌*◌, ◌�
 ghost use Rattle.eeprom.specs.Chip.{Becomes, RisesAtMost, RisesBy};
 ghost use Rattle.eeprom.specs.Fault.{CountsFaults, each_error};
 ghost use Rattle.eeprom.specs.Frame.{HasRoom, Reads};
-ghost use Rattle.eeprom.specs.StoreOf.{most_cells, slot_of, cell_size, longest_record, longest_chain};
+ghost use Rattle.eeprom.specs.StoreOf.{fewest_cells, most_cells, slot_of, cell_size, longest_record, longest_chain};
 ghost use Rattle.eeprom.specs.StoreOf as image;
 ghost use Rattle.cell_store.specs.Marks.{StaysMarked, unmarked};
 ghost use Rattle.cell_store.specs.Chains.{IsRecordChain, steps};
@@ -45,7 +45,7 @@ impl Model for CellStore {
 impl CellStore {
     /// A store of cells of which none is used. All memory that it needs is taken here.
     pub fn with_room(alloc: Global, cells: u16) -> Result<CellStore, AllocError>
-        requires few { 16 ≤ cells }
+        requires few { fewest_cells ≤ cells }
         requires many { cells ≤ most_cells }
         ensures { IfOk result (λ store. store ≡ all_free cells) }
     {
@@ -60,7 +60,7 @@ impl CellStore {
     /// How many cells records may have; there are twice as many.
     pub fn cells(&self) -> u16
         ensures number { result ≡ self.now.cells }
-        ensures few { 16 ≤ result }
+        ensures few { fewest_cells ≤ result }
         ensures many { result ≤ most_cells }
     {
         self.cells

@@ -18,6 +18,7 @@ pub mod Replaced
 pub mod Replacing
 pub mod Replaying
 pub mod SameSlots
+pub mod Rising
 pub mod Sides
 pub mod Sorting
 pub mod Touching

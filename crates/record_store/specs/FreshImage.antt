@@ -1,7 +1,7 @@
 -- The octets of a new store, in the order of the image.
 use Rattle.std.specs.Prelude.{None, Some, ◌⊎◌, ◌≡◌, ℕ, ◌+◌, ◌-◌, ◌*◌, List, [], ◌∷◌, ◌++◌, length, replicate}
 use Rattle.eeprom.specs.Chip.{Chip, Leaves}
-use Rattle.eeprom.specs.StoreOf.{two_octets, store_of, fresh_store}
+use Rattle.eeprom.specs.StoreOf.{piece_size, two_octets, store_of, fresh_store}
 
 -- 53 43 51 4C, which is `SCQL`
 abbrev pub magic : List ℕ
@@ -15,9 +15,13 @@ fresh_header n = (2 ∷ 0 ∷ two_octets n) ++ replicate 24 0
 abbrev pub fresh_directory : ℕ → List ℕ
 fresh_directory n = (0 ∷ 0 ∷ 0 ∷ 1 ∷ []) ++ (replicate (2 * n - 4) 0xFF ++ replicate (4 * n + 2) 0)
 
+-- how many octets a record has at most that one cell holds
+abbrev pub one_cell_record : ℕ
+one_cell_record = piece_size - 2
+
 -- a cell with no next one, that holds a record's length and octets
 abbrev pub fresh_cell : List ℕ → List ℕ
-fresh_cell octets = (0xFF ∷ 0xFF ∷ 0 ∷ length octets ∷ []) ++ (octets ++ replicate (28 - length octets) 0)
+fresh_cell octets = (0xFF ∷ 0xFF ∷ 0 ∷ length octets ∷ []) ++ (octets ++ replicate (one_cell_record - length octets) 0)
 
 -- all but the magic, which comes before it
 abbrev pub fresh_body : ℕ → List ℕ → List ℕ → List ℕ

@@ -1,6 +1,8 @@
 -- The slots that a transaction touched, among all slots of a store.
 use Rattle.std.specs.Prelude.{◌≡◌, ℕ, ◌<◌, ◌≤◌, Bool, true, false, if◌then◌else◌, List, [], ◌∷◌, ◌++◌, length, slice_index}
+use Rattle.std.specs.List.Sorted.{IsNonDecreasingBy}
 use Rattle.eeprom.specs.StoreOf.{most_cells, is_distinct}
+use Rattle.eeprom.specs.declared.entry.Entry.{Entry}
 use Rattle.cell_store.specs.Chains.{is_among}
 use Rattle.cell_store.specs.Marks.{is_marked, marked}
 
@@ -30,6 +32,10 @@ pub record AreMarkedOnce (slots : List ℕ) (marks : List Bool) (room : ℕ) : T
   pub count : length slots ≡ marked marks
   pub room_is : length marks ≤ room
   pub many : length marks ≤ most_cells
+
+-- entries in the order of their slots
+abbrev pub AreInOrder : List Entry → Type 0
+AreInOrder entries = IsNonDecreasingBy (λ entry. entry.slot) entries
 
 -- in all other slots two lists have the same numbers
 abbrev pub SameOutside : List ℕ → List ℕ → List ℕ → Type 0

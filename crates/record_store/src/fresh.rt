@@ -4,16 +4,19 @@ ghost use Rattle.eeprom.specs.Chip.{Keeps};
 ghost use Rattle.eeprom.specs.Fault.{Counts, CountsFaults};
 ghost use Rattle.eeprom.specs.Frame.{HasRoom};
 ghost use Rattle.eeprom.specs.Image.{overwrite};
-ghost use Rattle.eeprom.specs.StoreOf.{cell_size, most_cells, starts_with_magic, store_of, fresh_store, image_size};
+ghost use Rattle.eeprom.specs.StoreOf.{fewest_cells, cell_size, most_cells, starts_with_magic, store_of, fresh_store, image_size};
 ghost use Rattle.record_store.specs.Appends.{Appends, end_of};
 ghost use Rattle.record_store.specs.Faults.{is_format_fault};
-ghost use Rattle.record_store.specs.FreshImage.{LeavesFormatted, LeavesCleared, fresh_image, fresh_body, fresh_header, fresh_directory, fresh_cell};
+ghost use Rattle.record_store.specs.FreshImage.{one_cell_record, LeavesFormatted, LeavesCleared, fresh_image, fresh_body, fresh_header, fresh_directory, fresh_cell};
 
 use crate::layout::{FORMAT, MAGIC};
 use crate::writer::Writer;
 use crate::{FormatRefusal, Store};
 use cell_store::octets_of;
-use eeprom::{Eeprom, EepromFault, image_size};
+use eeprom::{Eeprom, EepromFault, PIECE_SIZE, image_size};
+
+/// How many octets a record has at most that one cell holds.
+const ONE_CELL_RECORD: usize = PIECE_SIZE - 2;
 
 impl Store {
     /// Makes a new store, which has these two records in its first slots.
@@ -24,10 +27,10 @@ impl Store {
         first: &[u8],
         second: &[u8],
     ) -> Result<(), FormatRefusal>
-        requires few { 16 ≤ cells }
+        requires few { fewest_cells ≤ cells }
         requires many { cells ≤ most_cells }
-        requires first { (1 ≤ length first.now) × (length first.now ≤ 28) }
-        requires second { (1 ≤ length second.now) × (length second.now ≤ 28) }
+        requires first { (1 ≤ length first.now) × (length first.now ≤ one_cell_record) }
+        requires second { (1 ≤ length second.now) × (length second.now ≤ one_cell_record) }
         ensures image { OnOk result
             ((B.chip bench.new).image ≡ option_map (λ image. overwrite image 0 (fresh_image cells first.now second.now)) (B.chip bench.old).image) }
         ensures formatted { OnOk result (IfSome (B.chip bench.new).image (λ image. store_of image ≡ Some (fresh_store cells first.now second.now))) }
@@ -73,10 +76,10 @@ fn write_body<B: Eeprom>(
     first: &[u8],
     second: &[u8],
 ) -> Result<(), EepromFault>
-    requires few { 16 ≤ cells }
+    requires few { fewest_cells ≤ cells }
     requires many { cells ≤ most_cells }
-    requires first { length first.now ≤ 28 }
-    requires second { length second.now ≤ 28 }
+    requires first { length first.now ≤ one_cell_record }
+    requires second { length second.now ≤ one_cell_record }
     requires room { HasRoom cells (B.chip bench.old) }
     ensures image { OnOk result
         ((B.chip bench.new).image ≡ option_map (λ image. overwrite image 4 (fresh_body cells first.now second.now)) (B.chip bench.old).image) }
@@ -136,7 +139,7 @@ fn write_cell<B: Eeprom>(
     bench: &mut B,
     octets: &[u8],
 ) -> Result<(), EepromFault>
-    requires short { length octets.now ≤ 28 }
+    requires short { length octets.now ≤ one_cell_record }
     requires behind { 4 ≤ writer.old.at }
     requires room { end_of writer.old + cell_size ≤ (B.chip bench.old).still.size }
     ensures appends { OnOk result (Appends (fresh_cell octets.now) writer.old writer.new (B.chip bench.old) (B.chip bench.new)) }
@@ -147,5 +150,5 @@ fn write_cell<B: Eeprom>(
 {
     writer.append(bench, &[0xFF, 0xFF, 0, octets.len() as u8])?;
     writer.append(bench, octets)?;
-    writer.fill(bench, 0, 28 - octets.len())
+    writer.fill(bench, 0, ONE_CELL_RECORD - octets.len())
 }

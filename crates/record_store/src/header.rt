@@ -33,8 +33,8 @@ pub fn read_header<B: Eeprom>(bench: &mut B) -> Result<Header, OpenRefusal>
     ensures range { IfOk result (λ header. IsHeader (B.chip bench.old).still.size header) }
     ensures header { IfOk result (λ header. IfSome (B.chip bench.old).image (λ image. IsHeaderOf image header)) }
     ensures not_a_card { IsErrOf result OpenRefusal.NotACard → IfSome (B.chip bench.old).image (λ image. store_of image ≡ None) }
-    ensures octets_read { OnOk result (Becomes (RisesBy 11) (B.octets_read bench.old) (B.octets_read bench.new)) }
-    ensures most_read { Becomes (RisesAtMost 11) (B.octets_read bench.old) (B.octets_read bench.new) }
+    ensures octets_read { OnOk result (Becomes (RisesBy FRONT) (B.octets_read bench.old) (B.octets_read bench.new)) }
+    ensures most_read { Becomes (RisesAtMost FRONT) (B.octets_read bench.old) (B.octets_read bench.new) }
     ensures no_memory_taken { ¬ (IsErrOf result OpenRefusal.NoMemory) }
     ensures frame { Reads is_open_fault B.chip B.faults bench.old bench.new result }
 {

@@ -3,7 +3,7 @@
 ghost use Rattle.std.specs.Prelude.{◌≡◌, ◌≢◌, ◌+◌, ◌*◌, ◌≤◌, ◌<◌, ◌++◌, false, [], ◌∷◌, None, length, is_some, option_map, IfSome, IfOk, IsErrOf, OnOk};
 ghost use Rattle.eeprom.specs.Chip.{Becomes, RisesBy, RisesAtMost};
 ghost use Rattle.eeprom.specs.Frame.{HasRoom, Reads};
-ghost use Rattle.eeprom.specs.StoreOf.{no_cell, store_of, is_gate_open, cells_of, cell_size, longest_chain, most_cells};
+ghost use Rattle.eeprom.specs.StoreOf.{fewest_cells, no_cell, store_of, is_gate_open, cells_of, cell_size, longest_chain, most_cells};
 ghost use Rattle.cell_store.specs.Reading.{ReadsCells};
 ghost use Rattle.cell_store.specs.Claims.{HasNoRecord};
 ghost use Rattle.cell_store.specs.Cells.{AreLinkedIn};
@@ -91,7 +91,7 @@ impl Opening {
     /// The number of slots, and of cells that the records can have.
     pub fn cells(&self) -> u16
         ensures number { result ≡ self.now.chains.cells }
-        ensures few { 16 ≤ result }
+        ensures few { fewest_cells ≤ result }
         ensures many { result ≤ most_cells }
     {
         self.chains.cells()

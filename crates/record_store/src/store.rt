@@ -3,7 +3,7 @@ ghost use Rattle.std.specs.Prelude.{◌≡◌, ◌↔◌, ◌+◌, ◌*◌, ◌�
 ghost use Rattle.eeprom.specs.Chip.{Becomes, RisesBy, RisesAtMost, Keeps};
 ghost use Rattle.eeprom.specs.Fault.{Counts, CountsFaults, each_error};
 ghost use Rattle.eeprom.specs.Frame.{Reads};
-ghost use Rattle.eeprom.specs.StoreOf.{migrated_row_limit, most_cells, no_cell, Slots, Stored, store_of, is_gate_open, cell_size, longest_record};
+ghost use Rattle.eeprom.specs.StoreOf.{fewest_cells, migrated_row_limit, most_cells, no_cell, Slots, Stored, store_of, is_gate_open, cell_size, longest_record};
 ghost use Rattle.eeprom.specs.StoreOf as image;
 ghost use Rattle.record_store.specs.Held.{firsts, contents, stored, record_at, first_octet, StandsFor, IsOver, IsRowLimit};
 ghost use Rattle.record_store.specs.Opening.{StandsSoFar, ReadsStore, most_octets, slots_so_far};
@@ -118,7 +118,7 @@ impl Store {
     /// The number of slots, and of cells that the records can have.
     pub fn cells(&self) -> u16
         ensures number { result ≡ self.now.chains.cells }
-        ensures few { 16 ≤ result }
+        ensures few { fewest_cells ≤ result }
         ensures many { result ≤ most_cells }
     {
         self.chains.cells()

@@ -2,6 +2,7 @@ use Rattle.std.proofs.Common.{◌≡◌, ◌+◌, ◌<◌, ◌++◌, [], ◌∷�
 use Rattle.std.proofs.lemmas.List.{take_all, take_more}
 use Rattle.record_store.specs.Slots.{changed}
 use Rattle.record_store.proofs.ChangedSlots.{SoFar, so_far-none, so_far-same, so_far-more, so_far-end}
+use Rattle.record_store.proofs.Rising.{rises-none, rises-same, rises-more}
 use Rattle.record_store.proofs.Touching.{among-at, not-before}
 use Rattle.record_store.proofs.entries.take_entries.Goals.{After-loop-slot, then-first-committed, else-first-committed}
 use Rattle.record_store.proofs.entries.take_entries.Goals as goal
@@ -21,6 +22,10 @@ loop-slot-preserved c =
     ] in
     record {
       so_far = subst (λ (done : List ℕ). SoFar c.args.committed.now c.args.working.now done c.if-first-committed.entries.items) (sym more) next;
+      rises = elim c.if-first-committed.branch [
+        | then-first-committed w ↦ rw (w.entries-is, w.push_reserved.ensures.items) (rises-more slots i _ c.loop-slot.entries.items c.loop-slot-test.true c.requires.rising c.loop-slot.invariant.rises)
+        | else-first-committed w ↦ rw (w.entries-is) (rises-same slots i c.loop-slot.entries.items c.loop-slot.invariant.rises)
+      ];
       room = elim c.if-first-committed.branch [
         | then-first-committed w ↦ rw (w.entries-is) (w.push_reserved.ensures.capacity ∙ c.loop-slot.invariant.room)
         | else-first-committed w ↦ rw (w.entries-is) (c.loop-slot.invariant.room)
@@ -28,7 +33,7 @@ loop-slot-preserved c =
     }
 
 pub loop-slot-init : goal.loop-slot-init
-loop-slot-init c = record { so_far = rw (c.clear.ensures.items) (so_far-none c.args.committed.now c.args.working.now); room = c.clear.ensures.capacity }
+loop-slot-init c = record { so_far = rw (c.clear.ensures.items) (so_far-none c.args.committed.now c.args.working.now); rises = rw (c.clear.ensures.items) (rises-none c.args.slots.now); room = c.clear.ensures.capacity }
 
 -- after the last slot
 done : (c : After-loop-slot) → SoFar c.args.committed.now c.args.working.now c.args.slots.now c.loop-slot.entries.items

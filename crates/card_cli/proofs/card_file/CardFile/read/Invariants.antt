@@ -1,10 +1,10 @@
 -- The loop that reads until the range is full or the file ends.
 use Rattle.std.proofs.Common.{length, ◌-◌, ◌≤◌}
-use Rattle.card_cli.proofs.file_bench.read_at.Given as goal
+use Rattle.card_cli.proofs.card_file.CardFile.read.Given as goal
 
 -- what is filled lies in the range
 abbrev pub invariant-loop-filled : goal.invariant-loop-filled
-invariant-loop-filled g l = l.filled ≤ length l.initial.into
+invariant-loop-filled l = l.filled ≤ length l.initial.into
 
 abbrev pub decreases-loop-filled : goal.decreases-loop-filled
-decreases-loop-filled g l = length l.initial.into - l.filled
+decreases-loop-filled l = length l.initial.into - l.filled
