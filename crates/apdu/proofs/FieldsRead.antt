@@ -1,18 +1,15 @@
 -- Data fields, by the parts that are read one after the other.
-use Rattle.std.proofs.Common.{◌≡◌, ℕ, nat_le, ◌&&◌, Bool, true, false, List, [], ◌∷◌, length, take, drop, Option, Some, None, refl, arith}
+use Rattle.std.proofs.Common.{◌≡◌, ℕ, nat_le, ◌&&◌, Bool, true, false, List, [], ◌∷◌, length, take, drop, Option, Some, None, refl, ap, sym, ◌∙◌}
 use Rattle.std.specs.Prelude.{option_map}
 use Rattle.scql_base.specs.declared.condition.Condition.{Condition}
-use Rattle.scql_base.specs.declared.operation.Operation.TheVariants.{Update}
+use Rattle.scql_base.specs.declared.operation.Operation.TheVariants.{CreateUser, Update}
+use Rattle.scql_base.specs.declared.words.Profile.{Profile}
+use Rattle.scql_base.specs.Strings.{with_string}
 use Rattle.scql_base.specs.Name.{is_name, name_of}
 use Rattle.scql_model.specs.Records.{is_privileges}
 use Rattle.scql_model.specs.Parameters as parameters
-use Rattle.scql_model.specs.Parameters.{◌>>=◌, only_where, are_chosen_columns, are_conditions, are_changes, Choice, choice_in, update_in}
-use Rattle.apdu.specs.Fields.{granted_in, names_in, choice_of, conditions_in, changes_in, octet_in, privileges_in}
-
--- no strings are left
-pub none_left : (strings : List (List ℕ)) → length strings ≡ 0 → strings ≡ []
-none_left [] is = refl
-none_left (string ∷ strings) is = absurd (omega (arith, is))
+use Rattle.scql_model.specs.Parameters.{◌>>=◌, only_where, are_chosen_columns, are_conditions, are_changes, Choice, choice_in, create_user_in, is_new_secret, made_profile_of, update_in}
+use Rattle.apdu.specs.Fields.{granted_in, names_in, choice_of, conditions_in, changes_in, made_profile_in, octet_in, privileges_in}
 
 -- Privileges and two names.
 granted-steps : (string object grantee : List ℕ)
@@ -31,13 +28,48 @@ granted-steps (code ∷ []) object grantee = go (is_privileges code) (is_name ob
     go true false g = refl
     go false o g = refl
 
-pub granted-read : (strings : List (List ℕ)) (string object grantee : List ℕ) (p : ℕ) (o g : List ℕ) → strings ≡ string ∷ object ∷ grantee ∷ []
-    → Some p ≡ privileges_in string → Some o ≡ name_of object → Some g ≡ name_of grantee → Some (let all : ℕ × List ℕ × List ℕ = (p, o, g) in all) ≡ granted_in strings
-granted-read strings string object grantee p o g is at_p at_o at_g = rw (is, granted-steps string object grantee, ← at_p, ← at_o, ← at_g) refl
+-- two strings before a third one
+pub three : (whole after : Option (List (List ℕ))) (a b c : List ℕ) (rest : Option (List (List ℕ))) → whole ≡ with_string a after → after ≡ with_string b rest → rest ≡ Some (c ∷ []) → whole ≡ Some (a ∷ b ∷ c ∷ [])
+three whole after a b c rest first second third = first ∙ ap (with_string a) (second ∙ ap (with_string b) third)
 
-pub granted-unnamed : (strings : List (List ℕ)) (string object grantee : List ℕ) (p : ℕ) (o : List ℕ) → strings ≡ string ∷ object ∷ grantee ∷ []
-    → Some p ≡ privileges_in string → Some o ≡ name_of object → None ≡ name_of grantee → None ≡ granted_in strings
-granted-unnamed strings string object grantee p o is at_p at_o at_g = rw (is, granted-steps string object grantee, ← at_p, ← at_o, ← at_g) refl
+pub granted-read : (whole : Option (List (List ℕ))) (string object grantee : List ℕ) (p : ℕ) (o g : List ℕ) → whole ≡ Some (string ∷ object ∷ grantee ∷ [])
+    → Some p ≡ privileges_in string → Some o ≡ name_of object → Some g ≡ name_of grantee → Some (let all : ℕ × List ℕ × List ℕ = (p, o, g) in all) ≡ whole >>= granted_in
+granted-read whole string object grantee p o g is at_p at_o at_g = rw (is, granted-steps string object grantee, ← at_p, ← at_o, ← at_g) refl
+
+pub granted-unnamed : (whole : Option (List (List ℕ))) (string object grantee : List ℕ) (p : ℕ) (o : List ℕ) → whole ≡ Some (string ∷ object ∷ grantee ∷ [])
+    → Some p ≡ privileges_in string → Some o ≡ name_of object → None ≡ name_of grantee → None ≡ whole >>= granted_in
+granted-unnamed whole string object grantee p o is at_p at_o at_g = rw (is, granted-steps string object grantee, ← at_p, ← at_o, ← at_g) refl
+
+pub granted-nothing : (whole : Option (List (List ℕ))) (string object grantee : List ℕ) (p : ℕ) → whole ≡ Some (string ∷ object ∷ grantee ∷ [])
+    → Some p ≡ privileges_in string → None ≡ name_of object → None ≡ whole >>= granted_in
+granted-nothing whole string object grantee p is at_p at_o = rw (is, granted-steps string object grantee, ← at_p, ← at_o) refl
+
+-- A name, a profile and a secret.
+created-steps : (secrets : Bool) (name string secret : List ℕ)
+    → create_user_in secrets (name ∷ string ∷ secret ∷ []) ≡ (made_profile_in string >>= λ profile. name_of name >>= λ n. option_map (CreateUser n profile) (only_where (is_new_secret secrets secret) secret))
+created-steps secrets name [] secret = refl
+created-steps secrets name (a ∷ b ∷ string) secret = refl
+created-steps secrets name (code ∷ []) secret = of_profile (made_profile_of code)
+  where
+    of_tests : (profile : Profile) (named kept : Bool) → only_where (named && kept) (CreateUser name profile secret) ≡ (only_where named name >>= λ n. option_map (CreateUser n profile) (only_where kept secret))
+    of_tests profile true true = refl
+    of_tests profile true false = refl
+    of_tests profile false kept = refl
+
+    of_profile : (o : Option Profile) → (o >>= λ profile. only_where (is_name name && is_new_secret secrets secret) (CreateUser name profile secret))
+        ≡ (o >>= λ profile. name_of name >>= λ n. option_map (CreateUser n profile) (only_where (is_new_secret secrets secret) secret))
+    of_profile None = refl
+    of_profile (Some profile) = of_tests profile (is_name name) (is_new_secret secrets secret)
+
+-- a name and a secret that were read, or weren't, behind a profile that was
+pub created-read : (whole : Option (List (List ℕ))) (secrets : Bool) (name string secret : List ℕ) (profile : Profile) (n s : Option (List ℕ)) → whole ≡ Some (name ∷ string ∷ secret ∷ [])
+    → Some profile ≡ made_profile_in string → n ≡ name_of name → s ≡ only_where (is_new_secret secrets secret) secret
+    → (n >>= λ n. option_map (CreateUser n profile) s) ≡ whole >>= create_user_in secrets
+created-read whole secrets name string secret profile n s is at_p at_n at_s = rw (is, created-steps secrets name string secret, ← at_p, ← at_n, ← at_s) refl
+
+pub created-unnamed : (whole : Option (List (List ℕ))) (secrets : Bool) (name string secret : List ℕ) (profile : Profile) → whole ≡ Some (name ∷ string ∷ secret ∷ [])
+    → Some profile ≡ made_profile_in string → None ≡ name_of name → None ≡ whole >>= create_user_in secrets
+created-unnamed whole secrets name string secret profile is at_p at_n = rw (is, created-steps secrets name string secret, ← at_p, ← at_n) refl
 
 -- Columns and conditions.
 choice-steps : (string : List ℕ) (strings : List (List ℕ))
@@ -69,17 +101,28 @@ choice-steps (count ∷ []) strings = of_front (nat_le count (length strings) &&
     of_front true = of_conditions (parameters.conditions_in (drop count strings))
     of_front false = nothing (parameters.conditions_in (drop count strings))
 
-pub choice-unnamed : (strings : List (List ℕ)) (string : List ℕ) (rest : List (List ℕ)) (count : ℕ) → strings ≡ string ∷ rest → Some count ≡ octet_in string
-    → None ≡ names_in count rest → None ≡ choice_in strings
-choice-unnamed strings string rest count is at_count at_names = rw (is, choice-steps string rest, ← at_count, ← at_names) refl
+-- columns and conditions that were read, or weren't, of strings that octets split into
+pub choice-read : (string : List ℕ) (here after : Option (List (List ℕ))) (count : ℕ) (columns : List (List ℕ)) (rest : Option (List (List ℕ))) (conditions : Option (List Condition))
+    → here ≡ with_string string after → Some count ≡ octet_in string
+    → option_map (λ (strings : List (List ℕ)). let both : List (List ℕ) × List (List ℕ) = (columns, strings) in both) rest ≡ (after >>= names_in count)
+    → conditions ≡ (rest >>= conditions_in) → option_map choice_of (option_map (λ (c : List Condition). (columns, c)) conditions) ≡ here >>= choice_in
+choice-read string here after count columns rest conditions is at_count at_names at_conditions = rw is (sym (of_after after at_names))
+  where
+    whole : List (List ℕ) × List (List ℕ) → Option (List (List ℕ) × List Condition)
+    whole x = option_map (λ (c : List Condition). (x.0, c)) (conditions_in x.1)
 
-pub choice-free : (strings : List (List ℕ)) (string : List ℕ) (rest columns after : List (List ℕ)) (count : ℕ) → strings ≡ string ∷ rest → Some count ≡ octet_in string
-    → Some (columns, after) ≡ names_in count rest → None ≡ conditions_in after → None ≡ choice_in strings
-choice-free strings string rest columns after count is at_count at_names at_conditions = rw (is, choice-steps string rest, ← at_count, ← at_names, ← at_conditions) refl
+    of_rest : (rest : Option (List (List ℕ))) → conditions ≡ (rest >>= conditions_in)
+        → (option_map (λ (strings : List (List ℕ)). let both : List (List ℕ) × List (List ℕ) = (columns, strings) in both) rest >>= whole) ≡ option_map (λ (c : List Condition). (columns, c)) conditions
+    of_rest None at = rw at refl
+    of_rest (Some strings) at = rw at refl
 
-pub choice-read : (strings : List (List ℕ)) (string : List ℕ) (rest columns after : List (List ℕ)) (conditions : List Condition) (count : ℕ) → strings ≡ string ∷ rest → Some count ≡ octet_in string
-    → Some (columns, after) ≡ names_in count rest → Some conditions ≡ conditions_in after → Some (choice_of (columns, conditions)) ≡ choice_in strings
-choice-read strings string rest columns after conditions count is at_count at_names at_conditions = rw (is, choice-steps string rest, ← at_count, ← at_names, ← at_conditions) refl
+    of_after : (after : Option (List (List ℕ))) → option_map (λ (strings : List (List ℕ)). let both : List (List ℕ) × List (List ℕ) = (columns, strings) in both) rest ≡ (after >>= names_in count)
+        → (with_string string after >>= choice_in) ≡ option_map choice_of (option_map (λ (c : List Condition). (columns, c)) conditions)
+    of_after None at = ap (option_map choice_of) (ap (λ o. o >>= whole) (sym at) ∙ of_rest rest at_conditions)
+    of_after (Some strings) at =
+        choice-steps string strings
+        ∙ (ap (λ (o : Option ℕ). option_map choice_of (o >>= λ count. names_in count strings >>= whole)) (sym at_count)
+        ∙ ap (option_map choice_of) (ap (λ o. o >>= whole) (sym at) ∙ of_rest rest at_conditions))
 
 -- Changes.
 pub update-steps : (strings : List (List ℕ)) → option_map Update (changes_in strings) ≡ update_in strings
@@ -93,3 +136,7 @@ update-steps strings = of_changes (parameters.changes_in strings)
         → option_map Update (o >>= λ changes. only_where (are_changes changes) changes) ≡ (o >>= λ changes. only_where (are_changes changes) (Update changes))
     of_changes None = refl
     of_changes (Some changes) = of_test changes (are_changes changes)
+
+pub update-read : (o : Option (List (List ℕ))) → option_map Update (o >>= changes_in) ≡ o >>= update_in
+update-read None = refl
+update-read (Some strings) = update-steps strings

@@ -1,8 +1,7 @@
 -- Conditions, changes and values, read one after the other.
-use Rattle.std.proofs.Common.{◌≡◌, ◌≤◌, ◌+◌, ℕ, suc, nat_le, ◌&&◌, Bool, true, false, List, [], ◌∷◌, ◌++◌, length, map, Option, Some, None, refl, ap, subst, sym, ◌∙◌, arith, rules, length-append, append_assoc, if◌then◌else◌}
-use Rattle.std.specs.Prelude.{option_map}
+use Rattle.std.proofs.Common.{◌≡◌, ◌≤◌, ◌+◌, ℕ, suc, nat_le, ◌&&◌, Bool, true, false, List, [], ◌∷◌, ◌++◌, length, map, Option, Some, None, refl, ap, subst, sym, ◌∙◌, arith, length-append, if◌then◌else◌}
 use Rattle.std.specs.List.{list_all}
-use Rattle.std.proofs.lemmas.Bool.{false≢true, leb-true, le-leb}
+use Rattle.std.proofs.lemmas.Bool.{false≢true, leb-true}
 use Rattle.std.proofs.lemmas.Option.{none-some, same_Some}
 use Rattle.std.proofs.lemmas.List.{length-map, map-append}
 use Rattle.std.proofs.lemmas.List.Folds.{list_all-append, list_all-map}
@@ -10,30 +9,14 @@ use Rattle.scql_base.specs.declared.condition.Condition.{Condition}
 use Rattle.scql_base.specs.declared.words.Comparison.{Comparison}
 use Rattle.scql_base.specs.Name.{is_name, name_of}
 use Rattle.scql_base.specs.Octets.{within}
+use Rattle.scql_base.specs.Strings.{with_string}
 use Rattle.scql_base.specs.Row.{is_narrow}
-use Rattle.scql_base.specs.Lists.{AreChanges}
 use Rattle.scql_model.specs.Database.{are_different}
 use Rattle.scql_model.specs.Records.{comparison_of, is_count_of_conditions, is_count_of_columns}
 use Rattle.scql_model.specs.Parameters as parameters
 use Rattle.scql_model.specs.Parameters.{only_where, are_conditions, are_columns, are_different_names, are_changes}
-use Rattle.apdu.specs.Fields.{condition_in}
-use Rattle.apdu.proofs.NamesRead.{not_taken, both_of, passed, found}
-
--- some, and those behind them
-abbrev pub behind : {A : Type 0} → List A → Option (List A) → Option (List A)
-behind {A} xs o = option_map (λ (more : List A). xs ++ more) o
-
-behind-assoc : {A : Type 0} (xs : List A) (x : A) (o : Option (List A)) → behind (xs ++ x ∷ []) o ≡ behind xs (behind (x ∷ []) o)
-behind-assoc xs x None = refl
-behind-assoc xs x (Some ys) = ap Some (append_assoc xs (x ∷ []) ys)
-
--- one element more was read
-pub behind-next : {A : Type 0} (xs : List A) (x : A) (here rest whole : Option (List A)) → behind xs here ≡ whole → here ≡ behind (x ∷ []) rest → behind (xs ++ x ∷ []) rest ≡ whole
-behind-next xs x here rest whole is at = behind-assoc xs x rest ∙ (ap (behind xs) (sym at) ∙ is)
-
--- all were read
-pub behind-end : {A : Type 0} (xs : List A) (whole : Option (List A)) → behind xs (Some []) ≡ whole → Some xs ≡ whole
-behind-end xs whole is = search rules ∙ is
+use Rattle.apdu.specs.Fields.{condition_of, conditions_in, changes_in}
+use Rattle.apdu.proofs.NamesRead.{behind, behind-next, not_taken, both_of, passed, found}
 
 -- Conditions.
 abbrev pub is_condition : Condition → Bool
@@ -42,23 +25,33 @@ is_condition c = is_name c.column && is_narrow c.value
 abbrev pub tested : Option (List Condition) → Option (List Condition)
 tested o = parameters.◌>>=◌ o (λ (conditions : List Condition). only_where (are_conditions conditions) conditions)
 
-pub record IsNext (column : List ℕ) (strings : List (List ℕ)) (c : Condition) (rest : List (List ℕ)) : Type 0 where
-  pub told : parameters.conditions_in (column ∷ strings) ≡ behind (c ∷ []) (parameters.conditions_in rest)
+-- the condition that three strings are stands before the others
+pub record IsRead (column string value : List ℕ) (c : Condition) : Type 0 where
+  pub told : (strings : List (List ℕ)) → parameters.conditions_in (column ∷ string ∷ value ∷ strings) ≡ behind (c ∷ []) (parameters.conditions_in strings)
   pub each : is_condition c ≡ true
 
-pub condition_in-some : (column : List ℕ) (strings rest : List (List ℕ)) (c : Condition) → condition_in column strings ≡ Some (c, rest) → IsNext column strings c rest
-condition_in-some column [] rest c is = absurd (none-some _ is)
-condition_in-some column ([] ∷ []) rest c is = absurd (none-some _ is)
-condition_in-some column ((a ∷ []) ∷ []) rest c is = absurd (none-some _ is)
-condition_in-some column ((a ∷ b ∷ string) ∷ []) rest c is = absurd (none-some _ is)
-condition_in-some column ([] ∷ value ∷ strings) rest c is = absurd (none-some _ is)
-condition_in-some column ((a ∷ b ∷ string) ∷ value ∷ strings) rest c is = absurd (none-some _ is)
-condition_in-some column ((code ∷ []) ∷ value ∷ strings) rest c is =
-    found (comparison_of code) _ (c, rest) is (λ comparison at is.
+pub condition_of-some : (column string value : List ℕ) (c : Condition) → condition_of column string value ≡ Some c → IsRead column string value c
+condition_of-some column [] value c is = absurd (none-some _ is)
+condition_of-some column (a ∷ b ∷ string) value c is = absurd (none-some _ is)
+condition_of-some column (code ∷ []) value c is =
+    found (comparison_of code) _ c is (λ comparison at is.
     let read : Condition = record { column = column; comparison = comparison; value = value } in
-    passed (is_name column && is_narrow value) (read, strings) (c, rest) is (λ test same.
-    subst (λ (x : Condition × List (List ℕ)). IsNext column ((code ∷ []) ∷ value ∷ strings) x.0 x.1) same
-    (record { told = rw at refl; each = test })))
+    passed (is_name column && is_narrow value) read c is (λ test same.
+    subst (λ (x : Condition). IsRead column (code ∷ []) value x) same
+    (record { told = λ strings. rw at refl; each = test })))
+
+-- the conditions of strings, if there are any
+abbrev pub conditions_of : Option (List (List ℕ)) → Option (List Condition)
+conditions_of o = parameters.◌>>=◌ o parameters.conditions_in
+
+pub conditions-tested : (o : Option (List (List ℕ))) → tested (conditions_of o) ≡ parameters.◌>>=◌ o conditions_in
+conditions-tested None = refl
+conditions-tested (Some strings) = refl
+
+pub conditions-next : (column string value : List ℕ) (c : Condition) (here o : Option (List (List ℕ))) → IsRead column string value c
+    → here ≡ with_string column (with_string string (with_string value o)) → conditions_of here ≡ behind (c ∷ []) (conditions_of o)
+conditions-next column string value c here None read is = ap conditions_of is
+conditions-next column string value c here (Some strings) read is = ap conditions_of is ∙ read.told strings
 
 -- too many, or one that isn't a condition
 record AreAll (conditions : List Condition) : Type 0 where
@@ -83,42 +76,34 @@ pub conditions_in-many : (xs : List Condition) (c : Condition) (here rest whole 
 conditions_in-many xs c here None whole many is at = ap tested (ap (behind xs) (sym at) ∙ is)
 conditions_in-many xs c here (Some more) whole many is at = tested-many xs more c many ∙ ap tested (ap (behind xs) (sym at) ∙ is)
 
-pub conditions_in-stuck : (xs : List Condition) (column : List ℕ) (strings : List (List ℕ)) (whole : Option (List Condition))
-    → behind xs (parameters.conditions_in (column ∷ strings)) ≡ whole → condition_in column strings ≡ None → None ≡ tested whole
-conditions_in-stuck xs column [] whole is none = ap tested is
-conditions_in-stuck xs column (string ∷ []) whole is none = ap tested (go string is)
+pub conditions_in-stuck : (xs : List Condition) (column string value : List ℕ) (here o : Option (List (List ℕ))) (whole : Option (List Condition))
+    → here ≡ with_string column (with_string string (with_string value o)) → behind xs (conditions_of here) ≡ whole → condition_of column string value ≡ None → None ≡ tested whole
+conditions_in-stuck xs column string value here None whole at is none = ap tested (ap (λ o. behind xs (conditions_of o)) (sym at) ∙ is)
+conditions_in-stuck xs column string value here (Some strings) whole at is none = of_string string none (ap (λ o. behind xs (conditions_of o)) (sym at) ∙ is)
   where
-    go : (string : List ℕ) → behind xs (parameters.conditions_in (column ∷ string ∷ [])) ≡ whole → None ≡ whole
-    go [] is = is
-    go (a ∷ []) is = is
-    go (a ∷ b ∷ rest) is = is
-conditions_in-stuck xs column ([] ∷ value ∷ strings) whole is none = ap tested is
-conditions_in-stuck xs column ((a ∷ b ∷ string) ∷ value ∷ strings) whole is none = ap tested is
-conditions_in-stuck xs column ((code ∷ []) ∷ value ∷ strings) whole is none = of_code (comparison_of code) refl
-  where
-    wrong : (comparison : Comparison) (test : Bool) (rest : List (List ℕ)) → (is_name column && is_narrow value) ≡ test
-        → only_where {A = Condition × List (List ℕ)} test (record { column = column; comparison = comparison; value = value }, rest) ≡ None → (is_name column && is_narrow value) ≡ false
-    wrong comparison true rest at is = absurd (none-some _ (sym is))
-    wrong comparison false rest at is = at
+    wrong : (comparison : Comparison) (test : Bool) → (is_name column && is_narrow value) ≡ test
+        → only_where {A = Condition} test (record { column = column; comparison = comparison; value = value }) ≡ None → (is_name column && is_narrow value) ≡ false
+    wrong comparison true at is = absurd (none-some _ (sym is))
+    wrong comparison false at is = at
 
     of_rest : (c : Condition) (rest : Option (List Condition)) → is_condition c ≡ false → None ≡ tested (behind xs (behind (c ∷ []) rest))
     of_rest c None never = refl
     of_rest c (Some more) never = tested-wrong xs more c never
 
-    of_code : (o : Option Comparison) → comparison_of code ≡ o → None ≡ tested whole
-    of_code None at = ap tested (rw at at is)
-    of_code (Some comparison) at =
-        let never : (is_name column && is_narrow value) ≡ false = wrong comparison (is_name column && is_narrow value) strings refl (rw at at none) in
+    of_code : (code : ℕ) (o : Option Comparison) → comparison_of code ≡ o → condition_of column (code ∷ []) value ≡ None
+        → behind xs (parameters.conditions_in (column ∷ (code ∷ []) ∷ value ∷ strings)) ≡ whole → None ≡ tested whole
+    of_code code None at none is = ap tested (rw at at is)
+    of_code code (Some comparison) at none is =
+        let never : (is_name column && is_narrow value) ≡ false = wrong comparison (is_name column && is_narrow value) refl (rw at at none) in
         of_rest (record { column = column; comparison = comparison; value = value }) (parameters.conditions_in strings) never ∙ ap tested (rw at at is)
+
+    of_string : (string : List ℕ) → condition_of column string value ≡ None → behind xs (parameters.conditions_in (column ∷ string ∷ value ∷ strings)) ≡ whole → None ≡ tested whole
+    of_string [] none is = ap tested is
+    of_string (a ∷ b ∷ rest) none is = ap tested is
+    of_string (code ∷ []) none is = of_code code (comparison_of code) refl none is
 
 pub are-next : (xs : List Condition) (c : Condition) → list_all is_condition xs ≡ true → is_condition c ≡ true → list_all is_condition (xs ++ c ∷ []) ≡ true
 are-next xs c all one = list_all-append is_condition xs (c ∷ []) ∙ rw (all, one) refl
-
-pub tested-end : (xs : List Condition) (whole : Option (List Condition)) → behind xs (Some []) ≡ whole → length xs ≤ 8 → list_all is_condition xs ≡ true → Some xs ≡ tested whole
-tested-end xs whole is few each =
-    let test : are_conditions xs ≡ true = rw (le-leb (length xs) 8 few, each) refl in
-    let here : Some xs ≡ tested (Some xs) = rw test refl in
-    here ∙ ap tested (behind-end xs whole is)
 
 -- Changes.
 abbrev pub Assigned : Type 0
@@ -163,67 +148,51 @@ changes-many xs more x many = not_taken (are_changes (xs ++ x ∷ more)) (xs ++ 
     let size : length (xs ++ x ∷ more) ≡ length xs + suc (length more) = length-append xs (x ∷ more) in
     absurd (omega (arith, few, size, many)))
 
+-- the changes of strings, if there are any
+abbrev pub changes_of : Option (List (List ℕ)) → Option (List Assigned)
+changes_of o = parameters.◌>>=◌ o parameters.changes_in
+
+pub changes-tested : (o : Option (List (List ℕ))) → tested_changes (changes_of o) ≡ parameters.◌>>=◌ o changes_in
+changes-tested None = refl
+changes-tested (Some strings) = refl
+
 -- what stands against a change, whatever is behind it
-refused : (xs : List Assigned) (column value : List ℕ) (rest : List (List ℕ)) (whole : Option (List Assigned))
-    → behind xs (parameters.changes_in (column ∷ value ∷ rest)) ≡ whole → ((more : List Assigned) → None ≡ tested_changes (Some (xs ++ (column, value) ∷ more))) → None ≡ tested_changes whole
-refused xs column value rest whole is never = go (parameters.changes_in rest) refl
+refused : (xs : List Assigned) (column value : List ℕ) (here o : Option (List (List ℕ))) (whole : Option (List Assigned))
+    → here ≡ with_string column (with_string value o) → behind xs (changes_of here) ≡ whole → ((more : List Assigned) → None ≡ tested_changes (Some (xs ++ (column, value) ∷ more))) → None ≡ tested_changes whole
+refused xs column value here None whole at is never = ap tested_changes (ap (λ o. behind xs (changes_of o)) (sym at) ∙ is)
+refused xs column value here (Some rest) whole at is never = go (parameters.changes_in rest) refl
   where
+    told : behind xs (parameters.changes_in (column ∷ value ∷ rest)) ≡ whole
+    told = ap (λ o. behind xs (changes_of o)) (sym at) ∙ is
+
     go : (o : Option (List Assigned)) → parameters.changes_in rest ≡ o → None ≡ tested_changes whole
-    go None at = ap tested_changes (rw at at is)
-    go (Some more) at = never more ∙ ap tested_changes (rw at at is)
+    go None at = ap tested_changes (rw at at told)
+    go (Some more) at = never more ∙ ap tested_changes (rw at at told)
 
-pub changes_in-unnamed : (xs : List Assigned) (column value : List ℕ) (rest : List (List ℕ)) (whole : Option (List Assigned))
-    → behind xs (parameters.changes_in (column ∷ value ∷ rest)) ≡ whole → is_name column ≡ false → None ≡ tested_changes whole
-changes_in-unnamed xs column value rest whole is none =
-    refused xs column value rest whole is (λ more. changes-wrong (λ (change : Assigned). is_name change.0) xs more (column, value) (λ all are. are.columns) none)
+pub changes_in-unnamed : (xs : List Assigned) (column value : List ℕ) (here o : Option (List (List ℕ))) (whole : Option (List Assigned))
+    → here ≡ with_string column (with_string value o) → behind xs (changes_of here) ≡ whole → is_name column ≡ false → None ≡ tested_changes whole
+changes_in-unnamed xs column value here o whole at is none =
+    refused xs column value here o whole at is (λ more. changes-wrong (λ (change : Assigned). is_name change.0) xs more (column, value) (λ all are. are.columns) none)
 
-pub changes_in-wide : (xs : List Assigned) (column value : List ℕ) (rest : List (List ℕ)) (whole : Option (List Assigned))
-    → behind xs (parameters.changes_in (column ∷ value ∷ rest)) ≡ whole → is_narrow value ≡ false → None ≡ tested_changes whole
-changes_in-wide xs column value rest whole is none =
-    refused xs column value rest whole is (λ more. changes-wrong (λ (change : Assigned). is_narrow change.1) xs more (column, value) (λ all are. are.values) none)
+pub changes_in-wide : (xs : List Assigned) (column value : List ℕ) (here o : Option (List (List ℕ))) (whole : Option (List Assigned))
+    → here ≡ with_string column (with_string value o) → behind xs (changes_of here) ≡ whole → is_narrow value ≡ false → None ≡ tested_changes whole
+changes_in-wide xs column value here o whole at is none =
+    refused xs column value here o whole at is (λ more. changes-wrong (λ (change : Assigned). is_narrow change.1) xs more (column, value) (λ all are. are.values) none)
 
-pub changes_in-many : (xs : List Assigned) (column value : List ℕ) (rest : List (List ℕ)) (whole : Option (List Assigned))
-    → behind xs (parameters.changes_in (column ∷ value ∷ rest)) ≡ whole → 15 ≤ length xs → None ≡ tested_changes whole
-changes_in-many xs column value rest whole is many = refused xs column value rest whole is (λ more. changes-many xs more (column, value) many)
-
-pub changes-next : (column value : List ℕ) (rest : List (List ℕ)) → parameters.changes_in (column ∷ value ∷ rest) ≡ behind ((column, value) ∷ []) (parameters.changes_in rest)
-changes-next column value rest = refl
-
-pub changes_in-half : (xs : List Assigned) (column : List ℕ) (whole : Option (List Assigned)) → behind xs (parameters.changes_in (column ∷ [])) ≡ whole → None ≡ tested_changes whole
-changes_in-half xs column whole is = ap tested_changes is
-
--- all changes were read
-pub changes-read : (xs : List Assigned) → AreChanges xs → are_changes xs ≡ (nat_le 1 (length xs) && are_different (names_of xs))
-changes-read xs are =
-    let size : length (names_of xs) ≡ length xs = length-map xs (λ (change : Assigned). change.0) in
-    let columns : list_all is_name (names_of xs) ≡ true = list_all-map is_name (λ (change : Assigned). change.0) xs ∙ are.columns in
-    let few : nat_le (length xs) 15 ≡ true = le-leb (length xs) 15 are.count in
-    rw (size, few, columns, are.values) (go (nat_le 1 (length xs)) (are_different (names_of xs)))
-  where
-    go : (a b : Bool) → (a && true && b) && true ≡ (a && b)
-    go true true = refl
-    go true false = refl
-    go false b = refl
-
-pub changes-done : (xs : List Assigned) (whole : Option (List Assigned)) → behind xs (Some []) ≡ whole → AreChanges xs → 1 ≤ length xs → are_different (names_of xs) ≡ true → Some xs ≡ tested_changes whole
-changes-done xs whole is are some different =
-    let test : are_changes xs ≡ true = changes-read xs are ∙ rw (le-leb 1 (length xs) some, different) refl in
-    let here : Some xs ≡ tested_changes (Some xs) = rw test refl in
-    here ∙ ap tested_changes (behind-end xs whole is)
-
-pub changes-none : (xs : List Assigned) (whole : Option (List Assigned)) → behind xs (Some []) ≡ whole → AreChanges xs → (1 ≤ length xs → are_different (names_of xs) ≡ true → ⊥) → None ≡ tested_changes whole
-changes-none xs whole is are never =
-    not_taken (are_changes xs) xs (λ test.
-    let t = both_of (nat_le 1 (length xs)) (are_different (names_of xs)) (sym (changes-read xs are) ∙ test) in
-    never (leb-true 1 (length xs) t.0) t.1)
-    ∙ ap tested_changes (behind-end xs whole is)
+pub changes_in-many : (xs : List Assigned) (column value : List ℕ) (here o : Option (List (List ℕ))) (whole : Option (List Assigned))
+    → here ≡ with_string column (with_string value o) → behind xs (changes_of here) ≡ whole → 15 ≤ length xs → None ≡ tested_changes whole
+changes_in-many xs column value here o whole at is many = refused xs column value here o whole at is (λ more. changes-many xs more (column, value) many)
 
 -- one change more was read
-pub changes-one_more : (xs xs' : List Assigned) (strings : List (List ℕ)) (column value name octets : List ℕ) (rest : List (List ℕ)) (whole : Option (List Assigned))
-    → behind xs (parameters.changes_in strings) ≡ whole → strings ≡ column ∷ value ∷ rest → name ≡ column → octets ≡ value → xs' ≡ xs ++ (name, octets) ∷ []
-    → behind xs' (parameters.changes_in rest) ≡ whole
-changes-one_more xs xs' strings column value name octets rest whole told is at_column at_value more =
-    rw (more, at_column, at_value) (behind-next xs (column, value) (parameters.changes_in strings) (parameters.changes_in rest) whole told (ap parameters.changes_in is))
+pub changes-one_more : (xs xs' : List Assigned) (column value name octets : List ℕ) (here o : Option (List (List ℕ))) (whole : Option (List Assigned))
+    → behind xs (changes_of here) ≡ whole → here ≡ with_string column (with_string value o) → name ≡ column → octets ≡ value → xs' ≡ xs ++ (name, octets) ∷ []
+    → behind xs' (changes_of o) ≡ whole
+changes-one_more xs xs' column value name octets here o whole told is at_column at_value more =
+    rw (more, at_column, at_value) (behind-next xs (column, value) (changes_of here) (changes_of o) whole told (ap changes_of is ∙ go o))
+  where
+    go : (o : Option (List (List ℕ))) → changes_of (with_string column (with_string value o)) ≡ behind ((column, value) ∷ []) (changes_of o)
+    go None = refl
+    go (Some strings) = refl
 
 pub columns-length : (names : List (List ℕ)) (xs : List Assigned) → names ≡ names_of xs → length names ≡ length xs
 columns-length names xs is = ap length is ∙ length-map xs (λ (change : Assigned). change.0)

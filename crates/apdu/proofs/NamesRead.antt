@@ -1,16 +1,32 @@
 -- The names at the front of strings, read one after the other.
-use Rattle.std.proofs.Common.{◌≡◌, ◌≤◌, ◌<◌, ◌+◌, ◌-◌, ℕ, suc, nat_le, ◌&&◌, Bool, true, false, List, ◌∷◌, ◌++◌, length, take, drop, Option, Some, None, refl, ap, sym, ◌∙◌, arith, length-append, length-take-le}
+use Rattle.std.proofs.Common.{◌≡◌, ◌≤◌, ◌<◌, ◌+◌, ◌-◌, ℕ, suc, nat_le, ◌&&◌, Bool, true, false, List, [], ◌∷◌, ◌++◌, length, take, Option, Some, None, refl, ap, sym, ◌∙◌, arith, rules, append_assoc, length-take-le}
+use Rattle.std.specs.Prelude.{option_map}
 use Rattle.std.specs.List.{list_all}
-use Rattle.std.proofs.lemmas.Bool.{false≢true, leb-true, le-leb}
+use Rattle.std.proofs.lemmas.Bool.{false≢true, leb-true}
 use Rattle.std.proofs.lemmas.Option.{none-some, same_Some}
-use Rattle.std.proofs.lemmas.List.{take_at}
 use Rattle.std.proofs.lemmas.List.Folds.{list_all-append}
-use Rattle.std.proofs.Math.Seq.{take-append-add, drop-append_seam}
+use Rattle.std.proofs.Math.Seq.{take-append-add}
 use Rattle.scql_base.specs.Name.{is_name}
-use Rattle.scql_base.specs.Lists.{AreNames}
+use Rattle.scql_base.specs.Strings.{with_string}
 use Rattle.scql_model.specs.Database.{are_different}
 use Rattle.scql_model.specs.Parameters.{◌>>=◌, only_where, are_different_names, are_chosen_columns}
 use Rattle.apdu.specs.Fields.{names_in}
+
+-- some, and those behind them
+abbrev pub behind : {A : Type 0} → List A → Option (List A) → Option (List A)
+behind {A} xs o = option_map (λ (more : List A). xs ++ more) o
+
+behind-assoc : {A : Type 0} (xs : List A) (x : A) (o : Option (List A)) → behind (xs ++ x ∷ []) o ≡ behind xs (behind (x ∷ []) o)
+behind-assoc xs x None = refl
+behind-assoc xs x (Some ys) = ap Some (append_assoc xs (x ∷ []) ys)
+
+-- one element more was read
+pub behind-next : {A : Type 0} (xs : List A) (x : A) (here rest whole : Option (List A)) → behind xs here ≡ whole → here ≡ behind (x ∷ []) rest → behind (xs ++ x ∷ []) rest ≡ whole
+behind-next xs x here rest whole is at = behind-assoc xs x rest ∙ (ap (behind xs) (sym at) ∙ is)
+
+-- all were read
+pub behind-end : {A : Type 0} (xs : List A) (whole : Option (List A)) → behind xs (Some []) ≡ whole → Some xs ≡ whole
+behind-end xs whole is = search rules ∙ is
 
 pub not_taken : {A : Type 0} (test : Bool) (x : A) → (test ≡ true → ⊥) → None ≡ only_where test x
 not_taken true x never = absurd (never refl)
@@ -52,10 +68,6 @@ named count strings is =
       each = (both_of (list_all is_name (take count strings)) (are_different (take count strings)) u.1).0;
     }
 
--- there are fewer strings
-pub names_in-short : (count : ℕ) (strings : List (List ℕ)) → length strings < count → None ≡ names_in count strings
-names_in-short count strings less = not_taken (are_named count strings) _ (λ is. let n = named count strings is in absurd (omega (arith, n.most, less)))
-
 -- a string behind some is no name
 pub names_in-unnamed : (count : ℕ) (strings names after : List (List ℕ)) (string : List ℕ) → strings ≡ names ++ string ∷ after → length names < count → is_name string ≡ false → None ≡ names_in count strings
 names_in-unnamed count strings names after string split less none = not_taken (are_named count strings) _ (λ is.
@@ -68,15 +80,11 @@ names_in-unnamed count strings names after string split less none = not_taken (a
     let last = both_of (is_name string) (list_all is_name (take more after)) (both_of (list_all is_name names) _ each).1 in
     false≢true (sym none ∙ last.0))
 
--- there are more than fifteen
-pub names_in-many : (count : ℕ) (strings : List (List ℕ)) → 15 < count → None ≡ names_in count strings
-names_in-many count strings more = not_taken (are_named count strings) _ (λ is. let n = named count strings is in absurd (omega (arith, n.few, more)))
+-- the names at the front of strings, if there are any
+abbrev pub front_of : ℕ → Option (List (List ℕ)) → Option (List (List ℕ) × List (List ℕ))
+front_of count o = o >>= names_in count
 
--- all are names
-pub names_in-read : (count : ℕ) (strings names rest : List (List ℕ)) → strings ≡ names ++ rest → length names ≡ count → AreNames names → names_in count strings ≡ only_where (are_different names) (names, rest)
-names_in-read count strings names rest split size are =
-    let front : take count strings ≡ names = rw split (take_at names rest count size) in
-    let back : drop count strings ≡ rest = rw (split, sym size) (drop-append_seam names rest) in
-    let enough : nat_le count (length strings) ≡ true = le-leb count (length strings) (rw (split, length-append names rest) (omega (arith, size))) in
-    let few : nat_le (length names) 15 ≡ true = le-leb (length names) 15 are.count in
-    rw (enough, front, back, few, are.each) refl
+pub names-unnamed : (count : ℕ) (names : List (List ℕ)) (string : List ℕ) (here o whole : Option (List (List ℕ))) → behind names here ≡ whole → here ≡ with_string string o → length names < count
+    → is_name string ≡ false → None ≡ front_of count whole
+names-unnamed count names string here None whole is at less none = rw (sym is ∙ ap (behind names) at) refl
+names-unnamed count names string here (Some after) whole is at less none = rw (sym is ∙ ap (behind names) at) (names_in-unnamed count (names ++ string ∷ after) names after string refl less none)

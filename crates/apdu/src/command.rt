@@ -6,10 +6,11 @@ ghost use Rattle.scql_model.specs.Spelling as spelling;
 ghost use Rattle.scql_model.specs.WellFormed.{IsWellFormed};
 
 use crate::field::field_of;
+use crate::parts::longest_field;
 use crate::reading::Apdu;
 use crate::table::line_for;
-use crate::writing::{CommandOctets, kind_of, longest_field, parts_for, put_part};
-use scql_base::{Command, StatusWord};
+use crate::writing::{CommandOctets, kind_of, parts_for, put_part};
+use scql_base::{Command, Operation, StatusWord};
 
 /// Commands in octets.
 pub trait CommandApdu: Sized {
@@ -71,10 +72,7 @@ impl CommandApdu for Command {
     fn fits(&self) -> bool
         ensures { result ≡ spelling.fits self.now }
     {
-        match field_of(&self.operation).octets() {
-            Some(field) => field.len() <= longest_field(kind_of(&self.operation)),
-            None => false,
-        }
+        field_fits(&self.operation)
     }
 
     fn parts(&self) -> u8
@@ -111,6 +109,17 @@ impl CommandApdu for Command {
             (form.a_command self.now) }
     {
         write_at(self, part, out);
+    }
+}
+
+/// Whether the data field of an operation has at most 255 octets, and that of INSERT or UPDATE at most 1,275: a command
+/// fits where that of its operation does.
+pub fn field_fits(operation: &Operation) -> bool
+    ensures { (command : Command) → command.operation ≡ operation.now → result ≡ spelling.fits command }
+{
+    match field_of(operation).octets() {
+        Some(field) => field.len() <= longest_field(kind_of(operation)),
+        None => false,
     }
 }
 

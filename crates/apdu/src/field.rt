@@ -9,6 +9,7 @@ ghost use Rattle.apdu.specs.Writing.{with_more};
 use arrayvec::ArrayVec;
 use scql_base::{
     Change, Command, Condition, Conditions, Name, NameList, Octets, Operation, Privileges, Profile,
+    Row, Subject,
 };
 use std::marker::Model;
 
@@ -149,28 +150,54 @@ impl Field {
         self.put_string(secret.as_slice());
     }
 
+    fn put_table(&mut self, name: &Name, columns: &NameList)
+        ensures { self.new ≡ with_more (spelling.field_of (operation.CreateTable name.now columns.now)) self.old }
+    {
+        self.put_name(name);
+        self.put_names(columns.as_slice());
+    }
+
+    fn put_view(&mut self, name: &Name, base: &Name, columns: &NameList, conditions: &Conditions)
+        ensures { self.new ≡ with_more (spelling.field_of (operation.CreateView name.now base.now columns.now conditions.now)) self.old }
+    {
+        self.put_name(name);
+        self.put_cursor(base, columns, conditions);
+    }
+
+    fn put_dictionary(&mut self, name: &Name, subject: Subject)
+        ensures { self.new ≡ with_more (spelling.field_of (operation.CreateDictionary name.now subject)) self.old }
+    {
+        self.put_name(name);
+        self.put_octet(subject.code());
+    }
+
+    fn put_cursor(&mut self, object: &Name, columns: &NameList, conditions: &Conditions)
+        ensures { self.new ≡ with_more (spelling.field_of (operation.DeclareCursor object.now columns.now conditions.now)) self.old }
+    {
+        self.put_name(object);
+        self.put_choice(columns, conditions);
+    }
+
+    fn put_row(&mut self, table: &Name, row: &Row)
+        ensures { self.new ≡ with_more (spelling.field_of (operation.Insert table.now row.now)) self.old }
+    {
+        self.put_name(table);
+        self.put_octets(row.octets());
+    }
+
+    // The data field of an operation. Those that aren't named have none.
     fn put_operation(&mut self, operation: &Operation)
         ensures { self.new ≡ with_more (spelling.field_of operation.now) self.old }
     {
         match operation {
-            Operation::CreateTable { name, columns } => {
-                self.put_name(name);
-                self.put_names(columns.as_slice());
-            }
+            Operation::CreateTable { name, columns } => self.put_table(name, columns),
             Operation::CreateView {
                 name,
                 base,
                 columns,
                 conditions,
-            } => {
-                self.put_name(name);
-                self.put_name(base);
-                self.put_choice(columns, conditions);
-            }
-            Operation::CreateDictionary { name, subject } => {
-                self.put_name(name);
-                self.put_octet(subject.code());
-            }
+            } => self.put_view(name, base, columns, conditions),
+            Operation::CreateDictionary { name, subject } => self.put_dictionary(name, *subject),
             Operation::Grant {
                 privileges,
                 object,
@@ -185,14 +212,8 @@ impl Field {
                 object,
                 columns,
                 conditions,
-            } => {
-                self.put_name(object);
-                self.put_choice(columns, conditions);
-            }
-            Operation::Insert { table, row } => {
-                self.put_name(table);
-                self.put_octets(row.octets());
-            }
+            } => self.put_cursor(object, columns, conditions),
+            Operation::Insert { table, row } => self.put_row(table, row),
             Operation::Update { changes } => self.put_changes(changes.as_slice()),
             Operation::CreateUser {
                 name,
@@ -204,17 +225,7 @@ impl Field {
             | Operation::PresentUser { name }
             | Operation::DeleteUser { name } => self.put_name(name),
             Operation::Verify { secret } => self.put_octets(secret.as_slice()),
-            Operation::OpenCursor
-            | Operation::Next
-            | Operation::Fetch
-            | Operation::FetchNext
-            | Operation::Delete
-            | Operation::Begin
-            | Operation::Commit
-            | Operation::Rollback
-            | Operation::OpenChannel { .. }
-            | Operation::CloseChannel { .. }
-            | Operation::GetResponse => {}
+            _ => {}
         }
     }
 }

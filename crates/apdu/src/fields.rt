@@ -21,34 +21,34 @@ pub(crate) fn operation_in(
     ensures { result ≡ parameters.operation_in secrets kind limit octets.now }
 {
     match kind {
-        OperationKind::CreateTable => create_table_in(Params::read(octets)?),
-        OperationKind::CreateView => create_view_in(Params::read(octets)?),
-        OperationKind::CreateDictionary => create_dictionary_in(Params::read(octets)?),
+        OperationKind::CreateTable => create_table_in(octets),
+        OperationKind::CreateView => create_view_in(octets),
+        OperationKind::CreateDictionary => create_dictionary_in(octets),
         OperationKind::DropTable => Some(Operation::DropTable {
-            name: name_in(Params::read(octets)?)?,
+            name: name_in(octets)?,
         }),
         OperationKind::DropView => Some(Operation::DropView {
-            name: name_in(Params::read(octets)?)?,
+            name: name_in(octets)?,
         }),
-        OperationKind::Grant => grant_in(Params::read(octets)?),
-        OperationKind::Revoke => revoke_in(Params::read(octets)?),
-        OperationKind::DeclareCursor => declare_cursor_in(Params::read(octets)?),
+        OperationKind::Grant => grant_in(octets),
+        OperationKind::Revoke => revoke_in(octets),
+        OperationKind::DeclareCursor => declare_cursor_in(octets),
         OperationKind::OpenCursor => Some(Operation::OpenCursor),
         OperationKind::Next => Some(Operation::Next),
         OperationKind::Fetch => Some(Operation::Fetch),
         OperationKind::FetchNext => Some(Operation::FetchNext),
-        OperationKind::Insert => insert_in(limit, Params::read(octets)?),
-        OperationKind::Update => update_in(Params::read(octets)?),
+        OperationKind::Insert => insert_in(limit, octets),
+        OperationKind::Update => update_in(octets),
         OperationKind::Delete => Some(Operation::Delete),
         OperationKind::Begin => Some(Operation::Begin),
         OperationKind::Commit => Some(Operation::Commit),
         OperationKind::Rollback => Some(Operation::Rollback),
         OperationKind::PresentUser => Some(Operation::PresentUser {
-            name: name_in(Params::read(octets)?)?,
+            name: name_in(octets)?,
         }),
-        OperationKind::CreateUser => create_user_in(secrets, Params::read(octets)?),
+        OperationKind::CreateUser => create_user_in(secrets, octets),
         OperationKind::DeleteUser => Some(Operation::DeleteUser {
-            name: name_in(Params::read(octets)?)?,
+            name: name_in(octets)?,
         }),
         OperationKind::Verify => verify_in(octets),
         OperationKind::OpenChannel { number } => Some(Operation::OpenChannel { number }),
@@ -57,20 +57,20 @@ pub(crate) fn operation_in(
     }
 }
 
-fn create_table_in(params: Params<'_>) -> Option<Operation>
-    ensures { result ≡ parameters.create_table_in params.entry }
+fn create_table_in(octets: &[u8]) -> Option<Operation>
+    ensures { result ≡ fields.read_by parameters.create_table_in octets.now }
 {
-    let (name, rest) = params.split_first()?;
+    let (name, rest) = Params::first_in(octets)?;
     let name = Name::read(name)?;
     let columns = columns_in(rest)?;
     Some(Operation::CreateTable { name, columns })
 }
 
-fn create_view_in(params: Params<'_>) -> Option<Operation>
-    ensures { result ≡ parameters.create_view_in params.entry }
+fn create_view_in(octets: &[u8]) -> Option<Operation>
+    ensures { result ≡ fields.read_by parameters.create_view_in octets.now }
 {
-    let (name, rest) = params.split_first()?;
-    let (base, rest) = rest.split_first()?;
+    let (name, rest) = Params::first_in(octets)?;
+    let (base, rest) = Params::first_in(rest)?;
     let (columns, conditions) = choice_in(rest)?;
     let name = Name::read(name)?;
     let base = Name::read(base)?;
@@ -82,34 +82,27 @@ fn create_view_in(params: Params<'_>) -> Option<Operation>
     })
 }
 
-fn create_dictionary_in(params: Params<'_>) -> Option<Operation>
-    ensures { result ≡ parameters.create_dictionary_in params.entry }
+fn create_dictionary_in(octets: &[u8]) -> Option<Operation>
+    ensures { result ≡ fields.read_by parameters.create_dictionary_in octets.now }
 {
-    let (name, rest) = params.split_first()?;
-    let (code, rest) = rest.split_first()?;
-    if rest.count() != 0 {
-        return None;
-    }
+    let (name, rest) = Params::first_in(octets)?;
+    let code = Params::only_in(rest)?;
     let subject = subject_in(code)?;
     let name = Name::read(name)?;
     Some(Operation::CreateDictionary { name, subject })
 }
 
 // A name alone.
-fn name_in(params: Params<'_>) -> Option<Name>
-    ensures { result ≡ fields.name_in params.entry }
+fn name_in(octets: &[u8]) -> Option<Name>
+    ensures { result ≡ fields.read_by fields.name_in octets.now }
 {
-    let (name, rest) = params.split_first()?;
-    if rest.count() != 0 {
-        return None;
-    }
-    Name::read(name)
+    Name::read(Params::only_in(octets)?)
 }
 
-fn grant_in(params: Params<'_>) -> Option<Operation>
-    ensures { result ≡ parameters.granted_in operation.Grant params.entry }
+fn grant_in(octets: &[u8]) -> Option<Operation>
+    ensures { result ≡ fields.read_by (parameters.granted_in operation.Grant) octets.now }
 {
-    let (privileges, object, grantee) = granted_in(params)?;
+    let (privileges, object, grantee) = granted_in(octets)?;
     Some(Operation::Grant {
         privileges,
         object,
@@ -117,10 +110,10 @@ fn grant_in(params: Params<'_>) -> Option<Operation>
     })
 }
 
-fn revoke_in(params: Params<'_>) -> Option<Operation>
-    ensures { result ≡ parameters.granted_in operation.Revoke params.entry }
+fn revoke_in(octets: &[u8]) -> Option<Operation>
+    ensures { result ≡ fields.read_by (parameters.granted_in operation.Revoke) octets.now }
 {
-    let (privileges, object, grantee) = granted_in(params)?;
+    let (privileges, object, grantee) = granted_in(octets)?;
     Some(Operation::Revoke {
         privileges,
         object,
@@ -128,25 +121,22 @@ fn revoke_in(params: Params<'_>) -> Option<Operation>
     })
 }
 
-fn granted_in(params: Params<'_>) -> Option<(Privileges, Name, Name)>
-    ensures { result ≡ fields.granted_in params.entry }
+fn granted_in(octets: &[u8]) -> Option<(Privileges, Name, Name)>
+    ensures { result ≡ fields.read_by fields.granted_in octets.now }
 {
-    let (privileges, rest) = params.split_first()?;
-    let (object, rest) = rest.split_first()?;
-    let (grantee, rest) = rest.split_first()?;
-    if rest.count() != 0 {
-        return None;
-    }
+    let (privileges, rest) = Params::first_in(octets)?;
+    let (object, rest) = Params::first_in(rest)?;
+    let grantee = Params::only_in(rest)?;
     let privileges = privileges_in(privileges)?;
     let object = Name::read(object)?;
     let grantee = Name::read(grantee)?;
     Some((privileges, object, grantee))
 }
 
-fn declare_cursor_in(params: Params<'_>) -> Option<Operation>
-    ensures { result ≡ parameters.declare_cursor_in params.entry }
+fn declare_cursor_in(octets: &[u8]) -> Option<Operation>
+    ensures { result ≡ fields.read_by parameters.declare_cursor_in octets.now }
 {
-    let (object, rest) = params.split_first()?;
+    let (object, rest) = Params::first_in(octets)?;
     let (columns, conditions) = choice_in(rest)?;
     let object = Name::read(object)?;
     Some(Operation::DeclareCursor {
@@ -156,32 +146,29 @@ fn declare_cursor_in(params: Params<'_>) -> Option<Operation>
     })
 }
 
-fn insert_in(limit: u16, params: Params<'_>) -> Option<Operation>
+fn insert_in(limit: u16, octets: &[u8]) -> Option<Operation>
     requires { limit ≤ 1020 }
-    ensures { result ≡ parameters.insert_in limit params.entry }
+    ensures { result ≡ fields.read_by (parameters.insert_in limit) octets.now }
 {
-    let (table, rest) = params.split_first()?;
+    let (table, rest) = Params::first_in(octets)?;
     let table = Name::read(table)?;
     let row = row_in(limit, rest)?;
     Some(Operation::Insert { table, row })
 }
 
-fn update_in(params: Params<'_>) -> Option<Operation>
-    ensures { result ≡ parameters.update_in params.entry }
+fn update_in(octets: &[u8]) -> Option<Operation>
+    ensures { result ≡ fields.read_by parameters.update_in octets.now }
 {
-    let changes = changes_in(params)?;
+    let changes = changes_in(octets)?;
     Some(Operation::Update { changes })
 }
 
-fn create_user_in(secrets: bool, params: Params<'_>) -> Option<Operation>
-    ensures { result ≡ parameters.create_user_in secrets params.entry }
+fn create_user_in(secrets: bool, octets: &[u8]) -> Option<Operation>
+    ensures { result ≡ fields.read_by (parameters.create_user_in secrets) octets.now }
 {
-    let (name, rest) = params.split_first()?;
-    let (profile, rest) = rest.split_first()?;
-    let (secret, rest) = rest.split_first()?;
-    if rest.count() != 0 {
-        return None;
-    }
+    let (name, rest) = Params::first_in(octets)?;
+    let (profile, rest) = Params::first_in(rest)?;
+    let secret = Params::only_in(rest)?;
     let profile = made_profile_in(profile)?;
     let name = Name::read(name)?;
     let secret = new_secret_in(secrets, secret)?;
@@ -204,10 +191,10 @@ fn verify_in(octets: &[u8]) -> Option<Operation>
 }
 
 // The number of columns, so many names, and conditions to the end.
-fn choice_in(params: Params<'_>) -> Option<(NameList, Conditions)>
-    ensures { option_map fields.choice_of result ≡ parameters.choice_in params.entry }
+fn choice_in(octets: &[u8]) -> Option<(NameList, Conditions)>
+    ensures { option_map fields.choice_of result ≡ fields.read_by parameters.choice_in octets.now }
 {
-    let (string, rest) = params.split_first()?;
+    let (string, rest) = Params::first_in(octets)?;
     let count = octet_in(string)?;
     let (columns, rest) = names_in(usize::from(count), rest)?;
     let conditions = conditions_in(rest)?;

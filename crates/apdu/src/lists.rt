@@ -1,38 +1,38 @@
 // The lists of a data field: names, conditions, changes and the values of a row.
-ghost use Rattle.std.specs.Prelude.{◌≡◌, ◌≤◌};
+ghost use Rattle.std.specs.Prelude.{◌≡◌, ◌≤◌, option_map};
 ghost use Rattle.std.specs.List.{list_any};
 ghost use Rattle.std.specs.Str.{bytes_eq};
 ghost use Rattle.scql_model.specs.Database as database;
-ghost use Rattle.scql_model.specs.Parameters as parameters;
-ghost use Rattle.scql_model.specs.Records.{is_row_within};
 ghost use Rattle.apdu.specs.Fields as fields;
 
 use scql_base::{Changes, Comparison, Condition, Conditions, Name, NameList, Octets, Params, Row};
 
 // 1 to 15 different names, to the end.
-pub(crate) fn columns_in(params: Params<'_>) -> Option<NameList>
-    ensures { result ≡ parameters.only_where (parameters.are_columns params.entry) params.entry }
-{
-    let count = params.count();
-    if count == 0 {
-        return None;
-    }
-    let (names, _) = names_in(count, params)?;
-    Some(names)
-}
-
-// So many different names, at most 15, and the strings behind them.
-pub(crate) fn names_in(count: usize, params: Params<'_>) -> Option<(NameList, Params<'_>)>
-    ensures { result ≡ fields.names_in count params.entry }
+pub(crate) fn columns_in(octets: &[u8]) -> Option<NameList>
+    ensures { result ≡ fields.read_by fields.columns_in octets.now }
 {
     let mut names = NameList::new();
-    let mut rest = params;
+    let mut rest = octets;
+    while let Some((string, after)) = Params::first_in(rest) {
+        names.push(Name::read(string)?).ok()?;
+        rest = after;
+    }
+    if rest.is_empty() && names.len() != 0 && are_different(names.as_slice()) {
+        Some(names)
+    } else {
+        None
+    }
+}
+
+// So many different names, at most 15, and the octets behind them.
+pub(crate) fn names_in(count: usize, octets: &[u8]) -> Option<(NameList, &[u8])>
+    ensures { fields.read_before (option_map (λ x. (x.0, x.1.now)) result) ≡ fields.read_by (fields.names_in count) octets.now }
+{
+    let mut names = NameList::new();
+    let mut rest = octets;
     for _ in 0..count {
-        let (string, after) = rest.split_first()?;
-        let name = Name::read(string)?;
-        let Ok(()) = names.push(name) else {
-            return None;
-        };
+        let (string, after) = Params::first_in(rest)?;
+        names.push(Name::read(string)?).ok()?;
         rest = after;
     }
     if are_different(names.as_slice()) {
@@ -62,36 +62,34 @@ fn is_among(name: &Name, names: &[Name]) -> bool
 }
 
 // At most eight conditions, to the end.
-pub(crate) fn conditions_in(params: Params<'_>) -> Option<Conditions>
-    ensures { result ≡ fields.conditions_in params.entry }
+pub(crate) fn conditions_in(octets: &[u8]) -> Option<Conditions>
+    ensures { result ≡ fields.read_by fields.conditions_in octets.now }
 {
     let mut conditions = Conditions::new();
-    let mut rest = params;
-    while let Some((column, after)) = rest.split_first() {
-        let (condition, after) = condition_in(column, after)?;
-        let Ok(()) = conditions.push(condition) else {
-            return None;
-        };
+    let mut rest = octets;
+    while let Some((column, after)) = Params::first_in(rest) {
+        let (comparison, after) = Params::first_in(after)?;
+        let (value, after) = Params::first_in(after)?;
+        let condition = condition_of(column, comparison, value)?;
+        conditions.push(condition).ok()?;
         rest = after;
     }
-    Some(conditions)
+    if rest.is_empty() {
+        Some(conditions)
+    } else {
+        None
+    }
 }
 
-// A condition on the column of this name, of the next two strings, and the strings behind it.
-fn condition_in<'a>(column: &[u8], params: Params<'a>) -> Option<(Condition, Params<'a>)>
-    ensures { result ≡ fields.condition_in column.now params.entry }
+// The condition that three strings are: a column's name, one octet for the comparison, and a value.
+fn condition_of(column: &[u8], comparison: &[u8], value: &[u8]) -> Option<Condition>
+    ensures { result ≡ fields.condition_of column.now comparison.now value.now }
 {
-    let (comparison, rest) = params.split_first()?;
-    let (value, rest) = rest.split_first()?;
-    let comparison = comparison_in(comparison)?;
-    let column = Name::read(column)?;
-    let value = Octets::of(value)?;
-    let condition = Condition {
-        column,
-        comparison,
-        value,
-    };
-    Some((condition, rest))
+    Some(Condition {
+        column: Name::read(column)?,
+        comparison: comparison_in(comparison)?,
+        value: Octets::of(value)?,
+    })
 }
 
 fn comparison_in(string: &[u8]) -> Option<Comparison>
@@ -104,28 +102,21 @@ fn comparison_in(string: &[u8]) -> Option<Comparison>
 }
 
 // 1 to 15 changes of different columns, to the end.
-pub(crate) fn changes_in(params: Params<'_>) -> Option<Changes>
-    ensures { result ≡ fields.changes_in params.entry }
+pub(crate) fn changes_in(octets: &[u8]) -> Option<Changes>
+    ensures { result ≡ fields.read_by fields.changes_in octets.now }
 {
     let mut columns = NameList::new();
     let mut changes = Changes::new();
-    let mut rest = params;
-    while let Some((column, after)) = rest.split_first() {
-        let (value, after) = after.split_first()?;
+    let mut rest = octets;
+    while let Some((column, after)) = Params::first_in(rest) {
+        let (value, after) = Params::first_in(after)?;
         let column = Name::read(column)?;
         let value = Octets::of(value)?;
-        let Ok(()) = columns.push(column.copy()) else {
-            return None;
-        };
-        let Ok(()) = changes.push((column, value)) else {
-            return None;
-        };
+        columns.push(column.copy()).ok()?;
+        changes.push((column, value)).ok()?;
         rest = after;
     }
-    if changes.len() == 0 {
-        return None;
-    }
-    if are_different(columns.as_slice()) {
+    if rest.is_empty() && changes.len() != 0 && are_different(columns.as_slice()) {
         Some(changes)
     } else {
         None
@@ -133,18 +124,11 @@ pub(crate) fn changes_in(params: Params<'_>) -> Option<Changes>
 }
 
 // A row of 1 to 15 values and at most so many octets, to the end.
-pub(crate) fn row_in(limit: u16, params: Params<'_>) -> Option<Row>
+pub(crate) fn row_in(limit: u16, octets: &[u8]) -> Option<Row>
     requires { limit ≤ 1020 }
-    ensures { result ≡ parameters.only_where (is_row_within limit params.entry) params.entry }
+    ensures { result ≡ fields.read_by (fields.row_in limit) octets.now }
 {
-    let mut row = Row::new();
-    let mut rest = params;
-    while let Some((value, after)) = rest.split_first() {
-        let Ok(()) = row.push(value) else {
-            return None;
-        };
-        rest = after;
-    }
+    let row = Row::read(octets)?;
     if row.len() != 0 && row.size() <= usize::from(limit) {
         Some(row)
     } else {

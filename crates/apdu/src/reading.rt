@@ -60,9 +60,9 @@ impl<'a> Apdu<'a> {
         ensures { result ≡ command_of self.now (min limit 1020) body.now }
     {
         let secrets = has_instruction(0x20);
-        let operation = operation_in(secrets, self.kind, limit.min(1020), body).ok_or(
-            StatusWord::WRONG_DATA,
-        )?;
+        let Some(operation) = operation_in(secrets, self.kind, limit.min(1020), body) else {
+            return Err(StatusWord::WRONG_DATA);
+        };
         Ok(Command {
             channel: self.channel,
             operation,

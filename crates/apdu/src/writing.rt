@@ -42,16 +42,6 @@ pub(crate) fn kind_of(operation: &Operation) -> OperationKind
     }
 }
 
-// How many octets a data field may have: that of INSERT and UPDATE may come in parts.
-pub(crate) fn longest_field(kind: OperationKind) -> usize
-    ensures { result ≡ spelling.longest_field kind }
-{
-    match kind {
-        OperationKind::Insert | OperationKind::Update => Command::LONGEST_IN_PARTS,
-        _ => Command::LONGEST_DATA,
-    }
-}
-
 // The least number of parts that hold a data field of so many octets, and at least 1.
 pub(crate) fn parts_for(size: usize) -> u8
     requires { size ≤ 1275 }

@@ -3,6 +3,7 @@ ghost use Rattle.std.specs.Prelude.{◌≡◌, ◌≤◌, ◌<◌, ◌+◌, ◌+
 ghost use Rattle.std.specs.List.{concat};
 ghost use Rattle.scql_model.specs.Operations as table;
 
+use apdu::goes_on;
 use arrayvec::ArrayVec;
 use scql_base::OperationKind;
 use std::marker::Model;
@@ -51,11 +52,7 @@ impl Chain {
     pub(crate) fn goes_on_with(&self, kind: OperationKind) -> bool
         ensures { result ≡ table.goes_on kind self.now.operation }
     {
-        match kind {
-            OperationKind::Insert => matches!(self.kind, OperationKind::Insert),
-            OperationKind::Update => matches!(self.kind, OperationKind::Update),
-            _ => false,
-        }
+        goes_on(kind, self.kind)
     }
 
     /// Adds a part.

@@ -9,7 +9,7 @@ ghost use Rattle.apdu.specs.Reading.{command_of};
 ghost use Rattle.apdu_chain.specs.Chaining.{IfWhole, chain_on, chains_after, going_on, on_channel, taken_of};
 
 use crate::chain::Chain;
-use apdu::{Apdu, Refusal};
+use apdu::{Apdu, Refusal, comes_in_parts};
 use scql_base::{Command, OperationKind, StatusWord};
 use std::marker::Model;
 
@@ -156,10 +156,4 @@ impl Chains {
             _ => None,
         }
     }
-}
-
-fn comes_in_parts(kind: OperationKind) -> bool
-    ensures { result ≡ table.comes_in_parts kind }
-{
-    matches!(kind, OperationKind::Insert | OperationKind::Update)
 }

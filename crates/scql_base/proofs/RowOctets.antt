@@ -1,15 +1,17 @@
 -- A row as one run of octets: it splits into the values that it spells, and a value more is its spelling more.
-use Rattle.std.proofs.Common.{◌≡◌, ℕ, ◌+◌, ◌<◌, ◌≤◌, List, [], ◌∷◌, ◌++◌, length, nat_le, Bool, true, false, ◌&&◌, Some, None, Ok, Err, refl, sym, ◌∙◌, ap, arith, append-nil}
+use Rattle.std.proofs.Common.{◌≡◌, ℕ, ◌+◌, ◌<◌, ◌≤◌, List, [], ◌∷◌, ◌++◌, length, nat_le, Bool, true, false, ◌&&◌, Option, Some, None, Ok, Err, if◌then◌else◌, refl, sym, ◌∙◌, ap, arith, append-nil}
+use Rattle.std.specs.Prelude.{option_and_then}
 use Rattle.std.specs.List.{flat_map, list_all}
 use Rattle.std.proofs.lemmas.Bool.{le-leb, lt-ltb, le-ltb, ne_eqb, and_from}
 use Rattle.std.proofs.lemmas.Bool.Decides.{nat_tests}
 use Rattle.std.proofs.lemmas.Grind.{flat_map-append}
+use Rattle.std.proofs.lemmas.Option.{none-some, same_Some}
 use Rattle.std.proofs.lemmas.List.{length-append}
 use Rattle.std.proofs.lemmas.List.Folds.{list_all-append}
 use Rattle.std.proofs.lemmas.List.Sums.{sum_by-append, sum_by-cons}
 use Rattle.scql_base.specs.declared.row_refusal.RowRefusal.TheVariants.{TooWide}
 use Rattle.scql_base.specs.Strings.{spelled, params_of, strings_of}
-use Rattle.scql_base.specs.Row.{IsRow, is_narrow, row_from, row_size, with_value}
+use Rattle.scql_base.specs.Row.{IsRow, are_a_row, is_narrow, narrow_count, row_from, row_size, with_value}
 use Rattle.scql_base.proofs.Splitting.{AreParams-from_params_of, params_of-again}
 
 pub strings_of-spelled : (values : List (List ℕ)) → strings_of (flat_map spelled values) ≡ values
@@ -93,3 +95,33 @@ pub with_value-full : (values : List (List ℕ)) (value : List ℕ) → (length 
     → with_value values value ≡ Err TooWide
 with_value-full values value few narrow full =
     rw (ne_eqb (length values) 15 few, le-ltb 200 (length value) narrow, lt-ltb 1020 (row_size values + length value + 1) full) refl
+
+-- octets whose values were counted, none of which is too long
+pub record IsCounted (octets : List ℕ) (count : ℕ) : Type 0 where
+  pub values : List (List ℕ)
+  pub split : params_of octets ≡ Some values
+  pub size : count ≡ length values
+  pub narrow : list_all is_narrow values ≡ true
+
+pub counted : (octets : List ℕ) (count : ℕ) → Some count ≡ option_and_then narrow_count (params_of octets) → IsCounted octets count
+counted octets count is = of_split (params_of octets) refl is
+  where
+    of_test : (values : List (List ℕ)) (test : Bool) → params_of octets ≡ Some values → list_all is_narrow values ≡ test → Some count ≡ (if test then Some (length values) else None) → IsCounted octets count
+    of_test values true split narrow is = record { values = values; split = split; size = same_Some count (length values) is; narrow = narrow }
+    of_test values false split narrow is = absurd (none-some count (sym is))
+
+    of_split : (o : Option (List (List ℕ))) → params_of octets ≡ o → Some count ≡ option_and_then narrow_count o → IsCounted octets count
+    of_split None split is = absurd (none-some count (sym is))
+    of_split (Some values) split is = of_test values (list_all is_narrow values) split refl is
+
+pub row_from-uncounted : (octets : List ℕ) → None ≡ option_and_then narrow_count (params_of octets) → None ≡ row_from octets
+row_from-uncounted octets is = of_split (params_of octets) is
+  where
+    of_test : (few test short : Bool) (values : List (List ℕ)) → None ≡ (if test then Some (length values) else None) → None ≡ (if few && test && short then Some values else None)
+    of_test few true short values is = absurd (none-some (length values) is)
+    of_test true false short values is = refl
+    of_test false false short values is = refl
+
+    of_split : (o : Option (List (List ℕ))) → None ≡ option_and_then narrow_count o → None ≡ option_and_then (λ values. if are_a_row values then Some values else None) o
+    of_split None is = refl
+    of_split (Some values) is = of_test (nat_le (length values) 15) (list_all is_narrow values) (nat_le (row_size values) 1020) values is

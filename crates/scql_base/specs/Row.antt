@@ -22,6 +22,10 @@ pub record IsRow (values : List (List ℕ)) : Type 0 where
 abbrev pub are_a_row : List (List ℕ) → Bool
 are_a_row values = nat_le (length values) MOST && list_all is_narrow values && nat_le (row_size values) LARGEST
 
+-- how many values there are, where none is too long for a row
+abbrev pub narrow_count : List (List ℕ) → Option ℕ
+narrow_count values = if list_all is_narrow values then Some (length values) else None
+
 -- the row that octets spell: the values that they split into, where these are a row
 abbrev pub row_from : List ℕ → Option (List (List ℕ))
 row_from octets = option_and_then (λ values. if are_a_row values then Some values else None) (params_of octets)

@@ -1,5 +1,5 @@
 // The parameters of a command: the strings that its data field splits into.
-ghost use Rattle.std.specs.Prelude.{◌≡◌, ◌<◌, ◌↔◌, ◌==◌, ℕ, List, [], ◌∷◌, Some, None, if◌then◌else◌, IsSome, IfSome, IfNone, length, option_copied, option_map, slice_get};
+ghost use Rattle.std.specs.Prelude.{◌≡◌, ◌≢◌, ◌<◌, ◌↔◌, ◌==◌, ℕ, List, [], ◌∷◌, Some, None, if◌then◌else◌, is_some, IsSome, IfSome, IfNone, length, option_copied, option_map, slice_get};
 ghost use Rattle.scql_base.specs.Strings.{AreParams, first_of, params_of, with_string};
 
 use std::marker::Model;
@@ -8,18 +8,17 @@ use std::marker::Model;
 #[derive(Drop)]
 pub struct Params<'a> {
     pub(crate) octets: &'a [u8],
-    pub(crate) count: usize,
 }
 
 impl<'a> Model for Params<'a> {
-    ghost use Rattle.std.specs.Prelude.{List, ℕ, Some, length, ◌≡◌};
+    ghost use Rattle.std.specs.Prelude.{List, ℕ, Some, ◌≡◌};
     ghost use Rattle.scql_base.specs.Strings.{params_of, strings_of};
 
     ghost Value = { List (List ℕ) };
 
     ghost view = { λ p. strings_of p.octets.now };
 
-    ghost invariant = { λ p. (params_of p.octets.now ≡ Some (strings_of p.octets.now)) × (p.count ≡ length (strings_of p.octets.now)) };
+    ghost invariant = { λ p. params_of p.octets.now ≡ Some (strings_of p.octets.now) };
 }
 
 impl<'a> Params<'a> {
@@ -29,15 +28,11 @@ impl<'a> Params<'a> {
         ensures found { IfSome result (λ strings. AreParams octets.now strings) }
         ensures only { (strings : List (List ℕ)) → AreParams octets.now strings → result ≡ Some strings }
     {
-        let count = count_of(octets)?;
-        Some(Params { octets, count })
-    }
-
-    /// How many parameters there are.
-    pub fn count(&self) -> usize
-        ensures { result ≡ length self.now }
-    {
-        self.count
+        if do_split(octets) {
+            Some(Params { octets })
+        } else {
+            None
+        }
     }
 
     /// The parameter at a place, counted from 0.
@@ -47,52 +42,47 @@ impl<'a> Params<'a> {
     {
         let mut rest = self.octets;
         for _ in 0..place {
-            let (_, after) = first(rest)?;
+            let (_, after) = Params::first_in(rest)?;
             rest = after;
         }
-        let (string, _) = first(rest)?;
+        let (string, _) = Params::first_in(rest)?;
         Some(string)
     }
 
-    /// The first parameter, and the others.
-    pub fn split_first(&self) -> Option<(&'a [u8], Params<'a>)>
-        ensures some { IfSome result (λ x. self.now ≡ x.0.now ∷ x.1) }
-        ensures none { IfNone result (self.now ≡ []) }
+    /// The first parameter of octets that may split into parameters, and the octets behind it.
+    pub fn first_in(octets: &'a [u8]) -> Option<(&'a [u8], &'a [u8])>
+        ensures exact { option_map (λ x. (x.0.now, x.1.now)) result ≡ first_of octets.now }
+        ensures some { IfSome result (λ x. params_of octets.now ≡ with_string x.0.now (params_of x.1.now)) }
+        ensures none { IfNone result (params_of octets.now ≡ (if length octets.now == 0 then Some [] else None)) }
+        ensures shorter { IfSome result (λ x. length x.1.now < length octets.now) }
     {
-        let (string, octets) = first(self.octets)?;
-        let others = Params {
-            octets,
-            count: self.count - 1,
+        let [len, after @ ..] = octets else {
+            return None;
         };
-        Some((string, others))
+        let len = usize::from(*len);
+        if after.len() < len {
+            return None;
+        }
+        Some(after.split_at(len))
+    }
+
+    /// The one parameter that octets are.
+    pub fn only_in(octets: &'a [u8]) -> Option<&'a [u8]>
+        ensures some { IfSome result (λ string. params_of octets.now ≡ Some (string.now ∷ [])) }
+        ensures none { (string : List ℕ) → IfNone result (params_of octets.now ≢ Some (string ∷ [])) }
+    {
+        let (string, after) = Params::first_in(octets)?;
+        if after.is_empty() { Some(string) } else { None }
     }
 }
 
-fn count_of(octets: &[u8]) -> Option<usize>
-    ensures { result ≡ option_map length (params_of octets.now) }
+// Whether octets split into parameters.
+fn do_split(octets: &[u8]) -> bool
+    ensures { result ≡ is_some (params_of octets.now) }
 {
-    let mut count = 0;
     let mut rest = octets;
-    while let Some((_, after)) = first(rest) {
+    while let Some((_, after)) = Params::first_in(rest) {
         rest = after;
-        count += 1;
     }
-    if rest.is_empty() { Some(count) } else { None }
-}
-
-// The first string, and the octets behind it.
-fn first(octets: &[u8]) -> Option<(&[u8], &[u8])>
-    ensures exact { option_map (λ x. (x.0.now, x.1.now)) result ≡ first_of octets.now }
-    ensures some { IfSome result (λ x. params_of octets.now ≡ with_string x.0.now (params_of x.1.now)) }
-    ensures none { IfNone result (params_of octets.now ≡ (if length octets.now == 0 then Some [] else None)) }
-    ensures shorter { IfSome result (λ x. length x.1.now < length octets.now) }
-{
-    let [len, after @ ..] = octets else {
-        return None;
-    };
-    let len = usize::from(*len);
-    if after.len() < len {
-        return None;
-    }
-    Some(after.split_at(len))
+    rest.is_empty()
 }

@@ -1,8 +1,8 @@
 // Rows of values.
-ghost use Rattle.std.specs.Prelude.{◌≡◌, ◌<◌, ◌≤◌, ◌+◌, ◌↔◌, [], ◌∷◌, ◌++◌, Ok, Err, IsSome, OnErr, OnOk, IfErr, length, option_copied, slice_get};
-ghost use Rattle.std.specs.List.{flat_map, list_all};
-ghost use Rattle.scql_base.specs.Strings.{spelled};
-ghost use Rattle.scql_base.specs.Row.{IsRow, is_narrow, row_from, row_size, with_value};
+ghost use Rattle.std.specs.Prelude.{◌≡◌, ◌<◌, ◌≤◌, ◌+◌, ◌↔◌, [], ◌∷◌, ◌++◌, Ok, Err, IsSome, OnErr, OnOk, IfErr, length, option_and_then, option_copied, slice_get};
+ghost use Rattle.std.specs.List.{flat_map};
+ghost use Rattle.scql_base.specs.Strings.{params_of, spelled};
+ghost use Rattle.scql_base.specs.Row.{IsRow, narrow_count, row_from, row_size, with_value};
 ghost use Rattle.scql_base.specs.declared.row.TheConstants.Row.{LARGEST, LONGEST_VALUE};
 
 use crate::RowRefusal;
@@ -58,9 +58,8 @@ impl Row {
     pub fn read(octets: &[u8]) -> Option<Row>
         ensures { result ≡ row_from octets.now }
     {
-        let values = Params::read(octets)?;
-        let count = values.count();
-        if count > Row::MOST || octets.len() > Row::LARGEST || !are_narrow(values) {
+        let count = count_narrow(octets)?;
+        if count > Row::MOST || octets.len() > Row::LARGEST {
             return None;
         }
         let mut run = ArrayVec::new();
@@ -98,7 +97,6 @@ impl Row {
     {
         Params {
             octets: self.octets.as_slice(),
-            count: self.count,
         }
         .get(place)
     }
@@ -134,18 +132,20 @@ impl Row {
     }
 }
 
-// Whether none of these values is too long for a row.
-fn are_narrow(values: Params<'_>) -> bool
-    ensures { result ≡ list_all is_narrow values.entry }
+// How many values octets split into, none of which is too long for a row.
+fn count_narrow(octets: &[u8]) -> Option<usize>
+    ensures { result ≡ option_and_then narrow_count (params_of octets.now) }
 {
-    let mut rest = values;
-    while let Some((value, after)) = rest.split_first() {
+    let mut count = 0;
+    let mut rest = octets;
+    while let Some((value, after)) = Params::first_in(rest) {
         if value.len() > Row::LONGEST_VALUE {
-            return false;
+            return None;
         }
         rest = after;
+        count += 1;
     }
-    true
+    if rest.is_empty() { Some(count) } else { None }
 }
 
 // Puts a value behind others: its length in one octet, and its octets.

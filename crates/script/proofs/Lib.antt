@@ -6,5 +6,4 @@ pub mod Fresh
 pub mod Listing
 pub mod Locality
 pub mod Rows
-pub mod Spelled
 pub mod Undoubling

@@ -1,12 +1,13 @@
--- The changes so far, before those of the strings that are left.
+-- The changes so far, before those of the octets that are left.
 use Rattle.std.proofs.Common.{◌≡◌, length, map}
-use Rattle.scql_model.specs.Parameters as parameters
-use Rattle.apdu.proofs.ListsRead.{Assigned, behind}
+use Rattle.scql_base.specs.Strings.{params_of}
+use Rattle.apdu.proofs.NamesRead.{behind}
+use Rattle.apdu.proofs.ListsRead.{Assigned, changes_of}
 use Rattle.apdu.proofs.lists.changes_in.Given as goal
 
 abbrev pub invariant-loop-column : goal.invariant-loop-column
 invariant-loop-column l = record {
-  told : behind l.changes (parameters.changes_in l.rest) ≡ parameters.changes_in l.fn.params;
+  told : behind l.changes (changes_of (params_of l.rest)) ≡ changes_of (params_of l.fn.octets);
   columns : l.columns ≡ map (λ (change : Assigned). change.0) l.changes;
 }
 

@@ -1,5 +1,5 @@
 use Rattle.scql_base.proofs.Splitting.{params_of-none, params_of-split, params_of-cut}
-use Rattle.scql_base.proofs.params.first.Goals as goal
+use Rattle.scql_base.proofs.params.Params.first_in.Goals as goal
 
 pub returns-in_default-clause-none : goal.returns-in_default-clause-none
 returns-in_default-clause-none c = params_of-none c.args.octets.now c.in_default.len_below
