@@ -4,7 +4,9 @@
 mod changing;
 mod finding;
 mod privileges;
+mod rights;
 
 pub use changing::{add, change, remove};
 pub use finding::{find_pair, find_stamp, next_after};
 pub use privileges::held;
+pub use rights::{Privilege, actor_stamp, appears, find_seen, holds, is_owned_by};

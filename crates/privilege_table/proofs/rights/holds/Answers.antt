@@ -1,0 +1,13 @@
+-- The owner holds all, and anybody else what grants give.
+use Rattle.std.proofs.Common.{sym, ◌∙◌}
+use Rattle.privilege_table.specs.Rights.{privilege_bit}
+use Rattle.privilege_table.proofs.Seen.{held-granted, holds-granted, holds-owned}
+use Rattle.privilege_table.proofs.rights.holds.Goals as goal
+
+pub returns-then-is_owned_by-clause-holds : goal.returns-then-is_owned_by-clause-holds
+returns-then-is_owned_by-clause-holds g c = λ db held. holds-owned db c.args.actor c.args.object.now (privilege_bit c.args.privilege) (sym c.is_owned_by.ensures ∙ c.if-is_owned_by.true)
+
+pub returns-clause-holds : goal.returns-clause-holds
+returns-clause-holds g c = λ db held.
+    let given = held-granted c.args.store.now c.args.side (g.B.Eeprom.chip c.args.bench.now) db c.args.object.now.stamp _ c.in_ok-bits.bits held c.in_ok-bits.ensures.held in
+    c.has.ensures ∙ holds-granted db c.args.actor c.args.object.now c.args.privilege c.in_ok-bits.bits (sym c.is_owned_by.ensures ∙ c.if-is_owned_by.false) (rw c.actor_stamp.ensures at given)

@@ -1,0 +1,145 @@
+// Who may do what with an object: its owner all, and others what grants give them.
+ghost use Rattle.std.specs.Prelude.{◌≡◌, ◌<◌, Some, IfOk, IfSome, option_map};
+ghost use Rattle.std.specs.List.{list_any};
+ghost use Rattle.eeprom.specs.Fault.{each_error};
+ghost use Rattle.eeprom.specs.Frame.{Reads};
+ghost use Rattle.record_store.specs.Held.{IsOver};
+ghost use Rattle.scql_model.specs.Database.{Database};
+ghost use Rattle.scql_model.specs.Creating as creating;
+ghost use Rattle.scql_model.specs.Rights as model;
+ghost use Rattle.scql_model.specs.Rights.{all_privileges, has_bit, seen_named};
+ghost use Rattle.catalog_codec.specs.Catalog.{object_kind};
+ghost use Rattle.record_table.specs.Listed.{at_slot, slots_of};
+ghost use Rattle.record_table.specs.Making.{IsHeld};
+ghost use Rattle.privilege_table.specs.Rights.{privilege_bit};
+
+use crate::held;
+use eeprom::{Eeprom, EepromFault};
+use object_table::find_name;
+use record_store::{Found, Side, Store};
+use scql_base::{Actor, Name, Object, Privileges};
+
+/// One of the four privileges.
+#[derive(Clone, Copy, PartialEq, Eq, Debug)]
+pub enum Privilege {
+    Select,
+    Insert,
+    Update,
+    Delete,
+}
+
+impl Privilege {
+    /// Its bit among those of a grant.
+    pub fn bit(self) -> u8
+        ensures { result ≡ privilege_bit self }
+    {
+        match self {
+            Privilege::Select => Privileges::SELECT,
+            Privilege::Insert => Privileges::INSERT,
+            Privilege::Update => Privileges::UPDATE,
+            Privilege::Delete => Privileges::DELETE,
+        }
+    }
+}
+
+/// The stamp of the user who acts, and 0 for PUBLIC.
+pub fn actor_stamp(actor: Actor) -> u32
+    ensures { result ≡ creating.actor_stamp actor }
+{
+    match actor {
+        Actor::Public => 0,
+        Actor::User { stamp, .. } => stamp,
+    }
+}
+
+/// Whether the owner of this stamp is who acts. PUBLIC owns nothing.
+pub fn is_owned_by(actor: Actor, owner: u32) -> bool
+    ensures { result ≡ creating.is_owned_by actor owner }
+{
+    match actor {
+        Actor::Public => false,
+        Actor::User { stamp, .. } => owner == stamp,
+    }
+}
+
+/// Whether an actor holds a privilege on an object.
+pub fn holds<B: Eeprom>(
+    store: &Store,
+    bench: &mut B,
+    side: Side,
+    actor: Actor,
+    object: &Object,
+    privilege: Privilege,
+) -> Result<bool, EepromFault>
+    requires over { IsOver store.now (B.chip bench.old) }
+    ensures holds { (db : Database) → IsHeld store.now side (B.chip bench.old) db → IfOk result (λ answer. answer ≡ model.holds db actor object.now (privilege_bit privilege)) }
+    ensures frame { Reads each_error B.chip B.faults bench.old bench.new result }
+{
+    if is_owned_by(actor, object.owner) {
+        return Ok(true);
+    }
+    let bits = held(store, bench, side, object.stamp, actor_stamp(actor))?;
+    Ok(has(bits, privilege))
+}
+
+/// Whether an object appears to an actor, who owns it or holds some privilege on it.
+pub fn appears<B: Eeprom>(
+    store: &Store,
+    bench: &mut B,
+    side: Side,
+    actor: Actor,
+    object: &Object,
+) -> Result<bool, EepromFault>
+    requires over { IsOver store.now (B.chip bench.old) }
+    ensures appears { (db : Database) → IsHeld store.now side (B.chip bench.old) db → IfOk result (λ answer. answer ≡ model.appears db actor object.now) }
+    ensures frame { Reads each_error B.chip B.faults bench.old bench.new result }
+{
+    if is_owned_by(actor, object.owner) {
+        return Ok(true);
+    }
+    let bits = held(store, bench, side, object.stamp, actor_stamp(actor))?;
+    Ok(has_some(bits))
+}
+
+/// Finds the object of a name, where it appears to an actor.
+pub fn find_seen<B: Eeprom>(
+    store: &Store,
+    bench: &mut B,
+    side: Side,
+    actor: Actor,
+    name: Name,
+) -> Result<Option<Found<Object>>, EepromFault>
+    requires over { IsOver store.now (B.chip bench.old) }
+    ensures there { IfOk result (λ found. IfSome found (λ found. found.slot < store.now.chains.cells)) }
+    ensures at { IfOk result (λ found. IfSome found (λ found. IfSome (slots_of store.now side (B.chip bench.old))
+        (λ slots. Some found.value ≡ at_slot object_kind found.slot slots))) }
+    ensures seen { (db : Database) → IsHeld store.now side (B.chip bench.old) db
+        → IfOk result (λ found. option_map (λ found. found.value) found ≡ seen_named db actor name) }
+    ensures frame { Reads each_error B.chip B.faults bench.old bench.new result }
+{
+    let Some(found) = find_name(store, bench, side, name)? else {
+        return Ok(None);
+    };
+    if appears(store, bench, side, actor, &found.value)? {
+        Ok(Some(found))
+    } else {
+        Ok(None)
+    }
+}
+
+// Whether the bit of a privilege is among bits.
+fn has(bits: u8, privilege: Privilege) -> bool
+    ensures { result ≡ has_bit (privilege_bit privilege) bits }
+{
+    bits / privilege.bit() % 2 == 1
+}
+
+// Whether the bit of some privilege is among bits.
+fn has_some(bits: u8) -> bool
+    ensures { result ≡ list_any (λ bit. has_bit bit bits) all_privileges }
+{
+    has(bits, Privilege::Select)
+        || has(bits, Privilege::Insert)
+        || has(bits, Privilege::Update)
+        || has(bits, Privilege::Delete)
+}
