@@ -12,8 +12,8 @@ use crate::Marked;
 use eeprom::{Eeprom, EepromFault};
 use record_store::{RecordOctets, Side, Store};
 
-/// The record of a slot, if it is of the kind. A record with another first octet isn't read.
-pub(crate) fn read_entry<R: Marked, B: Eeprom>(
+/// The record of a slot, if it is of the kind. A record with another first octet isn't read. Records are read into `octets`.
+pub fn read_entry<R: Marked, B: Eeprom>(
     store: &Store,
     bench: &mut B,
     side: Side,

@@ -9,6 +9,7 @@ mod next;
 mod wanted;
 
 pub use changing::{add, change, remove};
+pub use entry::read_entry;
 pub use finding::{find_by, find_stamp};
 pub use marked::Marked;
 pub use next::{next_after, next_by};

@@ -1,0 +1,4 @@
+pub mod Searches
+pub mod Tables
+pub mod Changes
+pub mod Kept
