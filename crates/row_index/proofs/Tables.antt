@@ -44,7 +44,7 @@ all-put_in_order key P x (y ∷ ys) here all =
       | inr f ↦ rw f (all.0, all-put_in_order key P x ys here all.1)
     ]
 
-all-in_order : {X : Type 0} (key : X → ℕ) (P : X → Type 0) (xs : List X) → AllByRecursion P xs → AllByRecursion P (in_order key xs)
+pub all-in_order : {X : Type 0} (key : X → ℕ) (P : X → Type 0) (xs : List X) → AllByRecursion P xs → AllByRecursion P (in_order key xs)
 all-in_order key P [] all = tt
 all-in_order key P (x ∷ xs) all = all-put_in_order key P x (in_order key xs) all.0 (all-in_order key P xs all.1)
 

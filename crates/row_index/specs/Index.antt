@@ -3,6 +3,7 @@ use Rattle.std.specs.Prelude.{◌≡◌, ℕ, ◌≤◌, ◌<◌, ◌&&◌, not,
 use Rattle.std.specs.List.{AllByRecursion, list_all, list_any}
 use Rattle.eeprom.specs.Chip.{Chip}
 use Rattle.eeprom.specs.Slots.{AreApart, Rises, has}
+use Rattle.eeprom.specs.StoreOf.{Slots}
 use Rattle.record_store.specs.Held.{Held}
 use Rattle.record_store.specs.declared.side.Side.{Side}
 use Rattle.record_store.specs.declared.side.Side.TheVariants.{Committed, Working}
@@ -57,8 +58,13 @@ pub record IsIndex (done : Done) (begun : Bool) (committed working : Ordered) : 
   pub leads : LeadsTo done committed.places working.places
   pub idle : begun ≡ false → done ≡ Nothing
 
+-- there are as many slots as cells, and their rows stand in these places
+pub record HasRows (cells : ℕ) (places : List RowPlace) (slots : Slots) : Type 0 where
+  pub all : length slots ≡ cells
+  pub are : places ≡ row_places slots
+
 -- An index stands for a store: on each side it has the rows that the store's slots have, where told.
 pub record Indexes (index : Index) (store : Held) (chip : Chip) : Type 0 where
   pub cells : index.cells ≡ store.chains.cells
-  pub committed : IfSome (slots_of store Committed chip) (λ slots. index.committed ≡ row_places slots)
-  pub working : IfSome (slots_of store Working chip) (λ slots. index.working ≡ row_places slots)
+  pub committed : IfSome (slots_of store Committed chip) (HasRows index.cells index.committed)
+  pub working : IfSome (slots_of store Working chip) (HasRows index.cells index.working)
