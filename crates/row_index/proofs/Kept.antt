@@ -1,0 +1,120 @@
+-- What an index keeps of its places when one is put among them or taken out.
+use Rattle.std.proofs.Common.{◌≡◌, ℕ, zero, suc, ◌+◌, ◌<◌, ◌≤◌, Bool, true, false, cond, not, ◌&&◌, ltb, eqb, List, [], ◌∷◌, ◌++◌, length, Option, Some, None, inl, inr, refl, sym, ap, ◌∙◌, arith, subst}
+use Rattle.std.specs.Prelude.{option_map, IfSome}
+use Rattle.std.specs.List.{find, filter, count_by, sum_by, list_all, list_any, AllByRecursion}
+use Rattle.std.proofs.lemmas.Bool.{cases_Bool, ltb-true, ltb-false, eqb-true, eqb-false, eq-eqb, ne_eqb, and_parts, or_parts, not-true}
+use Rattle.std.proofs.lemmas.List.Sums.{sum_by-cons, count_by-le-length, length-filter}
+use Rattle.std.proofs.lemmas.Option.{none-some, same_Some}
+use Rattle.eeprom.specs.Slots.{Rises, AreApart, has, put_in_order, without}
+use Rattle.eeprom.proofs.InOrder.{counts, counts_not, count_by-cons, count-below, put_in_order-last, without-none, sum_by-put_in_order, all-filter}
+use Rattle.row_index.specs.Index.{AreKept, Index, is_above, may_add}
+use Rattle.row_index.specs.Places.{place_stamp, place_slot, IsOneMore}
+use Rattle.row_index.specs.declared.place.RowPlace.{RowPlace}
+use Rattle.row_index.proofs.Changes.{Rises-put, Rises-filter, IsOneMore-found, length-put_in_order, count_by-put}
+use Rattle.row_index.proofs.Tables.{all-put_in_order}
+
+-- each passes where all pass
+pub all-list_all : {X : Type 0} (p : X → Bool) (P : X → Type 0) (xs : List X) → ((x : X) → p x ≡ true → P x) → list_all p xs ≡ true → AllByRecursion P xs
+all-list_all p P [] says all = tt
+all-list_all p P (x ∷ xs) says all = let both = and_parts (p x) (list_all p xs) all in (says x both.0, all-list_all p P xs says both.1)
+
+pub none-list_any : {X : Type 0} (p : X → Bool) (xs : List X) → list_any p xs ≡ false → count_by p xs ≡ 0
+none-list_any p [] none = refl
+none-list_any p (x ∷ xs) none = let both = or_parts (p x) (list_any p xs) none in counts_not p x xs both.0 ∙ none-list_any p xs both.1
+
+none-found : {X : Type 0} (p : X → Bool) (xs : List X) → find p xs ≡ None → count_by p xs ≡ 0
+none-found p [] none = refl
+none-found p (x ∷ xs) none =
+    elim (cases_Bool (p x)) [
+      | inl t ↦ absurd (none-some x (sym (rw t at none)))
+      | inr f ↦ counts_not p x xs f ∙ none-found p xs (rw f at none)
+    ]
+
+-- where no place has a slot, nothing is taken out
+pub without-not_found : (slot : ℕ) (xs : List RowPlace) → find (has place_slot slot) xs ≡ None → without place_slot slot xs ≡ xs
+without-not_found slot xs none = without-none place_slot slot xs (none-found (has place_slot slot) xs none)
+
+-- what holds of all holds of the one that is found
+pub found-all : {X : Type 0} (P : X → Type 0) (p : X → Bool) (xs : List X) → AllByRecursion P xs → IfSome (find p xs) P
+found-all P p [] all = tt
+found-all P p (x ∷ xs) all =
+    elim (cases_Bool (p x)) [
+      | inl t ↦ rw t all.0
+      | inr f ↦ rw f (found-all P p xs all.1)
+    ]
+
+filter_count : {X : Type 0} (p q : X → Bool) (xs : List X) → count_by q (filter p xs) ≤ count_by q xs
+filter_count p q [] = omega arith
+filter_count p q (x ∷ xs) =
+    let rest = filter_count p q xs in
+    let c = count_by-cons q x xs in
+    elim (cases_Bool (p x)) [
+      | inl t ↦ rw t (let d = count_by-cons q x (filter p xs) in omega arith)
+      | inr f ↦ rw f (omega arith)
+    ]
+
+pub AreKept-filter : (cells : ℕ) (p : RowPlace → Bool) (xs : List RowPlace) → AreKept cells xs → AreKept cells (filter p xs)
+AreKept-filter cells p xs kept = record {
+  rises = Rises-filter place_stamp p xs kept.rises;
+  apart = λ k. let a = kept.apart k in let b = filter_count p (has place_slot k) xs in omega arith;
+  within = all-filter (λ place. place_slot place < cells) p xs kept.within;
+  few = omega (arith, length-filter p xs, count_by-le-length p xs, kept.few);
+}
+
+pub AreKept-put : (cells : ℕ) (place : RowPlace) (xs : List RowPlace) → AreKept cells xs → count_by (has place_stamp place.stamp) xs ≡ 0 → count_by (has place_slot place.slot) xs ≡ 0 → place.slot < cells → length xs < cells
+    → AreKept cells (put_in_order place_stamp place xs)
+AreKept-put cells place xs kept new_stamp new_slot there room = record {
+  rises = Rises-put place_stamp place xs kept.rises new_stamp;
+  apart = λ k.
+      (elim (cases_Bool (eqb place.slot k)) [
+        | inl t ↦ (let same = eqb-true place.slot k t in
+            let none = subst (λ k. count_by (has place_slot k) xs ≡ 0) same new_slot in
+            let one = count_by-put place_stamp (has place_slot k) place xs t in
+            omega arith)
+        | inr f ↦ (let a = kept.apart k in
+            let c = sum_by-put_in_order place_stamp (λ y. cond (has place_slot k y) 1 0) place xs ∙ ap (λ (b : Bool). cond b 1 0 + count_by (has place_slot k) xs) f in
+            omega arith)
+      ]);
+  within = all-put_in_order place_stamp (λ place. place_slot place < cells) place xs there kept.within;
+  few = omega (arith, length-put_in_order place_stamp place xs, room);
+}
+
+-- a place that passes is taken out alone, so the others are left
+filter-put_in_order : {X : Type 0} (key : X → ℕ) (p : X → Bool) (x : X) (xs : List X) → p x ≡ false → filter p (put_in_order key x xs) ≡ filter p xs
+filter-put_in_order key p x [] fails = rw fails refl
+filter-put_in_order key p x (y ∷ ys) fails =
+    elim (cases_Bool (ltb (key x) (key y))) [
+      | inl t ↦ rw (t, fails) refl
+      | inr f ↦ rw f (ap (λ rest. cond (p y) (y ∷ rest) rest) (filter-put_in_order key p x ys fails))
+    ]
+
+pub IsOneMore-put : (place : RowPlace) (xs : List RowPlace) → count_by (has place_stamp place.stamp) xs ≡ 0 → count_by (has place_slot place.slot) xs ≡ 0 → IsOneMore place xs (put_in_order place_stamp place xs)
+IsOneMore-put place xs new_stamp new_slot = record {
+  placed = refl;
+  taken = sym (filter-put_in_order place_stamp (λ y. not (eqb (place_slot y) place.slot)) place xs (ap not (eq-eqb place.slot place.slot refl)) ∙ without-none place_slot place.slot xs new_slot);
+  new_stamp = new_stamp;
+}
+
+-- What may be added has a new stamp and a new slot, and there is room for it.
+pub record IsAddable (index : Index) (place : RowPlace) : Type 0 where
+  pub last : put_in_order place_stamp place index.working ≡ index.working ++ place ∷ []
+  pub new_stamp : count_by (has place_stamp place.stamp) index.working ≡ 0
+  pub new_slot : count_by (has place_slot place.slot) index.working ≡ 0
+  pub there : place.slot < index.cells
+  pub room : length index.working < index.cells
+
+pub IsAddable-may_add : (index : Index) (place : RowPlace) → may_add index place ≡ true → IsAddable index place
+IsAddable-may_add index place may =
+    let e = and_parts (is_above place.stamp index.committed && is_above place.stamp index.working && ltb place.slot index.cells && not (list_any (has place_slot place.slot) index.working)) (ltb (length index.working) index.cells) may in
+    let d = and_parts (is_above place.stamp index.committed && is_above place.stamp index.working && ltb place.slot index.cells) (not (list_any (has place_slot place.slot) index.working)) e.0 in
+    let b = and_parts (is_above place.stamp index.committed && is_above place.stamp index.working) (ltb place.slot index.cells) d.0 in
+    let a = and_parts (is_above place.stamp index.committed) (is_above place.stamp index.working) b.0 in
+    let below : AllByRecursion (λ y. place_stamp y < place.stamp) index.working =
+    all-list_all (λ y. ltb (place_stamp y) place.stamp) (λ y. place_stamp y < place.stamp) index.working (λ y t. ltb-true (place_stamp y) place.stamp t) a.1 in
+    record {
+      last = put_in_order-last place_stamp place index.working below;
+      new_stamp = count-below place_stamp place.stamp index.working below;
+      new_slot = none-list_any (has place_slot place.slot) index.working (not-true (list_any (has place_slot place.slot) index.working) d.1);
+      there = ltb-true place.slot index.cells b.1;
+      room = ltb-true (length index.working) index.cells e.1;
+    }

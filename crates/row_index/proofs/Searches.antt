@@ -1,0 +1,112 @@
+-- Lists in rising order of a key, searched by halves.
+use Rattle.std.proofs.Common.{◌≡◌, ℕ, zero, suc, ◌+◌, ◌<◌, ◌≤◌, Bool, true, false, cond, ltb, leb, eqb, List, [], ◌∷◌, ◌++◌, length, Option, Some, None, take, drop, get_or, inl, inr, refl, sym, ap, ◌∙◌, arith, subst}
+use Rattle.std.specs.List.{find, insert, slice_get, count_by, AllByRecursion}
+use Rattle.std.specs.Prelude.{Result, IsOk, is_ok}
+use Rattle.std.specs.List.Sorted.{IsPartitionPoint, IsNonDecreasingBy}
+use Rattle.std.proofs.lemmas.Bool.{cases_Bool, ltb-true, ltb-false, leb-true, leb-false, lt-ltb, le-ltb, le-leb, lt-leb, eqb-true, eqb-false, eq-eqb, ne_eqb}
+use Rattle.std.proofs.lemmas.Option.{slice_get_read, slice_get_past}
+use Rattle.eeprom.specs.Slots.{Rises, has, is_after, put_in_order}
+use Rattle.eeprom.proofs.InOrder.{counts, counts_not}
+
+-- what holds of all holds at each index
+all-at : {X : Type 0} (P : X → Type 0) (xs : List X) (i : ℕ) (d : X) → i < length xs → AllByRecursion P xs → P (get_or xs i d)
+all-at P [] i d within all = absurd (omega arith)
+all-at P (x ∷ xs) zero d within all = all.0
+all-at P (x ∷ xs) (suc i) d within all = all-at P xs i d (omega arith) all.1
+
+-- keys that rise don't fall
+pub IsNonDecreasingBy-rising : {X : Type 0} (key : X → ℕ) (xs : List X) → Rises key xs → IsNonDecreasingBy key xs
+IsNonDecreasingBy-rising key [] rises i j d le within = absurd (omega arith)
+IsNonDecreasingBy-rising key (x ∷ xs) rises zero zero d le within = omega arith
+IsNonDecreasingBy-rising key (x ∷ xs) rises zero (suc j) d le within = let less = all-at (λ y. key x < key y) xs j d (omega arith) rises.0 in omega arith
+IsNonDecreasingBy-rising key (x ∷ xs) rises (suc i) zero d le within = absurd (omega arith)
+IsNonDecreasingBy-rising key (x ∷ xs) rises (suc i) (suc j) d le within = IsNonDecreasingBy-rising key xs rises.1 i j d (omega arith) (omega arith)
+
+-- so many pass as stand before the point
+pub count_by-point : {X : Type 0} (p : X → Bool) (xs : List X) (i : ℕ) → i ≤ length xs → IsPartitionPoint (λ y. p y ≡ true) (λ y. p y ≡ false) xs i → i ≡ count_by p xs
+count_by-point p [] i within point = omega arith
+count_by-point p (x ∷ xs) zero within point =
+    let here : p x ≡ false = point.1 0 x (omega arith) (omega arith) in
+    let rest = count_by-point p xs 0 (omega arith) ((λ k d low high. absurd (omega arith)), (λ k d low high. point.1 (suc k) d (omega arith) (omega arith))) in
+    rest ∙ sym (counts_not p x xs here)
+count_by-point p (x ∷ xs) (suc i) within point =
+    let here : p x ≡ true = point.0 0 x (omega arith) (omega arith) in
+    let rest = count_by-point p xs i (omega arith) ((λ k d low high. point.0 (suc k) d (omega arith) (omega arith)), (λ k d low high. point.1 (suc k) d (omega arith) (omega arith))) in
+    let one = counts p x xs here in
+    omega arith
+
+-- where one key isn't below a number, none behind it is
+none_below : {X : Type 0} (key : X → ℕ) (k m : ℕ) (xs : List X) → k ≤ m → AllByRecursion (λ y. m < key y) xs → count_by (λ y. ltb (key y) k) xs ≡ 0
+none_below key k m [] le all = refl
+none_below key k m (x ∷ xs) le all = counts_not (λ y. ltb (key y) k) x xs (le-ltb (key x) k (omega (arith, all.0))) ∙ none_below key k m xs le all.1
+
+none_up_to : {X : Type 0} (key : X → ℕ) (k m : ℕ) (xs : List X) → k ≤ m → AllByRecursion (λ y. m < key y) xs → count_by (λ y. leb (key y) k) xs ≡ 0
+none_up_to key k m [] le all = refl
+none_up_to key k m (x ∷ xs) le all = counts_not (λ y. leb (key y) k) x xs (lt-leb (key x) k (omega (arith, all.0))) ∙ none_up_to key k m xs le all.1
+
+-- no key behind a greater one is found
+not_found : {X : Type 0} (key : X → ℕ) (k m : ℕ) (xs : List X) → k ≤ m → AllByRecursion (λ y. m < key y) xs → find (has key k) xs ≡ None
+not_found key k m [] le all = refl
+not_found key k m (x ∷ xs) le all = rw (ne_eqb (key x) k (omega (arith, all.0))) (not_found key k m xs le all.1)
+
+-- the element, if it has a key
+abbrev pub with_key : {X : Type 0} → (X → ℕ) → ℕ → Option X → Option X
+with_key key k None = None
+with_key key k (Some x) = cond (eqb (key x) k) (Some x) None
+
+-- what has a key stands behind those of lesser keys
+pub find-has : {X : Type 0} (key : X → ℕ) (k : ℕ) (xs : List X) → Rises key xs → find (has key k) xs ≡ with_key key k (slice_get xs (count_by (λ y. ltb (key y) k) xs))
+find-has key k [] rises = refl
+find-has key k (x ∷ xs) rises =
+    elim (cases_Bool (ltb (key x) k)) [
+      | inl t ↦ (let less = ltb-true (key x) k t in
+          let one : count_by (λ y. ltb (key y) k) (x ∷ xs) ≡ suc (count_by (λ y. ltb (key y) k) xs) = (let c = counts (λ y. ltb (key y) k) x xs t in omega arith) in
+          rw (one, ne_eqb (key x) k (omega arith)) (find-has key k xs rises.1))
+      | inr f ↦ (let most = ltb-false (key x) k f in
+          let none = counts_not (λ y. ltb (key y) k) x xs f ∙ none_below key k (key x) xs most rises.0 in
+          rw none (elim (cases_Bool (eqb (key x) k)) [
+            | inl t ↦ rw t refl
+            | inr g ↦ rw g (not_found key k (key x) xs most rises.0)
+          ]))
+    ]
+
+-- what is after a key stands behind those of keys up to it
+pub find-after : {X : Type 0} (key : X → ℕ) (k : ℕ) (xs : List X) → Rises key xs → find (is_after key k) xs ≡ slice_get xs (count_by (λ y. leb (key y) k) xs)
+find-after key k [] rises = refl
+find-after key k (x ∷ xs) rises =
+    elim (cases_Bool (leb (key x) k)) [
+      | inl t ↦ (let le = leb-true (key x) k t in
+          let one : count_by (λ y. leb (key y) k) (x ∷ xs) ≡ suc (count_by (λ y. leb (key y) k) xs) = (let c = counts (λ y. leb (key y) k) x xs t in omega arith) in
+          rw (one, le-ltb k (key x) le) (find-after key k xs rises.1))
+      | inr f ↦ (let more = leb-false (key x) k f in
+          let none = counts_not (λ y. leb (key y) k) x xs f ∙ none_up_to key k (key x) xs (omega arith) rises.0 in
+          rw (none, lt-ltb k (key x) more) refl)
+    ]
+
+-- an element goes behind those of keys up to its own
+pub put_in_order-insert : {X : Type 0} (key : X → ℕ) (x : X) (xs : List X) → Rises key xs → insert xs (count_by (λ y. leb (key y) (key x)) xs) x ≡ put_in_order key x xs
+put_in_order-insert key x [] rises = refl
+put_in_order-insert key x (y ∷ ys) rises =
+    elim (cases_Bool (leb (key y) (key x))) [
+      | inl t ↦ (let le = leb-true (key y) (key x) t in
+          let one : count_by (λ z. leb (key z) (key x)) (y ∷ ys) ≡ suc (count_by (λ z. leb (key z) (key x)) ys) = (let c = counts (λ z. leb (key z) (key x)) y ys t in omega arith) in
+          rw (one, le-ltb (key x) (key y) le) (ap (λ rest. y ∷ rest) (put_in_order-insert key x ys rises.1)))
+      | inr f ↦ (let more = leb-false (key y) (key x) f in
+          let none = counts_not (λ z. leb (key z) (key x)) y ys f ∙ none_up_to key (key x) (key y) ys (omega arith) rises.0 in
+          rw (none, lt-ltb (key x) (key y) more) refl)
+    ]
+
+-- what a call leaves that succeeds
+pub if_ok : {A E Y : Type 0} (r : Result A E) (x y : Y) → IsOk r → cond (is_ok r) x y ≡ x
+if_ok r x y ok = rw ok refl
+
+-- what a search reads: the element at a place, if there is one
+pub at_place : {X : Type 0} (xs ys : List X) (i : ℕ) (x : X) → ys ≡ xs → true ≡ ltb i (length ys) → x ≡ get_or ys i x → slice_get xs i ≡ Some x
+at_place xs ys i x same within read = slice_get_read xs (length xs) i x refl (ltb-true i (length xs) (sym (within ∙ ap (λ zs. ltb i (length zs)) same))) (read ∙ ap (λ zs. get_or zs i x) same)
+
+pub at_no_place : {X : Type 0} (xs ys : List X) (i : ℕ) → ys ≡ xs → false ≡ ltb i (length ys) → slice_get xs i ≡ None
+at_no_place xs ys i same past = slice_get_past xs i (ltb-false i (length xs) (sym (past ∙ ap (λ zs. ltb i (length zs)) same)))
+
+-- what has a key, by where it stands
+pub find-at : {X : Type 0} (key : X → ℕ) (k : ℕ) (xs : List X) (i : ℕ) (o : Option X) → Rises key xs → i ≡ count_by (λ y. ltb (key y) k) xs → slice_get xs i ≡ o → find (has key k) xs ≡ with_key key k o
+find-at key k xs i o rises count got = find-has key k xs rises ∙ ap (λ i. with_key key k (slice_get xs i)) (sym count) ∙ ap (with_key key k) got

@@ -1,0 +1,30 @@
+-- Both orders keep what stands in other slots.
+use Rattle.std.proofs.Common.{◌≡◌, List, not, eqb, rules, sym, ap, ◌∙◌}
+use Rattle.std.specs.List.{filter}
+use Rattle.std.proofs.lemmas.Fn.{filter_same}
+use Rattle.eeprom.specs.Slots.{without}
+use Rattle.row_index.specs.Places.{place_slot}
+use Rattle.row_index.specs.declared.place.RowPlace.{RowPlace}
+use Rattle.row_index.proofs.Changes.{IsOrdered-filter, IsOneMore-found}
+use Rattle.row_index.proofs.ordered.OrderedPlaces.take_out.Goals as goal
+
+pub invariant_of-self : goal.invariant_of-self
+invariant_of-self c =
+    let test = λ (place : RowPlace). not (eqb place.slot c.args.slot) in
+    let stamps = filter_same _ test _ (λ x b f' k. search rules) _ _ c.retain.ensures.filtered in
+    let tables = filter_same _ test _ (λ x b f' k. search rules) _ _ c.retain-2.ensures.filtered in
+    rw (stamps, tables, c.retain.ensures.capacity, c.retain-2.ensures.capacity) (IsOrdered-filter test c.self.inside.cells c.self.inside.by_stamp.items c.self.inside.by_table.items _ _ c.self.invariant)
+
+pub returns-clause-taken : goal.returns-clause-taken
+returns-clause-taken c =
+    let test = λ (place : RowPlace). not (eqb place.slot c.args.slot) in
+    let stamps = filter_same _ test _ (λ x b f' k. search rules) _ _ c.retain.ensures.filtered in
+    rw (← c.self.view_is) (ap (λ (places : List RowPlace). record { cells = c.self.inside.cells; places = places }) stamps)
+
+pub returns-clause-one_less : goal.returns-clause-one_less
+returns-clause-one_less c = λ place apart found.
+    let test = λ (place : RowPlace). not (eqb place.slot c.args.slot) in
+    let stamps = filter_same _ test _ (λ x b f' k. search rules) _ _ c.retain.ensures.filtered in
+    let here = rw (← c.self.view_is) at found in
+    let alone = rw (← c.self.view_is) at apart in
+    rw (← c.self.view_is, stamps) (IsOneMore-found c.args.slot place c.self.inside.by_stamp.items c.self.invariant.rises alone here)

@@ -1,0 +1,11 @@
+//! Where the rows of a store stand, in memory: each row by its stamp, and the rows of each table one behind the other.
+#![tactic(auto)]
+
+mod done;
+mod index;
+mod order;
+mod ordered;
+mod place;
+
+pub use index::RowIndex;
+pub use place::RowPlace;

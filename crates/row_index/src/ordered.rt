@@ -1,0 +1,148 @@
+// The places of the rows of one side: in order of their stamps, and once more by tables. Both lists keep their memory.
+ghost use Rattle.std.specs.Prelude.{◌≡◌, ◌<◌, ◌≤◌, [], Some, IfOk, count_by, length, nat_lt};
+ghost use Rattle.std.specs.List.{find, list_all, list_any};
+ghost use Rattle.eeprom.specs.Slots.{AreApart, Rises, has, put_in_order, without};
+ghost use Rattle.row_index.specs.Index.{is_above};
+ghost use Rattle.row_index.specs.Ordered.{Ordered};
+ghost use Rattle.row_index.specs.Places.{IsOneMore, is_later_in, place_slot, place_stamp};
+
+use crate::RowPlace;
+use crate::order::{Order, count_below, count_up_to, key_in_table, put, refill};
+use std::alloc::{AllocError, Global};
+use std::marker::Model;
+
+#[derive(Drop)]
+pub(crate) struct OrderedPlaces {
+    cells: u16,
+    by_stamp: Vec<RowPlace>,
+    by_table: Vec<RowPlace>,
+}
+
+impl Model for OrderedPlaces {
+    ghost use Rattle.std.specs.Vec.{vec_capacity};
+    ghost use Rattle.row_index.specs.Ordered.{IsOrdered, Ordered};
+
+    ghost Value = { Ordered };
+
+    ghost view = { λ ordered. record { cells = ordered.cells; places = ordered.by_stamp.items } };
+
+    ghost invariant = { λ ordered. IsOrdered ordered.cells ordered.by_stamp.items ordered.by_table.items (vec_capacity ordered.by_stamp) (vec_capacity ordered.by_table) };
+}
+
+impl OrderedPlaces {
+    // None yet, with room for as many as there are cells.
+    pub(crate) fn with_room(alloc: Global, cells: u16) -> Result<OrderedPlaces, AllocError>
+        ensures none { IfOk result (λ ordered. ordered ≡ record { cells = cells; places = [] }) }
+    {
+        Ok(OrderedPlaces {
+            cells,
+            by_stamp: Vec::with_capacity(alloc, usize::from(cells))?,
+            by_table: Vec::with_capacity(alloc, usize::from(cells))?,
+        })
+    }
+
+    // How many places there may be.
+    pub(crate) fn cells(&self) -> u16
+        ensures { result ≡ self.now.cells }
+    {
+        self.cells
+    }
+
+    // Whether there is room for one more.
+    pub(crate) fn has_room(&self) -> bool
+        ensures { result ≡ nat_lt (length self.now.places) self.now.cells }
+    {
+        self.by_stamp.len() < usize::from(self.cells)
+    }
+
+    // The place of the row of a stamp.
+    pub(crate) fn find(&self, stamp: u32) -> Option<RowPlace>
+        ensures { result ≡ find (has place_stamp stamp) self.now.places }
+    {
+        let places = self.by_stamp.as_slice();
+        let place = *places.get(count_below(places, Order::ByStamp, u64::from(stamp)))?;
+        if place.stamp == stamp {
+            Some(place)
+        } else {
+            None
+        }
+    }
+
+    // The place of the row of a table that has the least greater stamp.
+    pub(crate) fn next_after(&self, table: u32, stamp: u32) -> Option<RowPlace>
+        ensures { result ≡ find (is_later_in table stamp) self.now.places }
+    {
+        let places = self.by_table.as_slice();
+        let place = *places.get(count_up_to(places, Order::ByTable, key_in_table(table, stamp)))?;
+        if place.table == table {
+            Some(place)
+        } else {
+            None
+        }
+    }
+
+    // The place of the row that a slot has.
+    pub(crate) fn in_slot(&self, slot: u16) -> Option<RowPlace>
+        ensures { result ≡ find (has place_slot slot) self.now.places }
+    {
+        self.by_stamp
+            .iter()
+            .copied()
+            .find(|place| place.slot == slot)
+    }
+
+    // Whether a slot has a row.
+    pub(crate) fn has_slot(&self, slot: u16) -> bool
+        ensures { result ≡ list_any (has place_slot slot) self.now.places }
+    {
+        self.by_stamp.iter().any(|place| place.slot == slot)
+    }
+
+    // Whether all stamps are below one.
+    pub(crate) fn are_below(&self, stamp: u32) -> bool
+        ensures { result ≡ is_above stamp self.now.places }
+    {
+        let below = count_below(self.by_stamp.as_slice(), Order::ByStamp, u64::from(stamp));
+        below == self.by_stamp.len()
+    }
+
+    // Puts a place of a new stamp where it stands in order. There is room for it.
+    pub(crate) fn put(&mut self, place: RowPlace)
+        requires room { length self.old.places < self.old.cells }
+        requires new_stamp { count_by (has place_stamp place.stamp) self.old.places ≡ 0 }
+        ensures placed { self.new ≡ record { cells = self.old.cells; places = put_in_order place_stamp place self.old.places } }
+    {
+        put(&mut self.by_stamp, Order::ByStamp, place);
+        put(&mut self.by_table, Order::ByTable, place);
+    }
+
+    // Takes out the place of the row that a slot has.
+    pub(crate) fn take_out(&mut self, slot: u16)
+        ensures taken { self.new ≡ record { cells = self.old.cells; places = without place_slot slot self.old.places } }
+        ensures one_less { (place : RowPlace) → AreApart place_slot self.old.places → find (has place_slot slot) self.old.places ≡ Some place → IsOneMore place self.new.places self.old.places }
+    {
+        self.by_stamp.retain(|place| place.slot != slot);
+        self.by_table.retain(|place| place.slot != slot);
+    }
+
+    // Has these places in the place of its own.
+    pub(crate) fn fill(&mut self, places: &[RowPlace])
+        requires rises { Rises place_stamp places.now }
+        requires room { length places.now ≤ self.old.cells }
+        ensures filled { self.new ≡ record { cells = self.old.cells; places = places.now } }
+    {
+        refill(&mut self.by_stamp, places);
+        refill(&mut self.by_table, places);
+        self.by_table
+            .sort_unstable_by_key(|place| Order::ByTable.key(place));
+    }
+
+    // Has the same places as another.
+    pub(crate) fn copy(&mut self, other: &OrderedPlaces)
+        requires cells { other.now.cells ≡ self.old.cells }
+        ensures same { self.new ≡ other.now }
+    {
+        refill(&mut self.by_stamp, other.by_stamp.as_slice());
+        refill(&mut self.by_table, other.by_table.as_slice());
+    }
+}
