@@ -1,0 +1,4 @@
+pub mod Opening
+pub mod Opens
+pub mod Summary
+pub mod Validity
