@@ -1,0 +1,6 @@
+mod GatheredSlots
+mod HeldInOrder
+mod HeldKinds
+mod ListsInOrder
+mod Sorting
+mod Tested

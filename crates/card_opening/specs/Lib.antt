@@ -1,4 +1,3 @@
 pub mod Opening
-pub mod Opens
 pub mod Summary
 pub mod Validity

@@ -9,10 +9,10 @@ use Rattle.record_store.specs.Opening.{front_octets}
 use Rattle.scql_base.specs.declared.records.Object.{Object}
 use Rattle.scql_base.specs.declared.records.RowRecord.{RowRecord}
 use Rattle.scql_model.specs.Objects.{columns_of}
-use Rattle.scql_model.specs.Records.{counter_record, user_record, grant_record, row_record, object_fits, counter_in, user_in}
+use Rattle.scql_model.specs.Records.{counter_record, user_record, grant_record, row_record, object_fits, counter_in, user_in, object_in, grant_in, row_in}
 use Rattle.scql_model.specs.Rules.{is_table, are_different, is_within_limit}
 use Rattle.scql_model.specs.Database.{Database, IsValid, weight}
-use Rattle.card_opening.specs.Opens.{Holds, is_spelled, are_tables, object_in, grant_in, row_in}
+use Rattle.scql_model.specs.Opens.{Holds, is_spelled, are_tables}
 use Rattle.card_opening.specs.declared.summary.Summary.{Summary}
 use Rattle.card_opening.specs.declared.summary.Summary.TheVariants as kept_as
 use Rattle.card_opening.specs.declared.slot_record.SlotRecord.{SlotRecord}

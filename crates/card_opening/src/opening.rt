@@ -13,7 +13,7 @@ ghost use Rattle.record_store.specs.Opening.{ReadsStore, front_octets, journal_o
 ghost use Rattle.record_store.specs.declared.side.Side.TheVariants.{Committed};
 ghost use Rattle.scql_model.specs.Records.{counter_in};
 ghost use Rattle.scql_model.specs.Database.{Database};
-ghost use Rattle.card_opening.specs.Opens.{Opens};
+ghost use Rattle.scql_model.specs.Opens.{Opens};
 ghost use Rattle.card_opening.specs.Opening.{IsOfStore, PassTest, is_taken, summary_in};
 ghost use Rattle.card_opening.specs.Summary.{stamp_of};
 

@@ -54,8 +54,8 @@ fn summary_in(octets: &[u8], slot: u16, row_limit: u16) -> Option<Summary>
     if let Some(grant) = Grant::decode(octets) {
         return Some(Summary::Grant(grant));
     }
-    let record = RowRecord::decode(octets)?;
-    let row = summary_of_row(&record, slot, row_limit)?;
+    let stored = RowRecord::decode(octets)?;
+    let row = summary_of_row(&stored, slot, row_limit)?;
     Some(Summary::Row(row))
 }
 
@@ -87,19 +87,19 @@ fn summary_of_table(object: Object) -> Option<TableSummary>
 }
 
 // What is kept of a row, where it is within the card's limit.
-fn summary_of_row(record: &RowRecord, slot: u16, row_limit: u16) -> Option<RowSummary>
-    ensures summary { IfSome result (λ row. row ≡ summaries.row_summary slot record.now) }
-    ensures within { IfSome result (λ row. rules.is_within_limit row_limit record.now ≡ true) }
-    ensures refused { result ≡ None → rules.is_within_limit row_limit record.now ≡ false }
+fn summary_of_row(stored: &RowRecord, slot: u16, row_limit: u16) -> Option<RowSummary>
+    ensures summary { IfSome result (λ row. row ≡ summaries.row_summary slot stored.now) }
+    ensures within { IfSome result (λ row. rules.is_within_limit row_limit stored.now ≡ true) }
+    ensures refused { result ≡ None → rules.is_within_limit row_limit stored.now ≡ false }
 {
-    if record.row.size() > row_limit as usize {
+    if stored.row.size() > row_limit as usize {
         return None;
     }
     Some(RowSummary {
-        stamp: record.stamp,
-        table: record.table,
+        stamp: stored.stamp,
+        table: stored.table,
         slot,
-        values: record.row.len() as u8,
+        values: stored.row.len() as u8,
     })
 }
 
