@@ -81,7 +81,7 @@ gathered-next held next (Some image) octets count counter counter' records recor
     go (Some slots) g = gathers-more next.row_limit count slots (slot_with octets) counter counter' records records' (subst (λ limit. Gathers limit count slots counter records) (sym rows) g) taken counters added
 
 -- a slot that isn't taken, or has a second counter, is none of a database
-pub IsRefused : ℕ → Option ℕ → Option (List ℕ) → Type 0
+abbrev pub IsRefused : ℕ → Option ℕ → Option (List ℕ) → Type 0
 IsRefused limit counter v = (is_taken limit v ≡ false) ⊎ ((counter ≢ None) × (in_slot counter_in v ≢ None))
 
 none-untaken : (limit : ℕ) (before : Slots) (v : Option (List ℕ)) (more : Slots) → is_taken limit v ≡ false → HoldsNone (record { row_limit = limit; slots = before ++ v ∷ more })
@@ -116,7 +116,6 @@ none-second limit count before counter records v more g there some = go counter 
 
 none-refused : (limit count : ℕ) (before : Slots) (counter : Option ℕ) (records : List Summary) (v : Option (List ℕ)) (more : Slots) → Gathers limit count before counter records → IsRefused limit counter v
     → HoldsNone (record { row_limit = limit; slots = before ++ v ∷ more })
-unfolding IsRefused
 none-refused limit count before counter records v more g (inl untaken) = none-untaken limit before v more untaken
 none-refused limit count before counter records v more g (inr second) = none-second limit count before counter records v more g second.0 second.1
 
