@@ -1,5 +1,5 @@
 -- The records of a database that slots hold: they are taken where it is valid, and what is kept of them is theirs.
-use Rattle.std.proofs.Common.{◌≡◌, ℕ, suc, ◌+◌, ◌≤◌, Bool, true, false, ◌&&◌, List, [], ◌∷◌, ◌++◌, length, map, Option, Some, None, option_map, refl, sym, ap, ◌∙◌, subst, arith}
+use Rattle.std.proofs.Common.{◌≡◌, ℕ, suc, ◌+◌, ◌≤◌, ◌==◌, ◌||◌, Bool, true, false, ◌&&◌, List, [], ◌∷◌, ◌++◌, length, map, Option, Some, None, option_map, refl, sym, ap, ◌∙◌, subst, arith}
 use Rattle.std.specs.Option.{option_and_then, option_map_or, option_or}
 use Rattle.std.specs.List.{list_all, filter_map, cons_option, count_by, sum_by}
 use Rattle.std.proofs.lemmas.Bool.{and_parts, and_from, false≢true}
@@ -7,6 +7,7 @@ use Rattle.std.proofs.lemmas.List.Sums.{sum_by-append}
 use Rattle.eeprom.specs.StoreOf.{Slots}
 use Rattle.eeprom.specs.Slots.{AreApart, has, in_order, in_slot, kept}
 use Rattle.eeprom.proofs.InOrder.{count_by-cons, count_by-in_order, list_all-in_order}
+use Rattle.scql_base.specs.declared.row.TheConstants.Row.{LARGEST, LARGEST_UNMIGRATED}
 use Rattle.scql_base.specs.declared.records.User.{User}
 use Rattle.scql_base.specs.declared.records.Object.{Object}
 use Rattle.scql_base.specs.declared.records.ObjectKind.{ObjectKind}
@@ -17,15 +18,17 @@ use Rattle.scql_model.specs.Objects.{columns_of}
 use Rattle.scql_model.specs.Records.{counter_record, user_record, grant_record, row_record, object_fits, counter_in, user_in, object_in, grant_in, row_in}
 use Rattle.scql_model.specs.Rules.{is_table, are_different, is_founded, is_within_limit}
 use Rattle.scql_model.specs.Stored.{StoredRecord}
-use Rattle.scql_model.specs.Database.{Database, IsValid, records_of, stored_user, stored_object, stored_grant, stored_row}
+use Rattle.scql_model.specs.Database.{Database, IsValid, weight}
 use Rattle.scql_model.specs.Opens.{Holds, is_spelled, counter_stamp, are_tables}
 use Rattle.scql_model.proofs.KindsApart.{given, one_kind}
 use Rattle.card_opening.specs.Opening.{passes, is_plain_table, is_sound_table, is_sound_row, is_taken, summary_in, object_summary, gathered}
-use Rattle.card_opening.specs.Summary.{stamp_of, as_user, as_table, as_grant, as_row, table_summary, row_summary, users_in, tables_in, grants_in, rows_in}
+use Rattle.card_opening.specs.Summary.{stamp_of, as_user, as_table, as_grant, as_row, of_table, row_summary, users_in, tables_in, grants_in, rows_in}
 use Rattle.card_opening.specs.declared.summary.Summary.{Summary}
 use Rattle.card_opening.specs.declared.summary.Summary.TheVariants as kept_as
 use Rattle.card_opening.specs.declared.summary.TableSummary.{TableSummary}
 use Rattle.card_opening.specs.declared.summary.RowSummary.{RowSummary}
+use Rattle.card_opening.specs.Validity.{IsWithinLimits}
+use Rattle.card_opening.proofs.Tested.{IsWithinLimits-valid}
 use Rattle.card_opening.proofs.ListsInOrder.{filter_map-in_order, map-in_order, count-map, filter_map-option_map, filter_map-cons_option, and-same, list_all-both}
 
 abbrev pub user_stamp : User → ℕ
@@ -70,56 +73,40 @@ taken-held limit slots db holds =
     list_all-both (passes user_record.fits user_in) _ slots ∙ and-same users (list_all-both (passes is_sound_table object_in) _ slots ∙ and-same objects (
     list_all-both (passes grant_record.fits grant_in) (passes (is_sound_row limit) row_in) slots ∙ and-same grants rows))))
 
--- the tables of a valid database have different columns
-founded-different : (objects : List Object) (xs : List Object) → list_all (is_founded objects) xs ≡ true → list_all (λ (o : Object). is_table o.kind) xs ≡ true → list_all (λ (o : Object). are_different (columns_of o.kind)) xs ≡ true
-founded-different objects [] founded tables = refl
-founded-different objects (x ∷ xs) founded tables =
-    let a = and_parts (is_founded objects x) (list_all (is_founded objects) xs) founded in
-    let b = and_parts (is_table x.kind) (list_all (λ (o : Object). is_table o.kind) xs) tables in
-    and_from (are_different (columns_of x.kind)) (list_all (λ (o : Object). are_different (columns_of o.kind)) xs) (go x.kind refl a.0 b.0) (founded-different objects xs a.1 b.1)
-  where
-    go : (kind : ObjectKind) → x.kind ≡ kind → is_founded objects x ≡ true → is_table x.kind ≡ true → are_different (columns_of x.kind) ≡ true
-    go (Table columns) is right table = rw is (rw is at right)
-    go (View base columns conditions) is right table = absurd (false≢true (rw is at table))
-    go (Dictionary subject) is right table = absurd (false≢true (rw is at table))
-
-pub different-columns : (db : Database) → IsValid db → are_tables db.objects ≡ true → list_all (λ (o : Object). are_different (columns_of o.kind)) db.objects ≡ true
-different-columns db valid tables = founded-different db.objects db.objects valid.objects.founded tables
-
--- A valid database is taken.
+-- A valid database of tables is taken.
 pub taken-valid : (db : Database) → IsValid db → are_tables db.objects ≡ true → are_taken db.limit db ≡ true
 taken-valid db valid tables =
-    let plain = list_all-both (λ (o : Object). is_table o.kind) (λ (o : Object). are_different (columns_of o.kind)) db.objects ∙ and-same tables (different-columns db valid tables) in
-    let objects = list_all-both object_fits is_plain_table db.objects ∙ and-same valid.objects.limits plain in
-    let rows = list_all-both row_record.fits (is_within_limit db.limit) db.rows ∙ and-same valid.rows.limits valid.rows.lengths in
-    and-same (and-same valid.counter refl) (and-same valid.users.limits (and-same objects (and-same valid.grants.limits rows)))
+    let within = IsWithinLimits-valid db tables valid in
+    let plain = list_all-both (λ (o : Object). is_table o.kind) (λ (o : Object). are_different (columns_of o.kind)) db.objects ∙ and-same tables within.columns in
+    let objects = list_all-both object_fits is_plain_table db.objects ∙ and-same within.objects plain in
+    let rows = list_all-both row_record.fits (is_within_limit db.limit) db.rows ∙ and-same within.rows within.lengths in
+    and-same (and-same within.counter refl) (and-same within.users (and-same objects (and-same within.grants rows)))
 
--- What the tests say.
-pub record AreTaken (limit : ℕ) (db : Database) : Type 0 where
-  pub counter : counter_record.fits db.next ≡ true
-  pub users : list_all user_record.fits db.users ≡ true
-  pub objects : list_all object_fits db.objects ≡ true
-  pub tables : are_tables db.objects ≡ true
-  pub columns : list_all (λ (o : Object). are_different (columns_of o.kind)) db.objects ≡ true
-  pub grants : list_all grant_record.fits db.grants ≡ true
-  pub rows : list_all row_record.fits db.rows ≡ true
-  pub lengths : list_all (is_within_limit limit) db.rows ≡ true
-
-pub taken-parts : (limit : ℕ) (db : Database) → are_taken limit db ≡ true → AreTaken limit db
-taken-parts limit db taken =
+-- A database that is taken has tables alone, and is within its limits.
+pub taken-parts : (db : Database) → are_taken db.limit db ≡ true
+    → (are_tables db.objects ≡ true) × ((16 ≤ db.cells) × (db.cells ≤ 2048) → (db.limit == LARGEST_UNMIGRATED || db.limit == LARGEST) ≡ true → weight db ≤ db.cells → IsWithinLimits db)
+taken-parts db taken =
     let a = and_parts (list_all counter_record.fits (db.next ∷ [])) _ taken in
     let b = and_parts (list_all user_record.fits db.users) _ a.1 in
     let c = and_parts (list_all is_sound_table db.objects) _ b.1 in
     let d = and_parts (list_all grant_record.fits db.grants) _ c.1 in
     let o = and_parts (list_all object_fits db.objects) (list_all is_plain_table db.objects) (sym (list_all-both object_fits is_plain_table db.objects) ∙ c.0) in
     let p = and_parts (are_tables db.objects) (list_all (λ (o : Object). are_different (columns_of o.kind)) db.objects) (sym (list_all-both (λ (o : Object). is_table o.kind) (λ (o : Object). are_different (columns_of o.kind)) db.objects) ∙ o.1) in
-    let r = and_parts (list_all row_record.fits db.rows) (list_all (is_within_limit limit) db.rows) (sym (list_all-both row_record.fits (is_within_limit limit) db.rows) ∙ d.1) in
-    record { counter = (and_parts (counter_record.fits db.next) true a.0).0; users = b.0; objects = o.0; tables = p.0; columns = p.1; grants = d.0; rows = r.0; lengths = r.1 }
+    let r = and_parts (list_all row_record.fits db.rows) (list_all (is_within_limit db.limit) db.rows) (sym (list_all-both row_record.fits (is_within_limit db.limit) db.rows) ∙ d.1) in
+    (p.0, λ cells limit room. record {
+      cells = cells;
+      limit = limit;
+      room = room;
+      counter = (and_parts (counter_record.fits db.next) true a.0).0;
+      users = b.0;
+      objects = o.0;
+      columns = p.1;
+      grants = d.0;
+      rows = r.0;
+      lengths = r.1;
+    })
 
 -- What is kept of a slot's octets is, of each kind, what its reader gives.
-abbrev pub table_of : Object → TableSummary
-table_of o = table_summary o (columns_of o.kind)
-
 abbrev parts : ℕ → Option User → Option Object → Option Grant → Option RowRecord → Option Summary
 parts slot u o g r = option_or (option_map kept_as.User u) (option_or (option_map object_summary o) (option_or (option_map kept_as.Grant g) (option_map (λ r. kept_as.Row (row_summary slot r)) r)))
 
@@ -130,7 +117,7 @@ user-parts slot None None (Some g) r = refl
 user-parts slot None None None (Some r) = refl
 user-parts slot None None None None = refl
 
-table-parts : (slot : ℕ) (u : Option User) (o : Option Object) (g : Option Grant) (r : Option RowRecord) → given u + (given o + (given g + given r)) ≤ 1 → option_and_then as_table (parts slot u o g r) ≡ option_map table_of o
+table-parts : (slot : ℕ) (u : Option User) (o : Option Object) (g : Option Grant) (r : Option RowRecord) → given u + (given o + (given g + given r)) ≤ 1 → option_and_then as_table (parts slot u o g r) ≡ option_map of_table o
 table-parts slot (Some u) (Some o) g r one = absurd (omega (arith, one))
 table-parts slot (Some u) None g r one = refl
 table-parts slot None (Some o) g r one = refl
@@ -182,10 +169,10 @@ grants-gathered slots = of_kind as_grant (λ slot v. in_slot grant_in v) 0 slots
     go slot None = refl
     go slot (Some octets) = grant-parts slot (user_in octets) (object_in octets) (grant_in octets) (row_in octets) (others octets)
 
-pub tables-gathered : (slots : Slots) → tables_in (gathered 0 slots) ≡ map table_of (filter_map (in_slot object_in) slots)
-tables-gathered slots = of_kind as_table (λ slot v. option_map table_of (in_slot object_in v)) 0 slots go (λ j k v. refl) ∙ filter_map-option_map table_of (in_slot object_in) slots
+pub tables-gathered : (slots : Slots) → tables_in (gathered 0 slots) ≡ map of_table (filter_map (in_slot object_in) slots)
+tables-gathered slots = of_kind as_table (λ slot v. option_map of_table (in_slot object_in v)) 0 slots go (λ j k v. refl) ∙ filter_map-option_map of_table (in_slot object_in) slots
   where
-    go : (slot : ℕ) (v : Option (List ℕ)) → option_and_then as_table (in_slot (summary_in slot) v) ≡ option_map table_of (in_slot object_in v)
+    go : (slot : ℕ) (v : Option (List ℕ)) → option_and_then as_table (in_slot (summary_in slot) v) ≡ option_map of_table (in_slot object_in v)
     go slot None = refl
     go slot (Some octets) = table-parts slot (user_in octets) (object_in octets) (grant_in octets) (row_in octets) (others octets)
 

@@ -25,9 +25,9 @@ use Rattle.card_opening.specs.Summary.{stamp_of}
 use Rattle.card_opening.specs.declared.summary.Summary.{Summary}
 use Rattle.card_opening.proofs.GatheredSlots.{GathersSoFar}
 use Rattle.card_opening.proofs.HeldKinds.{user_stamp, object_stamp, grant_stamp, row_stamp, taken-held, taken-parts}
-use Rattle.card_opening.proofs.HeldInOrder.{apart-held, users-held, tables-held, grants-held, rows-held}
-use Rattle.card_opening.proofs.ValidityLaw.{passed-valid, valid-passed}
-use Rattle.card_opening.proofs.Tested.{is_valid_list}
+use Rattle.card_opening.proofs.HeldInOrder.{apart-held, summarizes-held}
+use Rattle.card_opening.proofs.Tested.{IsValid-tested, tested-IsValid}
+use Rattle.card_opening.proofs.SortedTest.{is_valid_list}
 
 -- what was found in all slots
 pub gathered-all : (held : HeldSoFar) (image : Option (List ℕ)) (count : ℕ) (counter : Option ℕ) (records : List Summary) (store : Held) → ((image : List ℕ) → StandsSoFar held image → store_of image ≡ stored store Committed image)
@@ -82,7 +82,7 @@ opens-tested image was count next records there cells limit room g passed =
     let db = database_of was next in
     let holds : Holds was.slots db = holds-database was count next records g in
     let apart = subst (λ (records : List Summary). AreApart stamp_of records) (sym g.records_are) passed.apart in
-    let taken = taken-parts db.limit db (sym (taken-held db.limit was.slots db holds) ∙ g.taken) in
+    let taken = taken-parts db (sym (taken-held db.limit was.slots db holds) ∙ g.taken) in
     let room' : weight db ≤ db.cells = subst (λ (w : ℕ). w ≤ length was.slots) (cells-filled was.slots db holds) room in
     let sorted = in_order stamp_of (gathered 0 was.slots) in
     let valid = subst (λ (records : List Summary). is_valid_list next (in_order stamp_of records) ≡ true) (sym g.records_are) passed.valid in
@@ -91,9 +91,8 @@ opens-tested image was count next records there cells limit room g passed =
       stored = there;
       limit = refl;
       holds = holds;
-      valid = passed-valid db sorted taken cells limit room' (Rises-in_order stamp_of (gathered 0 was.slots) apart) (users-held was.slots db holds apart) (tables-held was.slots db holds apart)
-          (grants-held was.slots db holds apart) (rows-held was.slots db holds apart) valid;
-      tables = taken.tables;
+      valid = IsValid-tested db sorted (summarizes-held was.slots db holds apart taken.0) (taken.1 cells limit room') valid;
+      tables = taken.0;
     })
 
 counter-held : (counter : Option ℕ) (next : ℕ) → in_order counter_stamp (cons_option counter []) ≡ next ∷ [] → counter ≡ Some next
@@ -103,10 +102,8 @@ counter-held (Some n) next is = ap Some (cc)
 -- slots that don't pass the test hold none
 pub none-tested : (was : Stored) (count : ℕ) (counter : Option ℕ) (records : List Summary) → Gathers was.row_limit count was.slots counter records → ((next : ℕ) → counter ≡ Some next → PassTest next records → ⊥) → HoldsNone was
 none-tested was count counter records g failed = λ db limit holds valid tables.
-    let apart = apart-held was.slots db holds valid.stored.apart in
-    let sorted = in_order stamp_of (gathered 0 was.slots) in
-    let passes = valid-passed db sorted (Rises-in_order stamp_of (gathered 0 was.slots) apart) (users-held was.slots db holds apart) (tables-held was.slots db holds apart)
-    (grants-held was.slots db holds apart) (rows-held was.slots db holds apart) valid tables in
+    let apart = apart-held was.slots db holds valid in
+    let passes = tested-IsValid db (in_order stamp_of (gathered 0 was.slots)) (summarizes-held was.slots db holds apart tables) valid in
     failed db.next (counter-held counter db.next (sym (ap (in_order counter_stamp) g.counters) ∙ holds.counter))
     (subst (λ (records : List Summary). PassTest db.next records) g.records_are (record { apart = apart; valid = passes }))
 

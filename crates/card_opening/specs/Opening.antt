@@ -17,7 +17,7 @@ use Rattle.card_opening.specs.declared.summary.Summary.{Summary}
 use Rattle.card_opening.specs.declared.summary.Summary.TheVariants as kept_as
 use Rattle.card_opening.specs.declared.slot_record.SlotRecord.{SlotRecord}
 use Rattle.card_opening.specs.declared.slot_record.SlotRecord.TheVariants as found_as
-use Rattle.card_opening.specs.Summary.{stamp_of, table_summary, row_summary, users_in, tables_in, grants_in, rows_in}
+use Rattle.card_opening.specs.Summary.{stamp_of, of_table, row_summary, users_in, tables_in, grants_in, rows_in}
 use Rattle.card_opening.specs.Validity.{is_valid_database}
 
 -- what a reader gives of a slot passes a test, where it gives something
@@ -43,7 +43,7 @@ is_taken limit v =
 
 -- what is kept of a record in a slot: nothing of the counter
 abbrev pub object_summary : Object → Summary
-object_summary o = kept_as.Table (table_summary o (columns_of o.kind))
+object_summary o = kept_as.Table (of_table o)
 
 abbrev pub summary_in : ℕ → List ℕ → Option Summary
 summary_in slot octets =

@@ -1,6 +1,6 @@
 // What is kept of a record while a card is opened.
-ghost use Rattle.std.specs.Prelude.{◌≡◌};
-ghost use Rattle.card_opening.specs.Summary.{stamp_of};
+ghost use Rattle.std.specs.Prelude.{◌≡◌, option_copied};
+ghost use Rattle.card_opening.specs.Summary as kinds;
 
 use scql_base::{Grant, Name, User};
 
@@ -37,13 +37,43 @@ pub(crate) struct RowSummary {
 impl Summary {
     /// The stamp of its record.
     pub(crate) fn stamp(&self) -> u32
-        ensures { result ≡ stamp_of self.now }
+        ensures { result ≡ kinds.stamp_of self.now }
     {
         match self {
             Summary::User(user) => user.stamp,
             Summary::Table(table) => table.stamp,
             Summary::Grant(grant) => grant.stamp,
             Summary::Row(row) => row.stamp,
+        }
+    }
+
+    /// The user, where it is one.
+    pub(crate) fn as_user(&self) -> Option<&User>
+        ensures { option_copied result ≡ kinds.as_user self.now }
+    {
+        match self {
+            Summary::User(user) => Some(user),
+            _ => None,
+        }
+    }
+
+    /// The table, where it is one.
+    pub(crate) fn as_table(&self) -> Option<&TableSummary>
+        ensures { option_copied result ≡ kinds.as_table self.now }
+    {
+        match self {
+            Summary::Table(table) => Some(table),
+            _ => None,
+        }
+    }
+
+    /// The grant, where it is one.
+    pub(crate) fn as_grant(&self) -> Option<&Grant>
+        ensures { option_copied result ≡ kinds.as_grant self.now }
+    {
+        match self {
+            Summary::Grant(grant) => Some(grant),
+            _ => None,
         }
     }
 }

@@ -5,7 +5,7 @@ use Rattle.eeprom.specs.Slots.{Rises}
 use Rattle.card_opening.specs.Summary.{stamp_of}
 use Rattle.card_opening.specs.declared.summary.Summary.{Summary}
 use Rattle.card_opening.proofs.Sorting.{in_order-permuted}
-use Rattle.card_opening.proofs.Tested.{is_valid_list, passed-sorted, refused-sorted, refused-unsorted}
+use Rattle.card_opening.proofs.SortedTest.{is_valid_list, passed-sorted, refused-sorted, refused-unsorted}
 use Rattle.card_opening.proofs.opening.Gathered.tested.Goals.{Else-not-rise}
 use Rattle.card_opening.proofs.opening.Gathered.tested.Goals as goal
 
@@ -23,7 +23,7 @@ pub returns-then-not-are_valid-clause-refused : goal.returns-then-not-are_valid-
 returns-then-not-are_valid-clause-refused c = λ is next counts.
     let at = (goal.at.returns-then-not-are_valid-clause-refused c).Else-not-rise in
     refused-sorted c.args.self.counter c.in_ok-next.next next c.args.self.records.items c.sort_unstable_by_key.new.self.items c.sort_unstable_by_key.ensures.permutation (rises at) (search rules)
-    (subst (λ (records : List Summary). is_valid_list c.in_ok-next.next records ≡ false) c.as_slice-2.ensures.value (sym c.are_valid.ensures.valid ∙ c.if-not-are_valid.true)) counts
+    (subst (λ (records : List Summary). is_valid_list c.in_ok-next.next records ≡ false) c.as_slice-2.ensures.value (sym c.are_valid.ensures ∙ c.if-not-are_valid.true)) counts
 
 pub returns-clause-records : goal.returns-clause-records
 returns-clause-records c =
@@ -32,4 +32,4 @@ returns-clause-records c =
 pub returns-clause-passed : goal.returns-clause-passed
 returns-clause-passed c =
     passed-sorted c.in_ok-next.next c.args.self.records.items c.sort_unstable_by_key.new.self.items c.sort_unstable_by_key.ensures.permutation (rises (goal.at.returns-clause-passed c).Else-not-rise)
-    (subst (λ (records : List Summary). is_valid_list c.in_ok-next.next records ≡ true) c.as_slice-2.ensures.value (sym c.are_valid.ensures.valid ∙ c.if-not-are_valid.false))
+    (subst (λ (records : List Summary). is_valid_list c.in_ok-next.next records ≡ true) c.as_slice-2.ensures.value (sym c.are_valid.ensures ∙ c.if-not-are_valid.false))
