@@ -4,14 +4,14 @@ use Rattle.std.specs.Prelude.{IfSome}
 use Rattle.std.specs.List.{list_all, filter_map, cons_option, sum_by}
 use Rattle.std.proofs.lemmas.Bool.{and_parts, false≢true}
 use Rattle.std.proofs.lemmas.Option.{none-some}
-use Rattle.eeprom.specs.Chip.{Chip, Keeps}
-use Rattle.eeprom.specs.StoreOf.{Slots, Stored, store_of, slots_at, cells_of, row_limit}
+use Rattle.eeprom.specs.Chip.{Chip, Becomes, Keeps}
+use Rattle.eeprom.specs.StoreOf.{Slots, Stored, store_of, is_gate_open, slots_at, cells_of, row_limit}
 use Rattle.std.specs.Prelude.{slice_index}
 use Rattle.eeprom.specs.Slots.{AreApart, Rises, in_order, in_slot, kept}
 use Rattle.eeprom.proofs.InOrder.{Rises-in_order}
 use Rattle.record_store.specs.declared.side.Side.TheVariants.{Committed}
 use Rattle.record_store.specs.Held.{Held, contents, stored, with_limit}
-use Rattle.record_store.specs.Opening.{HeldSoFar, StandsSoFar, slots_so_far}
+use Rattle.record_store.specs.Opening.{HeldSoFar, ReadsStore, StandsSoFar, slots_so_far}
 use Rattle.record_store.proofs.Replaying.{kept-image}
 use Rattle.record_store.proofs.Weights.{limited, store-begins}
 use Rattle.scql_base.specs.declared.records.User.{User}
@@ -20,7 +20,7 @@ use Rattle.scql_model.specs.Database.{Database, IsValid, weight}
 use Rattle.scql_model.specs.Opens.{Holds, Opens, counter_stamp, is_spelled, are_tables}
 use Rattle.scql_model.proofs.LongerLists.{all-weaker}
 use Rattle.scql_model.proofs.Room.{cells-filled}
-use Rattle.card_opening.specs.Opening.{Gathers, HoldsNone, IsOfStore, PassTest, gathered, is_taken}
+use Rattle.card_opening.specs.Opening.{Gathers, HoldsNone, IsOfStore, PassTest, ReadsCard, gathered, is_taken}
 use Rattle.card_opening.specs.Summary.{stamp_of}
 use Rattle.card_opening.specs.declared.summary.Summary.{Summary}
 use Rattle.card_opening.proofs.GatheredSlots.{GathersSoFar}
@@ -165,3 +165,20 @@ pub refused-kept : (old new : Chip) → Keeps store_of old new → is_some new.i
 refused-kept old new keeps told none =
     kept-image (λ image. (db : Database) → Opens image db → ⊥) (λ image. (db : Database) → Opens image db → ⊥) old new keeps told (λ left was same none db opens. none db (opens-same was left (sym same) db opens))
     (refused_told new.image none)
+
+-- the octets of its records are those of the database
+pub reads-card : (old start : Chip) (cells count : ℕ) (counter : Option ℕ) (records : List Summary) (before now : Option ℕ) → IfSome old.image (λ image. is_gate_open image ≡ false → start ≡ old) → cells ≡ count
+    → IfSome start.image (λ image. (was : Stored) → store_of image ≡ Some was → Gathers was.row_limit count was.slots counter records)
+    → IfSome old.image (λ image. (was : Stored) → store_of image ≡ Some was → is_gate_open image ≡ false → Becomes (ReadsStore cells was.slots) before now)
+    → IfSome old.image (λ image. (db : Database) → Opens image db → is_gate_open image ≡ false → Becomes (ReadsCard db) before now)
+reads-card old start cells count counter records before now closed all g read = cases old.image refl closed read
+  where
+    cases : (image : Option (List ℕ)) → old.image ≡ image → IfSome image (λ image. is_gate_open image ≡ false → start ≡ old)
+        → IfSome image (λ image. (was : Stored) → store_of image ≡ Some was → is_gate_open image ≡ false → Becomes (ReadsStore cells was.slots) before now)
+        → IfSome image (λ image. (db : Database) → Opens image db → is_gate_open image ≡ false → Becomes (ReadsCard db) before now)
+    cases None is closed read = tt
+    cases (Some image) is closed read = λ db opens shut.
+        let told : start.image ≡ Some image = ap (λ (chip : Chip). chip.image) (closed shut) ∙ is in
+        let g' = subst (λ (o : Option (List ℕ)). IfSome o (λ image. (was : Stored) → store_of image ≡ Some was → Gathers was.row_limit count was.slots counter records)) told g opens.store opens.stored in
+        let same : cells ≡ db.cells = all ∙ sym g'.count_is ∙ opens.holds.cells in
+        rw (same, cells-filled opens.store.slots db opens.holds) at (read opens.store opens.stored shut)

@@ -9,12 +9,12 @@ ghost use Rattle.cell_store.specs.Reading.{ReadsAtMost};
 ghost use Rattle.record_store.specs.Faults.{is_open_fault};
 ghost use Rattle.record_store.specs.Held.{IsOver, stored};
 ghost use Rattle.record_store.specs.Recovery.{Recovers};
-ghost use Rattle.record_store.specs.Opening.{ReadsStore, front_octets, journal_octets, most_octets, slot_with};
+ghost use Rattle.record_store.specs.Opening.{front_octets, journal_octets, most_octets, slot_with};
 ghost use Rattle.record_store.specs.declared.side.Side.TheVariants.{Committed};
 ghost use Rattle.scql_model.specs.Records.{counter_in};
 ghost use Rattle.scql_model.specs.Database.{Database};
 ghost use Rattle.scql_model.specs.Opens.{Opens};
-ghost use Rattle.card_opening.specs.Opening.{IsOfStore, PassTest, is_taken, summary_in};
+ghost use Rattle.card_opening.specs.Opening.{IsOfStore, PassTest, ReadsCard, is_taken, summary_in};
 ghost use Rattle.card_opening.specs.Summary.{stamp_of};
 
 use crate::slot_record::SlotRecord;
@@ -50,8 +50,9 @@ pub(crate) fn open_records<B: Eeprom>(alloc: Global, bench: &mut B) -> Result<Op
     ensures records { IfOk result (λ opened. IfSome (B.chip bench.new).image (λ image. (was : Stored) → store_of image ≡ Some was
         → IsOfStore was opened.next opened.records.items)) }
     ensures opens { OnOk result (IfSome (B.chip bench.old).image (λ image. (db : Database) × Opens image db)) }
-    ensures octets_read { IfOk result (λ opened. IfSome (B.chip bench.old).image (λ image. (was : Stored) → store_of image ≡ Some was → is_gate_open image ≡ false
-        → Becomes (ReadsStore opened.store.chains.cells was.slots) (B.octets_read bench.old) (B.octets_read bench.new))) }
+    // Where the gate is closed as many octets are read as begin the image, and as the cells of the records have.
+    ensures octets_read { OnOk result (IfSome (B.chip bench.old).image (λ image. (db : Database) → Opens image db → is_gate_open image ≡ false
+        → Becomes (ReadsCard db) (B.octets_read bench.old) (B.octets_read bench.new))) }
     ensures most_read { Becomes (ReadsAtMost most_octets) (B.octets_read bench.old) (B.octets_read bench.new) }
     // No record was read by then.
     ensures no_memory { IsErrOf result OpenRefusal.NoMemory

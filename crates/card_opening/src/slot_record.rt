@@ -74,7 +74,7 @@ fn summary_of_table(object: Object) -> Option<TableSummary>
     let ObjectKind::Table { columns } = kind else {
         return None;
     };
-    if !are_different(columns.as_slice()) {
+    if !are_names_different(columns.as_slice()) {
         return None;
     }
     let columns = columns.len() as u8;
@@ -103,7 +103,7 @@ fn summary_of_row(stored: &RowRecord, slot: u16, row_limit: u16) -> Option<RowSu
     })
 }
 
-fn are_different(names: &[Name]) -> bool
+fn are_names_different(names: &[Name]) -> bool
     ensures { result ≡ rules.are_different names.now }
 {
     let mut rest = names;

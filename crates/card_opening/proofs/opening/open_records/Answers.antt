@@ -8,7 +8,7 @@ use Rattle.record_store.specs.Opening.{IsOverSoFar, StandsSoFar, front_octets}
 use Rattle.record_store.proofs.OpeningSlots.{finished-over, finished-opened, read-told}
 use Rattle.card_opening.specs.Opening.{HoldsNone, IsOfStore}
 use Rattle.card_opening.proofs.GatheredSlots.{GathersSoFar, gathered-next, none-next, none-stored}
-use Rattle.card_opening.proofs.OpenedDatabase.{gathered-all, opens-finished, of-store_told, none-tested_told, opens-kept, refused-kept}
+use Rattle.card_opening.proofs.OpenedDatabase.{gathered-all, opens-finished, of-store_told, none-tested_told, opens-kept, reads-card, refused-kept}
 use Rattle.card_opening.proofs.opening.open_records.Goals.{After-finish-store, In-Some}
 use Rattle.card_opening.proofs.opening.open_records.Goals as goal
 
@@ -49,15 +49,6 @@ pub returns-clause-stored : goal.returns-clause-stored
 returns-clause-stored g c =
     finished-opened c.loop-slot.opening c.finish-store.result (g.B.Eeprom.chip c.loop-slot.bench).image c.finish-store.ensures.opened (over g (goal.at.returns-clause-stored g c).After-finish-store).stands
 
-pub returns-clause-octets_read : goal.returns-clause-octets_read
-returns-clause-octets_read g c =
-    let old = g.B.Eeprom.chip c.args.bench.now in
-    let start = g.B.Eeprom.chip c.new.new.bench in
-    read-told c.loop-slot.opening c.finish-store.result old start (g.B.Eeprom.octets_read c.args.bench.now) (g.B.Eeprom.octets_read c.new.new.bench) (g.B.Eeprom.octets_read c.loop-slot.bench) c.new.ensures.frame.store.closed
-    c.finish-store.ensures.opened c.finish-store.ensures.weight c.finish-store.ensures.cells c.loop-slot.invariant.opening.over.stands
-    (subst (λ (n : ℕ). IfSome old.image (λ image. is_gate_open image ≡ false → Becomes (RisesBy (front_octets n)) (g.B.Eeprom.octets_read c.args.bench.now) (g.B.Eeprom.octets_read c.new.new.bench)))
-    (sym c.loop-slot.invariant.opening.cells_are) c.in_ok-opening.ensures.octets_read) c.loop-slot.invariant.opening.read
-
 gathers : (g : _) (c : In-Some g) → GathersSoFar c.loop-slot.opening c.loop-slot.slot (g.B.Eeprom.chip c.new.new.bench).image (Some c.in-Some.next) c.loop-slot.gathered.records.items
 gathers g c =
     subst (λ (counter : Option ℕ). GathersSoFar c.loop-slot.opening c.loop-slot.slot (g.B.Eeprom.chip c.new.new.bench).image counter c.loop-slot.gathered.records.items) c.in-Some.ensures.counter
@@ -81,3 +72,18 @@ returns-clause-opens g c =
     (opens-finished c.loop-slot.opening start.image c.loop-slot.slot c.in-Some.next c.loop-slot.gathered.records.items c.finish-store.result c.finish-store.ensures.slots c.finish-store.ensures.opened c.finish-store.ensures.weight
     c.loop-slot.invariant.opening.over.stands c.loop-slot.invariant.opening.few all (omega (arith, all, c.cells-cells.ensures.few, c.cells-cells.ensures.number, c.loop-slot.invariant.opening.cells_are))
     (omega (arith, all, c.cells-cells.ensures.many, c.cells-cells.ensures.number, c.loop-slot.invariant.opening.cells_are)) (gathers g at.In-Some) c.in-Some.ensures.passed)
+
+pub returns-clause-octets_read : goal.returns-clause-octets_read
+returns-clause-octets_read g c =
+    let at = goal.at.returns-clause-octets_read g c in
+    let old = g.B.Eeprom.chip c.args.bench.now in
+    let start = g.B.Eeprom.chip c.new.new.bench in
+    let all : c.loop-slot.opening.chains.cells ≡ c.loop-slot.slot = omega (arith, c.loop-slot-test.false, c.loop-slot.auto.slot-end, c.cells-cells.ensures.number, c.loop-slot.invariant.opening.cells_are) in
+    reads-card old start c.finish-store.result.chains.cells c.loop-slot.slot (Some c.in-Some.next) c.loop-slot.gathered.records.items (g.B.Eeprom.octets_read c.args.bench.now) (g.B.Eeprom.octets_read c.loop-slot.bench)
+    c.new.ensures.frame.store.closed (c.finish-store.ensures.cells ∙ all)
+    (gathered-all c.loop-slot.opening start.image c.loop-slot.slot (Some c.in-Some.next) c.loop-slot.gathered.records.items c.finish-store.result c.finish-store.ensures.opened c.finish-store.ensures.slots
+    c.loop-slot.invariant.opening.over.stands (gathers g at.In-Some))
+    (read-told c.loop-slot.opening c.finish-store.result old start (g.B.Eeprom.octets_read c.args.bench.now) (g.B.Eeprom.octets_read c.new.new.bench) (g.B.Eeprom.octets_read c.loop-slot.bench) c.new.ensures.frame.store.closed
+    c.finish-store.ensures.opened c.finish-store.ensures.weight c.finish-store.ensures.cells c.loop-slot.invariant.opening.over.stands
+    (subst (λ (n : ℕ). IfSome old.image (λ image. is_gate_open image ≡ false → Becomes (RisesBy (front_octets n)) (g.B.Eeprom.octets_read c.args.bench.now) (g.B.Eeprom.octets_read c.new.new.bench)))
+    (sym c.loop-slot.invariant.opening.cells_are) c.in_ok-opening.ensures.octets_read) c.loop-slot.invariant.opening.read)
