@@ -97,6 +97,13 @@ impl Opening {
         self.chains.cells()
     }
 
+    /// How many octets a row may have: 240, or 1,020 on a card that was migrated.
+    pub fn row_limit(&self) -> u16
+        ensures { result ≡ self.now.row_limit }
+    {
+        self.row_limit
+    }
+
     /// How many slots were claimed.
     pub fn claimed(&self) -> u16
         ensures { result ≡ self.now.claimed }
@@ -120,6 +127,7 @@ impl Opening {
         ensures weight { IfOk result (λ next. next.weight ≡ self.weight + cells_of (slot_with out.new.items)) }
         ensures few { IfOk result (λ next. next.weight ≤ next.chains.cells) }
         ensures cells { IfOk result (λ next. next.chains.cells ≡ self.chains.cells) }
+        ensures rows { IfOk result (λ next. next.row_limit ≡ self.row_limit) }
         ensures octets_read { OnOk result (Becomes (ReadsCells (cells_of (slot_with out.new.items))) (B.octets_read bench.old) (B.octets_read bench.new)) }
         ensures most_read { Becomes (RisesAtMost (cell_size * longest_chain)) (B.octets_read bench.old) (B.octets_read bench.new) }
         ensures no_memory_taken { ¬ (IsErrOf result OpenRefusal.NoMemory) }

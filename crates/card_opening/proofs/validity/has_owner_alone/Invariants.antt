@@ -1,0 +1,11 @@
+use Rattle.std.proofs.Common.{◌≡◌, filter, drop}
+use Rattle.scql_model.specs.Rules as rules
+use Rattle.card_opening.specs.Validity as validity
+use Rattle.card_opening.specs.Summary.{users_in}
+use Rattle.card_opening.proofs.OwnerSearch.{is_owner_left}
+use Rattle.card_opening.proofs.validity.has_owner_alone.Given as goal
+
+abbrev pub invariant-loop-summary : goal.invariant-loop-summary
+invariant-loop-summary l = record {
+  left : validity.is_owner_alone (filter rules.is_db_o (users_in l.records)) ≡ is_owner_left l.found (users_in (drop l.summary-index l.records));
+}

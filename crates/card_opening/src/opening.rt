@@ -1,0 +1,155 @@
+// The records of a store, gathered as it is opened: one counter, and what is kept of all others, tested as those of a database.
+ghost use Rattle.std.specs.Prelude.{◌≡◌, ◌≢◌, ◌⊎◌, ◌↔◌, ◌+◌, ◌*◌, ◌≤◌, ◌<◌, ℕ, [], ◌∷◌, ◌++◌, Some, None, false, true, length, is_some, IsTrue, IfSome, IfOk, IfErr, OnOk, IsErrOf};
+ghost use Rattle.std.specs.List.{cons_option};
+ghost use Rattle.std.specs.Vec.{vec_capacity};
+ghost use Rattle.eeprom.specs.Chip.{Becomes, RisesAtMost};
+ghost use Rattle.eeprom.specs.StoreOf.{Stored, store_of, is_gate_open, most_cells};
+ghost use Rattle.eeprom.specs.Slots.{Rises, in_order, in_slot};
+ghost use Rattle.cell_store.specs.Reading.{ReadsAtMost};
+ghost use Rattle.record_store.specs.Faults.{is_open_fault};
+ghost use Rattle.record_store.specs.Held.{IsOver, stored};
+ghost use Rattle.record_store.specs.Recovery.{Recovers};
+ghost use Rattle.record_store.specs.Opening.{front_octets, journal_octets, most_octets, slot_with};
+ghost use Rattle.record_store.specs.declared.side.Side.TheVariants.{Committed};
+ghost use Rattle.scql_model.specs.Records.{counter_in};
+ghost use Rattle.scql_model.specs.Database.{Database};
+ghost use Rattle.scql_model.specs.Opens.{Opens};
+ghost use Rattle.card_opening.specs.Opening.{IsOfStore, PassTest, ReadsCard, is_taken, summary_in};
+ghost use Rattle.card_opening.specs.Summary.{stamp_of};
+
+use crate::slot_record::SlotRecord;
+use crate::summary::Summary;
+use crate::validity::are_valid;
+use eeprom::Eeprom;
+use record_store::{OpenRefusal, Opening, RecordOctets, Store};
+use std::alloc::Global;
+
+/// A store that was opened, the stamp that its next record takes, and what is kept of its records, in rising order of their stamps.
+#[derive(Drop)]
+pub(crate) struct Opened {
+    pub store: Store,
+    pub next: u32,
+    pub records: Vec<Summary>,
+}
+
+// What was found in the slots so far.
+#[derive(Drop)]
+struct Gathered {
+    counter: Option<u32>,
+    records: Vec<Summary>,
+}
+
+/// Opens the store of an image, where its records are those of a valid database. A journal behind an open gate is replayed first.
+/// All memory is taken before the first record is read: beyond what a card keeps a summary and a key for each cell,
+/// which are at most 2,048 * (64 + 8) = 147,456 octets.
+pub(crate) fn open_records<B: Eeprom>(alloc: Global, bench: &mut B) -> Result<Opened, OpenRefusal>
+    ensures over { IfOk result (λ opened. IsOver opened.store (B.chip bench.new)) }
+    ensures told { OnOk result (is_some (B.chip bench.new).image ≡ is_some (B.chip bench.old).image) }
+    ensures stored { IfOk result (λ opened. IfSome (B.chip bench.new).image (λ image. store_of image ≡ stored opened.store Committed image)) }
+    ensures idle { IfOk result (λ opened. opened.store.begun ≡ false) }
+    ensures records { IfOk result (λ opened. IfSome (B.chip bench.new).image (λ image. (was : Stored) → store_of image ≡ Some was
+        → IsOfStore was opened.next opened.records.items)) }
+    ensures opens { OnOk result (IfSome (B.chip bench.old).image (λ image. (db : Database) × Opens image db)) }
+    // Where the gate is closed as many octets are read as begin the image, and as the cells of the records have.
+    ensures octets_read { OnOk result (IfSome (B.chip bench.old).image (λ image. (db : Database) → Opens image db → is_gate_open image ≡ false
+        → Becomes (ReadsCard db) (B.octets_read bench.old) (B.octets_read bench.new))) }
+    ensures most_read { Becomes (ReadsAtMost most_octets) (B.octets_read bench.old) (B.octets_read bench.new) }
+    // No record was read by then.
+    ensures no_memory { IsErrOf result OpenRefusal.NoMemory
+        → Becomes (RisesAtMost (front_octets most_cells + journal_octets most_cells)) (B.octets_read bench.old) (B.octets_read bench.new) }
+    ensures not_a_card { IsErrOf result OpenRefusal.NotACard → IfSome (B.chip bench.old).image (λ image. (db : Database) → Opens image db → ⊥) }
+    ensures frame { Recovers is_open_fault B.chip B.faults bench.old bench.new result }
+{
+    let mut opening = Opening::new(alloc, bench)?;
+    let cells = opening.cells();
+    let mut keys = Vec::with_capacity(alloc, cells as usize)?;
+    let mut gathered = Gathered {
+        counter: None,
+        records: Vec::with_capacity(alloc, cells as usize)?,
+    };
+    let mut octets = RecordOctets::new();
+    for slot in 0..cells {
+        opening = opening.claim_next(bench, &mut octets)?;
+        gathered.add_slot(slot, opening.row_limit(), &octets)?;
+    }
+    let store = opening.finish();
+    let Some((next, records)) = gathered.tested(&mut keys) else {
+        return Err(OpenRefusal::NotACard);
+    };
+    Ok(Opened {
+        store,
+        next,
+        records,
+    })
+}
+
+impl Gathered {
+    // Adds the record of a slot, where it has one, on a card with this row limit.
+    fn add_slot(&mut self, slot: u16, row_limit: u16, octets: &[u8]) -> Result<(), OpenRefusal>
+        requires room { length self.old.records.items < vec_capacity self.old.records }
+        ensures taken { OnOk result (is_taken row_limit (slot_with octets.now) ≡ true) }
+        ensures counters { OnOk result (cons_option self.new.counter [] ≡ cons_option self.old.counter (cons_option (in_slot counter_in (slot_with octets.now)) [])) }
+        ensures records { OnOk result (self.new.records.items ≡ self.old.records.items ++ cons_option (in_slot (summary_in slot) (slot_with octets.now)) []) }
+        ensures few { OnOk result (length self.new.records.items ≤ length self.old.records.items + 1) }
+        ensures capacity { OnOk result (vec_capacity self.new.records ≡ vec_capacity self.old.records) }
+        ensures refused { IsErrOf result OpenRefusal.NotACard
+            → (is_taken row_limit (slot_with octets.now) ≡ false) ⊎ ((self.old.counter ≢ None) × (in_slot counter_in (slot_with octets.now) ≢ None)) }
+        ensures refusal { IfErr result (λ refusal. refusal ≡ OpenRefusal.NotACard) }
+    {
+        if octets.is_empty() {
+            return Ok(());
+        }
+        match SlotRecord::read(octets, slot, row_limit) {
+            None => Err(OpenRefusal::NotACard),
+            Some(SlotRecord::Counter(next)) => self.set_counter(next),
+            Some(SlotRecord::Kept(summary)) => {
+                self.records.push_reserved(summary);
+                Ok(())
+            }
+        }
+    }
+
+    // Keeps the counter's number, where it is the first.
+    fn set_counter(&mut self, next: u32) -> Result<(), OpenRefusal>
+        ensures set { OnOk result ((self.old.counter ≡ None) × (self.new.counter ≡ Some next)) }
+        ensures records { self.new.records ≡ self.old.records }
+        ensures second { IsErrOf result OpenRefusal.NotACard → self.old.counter ≢ None }
+        ensures refusal { IfErr result (λ refusal. refusal ≡ OpenRefusal.NotACard) }
+    {
+        if self.counter.is_some() {
+            return Err(OpenRefusal::NotACard);
+        }
+        self.counter = Some(next);
+        Ok(())
+    }
+
+    // The counter's number, and the records in rising order of their stamps, where they are those of a valid database.
+    fn tested(self, keys: &mut Vec<u64>) -> Option<(u32, Vec<Summary>)>
+        requires room { length self.records.items ≤ vec_capacity keys.old }
+        ensures counter { IfSome result (λ passed. self.counter ≡ Some passed.0) }
+        ensures records { IfSome result (λ passed. passed.1.items ≡ in_order stamp_of self.records.items) }
+        ensures passed { IfSome result (λ passed. PassTest passed.0 self.records.items) }
+        ensures refused { result ≡ None → (next : ℕ) → self.counter ≡ Some next → PassTest next self.records.items → ⊥ }
+    {
+        let Gathered {
+            counter,
+            mut records,
+        } = self;
+        let next = counter?;
+        records.sort_unstable_by_key(|record| record.stamp());
+        if !rise(records.as_slice()) {
+            return None;
+        }
+        if !are_valid(next, records.as_slice(), keys) {
+            return None;
+        }
+        Some((next, records))
+    }
+}
+
+// Whether each stamp is below the next.
+fn rise(records: &[Summary]) -> bool
+    ensures { IsTrue result ↔ Rises stamp_of records.now }
+{
+    records.is_sorted_by(|earlier, later| earlier.stamp() < later.stamp())
+}
