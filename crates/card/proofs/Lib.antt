@@ -1,20 +1,29 @@
 mod Added
 mod BuiltLines
-mod ByStamp
-mod Gathering
-mod GatheringSlots
+mod GatheredSlots
+mod Grouped
+mod HeldInOrder
+mod HeldKinds
+mod Labels
 pub mod Leaving
-mod NamesApart
+mod ListsInOrder
+mod Neighbours
+mod OfKinds
 mod OpenedDatabase
 mod OwnerSearch
+mod Passing
 mod Performing
 mod Preparing
 mod Presenting
 mod SeenSessions
 mod SlotCount
 mod SlotSearch
+mod SortedTest
+mod Sorting
+pub mod Stamped
 pub mod Starting
 mod TakenForms
+pub mod Tested
 pub mod Told
 mod TwoRecords
 mod UnreadSteps

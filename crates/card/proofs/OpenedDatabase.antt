@@ -1,112 +1,184 @@
 -- The database to which an image opens, from what its slots hold and the test of it.
-use Rattle.std.proofs.Common.{◌≡◌, ℕ, ◌≤◌, Bool, true, false, List, [], ◌∷◌, length, Option, Some, None, IsSome, refl, sym, subst, ap, ◌∙◌}
+use Rattle.std.proofs.Common.{◌≡◌, ℕ, ◌≤◌, ◌==◌, ◌%◌, ◌||◌, Bool, true, false, if◌then◌else◌, List, [], ◌∷◌, length, map, Option, Some, None, IsSome, is_some, refl, sym, ap, ◌∙◌, subst, arith}
 use Rattle.std.specs.Prelude.{IfSome}
-use Rattle.std.specs.List.{filter_map, sum_by}
+use Rattle.std.specs.List.{list_all, filter_map, cons_option, sum_by}
 use Rattle.std.proofs.lemmas.Bool.{and_parts, false≢true}
-use Rattle.eeprom.specs.Chip.{Chip, Becomes}
-use Rattle.eeprom.specs.StoreOf.{Slots, Stored, store_of, is_gate_open, cells_of}
-use Rattle.eeprom.specs.Slots.{Rises, in_order, in_slot}
+use Rattle.std.proofs.lemmas.Option.{none-some}
+use Rattle.eeprom.specs.Chip.{Chip, Becomes, Keeps}
+use Rattle.eeprom.specs.StoreOf.{Slots, Stored, store_of, is_gate_open, slots_at, cells_of, row_limit}
+use Rattle.std.specs.Prelude.{slice_index}
+use Rattle.eeprom.specs.Slots.{AreApart, Rises, in_order, in_slot, kept}
 use Rattle.eeprom.proofs.InOrder.{Rises-in_order}
 use Rattle.record_store.specs.declared.side.Side.TheVariants.{Committed}
-use Rattle.record_store.specs.Held.{Held, StandsFor, contents, stored, with_limit}
-use Rattle.record_store.specs.Opening.{ReadsStore}
-use Rattle.record_store.specs.Sound.{IsSound}
-use Rattle.record_store.proofs.Weights.{steps-firsts, limited}
+use Rattle.record_store.specs.Held.{Held, contents, stored, with_limit}
+use Rattle.record_store.specs.Opening.{HeldSoFar, ReadsStore, StandsSoFar, slots_so_far}
+use Rattle.record_store.proofs.Replaying.{kept-image}
+use Rattle.record_store.proofs.Weights.{limited, store-begins}
 use Rattle.scql_base.specs.declared.records.User.{User}
-use Rattle.scql_model.specs.Records.{counter_record, user_in}
-use Rattle.scql_model.specs.Database.{Database, weight}
-use Rattle.scql_model.specs.Opens.{Holds, Opens, counter_stamp}
-use Rattle.scql_model.specs.Validity.{of_users, are_valid_users}
+use Rattle.scql_model.specs.Records.{counter_in, user_in, object_in, grant_in, row_in}
+use Rattle.scql_model.specs.Database.{Database, IsValid, weight}
+use Rattle.scql_model.specs.Opens.{Holds, Opens, counter_stamp, is_spelled, are_tables}
+use Rattle.scql_model.proofs.LongerLists.{all-weaker}
 use Rattle.scql_model.proofs.Room.{cells-filled}
-use Rattle.scql_model.proofs.Validity.{IsValid-of_users, are_valid_users-from_IsValid}
-use Rattle.card.specs.Opening.{Gathers, HoldNone, ReadsCard}
-use Rattle.card.proofs.ByStamp.{stamp_of}
-use Rattle.card.proofs.SlotCount.{length-committed}
+use Rattle.card.specs.Opening.{Gathers, HoldsNone, IsOfStore, PassTest, ReadsCard, gathered, is_taken}
+use Rattle.card.specs.Summary.{stamp_of}
+use Rattle.card.specs.declared.summary.Summary.{Summary}
+use Rattle.card.proofs.GatheredSlots.{GathersSoFar}
+use Rattle.card.proofs.HeldKinds.{user_stamp, object_stamp, grant_stamp, row_stamp, taken-held, taken-parts}
+use Rattle.card.proofs.HeldInOrder.{apart-held, summarizes-held}
+use Rattle.card.proofs.Tested.{IsValid-tested, tested-IsValid}
+use Rattle.card.proofs.SortedTest.{is_valid_list}
 
-holds-gathered : (slots : Slots) (cells limit next : ℕ) (users : List User) → length slots ≡ cells → Gathers slots (next ∷ []) users → Holds slots (of_users cells limit next users)
-holds-gathered slots cells limit next users counted g = record {
-  cells = counted;
-  spelled = g.spelled;
+-- what was found in all slots
+pub gathered-all : (held : HeldSoFar) (image : Option (List ℕ)) (count : ℕ) (counter : Option ℕ) (records : List Summary) (store : Held) → ((image : List ℕ) → StandsSoFar held image → store_of image ≡ stored store Committed image)
+    → ((image : List ℕ) → StandsSoFar held image → contents store Committed image ≡ slots_so_far held image) → IfSome image (StandsSoFar held) → GathersSoFar held count image counter records
+    → IfSome image (λ image. (was : Stored) → store_of image ≡ Some was → Gathers was.row_limit count was.slots counter records)
+gathered-all held None count counter records store opened same stands g = tt
+gathered-all held (Some image) count counter records store opened same stands g = λ was is.
+    let limit = (limited held.row_limit (slots_at image held.chains.cells held.firsts) was (sym (store-begins held.chains.cells held.row_limit held.firsts image stands.begins) ∙ is)).1 in
+    let all = subst (λ (o : Option Slots). IfSome o (λ slots. Gathers held.row_limit count slots counter records))
+    (sym (same image stands) ∙ (limited store.row_limit (contents store Committed image) was (sym (opened image stands) ∙ is)).0) g in
+    subst (λ (limit : ℕ). Gathers limit count was.slots counter records) limit all
+
+-- the records of a store, in their order
+pub of-store : (was : Stored) (count next : ℕ) (records sorted : List Summary) → Gathers was.row_limit count was.slots (Some next) records → sorted ≡ in_order stamp_of records → PassTest next records → IsOfStore was next sorted
+of-store was count next records sorted g is passed = record {
+  taken = g.taken;
+  counters = g.counters;
+  apart = rw g.records_are passed.apart;
+  records_are = ap (in_order stamp_of) g.records_are ∙ sym is;
+}
+
+-- the database that slots hold
+abbrev database_of : Stored → ℕ → Database
+database_of was next = record {
+  cells = length was.slots;
+  limit = was.row_limit;
+  next = next;
+  users = kept user_stamp user_in was.slots;
+  objects = kept object_stamp object_in was.slots;
+  grants = kept grant_stamp grant_in was.slots;
+  rows = kept row_stamp row_in was.slots;
+}
+
+spelled-taken : (limit : ℕ) (v : Option (List ℕ)) → is_taken limit v ≡ true → is_spelled v ≡ true
+spelled-taken limit v taken = (and_parts (is_spelled v) _ taken).0
+
+holds-database : (was : Stored) (count next : ℕ) (records : List Summary) → Gathers was.row_limit count was.slots (Some next) records → Holds was.slots (database_of was next)
+holds-database was count next records g = record {
+  cells = refl;
+  spelled = all-weaker (is_taken was.row_limit) is_spelled was.slots (spelled-taken was.row_limit) g.taken;
   counter = ap (in_order counter_stamp) g.counters;
-  users = g.users;
+  users = refl;
   objects = refl;
   grants = refl;
   rows = refl;
 }
 
 -- slots that pass the test hold a valid database
-opens-gathered : (store : Held) (image : List ℕ) (slots : Slots) (next : ℕ) (users : List User) → IsSound store → StandsFor store image → store_of image ≡ stored store Committed image → contents store Committed image ≡ Some slots
-    → Gathers slots (next ∷ []) users → are_valid_users next users ≡ true → Opens image (of_users store.chains.cells store.row_limit next users)
-opens-gathered store image slots next users range stands is told g valid =
-    let counted : length slots ≡ store.chains.cells = rw told at (length-committed store image stands) in
-    let holds = holds-gathered slots store.chains.cells store.row_limit next users counted g in
-    let cells = steps-firsts store Committed image slots range stands told in
-    let weight = cells-filled slots (of_users store.chains.cells store.row_limit next users) holds in
-    let room : sum_by cells_of slots ≤ store.chains.cells = subst (λ (w : ℕ). w ≤ store.chains.cells) cells.0 cells.1 in
-    let counter : counter_record.fits next ≡ true = (and_parts (counter_record.fits next) true g.counter_limits).0 in
-    record {
-      store = record { row_limit = store.row_limit; slots = slots };
-      stored = is ∙ ap (with_limit store.row_limit) told;
+pub opens-tested : (image : List ℕ) (was : Stored) (count next : ℕ) (records : List Summary) → store_of image ≡ Some was → (16 ≤ length was.slots) × (length was.slots ≤ 2048) → (was.row_limit == 240 || was.row_limit == 1020) ≡ true
+    → sum_by cells_of was.slots ≤ length was.slots → Gathers was.row_limit count was.slots (Some next) records → PassTest next records → (db : Database) × Opens image db
+opens-tested image was count next records there cells limit room g passed =
+    let db = database_of was next in
+    let holds : Holds was.slots db = holds-database was count next records g in
+    let apart = subst (λ (records : List Summary). AreApart stamp_of records) (sym g.records_are) passed.apart in
+    let taken = taken-parts db (sym (taken-held db.limit was.slots db holds) ∙ g.taken) in
+    let room' : weight db ≤ db.cells = subst (λ (w : ℕ). w ≤ length was.slots) (cells-filled was.slots db holds) room in
+    let sorted = in_order stamp_of (gathered 0 was.slots) in
+    let valid = subst (λ (records : List Summary). is_valid_list next (in_order stamp_of records) ≡ true) (sym g.records_are) passed.valid in
+    (db, record {
+      store = was;
+      stored = there;
       limit = refl;
       holds = holds;
-      valid = IsValid-of_users store.chains.cells store.row_limit next users range.rows range.range.few range.range.many (subst (λ (w : ℕ). w ≤ store.chains.cells) weight room) counter g.user_limits
-          (subst (Rises stamp_of) g.users (Rises-in_order stamp_of (filter_map (in_slot user_in) slots) g.apart)) valid;
-    }
+      valid = IsValid-tested db sorted (summarizes-held was.slots db holds apart taken.0) (taken.1 cells limit room') valid;
+      tables = taken.0;
+    })
 
--- slots that don't pass the test hold no valid database
-none-gathered : (slots : Slots) (next : ℕ) (users : List User) → Gathers slots (next ∷ []) users → are_valid_users next users ≡ false → HoldNone slots
-none-gathered slots next users g invalid = λ db holds valid.
-    let counter : next ∷ [] ≡ db.next ∷ [] = sym (ap (in_order counter_stamp) g.counters) ∙ holds.counter in
-    let same : are_valid_users next users ≡ are_valid_users db.next db.users = alike (one counter) (sym g.users ∙ holds.users) in
-    false≢true (sym invalid ∙ same ∙ are_valid_users-from_IsValid db valid)
-  where
-    one : {a b : ℕ} → a ∷ [] ≡ b ∷ [] → a ≡ b
-    one e = cc
+counter-held : (counter : Option ℕ) (next : ℕ) → in_order counter_stamp (cons_option counter []) ≡ next ∷ [] → counter ≡ Some next
+counter-held None next is = absurd (cc)
+counter-held (Some n) next is = ap Some (cc)
 
-    alike : {a b : ℕ} {us vs : List User} → a ≡ b → us ≡ vs → are_valid_users a us ≡ are_valid_users b vs
-    alike e f = rw (e, f) refl
+-- slots that don't pass the test hold none
+pub none-tested : (was : Stored) (count : ℕ) (counter : Option ℕ) (records : List Summary) → Gathers was.row_limit count was.slots counter records → ((next : ℕ) → counter ≡ Some next → PassTest next records → ⊥) → HoldsNone was
+none-tested was count counter records g failed = λ db limit holds valid tables.
+    let apart = apart-held was.slots db holds valid in
+    let passes = tested-IsValid db (in_order stamp_of (gathered 0 was.slots)) (summarizes-held was.slots db holds apart tables) valid in
+    failed db.next (counter-held counter db.next (sym (ap (in_order counter_stamp) g.counters) ∙ holds.counter))
+    (subst (λ (records : List Summary). PassTest db.next records) g.records_are (record { apart = apart; valid = passes }))
 
 -- The same where the image may not be told.
-pub opens_told : (store : Held) (image : Option (List ℕ)) (next : ℕ) (users : List User) (valid : Bool) → IsSound store → IfSome image (StandsFor store) → IfSome image (λ image. store_of image ≡ stored store Committed image)
-    → IfSome image (λ image. (was : Stored) → store_of image ≡ Some was → Gathers was.slots (next ∷ []) users) → valid ≡ are_valid_users next users → valid ≡ true → IfSome image (λ image. (db : Database) × Opens image db)
-opens_told store None next users valid range stands is g tested passed = tt
-opens_told store (Some image) next users valid range stands is g tested passed = go (contents store Committed image) refl
+limit-one : (image : List ℕ) → (row_limit image == 240 || row_limit image == 1020) ≡ true
+limit-one image = go (slice_index image 5 % 2 == 0)
   where
-    go : (o : Option Slots) → contents store Committed image ≡ o → (db : Database) × Opens image db
-    go None told = absurd (false≢true (subst IsSome told stands.committed))
-    go (Some slots) told = (of_users store.chains.cells store.row_limit next users, opens-gathered store image slots next users range stands is told (g (record { row_limit = store.row_limit; slots = slots }) (is ∙ ap (with_limit store.row_limit) told)) (sym tested ∙ passed))
+    go : (even : Bool) → ((if even then 240 else 1020) == 240 || (if even then 240 else 1020) == 1020) ≡ true
+    go true = refl
+    go false = refl
 
-pub refused_told : (image : Option (List ℕ)) → IfSome image (λ image. (was : Stored) → store_of image ≡ Some was → HoldNone was.slots) → IfSome image (λ image. (db : Database) → Opens image db → ⊥)
+opens-whole : (held : HeldSoFar) (image : List ℕ) (count next : ℕ) (records : List Summary) (slots : Slots) → StandsSoFar held image → store_of image ≡ Some (record { row_limit = held.row_limit; slots = slots })
+    → held.weight ≡ sum_by cells_of slots → held.weight ≤ held.chains.cells → held.chains.cells ≡ count → 16 ≤ count → count ≤ 2048
+    → Gathers held.row_limit count slots (Some next) records → PassTest next records → (db : Database) × Opens image db
+opens-whole held image count next records slots stands there weight few cells least most g passed =
+    opens-tested image (record { row_limit = held.row_limit; slots = slots }) count next records there (omega (arith, g.count_is), omega (arith, g.count_is))
+    (subst (λ (limit : ℕ). (limit == 240 || limit == 1020) ≡ true) stands.begins.rows (limit-one image)) (omega (arith, weight, few, cells, g.count_is)) g passed
+
+pub opens-finished : (held : HeldSoFar) (image : Option (List ℕ)) (count next : ℕ) (records : List Summary) (store : Held) → ((image : List ℕ) → StandsSoFar held image → contents store Committed image ≡ slots_so_far held image)
+    → ((image : List ℕ) → StandsSoFar held image → store_of image ≡ stored store Committed image)
+    → ((image : List ℕ) (slots : Slots) → StandsSoFar held image → contents store Committed image ≡ Some slots → held.weight ≡ sum_by cells_of slots) → IfSome image (StandsSoFar held) → held.weight ≤ held.chains.cells
+    → held.chains.cells ≡ count → 16 ≤ count → count ≤ 2048 → GathersSoFar held count image (Some next) records → PassTest next records → IfSome image (λ image. (db : Database) × Opens image db)
+opens-finished held None count next records store same opened weight stands few cells least most g passed = tt
+opens-finished held (Some image) count next records store same opened weight stands few cells least most g passed = go (slots_so_far held image) refl g
+  where
+    go : (o : Option Slots) → slots_so_far held image ≡ o → IfSome o (λ slots. Gathers held.row_limit count slots (Some next) records) → (db : Database) × Opens image db
+    go None is g = absurd (false≢true (subst IsSome is stands.claimed))
+    go (Some slots) is g =
+        let all : contents store Committed image ≡ Some slots = same image stands ∙ is in
+        let there = opened image stands ∙ ap (with_limit store.row_limit) all in
+        let limit = (limited held.row_limit (slots_at image held.chains.cells held.firsts) _ (sym (store-begins held.chains.cells held.row_limit held.firsts image stands.begins) ∙ there)).1 in
+        opens-whole held image count next records slots stands (subst (λ (limit : ℕ). store_of image ≡ Some (record { row_limit = limit; slots = slots })) (sym limit) there) (weight image slots stands all) few cells least most g passed
+
+pub of-store_told : (image : Option (List ℕ)) (count next : ℕ) (records sorted : List Summary) → IfSome image (λ image. (was : Stored) → store_of image ≡ Some was → Gathers was.row_limit count was.slots (Some next) records)
+    → sorted ≡ in_order stamp_of records → PassTest next records → IfSome image (λ image. (was : Stored) → store_of image ≡ Some was → IsOfStore was next sorted)
+of-store_told None count next records sorted g is passed = tt
+of-store_told (Some image) count next records sorted g is passed = λ was there. of-store was count next records sorted (g was there) is passed
+
+pub none-tested_told : (image : Option (List ℕ)) (count : ℕ) (counter : Option ℕ) (records : List Summary) → IfSome image (λ image. (was : Stored) → store_of image ≡ Some was → Gathers was.row_limit count was.slots counter records)
+    → ((next : ℕ) → counter ≡ Some next → PassTest next records → ⊥) → IfSome image (λ image. (was : Stored) → store_of image ≡ Some was → HoldsNone was)
+none-tested_told None count counter records g failed = tt
+none-tested_told (Some image) count counter records g failed = λ was there. none-tested was count counter records (g was there) failed
+
+-- an image with the same store opens to the same database
+opens-same : (left was : List ℕ) → store_of left ≡ store_of was → (db : Database) → Opens left db → Opens was db
+opens-same left was same db opens = record { store = opens.store; stored = sym same ∙ opens.stored; limit = opens.limit; holds = opens.holds; valid = opens.valid; tables = opens.tables }
+
+pub opens-kept : (old new : Chip) → Keeps store_of old new → is_some new.image ≡ is_some old.image → IfSome new.image (λ image. (db : Database) × Opens image db) → IfSome old.image (λ image. (db : Database) × Opens image db)
+opens-kept old new keeps told opens =
+    kept-image (λ image. (db : Database) × Opens image db) (λ image. (db : Database) × Opens image db) old new keeps told (λ left was same opens. (opens.0, opens-same left was same opens.0 opens.1)) opens
+
+-- where the store holds none, neither does an image before with the same store
+refused_told : (image : Option (List ℕ)) → IfSome image (λ image. (was : Stored) → store_of image ≡ Some was → HoldsNone was) → IfSome image (λ image. (db : Database) → Opens image db → ⊥)
 refused_told None none = tt
-refused_told (Some image) none = λ db opens. none opens.store opens.stored db opens.holds opens.valid
+refused_told (Some image) none = λ db opens. none opens.store opens.stored db opens.limit opens.holds opens.valid opens.tables
 
-pub invalid_told : (image : Option (List ℕ)) (next : ℕ) (users : List User) (valid : Bool) → IfSome image (λ image. (was : Stored) → store_of image ≡ Some was → Gathers was.slots (next ∷ []) users)
-    → valid ≡ are_valid_users next users → valid ≡ false → IfSome image (λ image. (db : Database) → Opens image db → ⊥)
-invalid_told None next users valid g tested failed = tt
-invalid_told (Some image) next users valid g tested failed = λ db opens. none-gathered opens.store.slots next users (g opens.store opens.stored) (sym tested ∙ failed) db opens.holds opens.valid
+pub refused-kept : (old new : Chip) → Keeps store_of old new → is_some new.image ≡ is_some old.image → IfSome new.image (λ image. (was : Stored) → store_of image ≡ Some was → HoldsNone was)
+    → IfSome old.image (λ image. (db : Database) → Opens image db → ⊥)
+refused-kept old new keeps told none =
+    kept-image (λ image. (db : Database) → Opens image db → ⊥) (λ image. (db : Database) → Opens image db → ⊥) old new keeps told (λ left was same none db opens. none db (opens-same was left (sym same) db opens))
+    (refused_told new.image none)
 
 -- the octets of its records are those of the database
-read-database : (store : Held) (image : List ℕ) (db : Database) (was : Stored) → StandsFor store image → store_of image ≡ stored store Committed image → store_of image ≡ Some was → Holds was.slots db
-    → (store.chains.cells ≡ db.cells) × (sum_by cells_of was.slots ≡ weight db)
-read-database store image db was stands is there holds =
-    let told = (limited store.row_limit (contents store Committed image) was (sym is ∙ there)).0 in
-    let counted : length was.slots ≡ store.chains.cells = rw told at (length-committed store image stands) in
-    (sym counted ∙ holds.cells, cells-filled was.slots db holds)
-
-pub read_told : (store : Held) (image now : Option (List ℕ)) (old new : Option ℕ) → IfSome now (StandsFor store) → IfSome now (λ image. store_of image ≡ stored store Committed image)
-    → IfSome image (λ image. is_gate_open image ≡ false → now ≡ Some image) → IfSome image (λ image. (was : Stored) → store_of image ≡ Some was → is_gate_open image ≡ false → Becomes (ReadsStore store.chains.cells was.slots) old new)
-    → IfSome image (λ image. (db : Database) → Opens image db → is_gate_open image ≡ false → Becomes (ReadsCard db) old new)
-read_told store None now old new stands is closed read = tt
-read_told store (Some image) now old new stands is closed read = λ db opens shut.
-    let stands' = subst (λ (o : Option (List ℕ)). IfSome o (StandsFor store)) (closed shut) stands in
-    let is' = subst (λ (o : Option (List ℕ)). IfSome o (λ image. store_of image ≡ stored store Committed image)) (closed shut) is in
-    let same = read-database store image db opens.store stands' is' opens.stored opens.holds in
-    rw (same.0, same.1) at (read opens.store opens.stored shut)
-
--- the image that is there now is the one from before, where nothing was written
-pub closed-image : (old new : Chip) → IfSome old.image (λ image. is_gate_open image ≡ false → new ≡ old) → IfSome old.image (λ image. is_gate_open image ≡ false → new.image ≡ Some image)
-closed-image old new closed = cases old.image refl closed
+pub reads-card : (old start : Chip) (cells count : ℕ) (counter : Option ℕ) (records : List Summary) (before now : Option ℕ) → IfSome old.image (λ image. is_gate_open image ≡ false → start ≡ old) → cells ≡ count
+    → IfSome start.image (λ image. (was : Stored) → store_of image ≡ Some was → Gathers was.row_limit count was.slots counter records)
+    → IfSome old.image (λ image. (was : Stored) → store_of image ≡ Some was → is_gate_open image ≡ false → Becomes (ReadsStore cells was.slots) before now)
+    → IfSome old.image (λ image. (db : Database) → Opens image db → is_gate_open image ≡ false → Becomes (ReadsCard db) before now)
+reads-card old start cells count counter records before now closed all g read = cases old.image refl closed read
   where
-    cases : (image : Option (List ℕ)) → old.image ≡ image → IfSome image (λ image. is_gate_open image ≡ false → new ≡ old) → IfSome image (λ image. is_gate_open image ≡ false → new.image ≡ Some image)
-    cases None is closed = tt
-    cases (Some image) is closed = λ shut. ap (λ (chip : Chip). chip.image) (closed shut) ∙ is
+    cases : (image : Option (List ℕ)) → old.image ≡ image → IfSome image (λ image. is_gate_open image ≡ false → start ≡ old)
+        → IfSome image (λ image. (was : Stored) → store_of image ≡ Some was → is_gate_open image ≡ false → Becomes (ReadsStore cells was.slots) before now)
+        → IfSome image (λ image. (db : Database) → Opens image db → is_gate_open image ≡ false → Becomes (ReadsCard db) before now)
+    cases None is closed read = tt
+    cases (Some image) is closed read = λ db opens shut.
+        let told : start.image ≡ Some image = ap (λ (chip : Chip). chip.image) (closed shut) ∙ is in
+        let g' = subst (λ (o : Option (List ℕ)). IfSome o (λ image. (was : Stored) → store_of image ≡ Some was → Gathers was.row_limit count was.slots counter records)) told g opens.store opens.stored in
+        let same : cells ≡ db.cells = all ∙ sym g'.count_is ∙ opens.holds.cells in
+        rw (same, cells-filled opens.store.slots db opens.holds) at (read opens.store opens.stored shut)

@@ -1,5 +1,6 @@
 pub mod Adding
 pub mod Answering
+pub mod Apart
 pub mod Behind
 pub mod Card
 pub mod Creating
@@ -7,4 +8,6 @@ pub mod Making
 pub mod Marks
 pub mod Opening
 pub mod Sessions
+pub mod Summary
 pub mod Users
+pub mod Validity

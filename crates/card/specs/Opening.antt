@@ -1,41 +1,91 @@
 -- What the slots of a card hold, as far as they were read.
-use Rattle.std.specs.Prelude.{◌≡◌, ℕ, ◌+◌, ◌*◌, true, List, [], ◌∷◌, Option, Some, None}
-use Rattle.std.specs.List.{list_all, filter_map, AllByRecursion}
-use Rattle.std.specs.BTreeMap.{BTreeMap, values}
+use Rattle.std.specs.Prelude.{◌≡◌, ℕ, suc, ◌+◌, ◌*◌, ◌&&◌, Bool, true, List, [], ◌∷◌, length, Option, Some, None, option_map}
+use Rattle.std.specs.Option.{option_or, option_map_or}
+use Rattle.std.specs.List.{list_all, filter_map, cons_option}
 use Rattle.eeprom.specs.Chip.{RisesBy}
-use Rattle.eeprom.specs.StoreOf.{Slots}
+use Rattle.eeprom.specs.StoreOf.{Slots, Stored}
 use Rattle.eeprom.specs.Slots.{AreApart, in_order, in_slot}
 use Rattle.record_store.specs.Opening.{front_octets}
-use Rattle.scql_model.specs.Records.{counter_record, user_record, counter_in, user_in}
+use Rattle.scql_base.specs.declared.records.Object.{Object}
+use Rattle.scql_base.specs.declared.records.RowRecord.{RowRecord}
+use Rattle.scql_model.specs.Objects.{columns_of}
+use Rattle.scql_model.specs.Records.{counter_record, user_record, grant_record, row_record, object_fits, counter_in, user_in, object_in, grant_in, row_in}
+use Rattle.scql_model.specs.Rules.{is_table, are_different, is_within_limit}
 use Rattle.scql_model.specs.Database.{Database, IsValid, weight}
-use Rattle.scql_model.specs.Opens.{Holds, is_spelled}
-use Rattle.scql_base.specs.declared.records.User.{User}
+use Rattle.scql_model.specs.Opens.{Holds, is_spelled, are_tables}
+use Rattle.card.specs.declared.summary.Summary.{Summary}
+use Rattle.card.specs.declared.summary.Summary.TheVariants as kept_as
+use Rattle.card.specs.declared.slot_record.SlotRecord.{SlotRecord}
+use Rattle.card.specs.declared.slot_record.SlotRecord.TheVariants as found_as
+use Rattle.card.specs.Summary.{stamp_of, of_table, row_summary, users_in, tables_in, grants_in, rows_in}
+use Rattle.card.specs.Validity.{is_valid_database}
 
--- the users of a map, in its order
-abbrev pub users_of : BTreeMap ℕ User → List User
-users_of m = (values m)
+-- what a reader gives of a slot passes a test, where it gives something
+abbrev pub passes : {X : Type 0} → (X → Bool) → (List ℕ → Option X) → Option (List ℕ) → Bool
+passes test read v = option_map_or test (in_slot read v) true
 
--- each user stands at its stamp
-abbrev pub AreByStamp : List (ℕ × User) → Type 0
-AreByStamp entries = AllByRecursion (λ entry. entry.0 ≡ entry.1.stamp) entries
+-- a table whose columns are different
+abbrev pub is_plain_table : Object → Bool
+is_plain_table o = is_table o.kind && are_different (columns_of o.kind)
 
--- the stamp that a counter gives next, where there is a counter
-abbrev pub counters_of : Option ℕ → List ℕ
-counters_of None = []
-counters_of (Some next) = next ∷ []
+-- a table within its limits whose columns are different, and a row within the limits of rows and the card's
+abbrev pub is_sound_table : Object → Bool
+is_sound_table o = object_fits o && is_plain_table o
 
--- The records in these slots are these counters and these users, which rise; each is within its limits, and no two users have one stamp.
-pub record Gathers (slots : Slots) (found_counters : List ℕ) (found_users : List User) : Type 0 where
-  pub spelled : list_all is_spelled slots ≡ true
-  pub counters : filter_map (in_slot counter_in) slots ≡ found_counters
-  pub users : in_order (λ (u : User). u.stamp) (filter_map (in_slot user_in) slots) ≡ found_users
-  pub apart : AreApart (λ (u : User). u.stamp) (filter_map (in_slot user_in) slots)
-  pub counter_limits : list_all counter_record.fits found_counters ≡ true
-  pub user_limits : list_all user_record.fits found_users ≡ true
+abbrev pub is_sound_row : ℕ → RowRecord → Bool
+is_sound_row limit r = row_record.fits r && is_within_limit limit r
 
--- the slots hold no valid database
-abbrev pub HoldNone : Slots → Type 0
-HoldNone slots = (db : Database) → Holds slots db → IsValid db → ⊥
+-- An empty slot, or the record of some kind within its limits, on a card with this row limit.
+abbrev pub is_taken : ℕ → Option (List ℕ) → Bool
+is_taken limit v =
+    is_spelled v && (passes counter_record.fits counter_in v && (passes user_record.fits user_in v && (passes is_sound_table object_in v
+    && (passes grant_record.fits grant_in v && passes (is_sound_row limit) row_in v))))
+
+-- what is kept of a record in a slot: nothing of the counter
+abbrev pub object_summary : Object → Summary
+object_summary o = kept_as.Table (of_table o)
+
+abbrev pub summary_in : ℕ → List ℕ → Option Summary
+summary_in slot octets =
+    option_or (option_map kept_as.User (user_in octets)) (option_or (option_map object_summary (object_in octets))
+    (option_or (option_map kept_as.Grant (grant_in octets)) (option_map (λ r. kept_as.Row (row_summary slot r)) (row_in octets))))
+
+-- what is kept of the records in slots, of which the first has this number
+abbrev pub gathered : ℕ → Slots → List Summary
+gathered slot [] = []
+gathered slot (v ∷ slots) = cons_option (in_slot (summary_in slot) v) (gathered (suc slot) slots)
+
+-- the stamp that a counter gives next, and what is kept of another record
+abbrev pub counter_of : SlotRecord → Option ℕ
+counter_of (found_as.Counter next) = Some next
+counter_of (found_as.Kept summary) = None
+
+abbrev pub summary_of : SlotRecord → Option Summary
+summary_of (found_as.Counter next) = None
+summary_of (found_as.Kept summary) = Some summary
+
+-- These are the counter and what is kept of the other records in so many slots, each of which is taken.
+pub record Gathers (limit count : ℕ) (slots : Slots) (counter : Option ℕ) (records : List Summary) : Type 0 where
+  pub count_is : length slots ≡ count
+  pub taken : list_all (is_taken limit) slots ≡ true
+  pub counters : filter_map (in_slot counter_in) slots ≡ cons_option counter []
+  pub records_are : gathered 0 slots ≡ records
+
+-- Records, in any order, of which no two have one stamp, and which pass the test of a valid database.
+pub record PassTest (next : ℕ) (records : List Summary) : Type 0 where
+  pub apart : AreApart stamp_of records
+  pub valid : is_valid_database next (users_in (in_order stamp_of records)) (tables_in (in_order stamp_of records)) (grants_in (in_order stamp_of records)) (rows_in (in_order stamp_of records)) ≡ true
+
+-- A store's counter, and what is kept of its other records, in rising order of their stamps.
+pub record IsOfStore (was : Stored) (next : ℕ) (records : List Summary) : Type 0 where
+  pub taken : list_all (is_taken was.row_limit) was.slots ≡ true
+  pub counters : filter_map (in_slot counter_in) was.slots ≡ next ∷ []
+  pub apart : AreApart stamp_of (gathered 0 was.slots)
+  pub records_are : in_order stamp_of (gathered 0 was.slots) ≡ records
+
+-- the store holds no valid database of tables
+abbrev pub HoldsNone : Stored → Type 0
+HoldsNone was = (db : Database) → db.limit ≡ was.row_limit → Holds was.slots db → IsValid db → are_tables db.objects ≡ true → ⊥
 
 -- So many octets are read where a card is opened at this database: those that begin its image, and as many as the cells of its records have.
 abbrev pub ReadsCard : Database → ℕ → ℕ → Type 0

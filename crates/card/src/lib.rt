@@ -2,6 +2,7 @@
 #![tactic(auto)]
 
 mod adding;
+mod apart;
 mod card;
 mod counter;
 mod creating;
@@ -9,6 +10,8 @@ mod marks;
 mod opening;
 mod outcome;
 mod session;
+mod slot_record;
+mod summary;
 mod users;
 mod validity;
 

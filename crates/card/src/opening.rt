@@ -1,146 +1,155 @@
-// The records of a store, gathered as it is opened: one counter, and users of different stamps.
-ghost use Rattle.std.specs.Prelude.{◌≡◌, ◌≢◌, OnErr, ◌+◌, ◌*◌, ◌≤◌, [], ◌∷◌, ◌++◌, Some, None, false, is_some, IfSome, IfOk, OnOk, IsErrOf, count_by};
-ghost use Rattle.eeprom.specs.Chip.{Becomes};
-ghost use Rattle.eeprom.specs.StoreOf.{Slots, Stored, store_of, is_gate_open};
-ghost use Rattle.eeprom.specs.Slots.{has, put_in_order};
+// The records of a store, gathered as it is opened: one counter, and what is kept of all others, tested as those of a database.
+ghost use Rattle.std.specs.Prelude.{◌≡◌, ◌≢◌, ◌⊎◌, ◌↔◌, ◌+◌, ◌*◌, ◌≤◌, ◌<◌, ℕ, [], ◌∷◌, ◌++◌, Some, None, false, true, length, is_some, IsTrue, IfSome, IfOk, IfErr, OnOk, IsErrOf};
+ghost use Rattle.std.specs.List.{cons_option};
+ghost use Rattle.std.specs.Vec.{vec_capacity};
+ghost use Rattle.eeprom.specs.Chip.{Becomes, RisesAtMost};
+ghost use Rattle.eeprom.specs.StoreOf.{Stored, store_of, is_gate_open, most_cells};
+ghost use Rattle.eeprom.specs.Slots.{Rises, in_order, in_slot};
 ghost use Rattle.cell_store.specs.Reading.{ReadsAtMost};
 ghost use Rattle.record_store.specs.Faults.{is_open_fault};
 ghost use Rattle.record_store.specs.Held.{IsOver, stored};
 ghost use Rattle.record_store.specs.Recovery.{Recovers};
-ghost use Rattle.record_store.specs.Opening.{ReadsStore, most_octets, slot_with};
+ghost use Rattle.record_store.specs.Opening.{front_octets, journal_octets, most_octets, slot_with};
 ghost use Rattle.record_store.specs.declared.side.Side.TheVariants.{Committed};
-ghost use Rattle.scql_base.specs.declared.records.User.{User};
-ghost use Rattle.scql_model.specs.Records as records;
-ghost use Rattle.card.specs.Opening.{AreByStamp, Gathers, HoldNone, counters_of, users_of};
+ghost use Rattle.scql_model.specs.Records.{counter_in};
+ghost use Rattle.scql_model.specs.Database.{Database};
+ghost use Rattle.scql_model.specs.Opens.{Opens};
+ghost use Rattle.card.specs.Opening.{IsOfStore, PassTest, ReadsCard, is_taken, summary_in};
+ghost use Rattle.card.specs.Summary.{stamp_of};
 
-use catalog_codec::{Counter, Record};
+use crate::slot_record::SlotRecord;
+use crate::summary::Summary;
+use crate::validity::are_valid;
 use eeprom::Eeprom;
 use record_store::{OpenRefusal, Opening, RecordOctets, Store};
-use scql_base::User;
 use std::alloc::Global;
-use std::collections::BTreeMap;
 
-/// The records of a card: the stamp that the next one takes, and the users by their stamps.
-#[derive(Drop)]
-pub(crate) struct Records {
-    pub next: u32,
-    pub users: BTreeMap<u32, User>,
-}
-
-/// A store that was opened, and what its records are.
+/// A store that was opened, the stamp that its next record takes, and what is kept of its records, in rising order of their stamps.
 #[derive(Drop)]
 pub(crate) struct Opened {
     pub store: Store,
-    pub records: Records,
+    pub next: u32,
+    pub records: Vec<Summary>,
 }
 
 // What was found in the slots so far.
 #[derive(Drop)]
-struct Found {
-    counter: Option<Counter>,
-    users: BTreeMap<u32, User>,
+struct Gathered {
+    counter: Option<u32>,
+    records: Vec<Summary>,
 }
 
-/// Opens a store, and gathers the record of each slot as it is claimed. A journal behind an open gate is replayed first. There is one counter, and no two users have one stamp.
+/// Opens the store of an image, where its records are those of a valid database. A journal behind an open gate is replayed first.
+/// All memory is taken before the first record is read: beyond what a card keeps a summary and a key for each cell,
+/// which are at most 2,048 * (64 + 8) = 147,456 octets.
 pub(crate) fn open_records<B: Eeprom>(alloc: Global, bench: &mut B) -> Result<Opened, OpenRefusal>
     ensures over { IfOk result (λ opened. IsOver opened.store (B.chip bench.new)) }
     ensures told { OnOk result (is_some (B.chip bench.new).image ≡ is_some (B.chip bench.old).image) }
     ensures stored { IfOk result (λ opened. IfSome (B.chip bench.new).image (λ image. store_of image ≡ stored opened.store Committed image)) }
     ensures idle { IfOk result (λ opened. opened.store.begun ≡ false) }
-    ensures gathers { IfOk result (λ opened. IfSome (B.chip bench.new).image (λ image. (was : Stored) → store_of image ≡ Some was
-        → Gathers was.slots (opened.records.next ∷ []) (users_of opened.records.users))) }
-    ensures by_stamp { IfOk result (λ opened. AreByStamp opened.records.users.entries) }
-    ensures octets_read { IfOk result (λ opened. IfSome (B.chip bench.old).image (λ image. (was : Stored) → store_of image ≡ Some was → is_gate_open image ≡ false
-        → Becomes (ReadsStore opened.store.chains.cells was.slots) (B.octets_read bench.old) (B.octets_read bench.new))) }
+    ensures records { IfOk result (λ opened. IfSome (B.chip bench.new).image (λ image. (was : Stored) → store_of image ≡ Some was
+        → IsOfStore was opened.next opened.records.items)) }
+    ensures opens { OnOk result (IfSome (B.chip bench.old).image (λ image. (db : Database) × Opens image db)) }
+    // Where the gate is closed as many octets are read as begin the image, and as the cells of the records have.
+    ensures octets_read { OnOk result (IfSome (B.chip bench.old).image (λ image. (db : Database) → Opens image db → is_gate_open image ≡ false
+        → Becomes (ReadsCard db) (B.octets_read bench.old) (B.octets_read bench.new))) }
     ensures most_read { Becomes (ReadsAtMost most_octets) (B.octets_read bench.old) (B.octets_read bench.new) }
-    ensures not_a_card { IsErrOf result OpenRefusal.NotACard → IfSome (B.chip bench.old).image (λ image. (was : Stored) → store_of image ≡ Some was → HoldNone was.slots) }
+    // No record was read by then.
+    ensures no_memory { IsErrOf result OpenRefusal.NoMemory
+        → Becomes (RisesAtMost (front_octets most_cells + journal_octets most_cells)) (B.octets_read bench.old) (B.octets_read bench.new) }
+    ensures not_a_card { IsErrOf result OpenRefusal.NotACard → IfSome (B.chip bench.old).image (λ image. (db : Database) → Opens image db → ⊥) }
     ensures frame { Recovers is_open_fault B.chip B.faults bench.old bench.new result }
 {
     let mut opening = Opening::new(alloc, bench)?;
-    let mut octets = RecordOctets::new();
-    let mut found = Found {
+    let cells = opening.cells();
+    let mut keys = Vec::with_capacity(alloc, cells as usize)?;
+    let mut gathered = Gathered {
         counter: None,
-        users: BTreeMap::new(alloc),
+        records: Vec::with_capacity(alloc, cells as usize)?,
     };
-    for _slot in 0..opening.cells() {
+    let mut octets = RecordOctets::new();
+    for slot in 0..cells {
         opening = opening.claim_next(bench, &mut octets)?;
-        found.add_slot(&octets)?;
+        gathered.add_slot(slot, opening.row_limit(), &octets)?;
     }
     let store = opening.finish();
-    let Some(counter) = found.counter else {
+    let Some((next, records)) = gathered.tested(&mut keys) else {
         return Err(OpenRefusal::NotACard);
     };
     Ok(Opened {
         store,
-        records: Records {
-            next: counter.next,
-            users: found.users,
-        },
+        next,
+        records,
     })
 }
 
-impl Found {
-    // Adds the record of a slot, where it has one.
-    fn add_slot(&mut self, octets: &[u8]) -> Result<(), OpenRefusal>
-        requires by_stamp { AreByStamp self.old.users.entries }
-        ensures by_stamp { OnOk result (AreByStamp self.new.users.entries) }
-        ensures gathers { OnOk result ((slots : Slots) → Gathers slots (counters_of self.old.counter) (users_of self.old.users)
-            → Gathers (slots ++ slot_with octets.now ∷ []) (counters_of self.new.counter) (users_of self.new.users)) }
-        ensures not_a_card { IsErrOf result OpenRefusal.NotACard → (slots : Slots) → (more : Slots) → Gathers slots (counters_of self.old.counter) (users_of self.old.users)
-            → HoldNone (slots ++ slot_with octets.now ∷ more) }
-        ensures no_fault { ¬ (IsErrOf result OpenRefusal.Fault) }
+impl Gathered {
+    // Adds the record of a slot, where it has one, on a card with this row limit.
+    fn add_slot(&mut self, slot: u16, row_limit: u16, octets: &[u8]) -> Result<(), OpenRefusal>
+        requires room { length self.old.records.items < vec_capacity self.old.records }
+        ensures taken { OnOk result (is_taken row_limit (slot_with octets.now) ≡ true) }
+        ensures counters { OnOk result (cons_option self.new.counter [] ≡ cons_option self.old.counter (cons_option (in_slot counter_in (slot_with octets.now)) [])) }
+        ensures records { OnOk result (self.new.records.items ≡ self.old.records.items ++ cons_option (in_slot (summary_in slot) (slot_with octets.now)) []) }
+        ensures few { OnOk result (length self.new.records.items ≤ length self.old.records.items + 1) }
+        ensures capacity { OnOk result (vec_capacity self.new.records ≡ vec_capacity self.old.records) }
+        ensures refused { IsErrOf result OpenRefusal.NotACard
+            → (is_taken row_limit (slot_with octets.now) ≡ false) ⊎ ((self.old.counter ≢ None) × (in_slot counter_in (slot_with octets.now) ≢ None)) }
+        ensures refusal { IfErr result (λ refusal. refusal ≡ OpenRefusal.NotACard) }
     {
         if octets.is_empty() {
             return Ok(());
         }
-        self.add(octets)
-    }
-
-    // Adds the record that these octets are.
-    fn add(&mut self, octets: &[u8]) -> Result<(), OpenRefusal>
-        requires by_stamp { AreByStamp self.old.users.entries }
-        ensures by_stamp { OnOk result (AreByStamp self.new.users.entries) }
-        ensures gathers { OnOk result ((slots : Slots) → Gathers slots (counters_of self.old.counter) (users_of self.old.users)
-            → Gathers (slots ++ Some octets.now ∷ []) (counters_of self.new.counter) (users_of self.new.users)) }
-        ensures not_a_card { IsErrOf result OpenRefusal.NotACard → (slots : Slots) → (more : Slots) → Gathers slots (counters_of self.old.counter) (users_of self.old.users)
-            → HoldNone (slots ++ Some octets.now ∷ more) }
-        ensures no_fault { ¬ (IsErrOf result OpenRefusal.Fault) }
-    {
-        if let Some(counter) = Counter::decode(octets) {
-            return self.set_counter(counter);
-        }
-        match User::decode(octets) {
-            Some(user) => add_user(&mut self.users, user),
+        match SlotRecord::read(octets, slot, row_limit) {
             None => Err(OpenRefusal::NotACard),
+            Some(SlotRecord::Counter(next)) => self.set_counter(next),
+            Some(SlotRecord::Kept(summary)) => {
+                self.records.push_reserved(summary);
+                Ok(())
+            }
         }
     }
 
-    // Keeps the counter, where it is the first.
-    fn set_counter(&mut self, counter: Counter) -> Result<(), OpenRefusal>
-        ensures set { OnOk result ((self.old.counter ≡ None) × (self.new.counter ≡ Some counter)) }
-        ensures users { self.new.users ≡ self.old.users }
+    // Keeps the counter's number, where it is the first.
+    fn set_counter(&mut self, next: u32) -> Result<(), OpenRefusal>
+        ensures set { OnOk result ((self.old.counter ≡ None) × (self.new.counter ≡ Some next)) }
+        ensures records { self.new.records ≡ self.old.records }
         ensures second { IsErrOf result OpenRefusal.NotACard → self.old.counter ≢ None }
-        ensures refusal { OnErr result (IsErrOf result OpenRefusal.NotACard) }
+        ensures refusal { IfErr result (λ refusal. refusal ≡ OpenRefusal.NotACard) }
     {
         if self.counter.is_some() {
             return Err(OpenRefusal::NotACard);
         }
-        self.counter = Some(counter);
+        self.counter = Some(next);
         Ok(())
+    }
+
+    // The counter's number, and the records in rising order of their stamps, where they are those of a valid database.
+    fn tested(self, keys: &mut Vec<u64>) -> Option<(u32, Vec<Summary>)>
+        requires room { length self.records.items ≤ vec_capacity keys.old }
+        ensures counter { IfSome result (λ passed. self.counter ≡ Some passed.0) }
+        ensures records { IfSome result (λ passed. passed.1.items ≡ in_order stamp_of self.records.items) }
+        ensures passed { IfSome result (λ passed. PassTest passed.0 self.records.items) }
+        ensures refused { result ≡ None → (next : ℕ) → self.counter ≡ Some next → PassTest next self.records.items → ⊥ }
+    {
+        let Gathered {
+            counter,
+            mut records,
+        } = self;
+        let next = counter?;
+        records.sort_unstable_by_key(|record| record.stamp());
+        if !rise(records.as_slice()) {
+            return None;
+        }
+        if !are_valid(next, records.as_slice(), keys) {
+            return None;
+        }
+        Some((next, records))
     }
 }
 
-// Adds a user, where no other has its stamp.
-fn add_user(users: &mut BTreeMap<u32, User>, user: User) -> Result<(), OpenRefusal>
-    requires by_stamp { AreByStamp users.old.entries }
-    ensures by_stamp { OnOk result (AreByStamp users.new.entries) }
-    ensures placed { OnOk result (users_of users.new ≡ put_in_order (λ (u : User). u.stamp) user (users_of users.old)) }
-    ensures first { OnOk result (count_by (has (λ (u : User). u.stamp) user.stamp) (users_of users.old) ≡ 0) }
-    ensures second { IsErrOf result OpenRefusal.NotACard → 1 ≤ count_by (has (λ (u : User). u.stamp) user.stamp) (users_of users.old) }
-    ensures no_fault { ¬ (IsErrOf result OpenRefusal.Fault) }
+// Whether each stamp is below the next.
+fn rise(records: &[Summary]) -> bool
+    ensures { IsTrue result ↔ Rises stamp_of records.now }
 {
-    match users.insert(user.stamp, user)? {
-        None => Ok(()),
-        Some(_) => Err(OpenRefusal::NotACard),
-    }
+    records.is_sorted_by(|earlier, later| earlier.stamp() < later.stamp())
 }

@@ -1,46 +1,64 @@
-// The rules of a valid database, tested on the records that were read.
-ghost use Rattle.std.specs.Prelude.{◌≡◌, IfOk, filter, map};
-ghost use Rattle.std.specs.List.{list_all};
-ghost use Rattle.scql_model.specs.Database as database;
-ghost use Rattle.scql_base.specs.declared.records.User.{User};
-ghost use Rattle.scql_model.specs.Records as records;
-ghost use Rattle.scql_model.specs.Validity as validity;
-ghost use Rattle.card.specs.Opening.{AreByStamp, users_of};
+// The rules of a valid database, tested on what is kept of its records.
+ghost use Rattle.std.specs.Prelude.{◌≡◌, ◌≤◌, ◌==◌, ◌&&◌, Some, option_copied, is_some, filter, length, vec_capacity};
+ghost use Rattle.std.specs.List.{list_all, list_any, find};
+ghost use Rattle.eeprom.specs.Slots.{Rises};
+ghost use Rattle.scql_base.specs.declared.records.User as base;
+ghost use Rattle.card.specs.declared.summary.Summary as kept;
+ghost use Rattle.card.specs.declared.summary.TableSummary as tables;
+ghost use Rattle.scql_model.specs.Rules as rules;
+ghost use Rattle.card.specs.Apart as apart;
+ghost use Rattle.card.specs.Validity as validity;
+ghost use Rattle.card.specs.declared.apart.Label.TheVariants.{UserName, TableName, GrantPair};
+ghost use Rattle.card.specs.Summary.{stamp_of, users_in, tables_in, grants_in, rows_in};
 
-use crate::opening::Records;
-use scql_base::{Name, Profile, User};
-use std::alloc::{AllocError, Global};
-use std::collections::{BTreeMap, BTreeSet};
+use crate::apart::Label;
+use crate::summary::{RowSummary, Summary, TableSummary};
+use scql_base::{Grant, Name, Profile, User};
 
-/// Whether a counter and users are those of a valid database.
-pub(crate) fn are_valid(alloc: Global, records: &Records) -> Result<bool, AllocError>
-    requires by_stamp { AreByStamp records.now.users.entries }
-    ensures valid { IfOk result (λ valid. valid ≡ validity.are_valid_users records.now.next (users_of records.now.users)) }
+/// Whether records are those of a valid database, where each is within its limits. They stand in rising order of their stamps,
+/// and there is room for as many numbers.
+#[tactic(auto, using(crate::proofs::Grouped::grouped))]
+pub(crate) fn are_valid(next: u32, records: &[Summary], numbers: &mut Vec<u64>) -> bool
+    requires rises { Rises stamp_of records.now }
+    requires room { length records.now ≤ vec_capacity numbers.old }
+    ensures { result ≡ validity.is_valid_database next (users_in records.now) (tables_in records.now) (grants_in records.now) (rows_in records.now) }
 {
-    if records.next < 2 || !has_owner_alone(&records.users) || !is_each_valid(records) {
-        return Ok(false);
-    }
-    have_different_names(alloc, &records.users)
+    next >= 2
+        && has_owner_alone(records)
+        && is_each_right(next, records)
+        && is_nothing_shared(records, numbers)
+}
+
+// Whether no two users have one name, no two tables, and no two grants are of one object to one grantee.
+fn is_nothing_shared(records: &[Summary], numbers: &mut Vec<u64>) -> bool
+    requires room { length records.now ≤ vec_capacity numbers.old }
+    ensures { result ≡ (apart.is_never_shared UserName records.now && apart.is_never_shared TableName records.now && apart.is_never_shared GrantPair records.now) }
+{
+    Label::UserName.is_never_shared(records, numbers)
+        && Label::TableName.is_never_shared(records, numbers)
+        && Label::GrantPair.is_never_shared(records, numbers)
 }
 
 // Whether OWNER is the one user of profile 01.
-fn has_owner_alone(users: &BTreeMap<u32, User>) -> bool
-    ensures { result ≡ validity.is_owner_alone (filter database.is_db_o (users_of users.now)) }
+fn has_owner_alone(records: &[Summary]) -> bool
+    ensures { result ≡ validity.is_owner_alone (filter rules.is_db_o (users_in records.now)) }
 {
     let mut found = false;
-    for user in users.values() {
-        if is_db_o(user) {
-            if found || !is_owner(user) {
-                return false;
+    for summary in records {
+        if let Some(user) = summary.as_user() {
+            if is_db_o(user) {
+                if found || !is_owner(user) {
+                    return false;
+                }
+                found = true;
             }
-            found = true;
         }
     }
     found
 }
 
 fn is_db_o(user: &User) -> bool
-    ensures { result ≡ database.is_db_o user.now }
+    ensures { result ≡ rules.is_db_o user.now }
 {
     match user.profile {
         Profile::DbO => true,
@@ -57,56 +75,68 @@ fn is_owner(user: &User) -> bool
         && is_db_o(user)
         && user.owner == 1
         && user.secret.as_slice().is_empty()
-        && user.tries == 3
+        && user.tries == User::ALL_TRIES
 }
 
-fn is_each_valid(records: &Records) -> bool
-    requires by_stamp { AreByStamp records.now.users.entries }
-    ensures { result ≡ list_all (validity.is_valid_user records.now.next (users_of records.now.users)) (users_of records.now.users) }
+fn is_each_right(next: u32, records: &[Summary]) -> bool
+    requires rises { Rises stamp_of records.now }
+    ensures { result ≡ list_all (validity.is_right_record next (users_in records.now) (tables_in records.now)) records.now }
 {
-    for user in records.users.values() {
-        if !is_valid(records, user) {
+    for summary in records {
+        if !is_right(next, records, summary) {
             return false;
         }
     }
     true
 }
 
-fn is_valid(records: &Records, user: &User) -> bool
-    requires by_stamp { AreByStamp records.now.users.entries }
-    ensures { result ≡ validity.is_valid_user records.now.next (users_of records.now.users) user.now }
+// Whether the stamp of a record was given out, and the rules of its kind hold.
+fn is_right(next: u32, records: &[Summary], summary: &Summary) -> bool
+    requires rises { Rises stamp_of records.now }
+    ensures { result ≡ validity.is_right_record next (users_in records.now) (tables_in records.now) summary.now }
 {
-    user.stamp >= 1
-        && user.stamp < records.next
-        && Name::PUBLIC != user.name.octets()
-        && has_maker(&records.users, user)
-        && has_all_tries(user)
+    let stamp = summary.stamp();
+    stamp >= 1
+        && stamp < next
+        && match summary {
+            Summary::User(user) => is_right_user(records, user),
+            Summary::Table(table) => is_made_by_maker(records, table.owner),
+            Summary::Grant(grant) => is_right_grant(records, grant),
+            Summary::Row(row) => is_right_row(records, row),
+        }
+}
+
+fn is_right_user(records: &[Summary], user: &User) -> bool
+    requires rises { Rises stamp_of records.now }
+    ensures { result ≡ validity.is_right_user (users_in records.now) user.now }
+{
+    Name::PUBLIC != user.name.octets() && has_maker(records, user) && has_all_tries(user)
 }
 
 // Whether the user's owner may have made it.
-fn has_maker(users: &BTreeMap<u32, User>, user: &User) -> bool
-    requires by_stamp { AreByStamp users.now.entries }
-    ensures { result ≡ database.has_maker (users_of users.now) user.now }
+fn has_maker(records: &[Summary], user: &User) -> bool
+    requires rises { Rises stamp_of records.now }
+    ensures { result ≡ rules.has_maker (users_in records.now) user.now }
 {
     match user.profile {
         Profile::DbO => true,
         Profile::Dboo => user.owner == 1,
-        Profile::Dbbu => is_made_by_maker(users, user.owner),
+        Profile::Dbbu => is_made_by_maker(records, user.owner),
     }
 }
 
-fn is_made_by_maker(users: &BTreeMap<u32, User>, owner: u32) -> bool
-    requires by_stamp { AreByStamp users.now.entries }
-    ensures { result ≡ database.is_made_by_maker (users_of users.now) owner }
+fn is_made_by_maker(records: &[Summary], owner: u32) -> bool
+    requires rises { Rises stamp_of records.now }
+    ensures { result ≡ rules.is_made_by_maker (users_in records.now) owner }
 {
-    match users.get(&owner) {
+    match find_user(records, owner) {
         Some(user) => is_maker(user),
         None => false,
     }
 }
 
 fn is_maker(user: &User) -> bool
-    ensures { result ≡ database.is_maker user.now.profile }
+    ensures { result ≡ rules.is_maker user.now.profile }
 {
     match user.profile {
         Profile::DbO | Profile::Dboo => true,
@@ -115,20 +145,67 @@ fn is_maker(user: &User) -> bool
 }
 
 fn has_all_tries(user: &User) -> bool
-    ensures { result ≡ database.has_all_tries user.now }
+    ensures { result ≡ rules.has_all_tries user.now }
 {
-    !user.secret.as_slice().is_empty() || user.tries == 3
+    !user.secret.as_slice().is_empty() || user.tries == User::ALL_TRIES
 }
 
-// Whether no two users have one name.
-fn have_different_names(alloc: Global, users: &BTreeMap<u32, User>) -> Result<bool, AllocError>
-    ensures { IfOk result (λ different. different ≡ database.are_different (map (λ (u : User). u.name) (users_of users.now))) }
+// Whether what a grant allows is there, and who is allowed it.
+fn is_right_grant(records: &[Summary], grant: &Grant) -> bool
+    requires rises { Rises stamp_of records.now }
+    ensures { result ≡ validity.is_right_grant (users_in records.now) (tables_in records.now) grant.now }
 {
-    let mut names = BTreeSet::new(alloc);
-    for user in users.values() {
-        if !names.insert(user.name.octets())? {
-            return Ok(false);
-        }
+    has_table(records, grant.object) && (grant.grantee == 0 || has_user(records, grant.grantee))
+}
+
+// Whether a row's table is there, older than the row, and has a column for each value.
+fn is_right_row(records: &[Summary], row: &RowSummary) -> bool
+    requires rises { Rises stamp_of records.now }
+    ensures { result ≡ validity.is_right_row (tables_in records.now) row.now }
+{
+    match find_table(records, row.table) {
+        Some(table) => table.stamp < row.stamp && table.columns == row.values,
+        None => false,
     }
-    Ok(true)
+}
+
+fn has_user(records: &[Summary], stamp: u32) -> bool
+    requires rises { Rises stamp_of records.now }
+    ensures { result ≡ list_any (λ (u : base.User). u.stamp == stamp) (users_in records.now) }
+{
+    find_user(records, stamp).is_some()
+}
+
+fn has_table(records: &[Summary], stamp: u32) -> bool
+    requires rises { Rises stamp_of records.now }
+    ensures { result ≡ list_any (λ (t : tables.TableSummary). t.stamp == stamp) (tables_in records.now) }
+{
+    find_table(records, stamp).is_some()
+}
+
+// The user of a stamp.
+fn find_user(records: &[Summary], stamp: u32) -> Option<&User>
+    requires rises { Rises stamp_of records.now }
+    ensures { option_copied result ≡ rules.user_stamped (users_in records.now) stamp }
+{
+    find_stamped(records, stamp)?.as_user()
+}
+
+// The table of a stamp.
+fn find_table(records: &[Summary], stamp: u32) -> Option<&TableSummary>
+    requires rises { Rises stamp_of records.now }
+    ensures { option_copied result ≡ validity.table_stamped (tables_in records.now) stamp }
+{
+    find_stamped(records, stamp)?.as_table()
+}
+
+// The record of a stamp. Their stamps rise, so it looks at few.
+fn find_stamped(records: &[Summary], stamp: u32) -> Option<&Summary>
+    requires rises { Rises stamp_of records.now }
+    ensures { option_copied result ≡ find (λ (s : kept.Summary). stamp_of s == stamp) records.now }
+{
+    match records.binary_search_by_key(&stamp, Summary::stamp) {
+        Ok(place) => Some(&records[place]),
+        Err(_) => None,
+    }
 }

@@ -1,0 +1,194 @@
+-- The records of a database that slots hold: they are taken where it is valid, and what is kept of them is theirs.
+use Rattle.std.proofs.Common.{◌≡◌, ℕ, suc, ◌+◌, ◌≤◌, ◌==◌, ◌||◌, Bool, true, false, ◌&&◌, List, [], ◌∷◌, ◌++◌, length, map, Option, Some, None, option_map, refl, sym, ap, ◌∙◌, subst, arith}
+use Rattle.std.specs.Option.{option_and_then, option_map_or, option_or}
+use Rattle.std.specs.List.{list_all, filter_map, cons_option, count_by, sum_by}
+use Rattle.std.proofs.lemmas.Bool.{and_parts, and_from, false≢true}
+use Rattle.std.proofs.lemmas.List.Sums.{sum_by-append}
+use Rattle.eeprom.specs.StoreOf.{Slots}
+use Rattle.eeprom.specs.Slots.{AreApart, has, in_order, in_slot, kept}
+use Rattle.eeprom.proofs.InOrder.{count_by-cons, count_by-in_order, list_all-in_order}
+use Rattle.scql_base.specs.declared.row.TheConstants.Row.{LARGEST, LARGEST_UNMIGRATED}
+use Rattle.scql_base.specs.declared.records.User.{User}
+use Rattle.scql_base.specs.declared.records.Object.{Object}
+use Rattle.scql_base.specs.declared.records.ObjectKind.{ObjectKind}
+use Rattle.scql_base.specs.declared.records.ObjectKind.TheVariants.{Table, View, Dictionary}
+use Rattle.scql_base.specs.declared.records.Grant.{Grant}
+use Rattle.scql_base.specs.declared.records.RowRecord.{RowRecord}
+use Rattle.scql_model.specs.Objects.{columns_of}
+use Rattle.scql_model.specs.Records.{counter_record, user_record, grant_record, row_record, object_fits, counter_in, user_in, object_in, grant_in, row_in}
+use Rattle.scql_model.specs.Rules.{is_table, are_different, is_founded, is_within_limit}
+use Rattle.scql_model.specs.Stored.{StoredRecord}
+use Rattle.scql_model.specs.Database.{Database, IsValid, weight}
+use Rattle.scql_model.specs.Opens.{Holds, is_spelled, counter_stamp, are_tables}
+use Rattle.scql_model.proofs.KindsApart.{given, one_kind}
+use Rattle.card.specs.Opening.{passes, is_plain_table, is_sound_table, is_sound_row, is_taken, summary_in, object_summary, gathered}
+use Rattle.card.specs.Summary.{stamp_of, as_user, as_table, as_grant, as_row, of_table, row_summary, users_in, tables_in, grants_in, rows_in}
+use Rattle.card.specs.declared.summary.Summary.{Summary}
+use Rattle.card.specs.declared.summary.Summary.TheVariants as kept_as
+use Rattle.card.specs.declared.summary.TableSummary.{TableSummary}
+use Rattle.card.specs.declared.summary.RowSummary.{RowSummary}
+use Rattle.card.specs.Validity.{IsWithinLimits}
+use Rattle.card.proofs.Tested.{IsWithinLimits-valid}
+use Rattle.card.proofs.ListsInOrder.{filter_map-in_order, map-in_order, count-map, filter_map-option_map, filter_map-cons_option, and-same, list_all-both}
+
+abbrev pub user_stamp : User → ℕ
+user_stamp u = u.stamp
+
+abbrev pub object_stamp : Object → ℕ
+object_stamp o = o.stamp
+
+abbrev pub grant_stamp : Grant → ℕ
+grant_stamp g = g.stamp
+
+abbrev pub row_stamp : RowRecord → ℕ
+row_stamp r = r.stamp
+
+-- Slots are taken where the records of each kind pass their tests.
+list_all-passes : {X : Type 0} (test : X → Bool) (read : List ℕ → Option X) (slots : Slots) → list_all (passes test read) slots ≡ list_all test (filter_map (in_slot read) slots)
+list_all-passes test read [] = refl
+list_all-passes {X} test read (v ∷ slots) = go (in_slot read v) (list_all-passes test read slots)
+  where
+    go : (o : Option X) → list_all (passes test read) slots ≡ list_all test (filter_map (in_slot read) slots)
+        → (option_map_or test o true && list_all (passes test read) slots) ≡ list_all test (cons_option o (filter_map (in_slot read) slots))
+    go None rest = rest
+    go (Some x) rest = ap (λ rest. test x && rest) rest
+
+passes-kept : {X : Type 0} (key : X → ℕ) (test : X → Bool) (read : List ℕ → Option X) (slots : Slots) → list_all (passes test read) slots ≡ list_all test (kept key read slots)
+passes-kept key test read slots = list_all-passes test read slots ∙ sym (list_all-in_order key test (filter_map (in_slot read) slots))
+
+-- the tests of a database's records
+abbrev pub are_taken : ℕ → Database → Bool
+are_taken limit db =
+    list_all counter_record.fits (db.next ∷ []) && (list_all user_record.fits db.users && (list_all is_sound_table db.objects
+    && (list_all grant_record.fits db.grants && list_all (is_sound_row limit) db.rows)))
+
+pub taken-held : (limit : ℕ) (slots : Slots) (db : Database) → Holds slots db → list_all (is_taken limit) slots ≡ are_taken limit db
+taken-held limit slots db holds =
+    let counter : list_all (passes counter_record.fits counter_in) slots ≡ list_all counter_record.fits (db.next ∷ []) = passes-kept counter_stamp counter_record.fits counter_in slots ∙ ap (list_all counter_record.fits) holds.counter in
+    let users : list_all (passes user_record.fits user_in) slots ≡ list_all user_record.fits db.users = passes-kept user_stamp user_record.fits user_in slots ∙ ap (list_all user_record.fits) holds.users in
+    let objects : list_all (passes is_sound_table object_in) slots ≡ list_all is_sound_table db.objects = passes-kept object_stamp is_sound_table object_in slots ∙ ap (list_all is_sound_table) holds.objects in
+    let grants : list_all (passes grant_record.fits grant_in) slots ≡ list_all grant_record.fits db.grants = passes-kept grant_stamp grant_record.fits grant_in slots ∙ ap (list_all grant_record.fits) holds.grants in
+    let rows : list_all (passes (is_sound_row limit) row_in) slots ≡ list_all (is_sound_row limit) db.rows = passes-kept row_stamp (is_sound_row limit) row_in slots ∙ ap (list_all (is_sound_row limit)) holds.rows in
+    list_all-both is_spelled _ slots ∙ and-same holds.spelled (list_all-both (passes counter_record.fits counter_in) _ slots ∙ and-same counter (
+    list_all-both (passes user_record.fits user_in) _ slots ∙ and-same users (list_all-both (passes is_sound_table object_in) _ slots ∙ and-same objects (
+    list_all-both (passes grant_record.fits grant_in) (passes (is_sound_row limit) row_in) slots ∙ and-same grants rows))))
+
+-- A valid database of tables is taken.
+pub taken-valid : (db : Database) → IsValid db → are_tables db.objects ≡ true → are_taken db.limit db ≡ true
+taken-valid db valid tables =
+    let within = IsWithinLimits-valid db tables valid in
+    let plain = list_all-both (λ (o : Object). is_table o.kind) (λ (o : Object). are_different (columns_of o.kind)) db.objects ∙ and-same tables within.columns in
+    let objects = list_all-both object_fits is_plain_table db.objects ∙ and-same within.objects plain in
+    let rows = list_all-both row_record.fits (is_within_limit db.limit) db.rows ∙ and-same within.rows within.lengths in
+    and-same (and-same within.counter refl) (and-same within.users (and-same objects (and-same within.grants rows)))
+
+-- A database that is taken has tables alone, and is within its limits.
+pub taken-parts : (db : Database) → are_taken db.limit db ≡ true
+    → (are_tables db.objects ≡ true) × ((16 ≤ db.cells) × (db.cells ≤ 2048) → (db.limit == LARGEST_UNMIGRATED || db.limit == LARGEST) ≡ true → weight db ≤ db.cells → IsWithinLimits db)
+taken-parts db taken =
+    let a = and_parts (list_all counter_record.fits (db.next ∷ [])) _ taken in
+    let b = and_parts (list_all user_record.fits db.users) _ a.1 in
+    let c = and_parts (list_all is_sound_table db.objects) _ b.1 in
+    let d = and_parts (list_all grant_record.fits db.grants) _ c.1 in
+    let o = and_parts (list_all object_fits db.objects) (list_all is_plain_table db.objects) (sym (list_all-both object_fits is_plain_table db.objects) ∙ c.0) in
+    let p = and_parts (are_tables db.objects) (list_all (λ (o : Object). are_different (columns_of o.kind)) db.objects) (sym (list_all-both (λ (o : Object). is_table o.kind) (λ (o : Object). are_different (columns_of o.kind)) db.objects) ∙ o.1) in
+    let r = and_parts (list_all row_record.fits db.rows) (list_all (is_within_limit db.limit) db.rows) (sym (list_all-both row_record.fits (is_within_limit db.limit) db.rows) ∙ d.1) in
+    (p.0, λ cells limit room. record {
+      cells = cells;
+      limit = limit;
+      room = room;
+      counter = (and_parts (counter_record.fits db.next) true a.0).0;
+      users = b.0;
+      objects = o.0;
+      columns = p.1;
+      grants = d.0;
+      rows = r.0;
+      lengths = r.1;
+    })
+
+-- What is kept of a slot's octets is, of each kind, what its reader gives.
+abbrev parts : ℕ → Option User → Option Object → Option Grant → Option RowRecord → Option Summary
+parts slot u o g r = option_or (option_map kept_as.User u) (option_or (option_map object_summary o) (option_or (option_map kept_as.Grant g) (option_map (λ r. kept_as.Row (row_summary slot r)) r)))
+
+user-parts : (slot : ℕ) (u : Option User) (o : Option Object) (g : Option Grant) (r : Option RowRecord) → option_and_then as_user (parts slot u o g r) ≡ u
+user-parts slot (Some u) o g r = refl
+user-parts slot None (Some o) g r = refl
+user-parts slot None None (Some g) r = refl
+user-parts slot None None None (Some r) = refl
+user-parts slot None None None None = refl
+
+table-parts : (slot : ℕ) (u : Option User) (o : Option Object) (g : Option Grant) (r : Option RowRecord) → given u + (given o + (given g + given r)) ≤ 1 → option_and_then as_table (parts slot u o g r) ≡ option_map of_table o
+table-parts slot (Some u) (Some o) g r one = absurd (omega (arith, one))
+table-parts slot (Some u) None g r one = refl
+table-parts slot None (Some o) g r one = refl
+table-parts slot None None (Some g) r one = refl
+table-parts slot None None None (Some r) one = refl
+table-parts slot None None None None one = refl
+
+grant-parts : (slot : ℕ) (u : Option User) (o : Option Object) (g : Option Grant) (r : Option RowRecord) → given u + (given o + (given g + given r)) ≤ 1 → option_and_then as_grant (parts slot u o g r) ≡ g
+grant-parts slot (Some u) o (Some g) r one = absurd (omega (arith, one))
+grant-parts slot (Some u) o None r one = refl
+grant-parts slot None (Some o) (Some g) r one = absurd (omega (arith, one))
+grant-parts slot None (Some o) None r one = refl
+grant-parts slot None None (Some g) r one = refl
+grant-parts slot None None None (Some r) one = refl
+grant-parts slot None None None None one = refl
+
+row-parts : (slot : ℕ) (u : Option User) (o : Option Object) (g : Option Grant) (r : Option RowRecord) → given u + (given o + (given g + given r)) ≤ 1 → option_and_then as_row (parts slot u o g r) ≡ option_map (row_summary slot) r
+row-parts slot (Some u) o g (Some r) one = absurd (omega (arith, one))
+row-parts slot (Some u) o g None one = refl
+row-parts slot None (Some o) g (Some r) one = absurd (omega (arith, one))
+row-parts slot None (Some o) g None one = refl
+row-parts slot None None (Some g) (Some r) one = absurd (omega (arith, one))
+row-parts slot None None (Some g) None one = refl
+row-parts slot None None None (Some r) one = refl
+row-parts slot None None None None one = refl
+
+others : (octets : List ℕ) → given (user_in octets) + (given (object_in octets) + (given (grant_in octets) + given (row_in octets))) ≤ 1
+others octets = omega (arith, one_kind octets)
+
+-- so of all slots
+of_kind : {Y : Type 0} (pick : Summary → Option Y) (read : ℕ → Option (List ℕ) → Option Y) (slot : ℕ) (slots : Slots) → ((slot : ℕ) (v : Option (List ℕ)) → option_and_then pick (in_slot (summary_in slot) v) ≡ read slot v)
+    → ((j k : ℕ) (v : Option (List ℕ)) → read j v ≡ read k v) → filter_map pick (gathered slot slots) ≡ filter_map (read 0) slots
+of_kind pick read slot [] is same = refl
+of_kind pick read slot (v ∷ slots) is same =
+    filter_map-cons_option pick (in_slot (summary_in slot) v) (gathered (suc slot) slots)
+    ∙ (rw (is slot v, same slot 0 v) (ap (cons_option (read 0 v)) (of_kind pick read (suc slot) slots is same)))
+
+pub users-gathered : (slots : Slots) → users_in (gathered 0 slots) ≡ filter_map (in_slot user_in) slots
+users-gathered slots = of_kind as_user (λ slot v. in_slot user_in v) 0 slots go (λ j k v. refl)
+  where
+    go : (slot : ℕ) (v : Option (List ℕ)) → option_and_then as_user (in_slot (summary_in slot) v) ≡ in_slot user_in v
+    go slot None = refl
+    go slot (Some octets) = user-parts slot (user_in octets) (object_in octets) (grant_in octets) (row_in octets)
+
+pub grants-gathered : (slots : Slots) → grants_in (gathered 0 slots) ≡ filter_map (in_slot grant_in) slots
+grants-gathered slots = of_kind as_grant (λ slot v. in_slot grant_in v) 0 slots go (λ j k v. refl)
+  where
+    go : (slot : ℕ) (v : Option (List ℕ)) → option_and_then as_grant (in_slot (summary_in slot) v) ≡ in_slot grant_in v
+    go slot None = refl
+    go slot (Some octets) = grant-parts slot (user_in octets) (object_in octets) (grant_in octets) (row_in octets) (others octets)
+
+pub tables-gathered : (slots : Slots) → tables_in (gathered 0 slots) ≡ map of_table (filter_map (in_slot object_in) slots)
+tables-gathered slots = of_kind as_table (λ slot v. option_map of_table (in_slot object_in v)) 0 slots go (λ j k v. refl) ∙ filter_map-option_map of_table (in_slot object_in) slots
+  where
+    go : (slot : ℕ) (v : Option (List ℕ)) → option_and_then as_table (in_slot (summary_in slot) v) ≡ option_map of_table (in_slot object_in v)
+    go slot None = refl
+    go slot (Some octets) = table-parts slot (user_in octets) (object_in octets) (grant_in octets) (row_in octets) (others octets)
+
+-- of rows what doesn't tell their slots
+pub rows-gathered : {Y : Type 0} (f : RowSummary → Y) (g : RowRecord → Y) → ((slot : ℕ) (r : RowRecord) → f (row_summary slot r) ≡ g r) → (slots : Slots) → map f (rows_in (gathered 0 slots)) ≡ map g (filter_map (in_slot row_in) slots)
+rows-gathered {Y} f g same slots =
+    sym (filter_map-option_map f as_row (gathered 0 slots)) ∙ of_kind (λ s. option_map f (as_row s)) (λ slot v. option_map g (in_slot row_in v)) 0 slots go (λ j k v. refl) ∙ filter_map-option_map g (in_slot row_in) slots
+  where
+    placed : (slot : ℕ) (o : Option RowRecord) → option_map f (option_map (row_summary slot) o) ≡ option_map g o
+    placed slot None = refl
+    placed slot (Some r) = ap Some (same slot r)
+
+    inside : (o : Option Summary) → option_and_then (λ s. option_map f (as_row s)) o ≡ option_map f (option_and_then as_row o)
+    inside None = refl
+    inside (Some s) = refl
+
+    go : (slot : ℕ) (v : Option (List ℕ)) → option_and_then (λ s. option_map f (as_row s)) (in_slot (summary_in slot) v) ≡ option_map g (in_slot row_in v)
+    go slot None = refl
+    go slot (Some octets) = inside (summary_in slot octets) ∙ ap (option_map f) (row-parts slot (user_in octets) (object_in octets) (grant_in octets) (row_in octets) (others octets)) ∙ placed slot (row_in octets)

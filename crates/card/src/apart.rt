@@ -1,0 +1,99 @@
+// Names and pairs as numbers, which are put in order to find two that are the same.
+ghost use Rattle.std.specs.Prelude.{◌≡◌, ◌<◌, ◌≤◌, ◌^◌, true, length, vec_capacity};
+ghost use Rattle.scql_base.specs.Name.{IsName};
+ghost use Rattle.card.specs.Apart as apart;
+
+use crate::summary::Summary;
+use scql_base::Name;
+
+/// What no two records share: a user's name, a table's, or a grant's object and grantee.
+#[derive(Clone, Copy)]
+pub(crate) enum Label {
+    UserName,
+    TableName,
+    GrantPair,
+}
+
+impl Label {
+    /// Whether no two records share it. The numbers are kept in `numbers`, which has room for one of each record.
+    pub(crate) fn is_never_shared(self, records: &[Summary], numbers: &mut Vec<u64>) -> bool
+        requires room { length records.now ≤ vec_capacity numbers.old }
+        ensures never { result ≡ apart.is_never_shared self records.now }
+        ensures room { vec_capacity numbers.old ≤ vec_capacity numbers.new }
+    {
+        numbers.clear();
+        for summary in records {
+            if let Some(number) = self.number(summary) {
+                let pushed = numbers.push(number).is_ok();
+                prove!(pushed);
+            }
+        }
+        are_different(numbers)
+    }
+
+    // The number of what a record has of this.
+    fn number(self, summary: &Summary) -> Option<u64>
+        ensures number { result ≡ apart.number_by self summary.now }
+        ensures numbered { apart.is_numbered self summary.now ≡ true }
+    {
+        match self {
+            Label::UserName => Some(name_number(&summary.as_user()?.name)),
+            Label::TableName => Some(name_number(&summary.as_table()?.name)),
+            Label::GrantPair => {
+                let grant = summary.as_grant()?;
+                Some(pair_number(grant.object, grant.grantee))
+            }
+        }
+    }
+}
+
+fn name_number(name: &Name) -> u64
+    ensures number { result ≡ apart.octets_number name.now }
+    ensures name { IsName name.now }
+{
+    octets_number(name.octets())
+}
+
+// The number whose digits to base 256 are these octets, the least digit first.
+fn octets_number(octets: &[u8]) -> u64
+    requires short { length octets.now ≤ 8 }
+    ensures number { result ≡ apart.octets_number octets.now }
+    ensures small { result < 256 ^ length octets.now }
+{
+    match octets {
+        [] => 0,
+        [first, rest @ ..] => u64::from(*first) + 256 * octets_number(rest),
+    }
+}
+
+fn pair_number(object: u32, grantee: u32) -> u64
+    ensures number { result ≡ apart.pair_number object grantee }
+    ensures pair { apart.is_pair object grantee ≡ true }
+{
+    u64::from(object) * 0x1_0000_0000 + u64::from(grantee)
+}
+
+// Whether no two numbers are the same. They are put in order.
+fn are_different(numbers: &mut [u64]) -> bool
+    ensures { result ≡ apart.are_different_numbers numbers.old }
+{
+    numbers.sort_unstable();
+    match numbers {
+        [] => true,
+        [first, rest @ ..] => differs_from_next(*first, rest),
+    }
+}
+
+// Whether a number and those behind it differ each from the next.
+fn differs_from_next(first: u64, rest: &[u64]) -> bool
+    ensures { result ≡ apart.differ_from_next first rest.now }
+{
+    let mut last = first;
+    for number in rest {
+        if *number == last {
+            return false;
+        }
+        last = *number;
+    }
+    true
+}

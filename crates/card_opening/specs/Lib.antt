@@ -1,4 +1,0 @@
-pub mod Apart
-pub mod Opening
-pub mod Summary
-pub mod Validity
