@@ -1,6 +1,7 @@
-mod Added
 mod BuiltLines
 mod ByStamp
+mod ChangedStore
+mod ChangingOperations
 mod Gathering
 mod GatheringSlots
 pub mod Leaving
@@ -8,14 +9,9 @@ mod NamesApart
 mod OpenedDatabase
 mod OwnerSearch
 mod Performing
-mod Preparing
-mod Presenting
 mod SeenSessions
 mod SlotCount
-mod SlotSearch
 pub mod Starting
 mod TakenForms
 pub mod Told
-mod TwoRecords
 mod UnreadSteps
-mod WrittenOctets

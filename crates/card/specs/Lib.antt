@@ -1,10 +1,7 @@
-pub mod Adding
 pub mod Answering
 pub mod Behind
 pub mod Card
-pub mod Creating
+pub mod Changing
 pub mod Making
-pub mod Marks
 pub mod Opening
 pub mod Sessions
-pub mod Users

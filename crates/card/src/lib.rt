@@ -1,15 +1,11 @@
 //! A card: keeps a session for each channel, and answers as the table machine over a store.
 #![tactic(auto)]
 
-mod adding;
 mod card;
-mod counter;
-mod creating;
-mod marks;
+mod changing;
 mod opening;
 mod outcome;
 mod session;
-mod users;
 mod validity;
 
 pub use card::Card;
