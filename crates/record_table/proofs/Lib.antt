@@ -1,7 +1,11 @@
 pub mod ChangedDatabase
+pub mod Ending
 pub mod HeldRecords
 pub mod ListedChanges
 pub mod ListedSearches
+pub mod Made
 pub mod Rewriting
 pub mod Scan
 pub mod SlotReads
+pub mod Stamping
+pub mod Steps

@@ -1,8 +1,8 @@
 -- A change of one slot, and what becomes of the records of each kind.
-use Rattle.std.proofs.Common.{◌≡◌, ◌≢◌, ℕ, ◌<◌, Bool, true, false, List, [], ◌∷◌, ◌++◌, length, Option, Some, None, get_or, take, drop, suc, ltb, inl, inr, refl, sym, ap, ◌∙◌, arith}
+use Rattle.std.proofs.Common.{◌≡◌, ◌≢◌, ℕ, ◌<◌, Bool, true, false, List, [], ◌∷◌, ◌++◌, length, Option, Some, None, get_or, take, drop, suc, ltb, eqb, inl, inr, refl, sym, ap, ◌∙◌, arith}
 use Rattle.std.proofs.Math.ListN.{set}
-use Rattle.std.proofs.lemmas.List.{get_or-set_other, get_or_past}
-use Rattle.std.proofs.lemmas.Bool.{cases_Bool, ltb-true, ltb-false}
+use Rattle.std.proofs.lemmas.List.{get_or-set_other, get_or-set_same, get_or_past, length-set}
+use Rattle.std.proofs.lemmas.Bool.{cases_Bool, ltb-true, ltb-false, eqb-true, eqb-false}
 use Rattle.std.specs.List.{filter_map, cons_option, sum_by, AllByRecursion}
 use Rattle.std.proofs.lemmas.List.Sums.{sum_by-cons}
 use Rattle.eeprom.proofs.InOrder.{sum_by-in_order}
@@ -63,9 +63,41 @@ alone [] behind w x y one = let none : behind ≡ [] = cc in ap (λ rest. y ∷ 
 alone (b ∷ []) behind w x y one = absurd (let wrong : w ∷ behind ≡ [] = cc in cc)
 alone (b ∷ c ∷ bs) behind w x y one = absurd (let wrong : c ∷ (bs ++ w ∷ behind) ≡ [] = cc in cc)
 
+-- what stands in a slot is what is alone in the list
+alone-is : {X : Type 0} (before behind : List X) (w x : X) → before ++ w ∷ behind ≡ x ∷ [] → w ≡ x
+alone-is [] behind w x one = cc
+alone-is (b ∷ []) behind w x one = absurd (let wrong : w ∷ behind ≡ [] = cc in cc)
+alone-is (b ∷ c ∷ bs) behind w x one = absurd (let wrong : c ∷ (bs ++ w ∷ behind) ≡ [] = cc in cc)
+
+pub alone-at : {X : Type 0} (kind : Kind X) (slots : Slots) (slot : ℕ) (w x : X) → at_slot kind slot slots ≡ Some w → listed kind slots ≡ x ∷ [] → w ≡ x
+alone-at kind slots slot w x at one =
+    let f = in_slot (read_as kind) in
+    let before = filter_map f (take slot slots) in
+    let behind = filter_map f (drop (suc slot) slots) in
+    alone-is before behind w x
+    (sym (kept-split f slots slot (within-at kind slots slot w at) ∙ ap (λ o. before ++ cons_option o behind) at) ∙ in_order-alone kind.key (filter_map f slots) x one)
+
 -- a change of one slot leaves the records of all others
 pub at_slot-other : {X : Type 0} (kind : Kind X) (slots : Slots) (slot other : ℕ) (entry : Option (List ℕ)) → other ≢ slot → at_slot kind other (set slots slot entry) ≡ at_slot kind other slots
 at_slot-other kind slots slot other entry apart = ap (in_slot (read_as kind)) (get_or-set_other slots slot other entry None apart)
+
+-- and where the slot has records of one kind, a kind with other marks has its records in the same slots
+pub at_slot-kept : {X Y : Type 0} (kind : Kind X) (other : Kind Y) (slots : Slots) (slot : ℕ) (entry : Option (List ℕ)) (place : ℕ) → IsKind other → HaveOtherMarks kind other
+    → is_of kind (get_or slots slot None) ≡ true → is_of kind entry ≡ true → at_slot other place (set slots slot entry) ≡ at_slot other place slots
+at_slot-kept kind other slots slot entry place is apart was now =
+    elim (cases_Bool (eqb place slot)) [
+      | inl t ↦ let same : place ≡ slot = eqb-true place slot t in
+          rw same (here (ltb slot (length slots)) refl)
+      | inr f ↦ at_slot-other other slots slot place entry (eqb-false place slot f)
+    ]
+  where
+    here : (within : Bool) → ltb slot (length slots) ≡ within → at_slot other slot (set slots slot entry) ≡ at_slot other slot slots
+    here true t =
+        ap (in_slot (read_as other)) (get_or-set_same slots slot entry None (ltb-true slot (length slots) t))
+        ∙ (no_other kind other entry is apart now ∙ sym (no_other kind other (get_or slots slot None) is apart was))
+    here false f =
+        let past = ltb-false slot (length slots) f in
+        ap (in_slot (read_as other)) (get_or_past (set slots slot entry) slot None (omega (arith, length-set slots slot entry, past)) ∙ sym (get_or_past slots slot None past))
 
 module _ {X : Type 0} (kind : Kind X) (is : IsKind kind) where
   -- a record that is alone may take any key

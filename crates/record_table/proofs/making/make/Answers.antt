@@ -1,0 +1,118 @@
+-- The record is added, the counter counts on, and the slots hold the database with both.
+use Rattle.std.proofs.Common.{◌≡◌, ◌+◌, ◌<◌, ◌≤◌, ◌*◌, length, Some, None, Ok, Err, refl, sym, ap, subst, ◌∙◌, arith}
+use Rattle.std.specs.Prelude.{IfSome, drop}
+use Rattle.eeprom.specs.Chip.{Becomes}
+use Rattle.eeprom.specs.StoreOf.{store_of, image_size, cells_for, weight_of}
+use Rattle.record_store.specs.Held.{StandsFor, contents}
+use Rattle.record_store.specs.Put.{weight_with}
+use Rattle.record_store.specs.declared.side.Side.TheVariants.{Working}
+use Rattle.record_store.proofs.Fronts.{Keeps-then}
+use Rattle.scql_model.specs.Records.{counter_record}
+use Rattle.scql_model.specs.Edits.{making, applied}
+use Rattle.scql_model.proofs.EditLaws.{applied-cells, applied-limit}
+use Rattle.catalog_codec.specs.Catalog.{counter_kind}
+use Rattle.record_table.specs.Changed.{IsAdded, IsChanged, Rewrites}
+use Rattle.record_table.specs.Listed.{at_slot, slots_of}
+use Rattle.record_table.specs.Making.{IsMade}
+use Rattle.record_table.proofs.HeldRecords.{counter-listed}
+use Rattle.record_table.proofs.ListedChanges.{alone-at}
+use Rattle.record_table.proofs.Ending.{Ends-store, KeepsRows-made, at-told, counter-fits, made-told, octets-both, IsMade-both}
+use Rattle.record_table.proofs.Made.{IsMadeOf-slots, full-made, octets-made}
+use Rattle.record_table.proofs.Steps.{Both, StepsTo-told, rewrites-both, slots-told}
+use Rattle.record_table.proofs.making.make.Given.{Over}
+use Rattle.record_table.proofs.making.make.Goals as goal
+
+-- what is written of the counter, by its slot and its value
+counted : (g : Over) (c : goal.In_ok-change g) → Becomes (Rewrites (IsChanged counter_kind (c.args.counter.now.value + 1) c.args.counter.now.slot) c.add.new.store c.change.new.store) (g.B.Eeprom.chip c.add.new.bench).image
+    (g.B.Eeprom.chip c.change.new.bench).image
+counted g c =
+    subst (λ counter. Becomes (Rewrites (IsChanged counter_kind (counter.value + 1) counter.slot) c.add.new.store c.change.new.store) (g.B.Eeprom.chip c.add.new.bench).image (g.B.Eeprom.chip c.change.new.bench).image)
+    c.counter.view_is c.in_ok-change.ensures.changed
+
+-- both writes
+both : (g : Over) (c : goal.In_ok-change g)
+    → Becomes (Rewrites (Both (IsAdded g.R.Record.kind c.args.value.now c.in_ok-slot.slot) (IsChanged counter_kind (c.args.counter.now.value + 1) c.args.counter.now.slot)) c.args.store.now c.change.new.store)
+    (g.B.Eeprom.chip c.args.bench.now).image (g.B.Eeprom.chip c.change.new.bench).image
+both g c = rewrites-both _ _ _ _ _ _ _ _ c.in_ok-slot.ensures.added (counted g c)
+
+pub returns-in_err-slot-clause-ends : goal.returns-in_err-slot-clause-ends
+returns-in_err-slot-clause-ends g c = λ db held key with.
+    let kind = g.R.Record.kind in
+    let x = c.args.value.now in
+    let chip = g.B.Eeprom.chip c.args.bench.now in
+    Ends-store db (Ok (making db (g.R.Editable.any x))) c.from_residual.result c.in_err-slot.field-0.0 c.args.store.now c.add.new.store chip (g.B.Eeprom.chip c.add.new.bench) c.from_residual.ensures.1 λ full.
+    let is = c.in_err-slot.was ∙ ap (λ e. Err e) full in
+    let over = at-told c.args.store.now Working chip held.slots (λ slots. c.args.store.now.chains.cells < weight_of slots + cells_for (length (kind.form.spell x))) held.told (c.add.ensures.full is) in
+    let same = c.add.ensures.unchanged is in
+    (full-made kind (g.R.Editable.any) g.met.R.Record.lawful g.met.R.Editable.edits db x held.slots held.holds (omega (arith, held.cells, over)), same.0, ap g.B.Eeprom.chip same.1)
+
+pub returns-in_err-change-clause-ends : goal.returns-in_err-change-clause-ends
+returns-in_err-change-clause-ends g c = λ db held key with.
+    let kind = g.R.Record.kind in
+    let x = c.args.value.now in
+    let chip = g.B.Eeprom.chip c.args.bench.now in
+    let counter = c.args.counter.now in
+    Ends-store db (Ok (making db (g.R.Editable.any x))) c.from_residual-in_err-change.result c.in_err-change.field-0.0 c.args.store.now c.change.new.store chip (g.B.Eeprom.chip c.change.new.bench) c.from_residual-in_err-change.ensures.1 λ full.
+    let is = c.in_err-change.was ∙ ap (λ e. Err e) full in
+    let added = StepsTo-told (IsAdded kind x c.in_ok-slot.slot) c.args.store.now c.add.new.store chip (g.B.Eeprom.chip c.add.new.bench) held.slots held.told c.in_ok-slot.ensures.told c.in_ok-slot.ensures.added in
+    let within = at-told c.args.store.now Working chip held.slots (λ slots. weight_with c.in_ok-slot.slot (kind.form.spell x) slots ≤ c.args.store.now.chains.cells) held.told c.in_ok-slot.ensures.within in
+    let over = at-told c.add.new.store Working (g.B.Eeprom.chip c.add.new.bench) added.now (λ slots. c.add.new.store.chains.cells < weight_with counter.slot (counter_record.spell (counter.value + 1)) slots) added.told
+    (subst (λ counter. IfSome (g.B.Eeprom.chip c.add.new.bench).image (λ image. IfSome (contents c.add.new.store Working image) (λ slots. c.add.new.store.chains.cells < weight_with counter.slot (counter_record.spell (counter.value + 1)) slots)))
+    c.counter.view_is (c.change.ensures.full is)) in
+    let at = subst (λ o. IfSome o (λ slots. Some counter.value ≡ at_slot counter_kind counter.slot slots)) held.told c.requires.counter in
+    absurd (counter-fits kind x c.in_ok-slot.slot counter.slot counter.value (counter.value + 1) c.args.store.now.chains.cells held.slots added.now added.is (sym at) within (omega (arith, over, c.in_ok-slot.ensures.cells)))
+
+pub returns-in_err-change-clause-moments : goal.returns-in_err-change-clause-moments
+returns-in_err-change-clause-moments g c = Keeps-then store_of _ _ _ c.add.ensures.moments c.change.ensures.moments
+
+pub returns-in_err-change-clause-behind : goal.returns-in_err-change-clause-behind
+returns-in_err-change-clause-behind g c =
+    Keeps-then (drop (image_size c.args.store.now.chains.cells)) _ _ _ c.add.ensures.behind (rw c.in_ok-slot.ensures.cells at c.change.ensures.behind)
+
+pub returns-clause-ends : goal.returns-clause-ends
+returns-clause-ends g c = λ db held key with.
+    let kind = g.R.Record.kind in
+    let any = g.R.Editable.any in
+    let edits = g.met.R.Editable.edits in
+    let x = c.args.value.now in
+    let chip = g.B.Eeprom.chip c.args.bench.now in
+    let counter = c.args.counter.now in
+    let slot = c.in_ok-slot.slot in
+    let end = StepsTo-told _ c.args.store.now c.change.new.store chip (g.B.Eeprom.chip c.change.new.bench) held.slots held.told (c.in_ok-change.ensures.told ∙ c.in_ok-slot.ensures.told) (both g c) in
+    let at = subst (λ o. IfSome o (λ slots. Some counter.value ≡ at_slot counter_kind counter.slot slots)) held.told c.requires.counter in
+    let next : counter.value ≡ db.next = alone-at counter_kind held.slots counter.slot counter.value db.next (sym at) (counter-listed held.slots db held.holds) in
+    let within = at-told c.args.store.now Working chip held.slots (λ slots. weight_with slot (kind.form.spell x) slots ≤ c.args.store.now.chains.cells) held.told c.in_ok-slot.ensures.within in
+    let made = subst (λ n. IsMade kind x slot counter.slot (n + 1) held.slots end.now) next (IsMade-both kind x slot counter.slot (counter.value + 1) held.slots end.now end.is) in
+    let new = IsMadeOf-slots kind any g.met.R.Record.lawful edits db x slot counter.slot held.slots end.now held.holds held.valid key (omega (arith, next, c.requires.left))
+    (omega (arith, c.in_ok-slot.ensures.there, held.cells, held.holds.cells)) (sym at ∙ ap (λ n. Some n) next) made (omega (arith, within, held.cells)) with in
+    let octets = octets-made kind any g.met.R.Record.lawful edits db x in (
+      making db (any x),
+      refl,
+      record {
+        room = new.room;
+        held = record {
+          slots = end.now;
+          told = end.told;
+          cells = applied-cells db (making db (any x)) ∙ (held.cells ∙ sym (c.in_ok-change.ensures.cells ∙ c.in_ok-slot.ensures.cells));
+          limit = applied-limit db (making db (any x)) ∙ (held.limit ∙ sym (c.in_ok-change.ensures.rows ∙ c.in_ok-slot.ensures.rows));
+          holds = new.holds;
+          valid = new.valid;
+        };
+        committed = end.committed;
+        octets = octets-both _ _ _ _ _ _ c.in_ok-slot.ensures.octets_written c.in_ok-change.ensures.octets_written (omega (arith, octets));
+        entries = omega (arith, c.in_ok-slot.ensures.entries, c.in_ok-change.ensures.entries);
+      },
+    )
+
+pub returns-clause-made : goal.returns-clause-made
+returns-clause-made g c =
+    made-told g.R.Record.kind c.args.value.now _ _ _ _ _
+    (slots-told _ c.args.store.now c.change.new.store (g.B.Eeprom.chip c.args.bench.now) (g.B.Eeprom.chip c.change.new.bench) c.requires.over.stands (both g c))
+
+pub returns-clause-rows : goal.returns-clause-rows
+returns-clause-rows g c = λ apart.
+    KeepsRows-made g.R.Record.kind c.args.value.now _ _ _ _ _ _ g.met.R.Record.lawful apart c.requires.counter
+    (slots-told _ c.args.store.now c.change.new.store (g.B.Eeprom.chip c.args.bench.now) (g.B.Eeprom.chip c.change.new.bench) c.requires.over.stands (both g c))
+
+pub returns-clause-moments : goal.returns-clause-moments
+returns-clause-moments g c = Keeps-then store_of _ _ _ c.add.ensures.moments c.change.ensures.moments
