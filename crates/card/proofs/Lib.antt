@@ -1,5 +1,6 @@
-mod Added
 mod BuiltLines
+mod ChangedStore
+mod ChangingOperations
 mod GatheredSlots
 mod Grouped
 mod HeldInOrder
@@ -13,11 +14,8 @@ mod OpenedDatabase
 mod OwnerSearch
 mod Passing
 mod Performing
-mod Preparing
-mod Presenting
 mod SeenSessions
 mod SlotCount
-mod SlotSearch
 mod SortedTest
 mod Sorting
 pub mod Stamped
@@ -25,6 +23,4 @@ pub mod Starting
 mod TakenForms
 pub mod Tested
 pub mod Told
-mod TwoRecords
 mod UnreadSteps
-mod WrittenOctets

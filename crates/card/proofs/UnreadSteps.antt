@@ -2,10 +2,8 @@
 use Rattle.std.proofs.Common.{◌≡◌, ℕ, zero, suc, List, [], ◌∷◌, Option, Some, None, Result, Ok, Err, refl, sym, ap, subst, ◌∙◌, inl, inr}
 use Rattle.std.specs.Prelude.{◌⊎◌, IfOk, IfSome, option_map, slice_get}
 use Rattle.std.specs.Option.{option_flatten}
-use Rattle.eeprom.specs.Chip.{Chip}
 use Rattle.scql_base.specs.declared.words.StatusWord.{StatusWord}
 use Rattle.scql_base.specs.declared.words.Actor.{Actor}
-use Rattle.scql_base.specs.declared.words.Profile.{Profile}
 use Rattle.scql_base.specs.declared.operation.Command.{Command}
 use Rattle.scql_base.specs.declared.operation.Operation.{Operation}
 use Rattle.scql_base.specs.declared.operation.Operation.TheVariants.{PresentUser, CreateUser}
@@ -18,16 +16,15 @@ use Rattle.scql_model.specs.Sessions.{reading_so, without_pending, cursor_of}
 use Rattle.scql_model.specs.Transactions.{own_transaction}
 use Rattle.scql_model.specs.Operations.{IsBuilt, kind_of}
 use Rattle.scql_model.specs.Edits.{Edit}
-use Rattle.scql_model.specs.Changing.{edits_of, with_edits, change_of}
-use Rattle.scql_model.specs.Creating.{created}
+use Rattle.scql_model.specs.Bound.{octets_for_change, octets_changed, octets_carried_out, or_nothing}
+use Rattle.scql_model.specs.Changing.{edits_of, with_edits}
 use Rattle.scql_model.specs.Replies.{said}
 use Rattle.scql_model.specs.Step.{Answer, answered, done_with, changed_to, changed, session_named, user_presented, carried_out}
 use Rattle.scql_model.proofs.ChangingSessions.{changing_session-same}
-use Rattle.scql_model.proofs.ChangeLaws.{change_of-CreateUser}
 use Rattle.scql_model.proofs.LastCommits.{of_outcome}
-use Rattle.card.specs.Card.{Kept, IsAt}
 use Rattle.card.proofs.BuiltLines.{IsBuilt-one}
 use Rattle.card.specs.Answering.{committed_at_once}
+use Rattle.card.specs.Changing.{IsChange, new_of, octets_of}
 use Rattle.card.specs.Sessions.{IsUnread, AreUnread}
 
 -- the session of a channel reads nothing
@@ -46,20 +43,31 @@ done_with-unread m channel commits are =
     same None is = refl
     same (Some s) is = ap (λ (reading : Reading). Some (reading_so (record { cursor = reading.cursor; pending = [] }) s)) is ∙ ap (λ (reading : Reading). Some (reading_so reading s)) (sym is)
 
--- PRESENT USER and CREATE USER outside of a transaction.
+-- Outside of a transaction each channel reads and changes what is committed.
+pub committed-base : (m : Machine) (channel : ℕ) → m.transaction ≡ None → base m channel ≡ m.committed
+committed-base m channel none = rw none refl
+
 pub carried_out-presents : (m : Machine) (channel : ℕ) (name : List ℕ) (le : Option ℕ) → m.transaction ≡ None
     → carried_out m (record { channel = channel; operation = PresentUser name; le = le }) ≡ user_presented m channel name
 carried_out-presents m channel name le none = rw none refl
 
-pub carried_out-creates : (m : Machine) (channel : ℕ) (name : List ℕ) (profile : Profile) (secret : List ℕ) (le : Option ℕ) → m.transaction ≡ None
-    → carried_out m (record { channel = channel; operation = CreateUser name profile secret; le = le }) ≡ changed m channel (CreateUser name profile secret)
-carried_out-creates m channel name profile secret le none = rw none refl
+-- a change is carried out as one, and nothing else is written for it
+pub carried_out-changes : (m : Machine) (channel : ℕ) (operation : Operation) (le : Option ℕ) → IsChange operation → m.transaction ≡ None
+    → carried_out m (record { channel = channel; operation = operation; le = le }) ≡ changed m channel operation
+carried_out-changes m channel (CreateUser name profile secret) le changes none = rw none refl
+carried_out-changes m channel operation le changes none = absurd changes
+
+pub octets-carried_out : (m : Machine) (channel : ℕ) (operation : Operation) (le : Option ℕ) → IsChange operation → m.transaction ≡ None
+    → octets_carried_out m (record { channel = channel; operation = operation; le = le }) ≡ octets_changed m channel operation
+octets-carried_out m channel (CreateUser name profile secret) le changes none = rw none refl
+octets-carried_out m channel operation le changes none = absurd changes
 
 -- what becomes of the machine by a change that is committed at once
-changed-outcome : (m : Machine) (channel : ℕ) (operation : Operation) → m.transaction ≡ None → AreUnread m.sessions
-    → changed m channel operation ≡ committed_at_once m (change_of (base m channel) (actor m channel) (cursor_of m channel) operation)
-unfolding change_of
-changed-outcome m channel operation none are = of_edits (edits_of (base m channel) (actor m channel) (cursor_of m channel) operation)
+pub changed-outcome : (m : Machine) (channel : ℕ) (operation : Operation) → m.transaction ≡ None → AreUnread m.sessions
+    → changed m channel operation ≡ committed_at_once m (new_of m.committed (edits_of m.committed (actor m channel) (cursor_of m channel) operation))
+changed-outcome m channel operation none are =
+    of_edits (edits_of (base m channel) (actor m channel) (cursor_of m channel) operation)
+    ∙ ap (λ (db : Database). committed_at_once m (new_of db (edits_of db (actor m channel) (cursor_of m channel) operation))) (committed-base m channel none)
   where
     made : (edits : List Edit) (db : Database) → Ok (changed_to m channel edits db (own_transaction m.transaction channel)) ≡ committed_at_once m (Ok db)
     made edits db = ap Ok (ap (λ (t : Option Transaction). changed_to m channel edits db (own_transaction t channel)) none ∙ done_with-unread (record m { committed = db }) channel (db ∷ []) are)
@@ -71,20 +79,20 @@ changed-outcome m channel operation none are = of_edits (edits_of (base m channe
 
     of_edits : (r : Result (List Edit) StatusWord)
         → (r >>= λ (edits : List Edit). with_edits (base m channel) edits >>= λ (db : Database). Ok (changed_to m channel edits db (own_transaction m.transaction channel)))
-        ≡ committed_at_once m (r >>= λ (edits : List Edit). with_edits (base m channel) edits)
+        ≡ committed_at_once m (new_of (base m channel) r)
     of_edits (Ok edits) = of_database edits (with_edits (base m channel) edits)
     of_edits (Err word) = refl
 
-pub changed-creates : (card : Kept) (chip : Chip) (m : Machine) (channel : ℕ) (who : Actor) (name : List ℕ) (profile : Profile) (secret : List ℕ) → IsAt card chip m → AreUnread card.sessions
-    → who ≡ actor m channel → changed m channel (CreateUser name profile secret) ≡ committed_at_once m (created m.committed who name profile secret)
-changed-creates card chip m channel who name profile secret at are is =
-    changed-outcome m channel (CreateUser name profile secret) at.transaction (subst AreUnread (sym at.sessions) are)
-    ∙ ap (committed_at_once m) (change_of-CreateUser (base m channel) (actor m channel) (cursor_of m channel) name profile secret ∙ outside)
+-- and how many octets are written for it
+pub octets-changed : (m : Machine) (channel : ℕ) (operation : Operation) → m.transaction ≡ None
+    → or_nothing (octets_changed m channel operation) ≡ octets_of m.committed (edits_of m.committed (actor m channel) (cursor_of m channel) operation)
+octets-changed m channel operation none =
+    ap (λ (t : Option Transaction). octets_in t (actor m channel)) none
   where
-    outside : created (base m channel) (actor m channel) name profile secret ≡ created m.committed who name profile secret
-    outside =
-        ap (λ (t : Option Transaction). created (base_of t m.committed channel) (actor m channel) name profile secret) at.transaction
-        ∙ ap (λ (who : Actor). created m.committed who name profile secret) (sym is)
+    octets_in : Option Transaction → Actor → ℕ
+    octets_in t who =
+        or_nothing (edits_of (base_of t m.committed channel) who (cursor_of m channel) operation >>= λ (edits : List Edit).
+        with_edits (base_of t m.committed channel) edits >>= λ (new : Database). Ok (octets_for_change (own_transaction t channel) edits))
 
 -- An operation that is built is done, or leaves the machine and commits nothing.
 abbrev SaysDone : Answer → Type 0
@@ -111,7 +119,7 @@ done-carried_out : (m : Machine) (channel : ℕ) (operation : Operation) (le : O
 done-carried_out m channel (PresentUser name) le none built =
     subst (λ (o : Result Answer StatusWord). IfOk o SaysDone) (sym (carried_out-presents m channel name le none)) (of_outcome SaysDone (session_named (base m channel) name) _ (λ session. refl))
 done-carried_out m channel (CreateUser name profile secret) le none built =
-    subst (λ (o : Result Answer StatusWord). IfOk o SaysDone) (sym (carried_out-creates m channel name profile secret le none)) (done-changed m channel (CreateUser name profile secret))
+    subst (λ (o : Result Answer StatusWord). IfOk o SaysDone) (sym (carried_out-changes m channel (CreateUser name profile secret) le tt none)) (done-changed m channel (CreateUser name profile secret))
 done-carried_out m channel operation le none built = absurd (not_other (IsBuilt-one (kind_of operation) built))
   where
     not_other : (kind_of operation ≡ kind.PresentUser) ⊎ (kind_of operation ≡ kind.CreateUser) → ⊥

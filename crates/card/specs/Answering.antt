@@ -2,13 +2,10 @@
 use Rattle.std.specs.Prelude.{◌≡◌, ◌⊎◌, ℕ, List, [], ◌∷◌, Option, Some, Result, Ok, Err, IfOk, OnOk, slice_set}
 use Rattle.eeprom.specs.Chip.{Chip, Becomes, Leaves, RisesAtMost}
 use Rattle.scql_model.specs.Database.{Database}
-use Rattle.scql_model.specs.Edits.{Edit, octets_for}
 use Rattle.scql_model.specs.Opens.{OpensToOneOf}
 use Rattle.eeprom.specs.declared.EepromFault.{EepromFault}
 use Rattle.scql_base.specs.declared.words.StatusWord.{StatusWord}
-use Rattle.record_store.specs.declared.refusal.StoreRefusal.{StoreRefusal}
-use Rattle.record_store.specs.declared.refusal.StoreRefusal.TheVariants.{Full, Fault}
-use Rattle.scql_base.specs.Words.{done, no_space}
+use Rattle.scql_base.specs.Words.{done}
 use Rattle.scql_model.specs.Replies as model
 use Rattle.scql_model.specs.Machine.{Machine, session_for}
 use Rattle.scql_model.specs.Replies.{said}
@@ -34,12 +31,6 @@ pub record Performs (m : Machine) (answer : Answer) (most : ℕ) (result : Resul
   pub unwritten : OnOk result (answer.commits ≡ [] → new ≡ old)
   pub octets : OnOk result (Becomes (RisesAtMost most) old.written new.written)
 
--- the answer to a change of the store
-abbrev pub answer_to : Result (Unit {0}) StoreRefusal → Result StatusWord EepromFault
-answer_to (Ok x) = Ok done
-answer_to (Err Full) = Ok no_space
-answer_to (Err Fault) = Err (record {})
-
 -- a new session of a channel, for this user
 abbrev pub with_session_for : Kept → ℕ → Option Presented → Kept
 with_session_for card channel user =
@@ -49,11 +40,6 @@ with_session_for card channel user =
 abbrev pub committed_at_once : Machine → Result Database StatusWord → Result Answer StatusWord
 committed_at_once m (Err word) = Err word
 committed_at_once m (Ok db) = Ok (record { reply = said done; machine = record m { committed = db }; commits = db ∷ [] })
-
--- at most so many octets are written for a change with these edits, and none where it is refused
-abbrev pub octets_if_made : Result Database StatusWord → List Edit → ℕ
-octets_if_made (Ok db) edits = octets_for edits
-octets_if_made (Err word) edits = 0
 
 -- what octets say is done, or nothing is committed and the machine is as it was, but that their channel may have lost the parts of a command
 abbrev pub IsDoneOrStays : Machine → List ℕ → Answer → Type 0

@@ -1,5 +1,5 @@
 -- What a card keeps in memory, and at which machine it is together with its EEPROM.
-use Rattle.std.specs.Prelude.{◌≡◌, ℕ, Bool, false, List, Option, Some, None, option_and_then, IsTrue}
+use Rattle.std.specs.Prelude.{◌≡◌, ℕ, Bool, true, false, List, Option, Some, None, option_and_then, IsTrue}
 use Rattle.eeprom.specs.Chip.{Chip}
 use Rattle.eeprom.specs.StoreOf.{Slots}
 use Rattle.record_store.specs.Held.{Held, contents, IsOver}
@@ -8,7 +8,7 @@ use Rattle.scql_model.specs.Database.{IsValid, owner}
 use Rattle.scql_model.specs.Records.{counter_record, user_record}
 use Rattle.record_store.specs.FreshImage.{fresh_image}
 use Rattle.scql_model.specs.Machine.{Machine, Session}
-use Rattle.scql_model.specs.Opens.{Holds}
+use Rattle.scql_model.specs.Opens.{Holds, are_tables}
 
 -- its store, a session or none for each channel, and whether it answers
 pub record Kept : Type 0 where
@@ -33,6 +33,8 @@ pub record IsAt (card : Kept) (chip : Chip) (m : Machine) : Type 0 where
   pub limit : m.committed.limit ≡ card.store.row_limit
   pub holds : Holds slots m.committed
   pub valid : IsValid m.committed
+  -- today's card opens with tables alone
+  pub tables : are_tables m.committed.objects ≡ true
   pub transaction : m.transaction ≡ None
   pub sessions : m.sessions ≡ card.sessions
 

@@ -1,13 +1,10 @@
-pub mod Adding
 pub mod Answering
 pub mod Apart
 pub mod Behind
 pub mod Card
-pub mod Creating
+pub mod Changing
 pub mod Making
-pub mod Marks
 pub mod Opening
 pub mod Sessions
 pub mod Summary
-pub mod Users
 pub mod Validity

@@ -13,39 +13,34 @@ ghost use Rattle.scql_model.specs.Machine as machine;
 ghost use Rattle.scql_model.specs.Step as stepping;
 ghost use Rattle.scql_model.specs.Opens.{Opens};
 ghost use Rattle.scql_base.specs.Words.{done, memory_failure};
+ghost use Rattle.scql_model.specs.Database as database;
 ghost use Rattle.scql_model.specs.Database.{Database, fresh};
 ghost use Rattle.eeprom.specs.Image.{overwrite};
 ghost use Rattle.card.specs.Behind.{KeepsBehind, own_cells};
-ghost use Rattle.card.specs.Card.{Kept, IsReady, IsAt, committed_slots, fresh_card};
-ghost use Rattle.card.specs.Answering.{Answers, IsAtAsBefore, IsDoneOrStays, LeavesOneOf, Performs, answer_to, committed_at_once, octets_if_made, with_session_for};
-ghost use Rattle.card.specs.Creating.{IsAddition, IsCounterSlot};
+ghost use Rattle.card.specs.Card.{Kept, IsReady, IsAt, fresh_card};
+ghost use Rattle.card.specs.Answering.{Answers, IsAtAsBefore, IsDoneOrStays, LeavesOneOf, Performs, with_session_for};
+ghost use Rattle.card.specs.Changing.{IsChange};
 ghost use Rattle.card.specs.Making.{LeavesMade};
 ghost use Rattle.card.specs.Opening.{ReadsCard};
 ghost use Rattle.card.specs.Sessions.{proved_user, sessions_of};
-ghost use Rattle.scql_base.specs.declared.operation.Operation.TheVariants as operation;
 ghost use Rattle.scql_model.specs.Bound.{octets_bound, octets_carried_out, octets_changed, or_nothing};
-ghost use Rattle.scql_model.specs.Creating.{created, new_user};
-ghost use Rattle.scql_model.specs.Edits.{making, of_user};
 ghost use Rattle.scql_model.specs.Accepting.{channel_named};
 ghost use Rattle.scql_model.specs.Operations.{IsBuilt, kind_of};
-ghost use Rattle.scql_model.specs.WellFormed.{HasForm, IsWellFormed};
-ghost use Rattle.scql_base.specs.declared.words.Actor.{Actor};
-ghost use Rattle.scql_base.specs.declared.words.Profile.{Profile};
+ghost use Rattle.scql_model.specs.WellFormed.{HasForm, FitsCard, IsWellFormed};
 ghost use Rattle.std.specs.Option.{option_flatten};
 
-use crate::adding::add_and_change;
-use crate::creating::{Addition, Prepared, prepare_user};
+use crate::changing::change;
 use crate::opening::{Opened, open_records};
 use crate::outcome::Outcome;
 use crate::session::Session;
-use crate::users::{Wanted, find_user, owner};
 use crate::validity::are_valid;
 use apdu::Reply;
 use apdu_chain::{Chains, Taken};
 use catalog_codec::{Counter, Record};
+use db_access::present;
 use eeprom::{Eeprom, EepromFault};
-use record_store::{FormatRefusal, OpenRefusal, RecordOctets, Store, StoreRefusal};
-use scql_base::{Actor, Command, Name, Octets, Operation, Presented, Profile, StatusWord};
+use record_store::{FormatRefusal, OpenRefusal, RecordOctets, Store};
+use scql_base::{Command, Name, Octets, Operation, Presented, Profile, StatusWord, User};
 use std::alloc::Global;
 use std::marker::Model;
 
@@ -217,6 +212,7 @@ impl Card {
         requires ready { IsReady self.old (B.chip bench.old) }
         requires formed { IsWellFormed command }
         requires built { IsBuilt (kind_of command.operation) }
+        requires fits { FitsCard self.old.store.row_limit command.operation }
         ensures performs { (m : machine.Machine) → IsAt self.old (B.chip bench.old) m
             → Performs m (stepping.answered m (stepping.carried_out m command)) (or_nothing (octets_carried_out m command)) result self.new (B.chip bench.old) (B.chip bench.new) }
         ensures ready { OnOk result (IsReady self.new (B.chip bench.new)) }
@@ -226,13 +222,8 @@ impl Card {
     {
         let channel = command.channel;
         match command.operation {
-            Operation::PresentUser { name } => self.present_user(bench, channel, &name),
-            Operation::CreateUser {
-                name,
-                profile,
-                secret,
-            } => self.create_user(bench, channel, &name, profile, &secret),
-            _ => unreachable!(),
+            Operation::PresentUser { name } => self.present_user(bench, channel, name),
+            operation => self.change(bench, channel, operation),
         }
     }
 
@@ -252,128 +243,47 @@ impl Card {
         &mut self,
         bench: &mut B,
         channel: u8,
-        name: &Name,
+        name: Name,
     ) -> Result<StatusWord, EepromFault>
         requires ready { IsReady self.old (B.chip bench.old) }
         requires channel { channel < 4 }
         ensures step { (m : machine.Machine) → IsAt self.old (B.chip bench.old) m
-            → IfOk result (λ word. Answers (stepping.answered m (stepping.user_presented m channel name.now)) (model.said word) self.new (B.chip bench.new)) }
+            → IfOk result (λ word. Answers (stepping.answered m (stepping.user_presented m channel name)) (model.said word) self.new (B.chip bench.new)) }
         ensures ready { OnOk result (IsReady self.new (B.chip bench.new)) }
         ensures cause { Counts (B.faults bench.old) (B.faults bench.new) result }
         ensures same { B.chip bench.new ≡ B.chip bench.old }
         ensures store { self.new.store ≡ self.old.store }
     {
-        if name.octets() == Name::PUBLIC {
-            self.set_user(channel, None);
-            return Ok(StatusWord::DONE);
-        }
-        let mut octets = RecordOctets::new();
-        let Some(user) = find_user(&self.store, bench, Wanted::Named(name), &mut octets)? else {
-            return Ok(StatusWord::NOT_FOUND);
+        let user = match present(&self.store, bench, name)? {
+            db_access::Presented::Unknown => return Ok(StatusWord::NOT_FOUND),
+            db_access::Presented::Public => None,
+            db_access::Presented::User { stamp, proved } => Some(Presented { stamp, proved }),
         };
-        let proved = user.secret.as_slice().is_empty();
-        self.set_user(
-            channel,
-            Some(Presented {
-                stamp: user.stamp,
-                proved,
-            }),
-        );
+        self.set_user(channel, user);
         Ok(StatusWord::DONE)
     }
 
-    fn create_user<B: Eeprom>(
+    // Changes the database for who acts on a channel.
+    fn change<B: Eeprom>(
         &mut self,
         bench: &mut B,
         channel: u8,
-        name: &Name,
-        profile: Profile,
-        secret: &Octets<8>,
+        operation: Operation,
     ) -> Result<StatusWord, EepromFault>
         requires ready { IsReady self.old (B.chip bench.old) }
         requires channel { channel < 4 }
-        requires formed { HasForm (operation.CreateUser name.now profile secret.now) }
+        requires changes { IsChange operation }
+        requires formed { HasForm operation }
+        requires fits { FitsCard self.old.store.row_limit operation }
         ensures performs { (m : machine.Machine) → IsAt self.old (B.chip bench.old) m
-            → Performs m (stepping.answered m (stepping.changed m channel (operation.CreateUser name.now profile secret.now)))
-            (or_nothing (octets_changed m channel (operation.CreateUser name.now profile secret.now))) result self.new (B.chip bench.old) (B.chip bench.new) }
+            → Performs m (stepping.answered m (stepping.changed m channel operation)) (or_nothing (octets_changed m channel operation)) result self.new (B.chip bench.old) (B.chip bench.new) }
         ensures ready { OnOk result (IsReady self.new (B.chip bench.new)) }
         ensures cause { Counts (B.faults bench.old) (B.faults bench.new) result }
         ensures cells { OnOk result (self.new.store.chains.cells ≡ self.old.store.chains.cells) }
         ensures behind { Keeps (drop (image_size self.old.store.chains.cells)) (B.chip bench.old) (B.chip bench.new) }
     {
-        let mut octets = RecordOctets::new();
-        let actor = self.actor_of(bench, channel, &mut octets)?;
-        match prepare_user(
-            &self.store,
-            bench,
-            actor,
-            name,
-            profile,
-            secret,
-            &mut octets,
-        )? {
-            Prepared::Refused(word) => Ok(word),
-            Prepared::Ready(addition) => self.add_user(bench, &addition, &mut octets),
-        }
-    }
-
-    // Commits the user that was prepared, spelled in `octets`, and the next stamp, where there is room.
-    fn add_user<B: Eeprom>(
-        &mut self,
-        bench: &mut B,
-        addition: &Addition,
-        octets: &mut RecordOctets,
-    ) -> Result<StatusWord, EepromFault>
-        requires ready { IsReady self.old (B.chip bench.old) }
-        requires slot { addition.now.counter_slot < self.old.store.chains.cells }
-        requires stamp { addition.now.user.stamp < 4294967295 }
-        requires counter { IfSome (committed_slots self.old.store (B.chip bench.old).image) (IsCounterSlot addition.now.counter_slot) }
-        ensures performs { (m : machine.Machine) (actor : Actor) (name : List ℕ) (profile : Profile) (secret : List ℕ) → (at : IsAt self.old (B.chip bench.old) m)
-            → IsAddition m.committed actor name profile secret at.slots addition.now
-            → Performs m (stepping.answered m (committed_at_once m (created m.committed actor name profile secret)))
-            (octets_if_made (created m.committed actor name profile secret) (making m.committed (of_user (new_user m.committed actor name profile secret)))) result self.new (B.chip bench.old) (B.chip bench.new) }
-        ensures ready { OnOk result (IsReady self.new (B.chip bench.new)) }
-        ensures cause { Counts (B.faults bench.old) (B.faults bench.new) result }
-        ensures cells { OnOk result (self.new.store.chains.cells ≡ self.old.store.chains.cells) }
-        ensures behind { Keeps (drop (image_size self.old.store.chains.cells)) (B.chip bench.old) (B.chip bench.new) }
-    {
-        addition.user.encode(octets);
-        let mut counter = RecordOctets::new();
-        let next = addition.user.stamp + 1;
-        Counter { next }.encode(&mut counter);
-        let added = add_and_change(
-            &mut self.store,
-            bench,
-            octets,
-            addition.counter_slot,
-            &counter,
-        );
-        answer_to(added)
-    }
-
-    // For whom a channel acts: its user where that one is proved, or nobody in particular.
-    fn actor_of<B: Eeprom>(
-        &self,
-        bench: &mut B,
-        channel: u8,
-        octets: &mut RecordOctets,
-    ) -> Result<Actor, EepromFault>
-        requires ready { IsReady self.now (B.chip bench.old) }
-        requires channel { channel < 4 }
-        ensures actor { (m : machine.Machine) → IsAt self.now (B.chip bench.old) m → IfOk result (λ actor. actor ≡ machine.actor m channel) }
-        ensures same { B.chip bench.new ≡ B.chip bench.old }
-        ensures cause { Counts (B.faults bench.old) (B.faults bench.new) result }
-    {
-        let Some(stamp) = self.proved_user(channel) else {
-            return Ok(Actor::Public);
-        };
-        match find_user(&self.store, bench, Wanted::Stamped(stamp), octets)? {
-            Some(user) => Ok(Actor::User {
-                stamp: user.stamp,
-                profile: user.profile,
-            }),
-            None => Ok(Actor::Public),
-        }
+        let user = self.proved_user(channel);
+        change(&mut self.store, bench, user, operation)
     }
 
     // The stamp of a channel's user, where that one is proved.
@@ -396,14 +306,17 @@ impl Card {
     }
 }
 
-// The answer to a change that was committed, or for which there is no room.
-fn answer_to(change: Result<(), StoreRefusal>) -> Result<StatusWord, EepromFault>
-    ensures { result ≡ answer_to change }
+// The user with whom a card is made.
+fn owner() -> User
+    ensures { result ≡ database.owner }
 {
-    match change {
-        Ok(()) => Ok(StatusWord::DONE),
-        Err(StoreRefusal::Full) => Ok(StatusWord::NO_SPACE),
-        Err(StoreRefusal::Fault) => Err(EepromFault),
+    User {
+        stamp: 1,
+        name: Name::read(Name::OWNER).unwrap(),
+        profile: Profile::DbO,
+        owner: 1,
+        secret: Octets::of(b"").unwrap(),
+        tries: 3,
     }
 }
 

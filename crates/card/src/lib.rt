@@ -1,18 +1,14 @@
 //! A card: keeps a session for each channel, and answers as the table machine over a store.
 #![tactic(auto)]
 
-mod adding;
 mod apart;
 mod card;
-mod counter;
-mod creating;
-mod marks;
+mod changing;
 mod opening;
 mod outcome;
 mod session;
 mod slot_record;
 mod summary;
-mod users;
 mod validity;
 
 pub use card::Card;

@@ -17,8 +17,12 @@ of_proved db stamp (Some u) found =
     let same = eqb-true u.stamp stamp (find-passes (λ (v : User). v.stamp == stamp) db.users u found) in
     ap (option_map (λ (v : User). v.profile)) (ap (user_stamped db.users) same ∙ found)
 
+-- the user of a stamp acts, or PUBLIC where there is none
+pub IsActorOf-stamped : (db : Database) (stamp : ℕ) → IsActorOf db (option_map_or (λ (u : User). a_user u.stamp u.profile) (user_stamped db.users stamp) Public)
+IsActorOf-stamped db stamp = of_proved db stamp (user_stamped db.users stamp) refl
+
 of_presented : (db : Database) (stamp : ℕ) (proved : Bool) → IsActorOf db (if proved then option_map_or (λ (u : User). a_user u.stamp u.profile) (user_stamped db.users stamp) Public else Public)
-of_presented db stamp true = of_proved db stamp (user_stamped db.users stamp) refl
+of_presented db stamp true = IsActorOf-stamped db stamp
 of_presented db stamp false = tt
 
 of_session : (db : Database) (o : Option Presented) → IsActorOf db (option_map_or (actor_of db) o Public)

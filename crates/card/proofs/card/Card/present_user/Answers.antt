@@ -1,30 +1,30 @@
--- What the search for the user found among the slots is what the machine finds in its database.
-use Rattle.std.proofs.Common.{◌≡◌, true, false, ap, subst, sym, ◌∙◌}
-use Rattle.std.specs.Str.{bytes_eq}
-use Rattle.scql_model.specs.Database.{public_name}
-use Rattle.card.specs.Card.{Kept}
-use Rattle.scql_base.specs.Words.{done}
-use Rattle.scql_model.specs.Replies.{said}
-use Rattle.scql_model.specs.Step.{answered, user_presented}
-use Rattle.card.specs.Answering.{Answers}
-use Rattle.card.proofs.Presenting.{nobody_presented, unknown_answers, user_answers}
+-- Whose session a channel gets.
+use Rattle.std.proofs.Common.{◌≡◌, Ok, Err, ap, subst, sym, ◌∙◌, refl}
+use Rattle.scql_base.specs.Words.{done, not_found}
+use Rattle.scql_model.specs.Machine.{Machine}
+use Rattle.scql_model.specs.Step.{session_named}
+use Rattle.db_access.specs.Presenting.{session_presented}
+use Rattle.card.specs.Card.{Kept, IsAt}
+use Rattle.card.specs.Changing.{IsAtRest}
+use Rattle.card.proofs.Performing.{IsAtRest-at, Answers-unknown, Answers-presented}
+use Rattle.card.proofs.card.Card.present_user.Goals.{After-branch-present, in-Public, in-User}
 use Rattle.card.proofs.card.Card.present_user.Goals as goal
 
-pub returns-in_default-clause-step : goal.returns-in_default-clause-step
-returns-in_default-clause-step g c =
-    let user : bytes_eq c.args.name.now public_name ≡ false = rw c.octets.ensures.octets at (sym c.eq.ensures ∙ c.if-eq.false) in
-    unknown_answers c.args.self.now c.self.inside.store (g.B.Eeprom.chip c.args.bench.now) (g.B.Eeprom.chip c.find_user.new.bench) c.args.channel c.args.name.now
-    (ap (λ (kept : Kept). kept.store) c.self.view_is) c.in_ok-user.ensures.frame.same user (rw c.in_default.is at c.in_ok-user.ensures.user)
+pub returns-in-Unknown-clause-step : goal.returns-in-Unknown-clause-step
+returns-in-Unknown-clause-step g c = λ m at.
+    let old = g.B.Eeprom.chip c.args.bench.now in
+    let rest : IsAtRest c.self.inside.store old m.committed = subst (λ (kept : Kept). IsAtRest kept.store old m.committed) (sym c.self.view_is) (IsAtRest-at c.args.self.now old m c.requires.ready at) in
+    Answers-unknown c.args.self.now old (g.B.Eeprom.chip c.present.new.bench) m c.args.channel c.args.name c.in_ok-present.field-0 at c.in_ok-present.ensures.frame.same
+    (c.in_ok-present.ensures.presented m.committed rest.held) not_found (ap session_presented c.in-Unknown.is)
 
 pub returns-clause-step : goal.returns-clause-step
-returns-clause-step g c =
-    let user : bytes_eq c.args.name.now public_name ≡ false = rw c.octets.ensures.octets at (sym c.eq.ensures ∙ c.if-eq.false) in
-    user_answers c.args.self.now c.set_user-2.new.self c.self.inside.store (g.B.Eeprom.chip c.args.bench.now) (g.B.Eeprom.chip c.find_user.new.bench) c.args.channel c.args.name.now c.in-Some.user
-    (ap (λ (kept : Kept). kept.store) c.self.view_is) c.in_ok-user.ensures.frame.same user (rw c.in-Some.is at c.in_ok-user.ensures.user)
-    (cc)
-
-pub returns-then-eq-clause-step : goal.returns-then-eq-clause-step
-returns-then-eq-clause-step g c = λ m at.
-    let public : bytes_eq c.args.name.now public_name ≡ true = rw c.octets.ensures.octets at (sym c.eq.ensures ∙ c.if-eq.true) in
-    subst (λ (kept : Kept). Answers (answered m (user_presented m c.args.channel c.args.name.now)) (said done) kept (g.B.Eeprom.chip c.args.bench.now)) (sym c.set_user.ensures)
-    (nobody_presented c.args.self.now (g.B.Eeprom.chip c.args.bench.now) m c.args.channel c.args.name.now at public)
+returns-clause-step g c = λ m at.
+    let old = g.B.Eeprom.chip c.args.bench.now in
+    let rest : IsAtRest c.self.inside.store old m.committed = subst (λ (kept : Kept). IsAtRest kept.store old m.committed) (sym c.self.view_is) (IsAtRest-at c.args.self.now old m c.requires.ready at) in
+    let presented = c.in_ok-present.ensures.presented m.committed rest.held in
+    elim c.match-branch-2.branch [
+      | in-Public w ↦ Answers-presented c.args.self.now old (g.B.Eeprom.chip c.present.new.bench) m c.args.channel c.args.name c.in_ok-present.field-0 at c.in_ok-present.ensures.frame.same presented
+          c.set_user.new.self c.match-branch-2.user c.set_user.ensures (rw (w.in-Public.is, w.user-is) refl)
+      | in-User w ↦ Answers-presented c.args.self.now old (g.B.Eeprom.chip c.present.new.bench) m c.args.channel c.args.name c.in_ok-present.field-0 at c.in_ok-present.ensures.frame.same presented
+          c.set_user.new.self c.match-branch-2.user c.set_user.ensures (rw (w.in-User.is, w.user-is) refl)
+    ]

@@ -1,0 +1,60 @@
+-- The operations that change the database, and who changes it.
+use Rattle.std.proofs.Common.{◌≡◌, ℕ, true, not, List, Option, Some, None, Result, Ok, refl, sym, ap, subst, ◌∙◌}
+use Rattle.std.specs.Prelude.{IfSome}
+use Rattle.std.specs.Option.{option_map_or}
+use Rattle.eeprom.specs.Chip.{Chip}
+use Rattle.eeprom.specs.Slots.{Rises}
+use Rattle.record_store.specs.Held.{Held}
+use Rattle.record_store.specs.declared.side.Side.{Side}
+use Rattle.scql_base.specs.declared.cursor.Cursor.{Cursor}
+use Rattle.scql_base.specs.declared.operation.Operation.{Operation}
+use Rattle.scql_base.specs.declared.operation.Operation.TheVariants.{CreateUser}
+use Rattle.scql_base.specs.declared.records.User.{User}
+use Rattle.scql_base.specs.declared.words.Actor.{Actor}
+use Rattle.scql_base.specs.declared.words.Actor.TheVariants.{Public, User as a_user}
+use Rattle.scql_base.specs.declared.words.Profile.{Profile}
+use Rattle.scql_base.specs.Words.{already_exists, security_not_satisfied}
+use Rattle.scql_model.specs.Changing.{edits_of}
+use Rattle.scql_model.specs.Creating.{IsActorOf, may_create, is_taken, new_user, user_added}
+use Rattle.scql_model.specs.Database.{Database, user_stamped}
+use Rattle.scql_model.specs.Edits.{Edit, applied, making, of_user}
+use Rattle.scql_model.specs.Opens.{are_tables}
+use Rattle.scql_model.specs.Refusals.{provided}
+use Rattle.scql_model.proofs.Acting.{IsActorOf-stamped}
+use Rattle.scql_model.proofs.RightEdits.{Gives, bound-gives, done-gives}
+use Rattle.catalog_codec.specs.Catalog.{user_kind}
+use Rattle.record_table.specs.Listed.{listed, slots_of}
+use Rattle.record_table.specs.Making.{IsHeld}
+use Rattle.card.specs.Changing.{IsChange, acting}
+use Rattle.card.proofs.Told.{if_some-at}
+
+-- where all objects are tables, they are so after each of these operations
+abbrev KeepTables : Database → List Edit → Type 0
+KeepTables db edits = are_tables db.objects ≡ true → are_tables (applied db edits).objects ≡ true
+
+tables-CreateUser : (db : Database) (actor : Actor) (name : List ℕ) (profile : Profile) (secret : List ℕ) → Gives (KeepTables db) (user_added db actor name profile secret)
+tables-CreateUser db actor name profile secret =
+    bound-gives (KeepTables db) (provided (may_create actor profile) security_not_satisfied) _ λ _ _.
+    bound-gives (KeepTables db) (provided (not (is_taken db name)) already_exists) _ λ _ _.
+    done-gives (KeepTables db) (making db (of_user (new_user db actor name profile secret))) (λ tables. tables)
+
+pub are_tables-changed : (db : Database) (actor : Actor) (cursor : Option Cursor) (operation : Operation) (edits : List Edit) → IsChange operation → edits_of db actor cursor operation ≡ Ok edits
+    → are_tables db.objects ≡ true → are_tables (applied db edits).objects ≡ true
+unfolding edits_of
+are_tables-changed db actor cursor (CreateUser name profile secret) edits changes is = (tables-CreateUser db actor name profile secret).each edits is
+are_tables-changed db actor cursor operation edits changes is = absurd changes
+
+-- who acts is PUBLIC or a user of the database
+pub IsActorOf-acting : (db : Database) (user : Option ℕ) → IsActorOf db (acting db user)
+IsActorOf-acting db None = tt
+IsActorOf-acting db (Some stamp) = IsActorOf-stamped db stamp
+
+-- for the user of a stamp that was found on a side, or for the public
+pub acting-found : (store : Held) (side : Side) (chip : Chip) (db : Database) (stamp : ℕ) (found : Option User) → IsHeld store side chip db
+    → IfSome (slots_of store side chip) (λ slots. Rises user_kind.key (listed user_kind slots) → found ≡ user_stamped (listed user_kind slots) stamp)
+    → option_map_or (λ (u : User). a_user u.stamp u.profile) found Public ≡ acting db (Some stamp)
+acting-found store side chip db stamp found held there =
+    let here = if_some-at (λ slots. Rises user_kind.key (listed user_kind slots) → found ≡ user_stamped (listed user_kind slots) stamp) (slots_of store side chip) held.slots held.told there in
+    let users : listed user_kind held.slots ≡ db.users = held.holds.users in
+    ap (λ (o : Option User). option_map_or (λ (u : User). a_user u.stamp u.profile) o Public)
+    (here (subst (Rises user_kind.key) (sym users) held.valid.users.rises) ∙ ap (λ (users : List User). user_stamped users stamp) users)

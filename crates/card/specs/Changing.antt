@@ -1,0 +1,62 @@
+-- A change of the database of a card: which operations make one, for whom, and what it comes to.
+use Rattle.std.specs.Prelude.{◌≡◌, ℕ, List, [], ◌∷◌, Option, Some, None, Result, Ok, Err, IfOk, OnOk, true}
+use Rattle.std.specs.Option.{option_map_or}
+use Rattle.eeprom.specs.Chip.{Chip, Becomes, RisesAtMost}
+use Rattle.eeprom.specs.declared.EepromFault.{EepromFault}
+use Rattle.record_store.specs.Held.{Held}
+use Rattle.record_store.specs.declared.side.Side.TheVariants.{Committed}
+use Rattle.scql_base.specs.declared.operation.Operation.{Operation}
+use Rattle.scql_base.specs.declared.operation.Operation.TheVariants.{CreateUser}
+use Rattle.scql_base.specs.declared.records.User.{User}
+use Rattle.scql_base.specs.declared.words.Actor.{Actor}
+use Rattle.scql_base.specs.declared.words.Actor.TheVariants.{Public, User as a_user}
+use Rattle.scql_base.specs.declared.words.StatusWord.{StatusWord}
+use Rattle.scql_base.specs.Words.{done}
+use Rattle.scql_model.specs.Bound.{or_nothing}
+use Rattle.scql_model.specs.Database.{Database, user_stamped}
+use Rattle.scql_model.specs.Edits.{Edit, octets_for, with_edits}
+use Rattle.scql_model.specs.Opens.{are_tables}
+use Rattle.scql_model.specs.Refusals.{◌>>=◌}
+use Rattle.record_table.specs.Making.{IsHeld}
+use Rattle.card.specs.Answering.{LeavesOneOf}
+
+-- the operations that are built and change the database
+abbrev pub IsChange : Operation → Type 0
+IsChange (CreateUser name profile secret) = Unit {0}
+IsChange operation = ⊥
+
+-- for whom a channel acts whose proved user has this stamp, or that has none
+abbrev pub acting : Database → Option ℕ → Actor
+acting db None = Public
+acting db (Some stamp) = option_map_or (λ (u : User). a_user u.stamp u.profile) (user_stamped db.users stamp) Public
+
+-- the new database of a change with these edits, or the first refusal that applies
+abbrev pub new_of : Database → Result (List Edit) StatusWord → Result Database StatusWord
+new_of db edited = edited >>= with_edits db
+
+-- so many octets are written for it at most
+abbrev pub octets_of : Database → Result (List Edit) StatusWord → ℕ
+octets_of db edited = or_nothing (edited >>= λ edits. with_edits db edits >>= λ (new : Database). Ok (octets_for edits))
+
+-- what is committed: the new database, or nothing
+abbrev pub commits_of : Result Database StatusWord → List Database
+commits_of (Ok new) = new ∷ []
+commits_of (Err word) = []
+
+-- outside of a transaction the store holds the database, one that today's card opens with
+pub record IsAtRest (store : Held) (chip : Chip) (db : Database) : Type 0 where
+  pub held : IsHeld store Committed chip db
+  pub tables : are_tables db.objects ≡ true
+
+-- the new database is held, and the answer is done; or it is the refusal's word, and the database is held as before
+abbrev pub Concludes : Database → Result Database StatusWord → StatusWord → Held → Chip → Type 0
+Concludes db (Ok new) word store chip = (word ≡ done) × IsAtRest store chip new
+Concludes db (Err refused) word store chip = (word ≡ refused) × IsAtRest store chip db
+
+-- What a change does that has these edits, or is refused so: it is concluded, or a device failed. A power loss leaves the database as it was or the new one.
+-- What commits nothing writes nothing, and what is answered has written at most so many octets.
+pub record Changes (db : Database) (edited : Result (List Edit) StatusWord) (result : Result StatusWord EepromFault) (store : Held) (old new : Chip) : Type 0 where
+  pub step : IfOk result (λ word. Concludes db (new_of db edited) word store new)
+  pub moments : LeavesOneOf (db ∷ commits_of (new_of db edited)) old new
+  pub unwritten : OnOk result (commits_of (new_of db edited) ≡ [] → new ≡ old)
+  pub octets : OnOk result (Becomes (RisesAtMost (octets_of db edited)) old.written new.written)

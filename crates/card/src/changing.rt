@@ -1,0 +1,108 @@
+// Changes of the database, each for who acts, in a transaction of its own.
+ghost use Rattle.std.specs.Prelude.{◌≡◌, ℕ, Option, drop, false, is_some, IfOk, IfSome, IsTrue, IsErrOf, OnOk};
+ghost use Rattle.eeprom.specs.Chip.{Keeps};
+ghost use Rattle.eeprom.specs.Fault.{Counts, CountsFaults, each_error};
+ghost use Rattle.eeprom.specs.Frame.{Reads};
+ghost use Rattle.eeprom.specs.StoreOf.{store_of, image_size};
+ghost use Rattle.record_store.specs.Held.{IsOver};
+ghost use Rattle.record_store.specs.declared.side.Side.TheVariants.{Working};
+ghost use Rattle.scql_base.specs.declared.cursor.Cursor.{Cursor};
+ghost use Rattle.scql_model.specs.Changing.{edits_of};
+ghost use Rattle.scql_model.specs.Creating.{IsActorOf};
+ghost use Rattle.scql_model.specs.Database.{Database};
+ghost use Rattle.scql_model.specs.WellFormed.{HasForm, FitsCard};
+ghost use Rattle.record_table.specs.Making.{IsHeld, Ends, GoesOn, is_stop_fault};
+ghost use Rattle.card.specs.Changing.{IsChange, IsAtRest, Changes, acting};
+
+use db_access::create_user;
+use eeprom::{Eeprom, EepromFault};
+use record_store::{Side, Store};
+use record_table::Stop;
+use scql_base::{Actor, Operation, StatusWord};
+use user_table::find_stamp;
+
+/// Changes the database by an operation, for the user of this stamp or for the public, and commits it. Where the operation is refused
+/// nothing is written, and the word of the refusal is answered.
+pub(crate) fn change<B: Eeprom>(
+    store: &mut Store,
+    bench: &mut B,
+    user: Option<u32>,
+    operation: Operation,
+) -> Result<StatusWord, EepromFault>
+    requires idle { store.old.begun ≡ false }
+    requires over { IsOver store.old (B.chip bench.old) }
+    requires changes { IsChange operation }
+    requires formed { HasForm operation }
+    requires fits { FitsCard store.old.row_limit operation }
+    ensures changes { (db : Database) (cursor : Option Cursor) → IsAtRest store.old (B.chip bench.old) db
+        → Changes db (edits_of db (acting db user) cursor operation) result store.new (B.chip bench.old) (B.chip bench.new) }
+    ensures over { OnOk result (IsOver store.new (B.chip bench.new)) }
+    ensures idle { OnOk result (store.new.begun ≡ false) }
+    ensures cells { OnOk result (store.new.chains.cells ≡ store.old.chains.cells) }
+    ensures behind { Keeps (drop (image_size store.old.chains.cells)) (B.chip bench.old) (B.chip bench.new) }
+    ensures cause { Counts (B.faults bench.old) (B.faults bench.new) result }
+{
+    let actor = actor_of(store, bench, Side::Committed, user)?;
+    store.begin();
+    match make(store, bench, actor, operation) {
+        Ok(()) => {
+            store.commit(bench)?;
+            Ok(StatusWord::DONE)
+        }
+        Err(Stop::Refused { word }) => {
+            store.rollback();
+            Ok(word)
+        }
+        Err(Stop::Fault) => Err(EepromFault),
+    }
+}
+
+// Makes the change on the working side of a transaction.
+fn make<B: Eeprom>(
+    store: &mut Store,
+    bench: &mut B,
+    actor: Actor,
+    operation: Operation,
+) -> Result<(), Stop>
+    requires begun { IsTrue store.old.begun }
+    requires over { IsOver store.old (B.chip bench.old) }
+    requires changes { IsChange operation }
+    ensures ends { (db : Database) (cursor : Option Cursor) → IsHeld store.old Working (B.chip bench.old) db → IsActorOf db actor → HasForm operation → FitsCard db.limit operation
+        → Ends db (edits_of db actor cursor operation) result store.old store.new (B.chip bench.old) (B.chip bench.new) }
+    ensures goes_on { ¬ IsErrOf result Stop.Fault → GoesOn store.old store.new (B.chip bench.old) (B.chip bench.new) }
+    ensures moments { Keeps store_of (B.chip bench.old) (B.chip bench.new) }
+    ensures behind { Keeps (drop (image_size store.old.chains.cells)) (B.chip bench.old) (B.chip bench.new) }
+    ensures cause { CountsFaults is_stop_fault (B.faults bench.old) (B.faults bench.new) result }
+{
+    match operation {
+        Operation::CreateUser {
+            name,
+            profile,
+            secret,
+        } => create_user(store, bench, actor, name, profile, &secret),
+        _ => unreachable!(),
+    }
+}
+
+// For whom the user of a stamp acts: for itself, with its profile, or for the public where a side has no such user.
+fn actor_of<B: Eeprom>(
+    store: &Store,
+    bench: &mut B,
+    side: Side,
+    user: Option<u32>,
+) -> Result<Actor, EepromFault>
+    requires over { IsOver store.now (B.chip bench.old) }
+    ensures actor { (db : Database) → IsHeld store.now side (B.chip bench.old) db → IfOk result (λ actor. actor ≡ acting db user) }
+    ensures frame { Reads each_error B.chip B.faults bench.old bench.new result }
+{
+    let Some(stamp) = user else {
+        return Ok(Actor::Public);
+    };
+    match find_stamp(store, bench, side, stamp)? {
+        Some(found) => Ok(Actor::User {
+            stamp: found.value.stamp,
+            profile: found.value.profile,
+        }),
+        None => Ok(Actor::Public),
+    }
+}
