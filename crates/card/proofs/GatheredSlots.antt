@@ -1,26 +1,21 @@
 -- The slots of a store are gathered as they are claimed.
-use Rattle.std.proofs.Common.{◌≡◌, ◌≢◌, ◌⊎◌, ℕ, suc, ◌+◌, Bool, true, false, ◌&&◌, if◌then◌else◌, nat_le, List, [], ◌∷◌, ◌++◌, length, take, drop, Option, Some, None, option_map, is_some, refl, sym, ap, ◌∙◌, subst, append_assoc, length-append, inl, inr, arith}
+use Rattle.std.proofs.Common.{◌≡◌, ◌≢◌, ◌⊎◌, ℕ, suc, ◌+◌, Bool, true, false, ◌&&◌, if◌then◌else◌, nat_le, List, [], ◌∷◌, ◌++◌, length, take, drop, Option, Some, None, option_map, refl, sym, ap, ◌∙◌, subst, append_assoc, length-append, inl, inr, arith}
 use Rattle.std.specs.Prelude.{IfSome}
-use Rattle.std.specs.List.{list_all, filter_map, cons_option, count_by, sum_by}
+use Rattle.std.specs.List.{list_all, filter_map, cons_option, sum_by}
 use Rattle.std.proofs.lemmas.Bool.{and_parts, and_from, false≢true}
-use Rattle.std.proofs.lemmas.List.{take-append-drop, append-nil}
+use Rattle.std.proofs.lemmas.List.{take-append-drop}
 use Rattle.std.proofs.lemmas.List.Elements.{filter_map-append}
 use Rattle.std.proofs.lemmas.List.Folds.{list_all-append}
-use Rattle.std.proofs.lemmas.List.Sums.{sum_by-cons, sum_by-append}
+use Rattle.std.proofs.lemmas.List.Sums.{sum_by-cons}
 use Rattle.std.proofs.lemmas.Option.{same_Some, none-some}
-use Rattle.eeprom.specs.Chip.{Chip, Keeps}
 use Rattle.eeprom.specs.StoreOf.{Slots, Stored, slots_at, store_of}
 use Rattle.eeprom.specs.Slots.{in_slot, in_order}
 use Rattle.eeprom.proofs.InOrder.{sum_by-in_order}
-use Rattle.record_store.specs.Held.{Held, contents, stored}
 use Rattle.record_store.specs.Opening.{HeldSoFar, StandsSoFar, slots_so_far, slot_with}
-use Rattle.record_store.specs.declared.side.Side.TheVariants.{Committed}
 use Rattle.record_store.proofs.OpeningSlots.{so_far-first}
-use Rattle.record_store.proofs.Replaying.{kept-image}
 use Rattle.record_store.proofs.Weights.{limited, store-begins}
 use Rattle.scql_model.specs.Records.{counter_in}
-use Rattle.scql_model.specs.Database.{Database, IsValid}
-use Rattle.scql_model.specs.Opens.{Holds, counter_stamp, are_tables}
+use Rattle.scql_model.specs.Opens.{counter_stamp}
 use Rattle.card.specs.Opening.{Gathers, HoldsNone, gathered, is_taken, summary_in}
 use Rattle.card.specs.declared.summary.Summary.{Summary}
 use Rattle.card.proofs.HeldKinds.{are_taken, taken-held, taken-valid}

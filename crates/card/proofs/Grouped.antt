@@ -1,10 +1,10 @@
 -- The rules of records one by one are those of each kind.
-use Rattle.std.proofs.Common.{◌≡◌, ℕ, Bool, true, false, ◌&&◌, List, [], ◌∷◌, filter, map, refl, ap, ◌∙◌}
+use Rattle.std.proofs.Common.{◌≡◌, ℕ, Bool, true, false, ◌&&◌, List, [], ◌∷◌, filter, refl, ap, ◌∙◌}
 use Rattle.std.specs.Prelude.{nat_le}
 use Rattle.std.specs.List.{list_all}
 use Rattle.scql_base.specs.declared.records.User.{User}
 use Rattle.scql_base.specs.declared.records.Grant.{Grant}
-use Rattle.scql_model.specs.Rules.{is_db_o, is_made_by_maker, are_different, are_apart_by, is_of_pair}
+use Rattle.scql_model.specs.Rules.{is_db_o, is_made_by_maker}
 use Rattle.card.specs.declared.apart.Label.TheVariants.{UserName, TableName, GrantPair}
 use Rattle.card.specs.declared.summary.Summary.{Summary}
 use Rattle.card.specs.declared.summary.Summary.TheVariants as kept_as

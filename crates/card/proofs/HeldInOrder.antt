@@ -1,5 +1,5 @@
 -- What is kept of the records in slots, in rising order of the stamps, is of each kind that of the database which the slots hold.
-use Rattle.std.proofs.Common.{◌≡◌, ℕ, true, List, [], ◌∷◌, map, refl, sym, ap, ◌∙◌}
+use Rattle.std.proofs.Common.{◌≡◌, ℕ, ◌==◌, true, map, refl, sym, ap, ◌∙◌}
 use Rattle.std.specs.List.{filter_map, count_by}
 use Rattle.eeprom.specs.StoreOf.{Slots}
 use Rattle.eeprom.specs.Slots.{AreApart, has, in_order, in_slot}
@@ -11,10 +11,10 @@ use Rattle.card.specs.Opening.{gathered}
 use Rattle.card.specs.Summary.{Summarizes, stamp_of, as_user, as_table, as_grant, as_row, of_table, row_summary, unplaced, users_in, tables_in, grants_in, rows_in}
 use Rattle.card.specs.declared.summary.TableSummary.{TableSummary}
 use Rattle.card.specs.declared.summary.RowSummary.{RowSummary}
-use Rattle.card.proofs.ListsInOrder.{filter_map-in_order, map-in_order, count-map}
+use Rattle.card.proofs.ListsInOrder.{filter_map-in_order, map-in_order}
 use Rattle.card.proofs.HeldKinds.{user_stamp, object_stamp, grant_stamp, row_stamp, users-gathered, tables-gathered, grants-gathered, rows-gathered}
 use Rattle.card.proofs.OfKinds.{user-stamp, table-stamp, grant-stamp, row-stamp}
-use Rattle.card.proofs.Tested.{users_at, tables_at, objects_at, grants_at, summaries_at, rows_at, valid-apart}
+use Rattle.card.proofs.Tested.{users_at, tables_at, objects_at, grants_at, rows_at, count-map, valid-apart}
 
 abbrev table_stamp : TableSummary → ℕ
 table_stamp t = t.stamp
@@ -27,11 +27,11 @@ pub apart-held : (slots : Slots) (db : Database) → Holds slots db → IsValid 
 apart-held slots db holds valid =
     valid-apart db (gathered 0 slots) valid
     (λ k. ap (users_at k) (users-gathered slots) ∙ sym (count_by-in_order user_stamp (has user_stamp k) (filter_map (in_slot user_in) slots)) ∙ ap (users_at k) holds.users)
-    (λ k. ap (tables_at k) (tables-gathered slots) ∙ count-map object_stamp table_stamp of_table k (filter_map (in_slot object_in) slots) (λ x. refl)
+    (λ k. ap (tables_at k) (tables-gathered slots) ∙ count-map (has table_stamp k) of_table (filter_map (in_slot object_in) slots)
     ∙ sym (count_by-in_order object_stamp (has object_stamp k) (filter_map (in_slot object_in) slots)) ∙ ap (objects_at k) holds.objects)
     (λ k. ap (grants_at k) (grants-gathered slots) ∙ sym (count_by-in_order grant_stamp (has grant_stamp k) (filter_map (in_slot grant_in) slots)) ∙ ap (grants_at k) holds.grants)
-    (λ k. sym (count-map summary_stamp (λ (n : ℕ). n) summary_stamp k (rows_in (gathered 0 slots)) (λ x. refl)) ∙ ap (count_by (has (λ (n : ℕ). n) k)) (rows-gathered summary_stamp row_stamp (λ slot r. refl) slots)
-    ∙ count-map row_stamp (λ (n : ℕ). n) row_stamp k (filter_map (in_slot row_in) slots) (λ x. refl)
+    (λ k. sym (count-map (λ n. n == k) summary_stamp (rows_in (gathered 0 slots))) ∙ ap (count_by (λ n. n == k)) (rows-gathered summary_stamp row_stamp (λ slot r. refl) slots)
+    ∙ count-map (λ n. n == k) row_stamp (filter_map (in_slot row_in) slots)
     ∙ sym (count_by-in_order row_stamp (has row_stamp k) (filter_map (in_slot row_in) slots)) ∙ ap (rows_at k) holds.rows)
 
 -- Of each kind they are those of the database.

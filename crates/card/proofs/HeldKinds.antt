@@ -1,35 +1,30 @@
 -- The records of a database that slots hold: they are taken where it is valid, and what is kept of them is theirs.
-use Rattle.std.proofs.Common.{◌≡◌, ℕ, suc, ◌+◌, ◌≤◌, ◌==◌, ◌||◌, Bool, true, false, ◌&&◌, List, [], ◌∷◌, ◌++◌, length, map, Option, Some, None, option_map, refl, sym, ap, ◌∙◌, subst, arith}
+use Rattle.std.proofs.Common.{◌≡◌, ℕ, suc, ◌+◌, ◌≤◌, ◌==◌, ◌||◌, Bool, true, ◌&&◌, List, [], ◌∷◌, map, Option, Some, None, option_map, refl, sym, ap, ◌∙◌, arith}
 use Rattle.std.specs.Option.{option_and_then, option_map_or, option_or}
-use Rattle.std.specs.List.{list_all, filter_map, cons_option, count_by, sum_by}
-use Rattle.std.proofs.lemmas.Bool.{and_parts, and_from, false≢true}
-use Rattle.std.proofs.lemmas.List.Sums.{sum_by-append}
+use Rattle.std.specs.List.{list_all, filter_map, cons_option}
+use Rattle.std.proofs.lemmas.Bool.{and_parts}
 use Rattle.eeprom.specs.StoreOf.{Slots}
-use Rattle.eeprom.specs.Slots.{AreApart, has, in_order, in_slot, kept}
-use Rattle.eeprom.proofs.InOrder.{count_by-cons, count_by-in_order, list_all-in_order}
+use Rattle.eeprom.specs.Slots.{in_slot, kept}
+use Rattle.eeprom.proofs.InOrder.{list_all-in_order}
 use Rattle.scql_base.specs.declared.row.TheConstants.Row.{LARGEST, LARGEST_UNMIGRATED}
 use Rattle.scql_base.specs.declared.records.User.{User}
 use Rattle.scql_base.specs.declared.records.Object.{Object}
-use Rattle.scql_base.specs.declared.records.ObjectKind.{ObjectKind}
-use Rattle.scql_base.specs.declared.records.ObjectKind.TheVariants.{Table, View, Dictionary}
 use Rattle.scql_base.specs.declared.records.Grant.{Grant}
 use Rattle.scql_base.specs.declared.records.RowRecord.{RowRecord}
 use Rattle.scql_model.specs.Objects.{columns_of}
 use Rattle.scql_model.specs.Records.{counter_record, user_record, grant_record, row_record, object_fits, counter_in, user_in, object_in, grant_in, row_in}
-use Rattle.scql_model.specs.Rules.{is_table, are_different, is_founded, is_within_limit}
-use Rattle.scql_model.specs.Stored.{StoredRecord}
+use Rattle.scql_model.specs.Rules.{is_table, are_different, is_within_limit}
 use Rattle.scql_model.specs.Database.{Database, IsValid, weight}
 use Rattle.scql_model.specs.Opens.{Holds, is_spelled, counter_stamp, are_tables}
 use Rattle.scql_model.proofs.KindsApart.{given, one_kind}
 use Rattle.card.specs.Opening.{passes, is_plain_table, is_sound_table, is_sound_row, is_taken, summary_in, object_summary, gathered}
-use Rattle.card.specs.Summary.{stamp_of, as_user, as_table, as_grant, as_row, of_table, row_summary, users_in, tables_in, grants_in, rows_in}
+use Rattle.card.specs.Summary.{as_user, as_table, as_grant, as_row, of_table, row_summary, users_in, tables_in, grants_in, rows_in}
 use Rattle.card.specs.declared.summary.Summary.{Summary}
 use Rattle.card.specs.declared.summary.Summary.TheVariants as kept_as
-use Rattle.card.specs.declared.summary.TableSummary.{TableSummary}
 use Rattle.card.specs.declared.summary.RowSummary.{RowSummary}
 use Rattle.card.specs.Validity.{IsWithinLimits}
 use Rattle.card.proofs.Tested.{IsWithinLimits-valid}
-use Rattle.card.proofs.ListsInOrder.{filter_map-in_order, map-in_order, count-map, filter_map-option_map, filter_map-cons_option, and-same, list_all-both}
+use Rattle.card.proofs.ListsInOrder.{filter_map-option_map, filter_map-cons_option, and-same, list_all-both}
 
 abbrev pub user_stamp : User → ℕ
 user_stamp u = u.stamp

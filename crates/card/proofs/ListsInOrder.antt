@@ -1,15 +1,11 @@
 -- Lists in rising order of a key, and what is made of their elements.
-use Rattle.std.proofs.Common.{◌≡◌, ℕ, ◌+◌, ◌<◌, ◌≤◌, Bool, true, false, ◌&&◌, cond, ltb, List, [], ◌∷◌, ◌++◌, map, Option, Some, None, option_map, refl, sym, ap, ◌∙◌, inl, inr, arith}
-use Rattle.std.specs.List.{list_all, filter_map, cons_option, count_by, AllByRecursion}
+use Rattle.std.proofs.Common.{◌≡◌, ℕ, ◌<◌, Bool, true, false, ◌&&◌, ltb, List, [], ◌∷◌, map, Option, Some, None, option_map, refl, sym, ap, ◌∙◌, inl, inr, arith}
+use Rattle.std.specs.List.{list_all, filter_map, cons_option, AllByRecursion}
 use Rattle.std.specs.Option.{option_and_then}
 use Rattle.std.proofs.lemmas.Bool.{cases_Bool, ltb-true}
-use Rattle.std.proofs.lemmas.List.Sums.{sum_by-append}
 use Rattle.eeprom.specs.Slots.{AreApart, Rises, has, in_order, put_in_order}
-use Rattle.eeprom.proofs.InOrder.{count_by-cons, put_in_order-first, Rises-in_order, counts, counts_not}
-
-all-weaker : {X : Type 0} (P Q : X → Type 0) (xs : List X) → ((x : X) → P x → Q x) → AllByRecursion P xs → AllByRecursion Q xs
-all-weaker P Q [] f all = tt
-all-weaker P Q (x ∷ xs) f all = (f x all.0, all-weaker P Q xs f all.1)
+use Rattle.scql_model.proofs.ChangedLists.{each-weaker}
+use Rattle.eeprom.proofs.InOrder.{count_by-cons, put_in_order-first, Rises-in_order}
 
 all-filter_map : {X Y : Type 0} (P : X → Type 0) (Q : Y → Type 0) (h : X → Option Y) (xs : List X) → ((x : X) (y : Y) → h x ≡ Some y → P x → Q y) → AllByRecursion P xs → AllByRecursion Q (filter_map h xs)
 all-filter_map P Q h [] f all = tt
@@ -42,7 +38,7 @@ filter_map-put_in_order {X} {Y} key key' h x (z ∷ zs) same rises =
     first t None is = refl
     first t (Some y) is =
         let less = ltb-true (key x) (key z) t in
-        let all : AllByRecursion (λ w. key x < key w) (z ∷ zs) = (less, all-weaker (λ w. key z < key w) (λ w. key x < key w) zs (λ w h. omega arith) rises.0) in
+        let all : AllByRecursion (λ w. key x < key w) (z ∷ zs) = (less, each-weaker (λ w. key z < key w) (λ w. key x < key w) zs (λ w h. omega arith) rises.0) in
         sym (put_in_order-first key' y (filter_map h (z ∷ zs)) (all-filter_map (λ w. key x < key w) (λ w. key' y < key' w) h (z ∷ zs) (λ w v at above. let a = same x y is in let b = same w v at in omega arith) all))
 
     later : ltb (key x) (key z) ≡ false → (o p : Option Y) → h x ≡ o → h z ≡ p → cons_option p (put_option key' o (filter_map h zs)) ≡ put_option key' o (cons_option p (filter_map h zs))
@@ -75,18 +71,6 @@ pub map-in_order : {X Y : Type 0} (key : X → ℕ) (key' : Y → ℕ) (f : X �
 map-in_order key key' f [] same = refl
 map-in_order key key' f (x ∷ xs) same = map-put_in_order key key' f x (in_order key xs) same ∙ ap (put_in_order key' (f x)) (map-in_order key key' f xs same)
 
--- how many have a key, of what is made of elements
-pub count-map : {X Y : Type 0} (key : X → ℕ) (key' : Y → ℕ) (f : X → Y) (k : ℕ) (xs : List X) → ((x : X) → key' (f x) ≡ key x) → count_by (has key' k) (map f xs) ≡ count_by (has key k) xs
-count-map key key' f k [] same = refl
-count-map key key' f k (x ∷ xs) same =
-    let a = rw (same x) at (count_by-cons (has key' k) (f x) (map f xs)) in
-    let b = count_by-cons (has key k) x xs in
-    let rest = count-map key key' f k xs same in
-    omega (arith, a, b, rest)
-
-pub count-append : {X : Type 0} (p : X → Bool) (xs ys : List X) → count_by p (xs ++ ys) ≡ count_by p xs + count_by p ys
-count-append p xs ys = sum_by-append (λ x. cond (p x) 1 0) xs ys
-
 pub filter_map-option_map : {X Y Z : Type 0} (f : Y → Z) (h : X → Option Y) (xs : List X) → filter_map (λ x. option_map f (h x)) xs ≡ map f (filter_map h xs)
 filter_map-option_map f h [] = refl
 filter_map-option_map {X} {Y} {Z} f h (x ∷ xs) = go (h x) (filter_map-option_map f h xs)
@@ -115,7 +99,3 @@ and-same e f = rw (e, f) refl
 pub list_all-both : {X : Type 0} (p q : X → Bool) (xs : List X) → list_all (λ x. p x && q x) xs ≡ (list_all p xs && list_all q xs)
 list_all-both p q [] = refl
 list_all-both p q (x ∷ xs) = ap (λ rest. (p x && q x) && rest) (list_all-both p q xs) ∙ and-swap (p x) (q x) (list_all p xs) (list_all q xs)
-
-pub list_all-true : {X : Type 0} (p : X → Bool) (xs : List X) → ((x : X) → p x ≡ true) → list_all p xs ≡ true
-list_all-true p [] passes = refl
-list_all-true p (x ∷ xs) passes = rw (passes x) (list_all-true p xs passes)

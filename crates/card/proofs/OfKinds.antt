@@ -1,5 +1,5 @@
 -- The records of each kind among those of rising stamps.
-use Rattle.std.proofs.Common.{◌≡◌, ℕ, ◌==◌, Bool, Bor, List, Option, Some, None, refl, sym, ap, ◌∙◌, rules}
+use Rattle.std.proofs.Common.{◌≡◌, ℕ, ◌==◌, Bool, Bor, List, Option, Some, None, refl, sym, ap, ◌∙◌}
 use Rattle.std.specs.Prelude.{option_and_then, option_copied, is_some}
 use Rattle.std.specs.List.{find, list_any}
 use Rattle.std.proofs.lemmas.Option.{none-some, same_Some}

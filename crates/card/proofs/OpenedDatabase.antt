@@ -1,23 +1,20 @@
 -- The database to which an image opens, from what its slots hold and the test of it.
-use Rattle.std.proofs.Common.{◌≡◌, ℕ, ◌≤◌, ◌==◌, ◌%◌, ◌||◌, Bool, true, false, if◌then◌else◌, List, [], ◌∷◌, length, map, Option, Some, None, IsSome, is_some, refl, sym, ap, ◌∙◌, subst, arith}
+use Rattle.std.proofs.Common.{◌≡◌, ℕ, ◌≤◌, ◌==◌, ◌%◌, ◌||◌, Bool, true, false, if◌then◌else◌, List, [], ◌∷◌, length, Option, Some, None, IsSome, is_some, refl, sym, ap, ◌∙◌, subst, arith}
 use Rattle.std.specs.Prelude.{IfSome}
-use Rattle.std.specs.List.{list_all, filter_map, cons_option, sum_by}
+use Rattle.std.specs.List.{cons_option, sum_by}
 use Rattle.std.proofs.lemmas.Bool.{and_parts, false≢true}
-use Rattle.std.proofs.lemmas.Option.{none-some}
 use Rattle.eeprom.specs.Chip.{Chip, Becomes, Keeps}
 use Rattle.eeprom.specs.StoreOf.{Slots, Stored, store_of, is_gate_open, slots_at, cells_of, row_limit}
 use Rattle.std.specs.Prelude.{slice_index}
-use Rattle.eeprom.specs.Slots.{AreApart, Rises, in_order, in_slot, kept}
-use Rattle.eeprom.proofs.InOrder.{Rises-in_order}
+use Rattle.eeprom.specs.Slots.{AreApart, in_order, kept}
 use Rattle.record_store.specs.declared.side.Side.TheVariants.{Committed}
 use Rattle.record_store.specs.Held.{Held, contents, stored, with_limit}
 use Rattle.record_store.specs.Opening.{HeldSoFar, ReadsStore, StandsSoFar, slots_so_far}
 use Rattle.record_store.proofs.Replaying.{kept-image}
 use Rattle.record_store.proofs.Weights.{limited, store-begins}
-use Rattle.scql_base.specs.declared.records.User.{User}
-use Rattle.scql_model.specs.Records.{counter_in, user_in, object_in, grant_in, row_in}
-use Rattle.scql_model.specs.Database.{Database, IsValid, weight}
-use Rattle.scql_model.specs.Opens.{Holds, Opens, counter_stamp, is_spelled, are_tables}
+use Rattle.scql_model.specs.Records.{user_in, object_in, grant_in, row_in}
+use Rattle.scql_model.specs.Database.{Database, weight}
+use Rattle.scql_model.specs.Opens.{Holds, Opens, counter_stamp, is_spelled}
 use Rattle.scql_model.proofs.LongerLists.{all-weaker}
 use Rattle.scql_model.proofs.Room.{cells-filled}
 use Rattle.card.specs.Opening.{Gathers, HoldsNone, IsOfStore, PassTest, ReadsCard, gathered, is_taken}

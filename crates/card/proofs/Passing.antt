@@ -1,5 +1,5 @@
 -- A step over the elements of a list: what was made of those before, and what is made of those behind.
-use Rattle.std.proofs.Common.{◌≡◌, ℕ, ◌+◌, ◌<◌, Bool, true, ◌&&◌, List, [], ◌∷◌, ◌++◌, length, get_or, take, drop, Option, Some, None, zero, suc, ◌≤◌, refl, sym, ap, ◌∙◌, append_assoc, drop-cons, length-append, arith}
+use Rattle.std.proofs.Common.{◌≡◌, ℕ, ◌+◌, ◌<◌, Bool, true, List, [], ◌∷◌, ◌++◌, length, get_or, take, drop, Option, Some, None, zero, suc, ◌≤◌, refl, sym, ap, ◌∙◌, append_assoc, drop-cons, length-append, arith}
 use Rattle.std.specs.List.{filter_map, list_all, cons_option}
 use Rattle.std.proofs.lemmas.Bool.{and_parts, and_from}
 use Rattle.std.proofs.lemmas.List.{append-nil}

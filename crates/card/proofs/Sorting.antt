@@ -1,22 +1,19 @@
 -- A list whose keys rise is a list in rising order of its keys, whatever the order was before; and a test of neighbours tells whether they rise.
-use Rattle.std.proofs.Common.{◌≡◌, ℕ, zero, suc, ◌+◌, ◌<◌, ◌≤◌, Bool, true, false, ltb, List, [], ◌∷◌, ◌++◌, length, get_or, refl, sym, ap, ◌∙◌, ◌⊎◌, inl, inr, subst, arith}
+use Rattle.std.proofs.Common.{◌≡◌, ℕ, zero, suc, ◌+◌, ◌<◌, ◌≤◌, Bool, true, false, ltb, List, [], ◌∷◌, length, get_or, refl, sym, ap, ◌∙◌, ◌⊎◌, inl, inr, subst, arith}
 use Rattle.std.specs.Prelude.{IsTrue}
-use Rattle.std.specs.List.{All, AllByRecursion, IsAllAdjacentAnswer, count_by}
+use Rattle.std.specs.List.{AllByRecursion, IsAllAdjacentAnswer, count_by}
 use Rattle.std.specs.List.Sorted.{IsPermutation, IsNonDecreasingBy}
 use Rattle.std.proofs.lemmas.Bool.{cases_Bool, ltb-true, lt-ltb, eq-eqb, false≢true}
 use Rattle.std.proofs.lemmas.List.Elements.{All-from_recursion, recursion_from_All}
 use Rattle.std.proofs.lemmas.List.Sorted.{IsPermutation-refl, IsPermutation-sym, IsPermutation-cons, IsPermutation-trans, IsPermutation-middle, All-permutation, sum_by-IsPermutation}
 use Rattle.eeprom.specs.Slots.{AreApart, Rises, has, in_order, put_in_order}
+use Rattle.scql_model.proofs.ChangedLists.{each-weaker}
 use Rattle.eeprom.proofs.InOrder.{AreApart-rising, Rises-in_order, counts, count_by-cons}
 
 -- an element of a list
 abbrev In : {X : Type 0} → X → List X → Type 0
 In z [] = ⊥
 In z (y ∷ ys) = (z ≡ y) ⊎ In z ys
-
-all-weaker : {X : Type 0} (P Q : X → Type 0) (xs : List X) → ((x : X) → P x → Q x) → AllByRecursion P xs → AllByRecursion Q xs
-all-weaker P Q [] f all = tt
-all-weaker P Q (x ∷ xs) f all = (f x all.0, all-weaker P Q xs f all.1)
 
 all-both : {X : Type 0} (P Q R : X → Type 0) (xs : List X) → ((x : X) → P x → Q x → R x) → AllByRecursion P xs → AllByRecursion Q xs → AllByRecursion R xs
 all-both P Q R [] f all other = tt
@@ -29,7 +26,7 @@ in-all P z (x ∷ xs) all (inr there) = in-all P z xs all.1 there
 
 in-each : {X : Type 0} (xs : List X) → AllByRecursion (λ z. In z xs) xs
 in-each [] = tt
-in-each (x ∷ xs) = (inl refl, all-weaker (λ z. In z xs) (λ z. In z (x ∷ xs)) xs (λ z there. inr there) (in-each xs))
+in-each (x ∷ xs) = (inl refl, each-weaker (λ z. In z xs) (λ z. In z (x ∷ xs)) xs (λ z there. inr there) (in-each xs))
 
 -- an element of a list whose key is above its first one's is one of the rest
 in-rest : {X : Type 0} (key : X → ℕ) (y z : X) (ys : List X) → In z (y ∷ ys) → key y < key z → In z ys
@@ -86,7 +83,7 @@ in_order-permuted key xs ys permuted rises =
 
 -- Neighbours.
 front-rises : {X : Type 0} (key : X → ℕ) (x y : X) (ys : List X) → key x < key y → Rises key (y ∷ ys) → Rises key (x ∷ y ∷ ys)
-front-rises key x y ys less rises = ((less, all-weaker (λ z. key y < key z) (λ z. key x < key z) ys (λ z h. omega arith) rises.0), rises)
+front-rises key x y ys less rises = ((less, each-weaker (λ z. key y < key z) (λ z. key x < key z) ys (λ z h. omega arith) rises.0), rises)
 
 rises-neighbours : {X : Type 0} (key : X → ℕ) (xs : List X) → ((k : ℕ) (d : X) → suc k < length xs → key (get_or xs k d) < key (get_or xs (suc k) d)) → Rises key xs
 rises-neighbours key [] less = tt

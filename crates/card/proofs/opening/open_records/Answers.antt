@@ -1,13 +1,11 @@
 -- What is gathered of the slots that were claimed is what the store of the image has.
-use Rattle.std.proofs.Common.{◌≡◌, ℕ, [], ◌∷◌, false, Option, List, Some, None, refl, sym, subst, ap, ◌∙◌, rules, inl, inr, arith}
+use Rattle.std.proofs.Common.{◌≡◌, ℕ, false, Option, Some, refl, sym, subst, ◌∙◌, rules, arith}
 use Rattle.std.specs.Prelude.{IfSome}
-use Rattle.std.specs.Vec.{vec_capacity}
 use Rattle.eeprom.specs.Chip.{Chip, Becomes, RisesBy}
-use Rattle.eeprom.specs.StoreOf.{Stored, is_gate_open, store_of}
-use Rattle.record_store.specs.Opening.{IsOverSoFar, StandsSoFar, front_octets}
+use Rattle.eeprom.specs.StoreOf.{is_gate_open}
+use Rattle.record_store.specs.Opening.{IsOverSoFar, front_octets}
 use Rattle.record_store.proofs.OpeningSlots.{finished-over, finished-opened, read-told}
-use Rattle.card.specs.Opening.{HoldsNone, IsOfStore}
-use Rattle.card.proofs.GatheredSlots.{GathersSoFar, gathered-next, none-next, none-stored}
+use Rattle.card.proofs.GatheredSlots.{GathersSoFar, gathered-next, none-next}
 use Rattle.card.proofs.OpenedDatabase.{gathered-all, opens-finished, of-store_told, none-tested_told, opens-kept, reads-card, refused-kept}
 use Rattle.card.proofs.opening.open_records.Goals.{After-finish-store, In-Some}
 use Rattle.card.proofs.opening.open_records.Goals as goal

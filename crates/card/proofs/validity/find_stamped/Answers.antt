@@ -1,5 +1,5 @@
 -- A search by halves finds what a search from the front finds.
-use Rattle.std.proofs.Common.{◌≡◌, Ok, Err, sym, ◌∙◌, rules}
+use Rattle.std.proofs.Common.{◌≡◌, rules}
 use Rattle.std.proofs.lemmas.List.Sorted.{answers_always}
 use Rattle.card.specs.Summary.{stamp_of}
 use Rattle.card.proofs.Stamped.{searched-Ok, searched-Err}

@@ -1,5 +1,5 @@
 -- What is left to find after the next record.
-use Rattle.std.proofs.Common.{◌≡◌, Some, None, Bool, true, false, refl, sym, ap, ◌∙◌, rules, drop, ◌+◌}
+use Rattle.std.proofs.Common.{◌≡◌, Some, None, true, false, refl, sym, ap, ◌∙◌, drop, ◌+◌}
 use Rattle.std.specs.List.{cons_option}
 use Rattle.scql_model.specs.Rules as rules
 use Rattle.card.specs.Summary.{as_user, users_in}

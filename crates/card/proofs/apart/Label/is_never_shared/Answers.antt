@@ -1,5 +1,5 @@
 -- The numbers so far are those of the records so far.
-use Rattle.std.proofs.Common.{◌≡◌, ◌++◌, ◌∷◌, [], Some, None, true, is_ok, length, refl, sym, ap, ◌∙◌, rules, arith}
+use Rattle.std.proofs.Common.{◌≡◌, ◌++◌, ◌∷◌, [], true, is_ok, refl, sym, ap, ◌∙◌, arith}
 use Rattle.card.specs.Apart as apart
 use Rattle.card.proofs.Labels.{never-shared}
 use Rattle.card.proofs.Passing.{all-next, taken-one, taken-none, one-more, all-taken, all-made}

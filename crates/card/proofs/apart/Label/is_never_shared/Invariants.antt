@@ -1,4 +1,4 @@
-use Rattle.std.proofs.Common.{◌≡◌, ◌+◌, ◌≤◌, ◌++◌, length, true, drop, take, vec_capacity}
+use Rattle.std.proofs.Common.{◌≡◌, ◌≤◌, ◌++◌, length, true, drop, take, vec_capacity}
 use Rattle.std.specs.List.{filter_map, list_all}
 use Rattle.card.specs.Apart as apart
 use Rattle.card.proofs.apart.Label.is_never_shared.Given as goal
