@@ -87,19 +87,21 @@ taken-parts db taken =
     let d = and_parts (list_all grant_record.fits db.grants) _ c.1 in
     let o = and_parts (list_all object_fits db.objects) (list_all is_plain_table db.objects) (sym (list_all-both object_fits is_plain_table db.objects) ∙ c.0) in
     let p = and_parts (are_tables db.objects) (list_all (λ (o : Object). are_different (columns_of o.kind)) db.objects) (sym (list_all-both (λ (o : Object). is_table o.kind) (λ (o : Object). are_different (columns_of o.kind)) db.objects) ∙ o.1) in
-    let r = and_parts (list_all row_record.fits db.rows) (list_all (is_within_limit db.limit) db.rows) (sym (list_all-both row_record.fits (is_within_limit db.limit) db.rows) ∙ d.1) in
-    (p.0, λ cells limit room. record {
-      cells = cells;
-      limit = limit;
-      room = room;
-      counter = (and_parts (counter_record.fits db.next) true a.0).0;
-      users = b.0;
-      objects = o.0;
-      columns = p.1;
-      grants = d.0;
-      rows = r.0;
-      lengths = r.1;
-    })
+    let r = and_parts (list_all row_record.fits db.rows) (list_all (is_within_limit db.limit) db.rows) (sym (list_all-both row_record.fits (is_within_limit db.limit) db.rows) ∙ d.1) in (
+      p.0,
+      λ cells limit room. record {
+        cells = cells;
+        limit = limit;
+        room = room;
+        counter = (and_parts (counter_record.fits db.next) true a.0).0;
+        users = b.0;
+        objects = o.0;
+        columns = p.1;
+        grants = d.0;
+        rows = r.0;
+        lengths = r.1;
+      },
+    )
 
 -- What is kept of a slot's octets is, of each kind, what its reader gives.
 abbrev parts : ℕ → Option User → Option Object → Option Grant → Option RowRecord → Option Summary

@@ -82,15 +82,17 @@ opens-tested image was count next records there cells limit room g passed =
     let taken = taken-parts db (sym (taken-held db.limit was.slots db holds) ∙ g.taken) in
     let room' : weight db ≤ db.cells = subst (λ (w : ℕ). w ≤ length was.slots) (cells-filled was.slots db holds) room in
     let sorted = in_order stamp_of (gathered 0 was.slots) in
-    let valid = subst (λ (records : List Summary). is_valid_list next (in_order stamp_of records) ≡ true) (sym g.records_are) passed.valid in
-    (db, record {
-      store = was;
-      stored = there;
-      limit = refl;
-      holds = holds;
-      valid = IsValid-tested db sorted (summarizes-held was.slots db holds apart taken.0) (taken.1 cells limit room') valid;
-      tables = taken.0;
-    })
+    let valid = subst (λ (records : List Summary). is_valid_list next (in_order stamp_of records) ≡ true) (sym g.records_are) passed.valid in (
+      db,
+      record {
+        store = was;
+        stored = there;
+        limit = refl;
+        holds = holds;
+        valid = IsValid-tested db sorted (summarizes-held was.slots db holds apart taken.0) (taken.1 cells limit room') valid;
+        tables = taken.0;
+      },
+    )
 
 counter-held : (counter : Option ℕ) (next : ℕ) → in_order counter_stamp (cons_option counter []) ≡ next ∷ [] → counter ≡ Some next
 counter-held None next is = absurd (cc)

@@ -102,16 +102,16 @@ next_to P k at = subst P (omega arith) at
 -- what a test of all neighbours says
 pub rises-answered : {X : Type 0} (key : X → ℕ) (xs : List X) (r : Bool) → IsAllAdjacentAnswer (λ x y b. b ≡ ltb (key x) (key y)) xs r → (IsTrue r → Rises key xs) × (Rises key xs → IsTrue r)
 rises-answered key xs true answer = (
-    λ _. rises-neighbours key xs (λ k d h. ltb-true (key (get_or xs k d)) (key (get_or xs (suc k) d)) (sym (next_to (λ n. true ≡ ltb (key (get_or xs k d)) (key (get_or xs n d))) k (answer k d (omega arith))))),
-    λ _. refl,
+  λ _. rises-neighbours key xs (λ k d h. ltb-true (key (get_or xs k d)) (key (get_or xs (suc k) d)) (sym (next_to (λ n. true ≡ ltb (key (get_or xs k d)) (key (get_or xs n d))) k (answer k d (omega arith))))),
+  λ _. refl,
 )
 rises-answered key [] false answer = (λ no. absurd (false≢true no), λ _. absurd (omega (arith, answer.1)))
 rises-answered key (x ∷ xs) false answer = (
-    λ no. absurd (false≢true no),
-    λ rises.
-    let k : ℕ = answer.0 in
-    let less = neighbours-rise key (x ∷ xs) rises k x (omega (arith, answer.1)) in
-    absurd (false≢true (next_to (λ n. false ≡ ltb (key (get_or (x ∷ xs) k x)) (key (get_or (x ∷ xs) n x))) k (answer.2 x) ∙ lt-ltb (key (get_or (x ∷ xs) k x)) (key (get_or (x ∷ xs) (suc k) x)) less)),
+  λ no. absurd (false≢true no),
+  λ rises.
+      let k : ℕ = answer.0 in
+      let less = neighbours-rise key (x ∷ xs) rises k x (omega (arith, answer.1)) in
+      absurd (false≢true (next_to (λ n. false ≡ ltb (key (get_or (x ∷ xs) k x)) (key (get_or (x ∷ xs) n x))) k (answer.2 x) ∙ lt-ltb (key (get_or (x ∷ xs) k x)) (key (get_or (x ∷ xs) (suc k) x)) less)),
 )
 
 apart-tail : {X : Type 0} (key : X → ℕ) (x : X) (xs : List X) → AreApart key (x ∷ xs) → AreApart key xs
@@ -123,10 +123,10 @@ rises-steps key (x ∷ []) up apart = (tt, tt)
 rises-steps key (x ∷ y ∷ ys) up apart =
     let first : key x ≤ key y = up 0 x (omega arith) in
     let ne : key x ≡ key y → ⊥ = λ same. (
-        let a = counts (has key (key y)) x (y ∷ ys) (eq-eqb (key x) (key y) same) in
-        let b = counts (has key (key y)) y ys (eq-eqb (key y) (key y) refl) in
-        let c = apart (key y) in
-        omega arith) in
+    let a = counts (has key (key y)) x (y ∷ ys) (eq-eqb (key x) (key y) same) in
+    let b = counts (has key (key y)) y ys (eq-eqb (key y) (key y) refl) in
+    let c = apart (key y) in
+    omega arith) in
     front-rises key x y ys (omega (arith, first, ne)) (rises-steps key (y ∷ ys) (λ k d h. up (suc k) d (omega arith)) (apart-tail key x (y ∷ ys) apart))
 
 -- keys that don't fall, and are apart, rise
