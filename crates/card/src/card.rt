@@ -2,11 +2,11 @@
 ghost use Rattle.std.specs.Prelude.{◌≡◌, ◌≢◌, ◌↔◌, ℕ, List, slice_get, ◌<◌, ◌≤◌, ◌+◌, ◌*◌, [], ◌∷◌, Some, None, true, false, map, is_some, length, drop, option_map, IfSome, IfOk, OnOk, IsTrue, IsErrOf};
 ghost use Rattle.eeprom.specs.Chip.{Chip, Becomes, Keeps, RisesAtMost};
 ghost use Rattle.eeprom.specs.Fault.{Counts, Rose};
-ghost use Rattle.eeprom.specs.StoreOf.{fewest_cells, image_size, is_gate_open};
+ghost use Rattle.eeprom.specs.StoreOf.{fewest_cells, image_size, is_gate_open, most_cells};
 ghost use Rattle.cell_store.specs.Reading.{ReadsAtMost};
 ghost use Rattle.record_store.specs.Held.{StandsFor};
 ghost use Rattle.record_store.specs.Faults.{is_open_fault};
-ghost use Rattle.record_store.specs.Opening.{most_octets};
+ghost use Rattle.record_store.specs.Opening.{front_octets, journal_octets, most_octets};
 ghost use Rattle.record_store.specs.Recovery.{Recovers};
 ghost use Rattle.scql_model.specs.Replies as model;
 ghost use Rattle.scql_model.specs.Machine as machine;
@@ -30,10 +30,9 @@ ghost use Rattle.scql_model.specs.WellFormed.{HasForm, FitsCard, IsWellFormed};
 ghost use Rattle.std.specs.Option.{option_flatten};
 
 use crate::changing::change;
-use crate::opening::{Opened, open_records};
+use crate::opening::open_records;
 use crate::outcome::Outcome;
 use crate::session::Session;
-use crate::validity::are_valid;
 use apdu::Reply;
 use apdu_chain::{Chains, Taken};
 use catalog_codec::{Counter, Record};
@@ -101,6 +100,9 @@ impl Card {
         ensures octets_read { OnOk result (IfSome (B.chip bench.old).image (λ image. (db : Database) → Opens image db → is_gate_open image ≡ false
             → Becomes (ReadsCard db) (B.octets_read bench.old) (B.octets_read bench.new))) }
         ensures most_read { Becomes (ReadsAtMost most_octets) (B.octets_read bench.old) (B.octets_read bench.new) }
+        // Memory is wanting only before the first record is read.
+        ensures no_memory { IsErrOf result OpenRefusal.NoMemory
+            → Becomes (RisesAtMost (front_octets most_cells + journal_octets most_cells)) (B.octets_read bench.old) (B.octets_read bench.new) }
         ensures not_a_card { IsErrOf result OpenRefusal.NotACard → IfSome (B.chip bench.old).image (λ image. (db : Database) → Opens image db → ⊥) }
         // A power loss leaves an image that opens as before, also where it is refused; and where the gate is closed nothing is written.
         ensures recovers { Recovers is_open_fault B.chip B.faults bench.old bench.new result }
@@ -109,12 +111,9 @@ impl Card {
         ensures quiet { ¬ IsErrOf result OpenRefusal.Fault → B.faults bench.new ≡ B.faults bench.old }
         ensures never_falls { B.faults bench.old ≤ B.faults bench.new }
     {
-        let Opened { store, records } = open_records(alloc, bench)?;
-        if !are_valid(alloc, &records)? {
-            return Err(OpenRefusal::NotACard);
-        }
+        let opened = open_records(alloc, bench)?;
         Ok(Card {
-            store,
+            store: opened.store,
             sessions: first_sessions(),
             chains: Chains::new(),
             live: true,
