@@ -8,10 +8,10 @@ use Rattle.scql_model.specs.Edits.{changing}
 use Rattle.scql_model.proofs.EditLaws.{applied-cells, applied-limit}
 use Rattle.record_table.specs.Changed.{IsChanged}
 use Rattle.record_table.specs.Listed.{at_slot}
-use Rattle.record_table.proofs.Ending.{Ends-store, at-told}
+use Rattle.record_table.proofs.Ending.{Ends-store, KeepsRows-one, at-told}
 use Rattle.record_table.proofs.InPlace.{IsEditedTo-changed, full-changed}
 use Rattle.record_table.proofs.Made.{cells-any}
-use Rattle.record_table.proofs.Steps.{StepsTo-told}
+use Rattle.record_table.proofs.Steps.{StepsTo-told, slots-told}
 use Rattle.record_table.proofs.in_place.change_in_place.Goals as goal
 
 pub returns-in_err-change-clause-ends : goal.returns-in_err-change-clause-ends
@@ -55,3 +55,9 @@ returns-clause-ends g c = λ db was held there same with.
       octets = λ after told. (let wrote = c.in_ok-change.ensures.octets_written after told in (wrote.0, wrote.1, omega (arith, wrote.2, cells)));
       entries = c.in_ok-change.ensures.entries;
     })
+
+pub returns-clause-rows : goal.returns-clause-rows
+returns-clause-rows g c = λ was apart there.
+    let kind = g.R.Record.kind in
+    KeepsRows-one kind c.args.slot was (IsChanged kind c.args.value.now c.args.slot) _ _ g.met.R.Record.lawful apart there (λ a b is. (Some (kind.form.spell c.args.value.now), is, g.met.R.Record.lawful.begins c.args.value.now))
+    (slots-told (IsChanged kind c.args.value.now c.args.slot) c.args.store.now c.change.new.store (g.B.Eeprom.chip c.args.bench.now) (g.B.Eeprom.chip c.change.new.bench) c.requires.over.stands c.in_ok-change.ensures.changed)
