@@ -1,5 +1,6 @@
 -- How an operation ends where a store refuses, and where its record and the counter are written.
 use Rattle.std.proofs.Common.{◌≡◌, ℕ, ◌+◌, ◌*◌, ◌<◌, ◌≤◌, true, List, length, Option, Some, None, Result, Ok, Err, get_or, refl, sym, ap, subst, ◌∙◌, arith}
+use Rattle.std.proofs.Math.ListN.{set}
 use Rattle.std.specs.Prelude.{IfSome, is_some}
 use Rattle.std.specs.Result.{IsErrAnd}
 use Rattle.eeprom.specs.Chip.{Chip, Becomes, RisesBy, RisesAtMost}
@@ -83,6 +84,16 @@ KeepsRows-made kind x slot counter was next old new is apart at both = λ after 
     let b = both after told in
     let here : Some was ≡ at_slot counter_kind counter b.0 = subst (λ o. IfSome o (λ slots. Some was ≡ at_slot counter_kind counter slots)) b.1 at in
     (b.0, b.1, rows-made kind x slot counter was next b.0 after is apart (sym here) b.2)
+
+-- one slot with a record of another kind is changed or emptied, and all rows stay
+pub KeepsRows-one : {X : Type 0} (kind : Kind X) (slot : ℕ) (was : X) (step : Slots → Slots → Type 0) (old new : Option Slots) → IsKind kind → HaveOtherMarks kind row_kind
+    → IfSome old (λ slots. Some was ≡ at_slot kind slot slots) → ((a b : Slots) → step a b → (entry : Option (List ℕ)) × (b ≡ set a slot entry) × (is_of kind entry ≡ true))
+    → Becomes step old new → KeepsRows old new
+KeepsRows-one kind slot was step old new is apart at sets steps = λ after told.
+    let b = steps after told in
+    let here : Some was ≡ at_slot kind slot b.0 = subst (λ o. IfSome o (λ slots. Some was ≡ at_slot kind slot slots)) b.1 at in
+    let entry = sets b.0 after b.2 in
+    (b.0, b.1, λ place. ap (at_slot row_kind place) entry.1 ∙ at_slot-kept kind row_kind b.0 slot entry.0 place IsKind-row apart (is_of-read kind (get_or b.0 slot None) was is (sym here)) entry.2)
 
 -- the record and the counter are what is made
 pub IsMade-both : {X : Type 0} (kind : Kind X) (x : X) (slot counter next : ℕ) (old new : Slots) → Both (IsAdded kind x slot) (IsChanged counter_kind next counter) old new → IsMade kind x slot counter next old new

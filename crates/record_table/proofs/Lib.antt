@@ -1,5 +1,6 @@
 pub mod ChangedDatabase
 pub mod Ending
+pub mod InPlace
 pub mod HeldRecords
 pub mod ListedChanges
 pub mod ListedSearches
