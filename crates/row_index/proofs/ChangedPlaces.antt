@@ -15,7 +15,7 @@ use Rattle.record_table.specs.Changed.{IsAdded, IsChanged, IsEmptied}
 use Rattle.catalog_codec.specs.Kinds.{IsKind}
 use Rattle.catalog_codec.specs.CatalogLaws.{IsKind-row}
 use Rattle.record_table.specs.Listed.{at_slot, listed}
-use Rattle.row_index.specs.Index.{AreKept, HasRows, is_above, may_add}
+use Rattle.row_index.specs.Index.{HasRows, Index, is_above, may_add}
 use Rattle.row_index.specs.Places.{numbered, place_in, place_of, place_slot, place_stamp, row_places}
 use Rattle.row_index.specs.declared.place.RowPlace.{RowPlace}
 use Rattle.row_index.proofs.Changes.{length-in_order}
@@ -50,9 +50,9 @@ split_at (suc slot) first entry (old ∷ slots) within =
       before = cons_option (place_in (first, old)) rest.before;
       behind = rest.behind;
       old = ap (cons_option (place_in (first, old))) (subst (λ n. places_from (suc first) slots ≡ rest.before ++ cons_option (place_in (n, get_or slots slot None)) rest.behind) same rest.old)
-      ∙ cons_option-append (place_in (first, old)) rest.before _;
+          ∙ cons_option-append (place_in (first, old)) rest.before _;
       new = ap (cons_option (place_in (first, old))) (subst (λ n. places_from (suc first) (set slots slot entry) ≡ rest.before ++ cons_option (place_in (n, entry)) rest.behind) same rest.new)
-      ∙ cons_option-append (place_in (first, old)) rest.before _;
+          ∙ cons_option-append (place_in (first, old)) rest.before _;
     }
 
 -- a slot is given another record that reads as a row of the same place, or none does
@@ -223,7 +223,7 @@ HasRows-added cells places row slot old new has_rows added fits there below =
     record {
       all = ap length added.is ∙ length-set old slot _ ∙ has_rows.all;
       are = ap (λ xs. xs ++ place_of slot row ∷ []) has_rows.are
-      ∙ sym (ap row_places added.is ∙ places-added slot _ row old within added.empty (IsKind-row.again row fits) (subst (AllByRecursion (λ place. place_stamp place < row.stamp)) has_rows.are below));
+          ∙ sym (ap row_places added.is ∙ places-added slot _ row old within added.empty (IsKind-row.again row fits) (subst (AllByRecursion (λ place. place_stamp place < row.stamp)) has_rows.are below));
     }
 
 -- its slot had no place before, and there was room
@@ -263,9 +263,25 @@ HasRows-removed cells places slot old new has_rows emptied there =
     record {
       all = ap length emptied ∙ length-set old slot _ ∙ has_rows.all;
       are = ap (without place_slot slot) has_rows.are ∙ sym kept
-      ∙ ap (in_order place_stamp) (sym (subst (λ n. places_from 0 (set old slot None) ≡ without place_slot n (places_from 0 old)) (less_zero slot) (places_from-emptied slot 0 old within)))
-      ∙ ap row_places (sym emptied);
+          ∙ ap (in_order place_stamp) (sym (subst (λ n. places_from 0 (set old slot None) ≡ without place_slot n (places_from 0 old)) (less_zero slot) (places_from-emptied slot 0 old within)))
+          ∙ ap row_places (sym emptied);
     }
   where
     less_zero : (n : ℕ) → 0 + n ≡ n
     less_zero n = omega arith
+
+list_all-all : {X : Type 0} (p : X → Bool) (P : X → Type 0) (xs : List X) → ((x : X) → P x → p x ≡ true) → AllByRecursion P xs → list_all p xs ≡ true
+list_all-all p P [] says all = refl
+list_all-all p P (x ∷ xs) says all = and_from (p x) (list_all p xs) (says x all.0) (list_all-all p P xs says all.1)
+
+-- a row may be added whose stamp is above all others, to a slot that is empty
+pub may_add-told : (index : Index) (place : RowPlace) (committed working : Slots) → HasRows index.cells index.committed committed → HasRows index.cells index.working working → get_or working place.slot None ≡ None → place.slot < index.cells
+    → AllByRecursion (λ y. place_stamp y < place.stamp) index.committed → AllByRecursion (λ y. place_stamp y < place.stamp) index.working → may_add index place ≡ true
+may_add-told index place committed working has_committed has_working none there below below_working =
+    let room = room-added index.cells index.working place.slot working has_working none there in
+    let a : is_above place.stamp index.committed ≡ true = list_all-all (λ y. ltb (place_stamp y) place.stamp) (λ y. place_stamp y < place.stamp) index.committed (λ y h. lt-ltb (place_stamp y) place.stamp h) below in
+    let b : is_above place.stamp index.working ≡ true = list_all-all (λ y. ltb (place_stamp y) place.stamp) (λ y. place_stamp y < place.stamp) index.working (λ y h. lt-ltb (place_stamp y) place.stamp h) below_working in
+    let c = lt-ltb place.slot index.cells there in
+    let d = not_from_false (list_any (has place_slot place.slot) index.working) room.0 in
+    let e = lt-ltb (length index.working) index.cells room.1 in
+    rw (a, b, c, room.0, e) refl

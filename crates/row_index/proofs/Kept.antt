@@ -1,6 +1,6 @@
 -- What an index keeps of its places when one is put among them or taken out.
 use Rattle.std.proofs.Common.{◌≡◌, ℕ, zero, suc, ◌+◌, ◌<◌, ◌≤◌, Bool, true, false, cond, not, ◌&&◌, ltb, eqb, List, [], ◌∷◌, ◌++◌, length, Option, Some, None, inl, inr, refl, sym, ap, ◌∙◌, arith, subst}
-use Rattle.std.specs.Prelude.{option_map, IfSome}
+use Rattle.std.specs.Prelude.{option_map, IfSome, is_some}
 use Rattle.std.specs.List.{find, filter, count_by, sum_by, list_all, list_any, AllByRecursion}
 use Rattle.std.proofs.lemmas.Bool.{cases_Bool, ltb-true, ltb-false, eqb-true, eqb-false, eq-eqb, ne_eqb, and_parts, or_parts, not-true}
 use Rattle.std.proofs.lemmas.List.Sums.{sum_by-cons, count_by-le-length, length-filter}
@@ -22,13 +22,22 @@ pub none-list_any : {X : Type 0} (p : X → Bool) (xs : List X) → list_any p x
 none-list_any p [] none = refl
 none-list_any p (x ∷ xs) none = let both = or_parts (p x) (list_any p xs) none in counts_not p x xs both.0 ∙ none-list_any p xs both.1
 
-none-found : {X : Type 0} (p : X → Bool) (xs : List X) → find p xs ≡ None → count_by p xs ≡ 0
+-- what isn't found isn't there, and what is found is
+pub none-found : {X : Type 0} (p : X → Bool) (xs : List X) → find p xs ≡ None → count_by p xs ≡ 0
 none-found p [] none = refl
 none-found p (x ∷ xs) none =
     elim (cases_Bool (p x)) [
       | inl t ↦ absurd (none-some x (sym (rw t at none)))
       | inr f ↦ counts_not p x xs f ∙ none-found p xs (rw f at none)
     ]
+
+pub unfound-counted : {X : Type 0} (p : X → Bool) (xs : List X) (found : Option X) → found ≡ find p xs → is_some found ≡ false → count_by p xs ≡ 0
+unfound-counted p xs None is none = none-found p xs (sym is)
+unfound-counted p xs (Some x) is none = absurd (cc)
+
+pub found-some : {X : Type 0} (p : X → Bool) (xs : List X) (found : Option X) → found ≡ find p xs → is_some found ≡ true → find p xs ≡ None → ⊥
+found-some p xs None is some none = absurd (cc)
+found-some p xs (Some x) is some none = none-some x (sym none ∙ sym is)
 
 -- where no place has a slot, nothing is taken out
 pub without-not_found : (slot : ℕ) (xs : List RowPlace) → find (has place_slot slot) xs ≡ None → without place_slot slot xs ≡ xs

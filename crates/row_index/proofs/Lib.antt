@@ -4,3 +4,5 @@ pub mod Changes
 pub mod Kept
 pub mod Scans
 pub mod ChangedPlaces
+pub mod Gathering
+pub mod Standing

@@ -1,7 +1,7 @@
 -- The places of the rows of slots, against the list of the rows; and what becomes of them when one slot is changed.
 use Rattle.std.proofs.Common.{◌≡◌, ℕ, zero, suc, ◌+◌, ◌<◌, ◌≤◌, Bool, true, false, cond, not, ◌&&◌, ◌||◌, ltb, eqb, List, [], ◌∷◌, ◌++◌, length, Option, Some, None, get_or, inl, inr, refl, sym, ap, ◌∙◌, arith, subst, map}
 use Rattle.std.proofs.Math.ListN.{set}
-use Rattle.std.specs.Prelude.{option_map, option_and_then, IfSome}
+use Rattle.std.specs.Prelude.{option_map, option_and_then, IfSome, is_some}
 use Rattle.std.specs.List.{find, filter, filter_map, cons_option, count_by, sum_by, list_all, list_any, AllByRecursion}
 use Rattle.std.proofs.lemmas.Bool.{cases_Bool, ltb-true, ltb-false, lt-ltb, le-ltb, eqb-true, eqb-false, eq-eqb, ne_eqb}
 use Rattle.std.proofs.lemmas.List.Sums.{sum_by-append, sum_by-cons}
@@ -97,6 +97,7 @@ are_there first (entry ∷ slots) =
     weaker : (xs : List (ℕ × RowRecord)) → AllByRecursion (IsThere (suc first) slots) xs → AllByRecursion (IsThere first (entry ∷ slots)) xs
     weaker [] all = tt
     weaker (x ∷ xs) all = ((suc all.0.0, omega (arith, all.0.1), omega (arith, all.0.2), all.0.3), weaker xs all.1)
+
     one : (row : Option RowRecord) → row_in entry ≡ row → AllByRecursion (IsThere first (entry ∷ slots)) (pairs_from (suc first) slots)
         → AllByRecursion (IsThere first (entry ∷ slots)) (cons_option (option_map (λ (row : RowRecord). (first, row)) row) (pairs_from (suc first) slots))
     one None is rest = rest
@@ -130,6 +131,33 @@ found_row slots p q same =
     one None there = refl
     one (Some pair) there = let at : pair.0 ≡ there.0 = omega (arith, there.1) in rw at there.3
 
+-- and there is one exactly where the list has one
+pub found_both : (slots : Slots) (p : RowPlace → Bool) (q : RowRecord → Bool) → ((slot : ℕ) (row : RowRecord) → p (place_of slot row) ≡ q row) → is_some (find p (row_places slots)) ≡ is_some (find q (listed row_kind slots))
+found_both slots p q same =
+    let test : ℕ × RowRecord → Bool = (λ pair. q pair.1) in
+    let place = ap (find p) (row_places-pairs slots) ∙ find-map pair_place p (pairs slots) ∙ ap (option_map pair_place) (find-agree (λ pair. p (pair_place pair)) test (pairs slots) (λ pair. same pair.0 pair.1)) in
+    let row = ap (find q) (listed-pairs slots) ∙ find-map (λ (pair : ℕ × RowRecord). pair.1) q (pairs slots) in
+    ap is_some place ∙ one (find test (pairs slots)) ∙ sym (ap is_some row)
+  where
+    one : (o : Option (ℕ × RowRecord)) → is_some (option_map pair_place o) ≡ is_some (option_map (λ (pair : ℕ × RowRecord). pair.1) o)
+    one None = refl
+    one (Some pair) = refl
+
+all-map : {X Y : Type 0} (f : X → Y) (P : Y → Type 0) (xs : List X) → AllByRecursion (λ x. P (f x)) xs → AllByRecursion P (map f xs)
+all-map f P [] all = tt
+all-map f P (x ∷ xs) all = (all.0, all-map f P xs all.1)
+
+all-unmap : {X Y : Type 0} (f : X → Y) (P : Y → Type 0) (xs : List X) → AllByRecursion P (map f xs) → AllByRecursion (λ x. P (f x)) xs
+all-unmap f P [] all = tt
+all-unmap f P (x ∷ xs) all = (all.0, all-unmap f P xs all.1)
+
+-- what holds of the stamps of all rows holds of those of their places
+pub places-below : (stamp : ℕ) (slots : Slots) → AllByRecursion (λ (row : RowRecord). row.stamp < stamp) (listed row_kind slots) → AllByRecursion (λ place. place_stamp place < stamp) (row_places slots)
+places-below stamp slots below =
+    subst (AllByRecursion (λ place. place_stamp place < stamp)) (sym (row_places-pairs slots))
+    (all-map pair_place (λ place. place_stamp place < stamp) (pairs slots)
+    (all-unmap (λ (pair : ℕ × RowRecord). pair.1) (λ (row : RowRecord). row.stamp < stamp) (pairs slots) (subst (AllByRecursion (λ (row : RowRecord). row.stamp < stamp)) (listed-pairs slots) below)))
+
 -- the slots of places from a number on are no lesser numbers
 pub slots_from : (first : ℕ) (slots : Slots) → AllByRecursion (λ place. (first ≤ place_slot place) × (place_slot place < first + length slots)) (places_from first slots)
 slots_from first [] = tt
@@ -139,6 +167,7 @@ slots_from first (entry ∷ slots) = one (row_in entry) (weaker (places_from (su
         → AllByRecursion (λ place. (first ≤ place_slot place) × (place_slot place < first + suc (length slots))) xs
     weaker [] all = tt
     weaker (x ∷ xs) all = ((omega (arith, all.0.0), omega (arith, all.0.1)), weaker xs all.1)
+
     one : (row : Option RowRecord) → AllByRecursion (λ place. (first ≤ place_slot place) × (place_slot place < first + suc (length slots))) (places_from (suc first) slots)
         → AllByRecursion (λ place. (first ≤ place_slot place) × (place_slot place < first + suc (length slots))) (cons_option (option_map (place_of first) row) (places_from (suc first) slots))
     one None rest = rest

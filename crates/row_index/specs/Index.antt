@@ -11,6 +11,8 @@ use Rattle.record_table.specs.Listed.{slots_of}
 use Rattle.row_index.specs.Places.{place_stamp, place_slot, row_places, IsOneMore}
 use Rattle.row_index.specs.Ordered.{Ordered}
 use Rattle.row_index.specs.declared.place.RowPlace.{RowPlace}
+use Rattle.row_index.specs.declared.refusal.BuildRefusal.{BuildRefusal}
+use Rattle.row_index.specs.declared.refusal.BuildRefusal.TheVariants.{NoMemory, Fault}
 use Rattle.row_index.specs.declared.done.Done.{Done}
 use Rattle.row_index.specs.declared.done.Done.TheVariants.{Nothing, Added, Removed, Much}
 
@@ -68,3 +70,8 @@ pub record Indexes (index : Index) (store : Held) (chip : Chip) : Type 0 where
   pub cells : index.cells ≡ store.chains.cells
   pub committed : IfSome (slots_of store Committed chip) (HasRows index.cells index.committed)
   pub working : IfSome (slots_of store Working chip) (HasRows index.cells index.working)
+
+-- only one refusal comes from the EEPROM
+abbrev pub is_build_fault : BuildRefusal → Bool
+is_build_fault NoMemory = false
+is_build_fault Fault = true

@@ -1,16 +1,26 @@
 // The index: the places of the rows of both sides of a store.
-ghost use Rattle.std.specs.Prelude.{◌≡◌, ◌<◌, ◌≤◌, [], Some, false, true, IfOk, IfSome, IsTrue, if◌then◌else◌, length, option_map, ◌++◌, ◌∷◌};
+ghost use Rattle.std.specs.Prelude.{◌≡◌, ◌<◌, ◌≤◌, ◌*◌, OnOk, [], Some, false, true, IfOk, IfSome, IsTrue, if◌then◌else◌, length, option_map, ◌++◌, ◌∷◌};
 ghost use Rattle.std.specs.List.{find};
-ghost use Rattle.eeprom.specs.Slots.{has, without};
+ghost use Rattle.eeprom.specs.Chip.{Becomes, RisesAtMost};
+ghost use Rattle.eeprom.specs.Fault.{each_error};
+ghost use Rattle.eeprom.specs.Frame.{Reads};
+ghost use Rattle.eeprom.specs.Slots.{AreApart, has, without};
+ghost use Rattle.eeprom.specs.StoreOf.{cell_size};
+ghost use Rattle.record_store.specs.Held.{IsOver};
+ghost use Rattle.record_store.specs.declared.side.Side.TheVariants.{Committed};
+ghost use Rattle.catalog_codec.specs.Catalog.{row_kind};
+ghost use Rattle.record_table.specs.Listed.{cells_marked, slots_of};
 ghost use Rattle.row_index.specs.Index.{AreKept, Index, LeadsTo, may_add, side_places};
 ghost use Rattle.row_index.specs.Index as specs;
 ghost use Rattle.row_index.specs.Ordered.{Ordered};
-ghost use Rattle.row_index.specs.Places.{is_later_in, place_slot, place_stamp};
+ghost use Rattle.row_index.specs.Places.{is_later_in, place_slot, place_stamp, row_places};
 
 use crate::RowPlace;
+use crate::build::gather;
 use crate::done::Done;
 use crate::ordered::OrderedPlaces;
-use record_store::Side;
+use eeprom::{Eeprom, EepromFault};
+use record_store::{Side, Store};
 use std::alloc::{AllocError, Global};
 use std::marker::Model;
 
@@ -125,6 +135,29 @@ impl RowIndex {
         follow(&mut self.working, &self.committed, self.done.undoing());
         self.done = Done::Nothing;
         self.begun = false;
+    }
+
+    // Has the rows of a store on both sides. A fault leaves some of them.
+    pub(crate) fn read_rows<B: Eeprom>(
+        &mut self,
+        store: &Store,
+        bench: &mut B,
+    ) -> Result<(), EepromFault>
+        requires over { IsOver store.now (B.chip bench.old) }
+        requires idle { self.old.begun ≡ false }
+        requires none { self.old.committed ≡ [] }
+        requires cells { self.old.cells ≡ store.now.chains.cells }
+        ensures cells { self.new.cells ≡ self.old.cells }
+        ensures idle { self.new.begun ≡ false }
+        ensures both { self.new.working ≡ self.new.committed }
+        ensures read { OnOk result (IfSome (slots_of store.now Committed (B.chip bench.old)) (λ slots. AreApart place_stamp (row_places slots) → self.new.committed ≡ row_places slots)) }
+        ensures octets_read { IfOk result (λ _. IfSome (slots_of store.now Committed (B.chip bench.old))
+            (λ slots. Becomes (RisesAtMost (cell_size * cells_marked row_kind slots)) (B.octets_read bench.old) (B.octets_read bench.new))) }
+        ensures frame { Reads each_error B.chip B.faults bench.old bench.new result }
+    {
+        let read = gather(store, bench, &mut self.committed);
+        self.working.copy(&self.committed);
+        read
     }
 
     // The places of a side.
