@@ -11,6 +11,7 @@ use scql_base::{
 };
 
 // The operation that a data field asks for, where secrets can be shown or not, and where a row has at most so many octets.
+#[inline(never)]
 pub(crate) fn operation_in(
     secrets: bool,
     kind: OperationKind,

@@ -38,23 +38,6 @@ unwrap_or-going_on kind (Some chain) = go (goes_on kind chain.operation) refl
     go true at = ap (λ (operation : OperationKind). let c : Chain = record { operation = operation; parts = chain.parts } in c) (goes_on-is kind chain.operation at)
     go false at = refl
 
--- the parts before a command that goes on with a chain, or with none
-pub parts-going_on : (kind : OperationKind) (chain : Option Chain) (begun : Chain) → Some begun ≡ going_on kind chain → parts_of kind chain ≡ begun.parts
-parts-going_on kind None begun is = absurd cc
-parts-going_on kind (Some chain) begun is = go (goes_on kind chain.operation) is
-  where
-    go : (on : Bool) → Some begun ≡ (if on then Some chain else None) → (if on then chain.parts else []) ≡ begun.parts
-    go true is = let same : chain ≡ begun = cc in ap (λ (c : Chain). c.parts) same
-    go false is = absurd cc
-
-pub parts-not_going_on : (kind : OperationKind) (chain : Option Chain) → None ≡ going_on kind chain → parts_of kind chain ≡ []
-parts-not_going_on kind None is = refl
-parts-not_going_on kind (Some chain) is = go (goes_on kind chain.operation) is
-  where
-    go : (on : Bool) → None ≡ (if on then Some chain else None) → (if on then chain.parts else []) ≡ []
-    go true is = absurd cc
-    go false is = refl
-
 -- What an APDU that is a part makes of the chains.
 on_channel-part : (chains : List (Option Chain)) (a : Apdu) (limit : ℕ) → a.is_part ≡ true → comes_in_parts a.kind ≡ true → length (parts_of a.kind (chain_on chains a.channel)) < 4
     → on_channel chains a limit ≡ part_on a.channel a.kind a.body.now

@@ -66,11 +66,12 @@ impl Chain {
     }
 
     /// The octets of all parts, and of the one that ends them.
-    pub(crate) fn joined(self, last: &[u8]) -> ArrayVec<u8, 1275>
+    pub(crate) fn joined(&self, last: &[u8]) -> ArrayVec<u8, 1275>
         requires { length last.now ≤ 255 }
-        ensures { result.items ≡ concat self.parts ++ last.now }
+        ensures { result.items ≡ concat self.now.parts ++ last.now }
     {
-        let Chain { mut octets, .. } = self;
+        let mut octets = ArrayVec::new();
+        append(&mut octets, self.octets.as_slice());
         append(&mut octets, last);
         octets
     }

@@ -1,5 +1,5 @@
 // Commands that come in parts: a chain for each channel (ISO/IEC 7816-4, command chaining).
-ghost use Rattle.std.specs.Prelude.{◌≡◌, ◌≤◌, ◌<◌, ◌++◌, ℕ, [], ◌∷◌, Some, None, true, false, length, min, slice_set};
+ghost use Rattle.std.specs.Prelude.{◌≡◌, ◌≤◌, ◌<◌, ◌++◌, ℕ, [], ◌∷◌, Some, None, true, false, IfSome, IfNone, length, min, slice_set};
 ghost use Rattle.std.specs.List.{concat};
 ghost use Rattle.scql_model.specs.Form as form;
 ghost use Rattle.scql_model.specs.Form.{parts_of};
@@ -10,6 +10,7 @@ ghost use Rattle.apdu_chain.specs.Chaining.{IfWhole, chain_on, chains_after, goi
 
 use crate::chain::Chain;
 use apdu::{Apdu, Refusal, comes_in_parts};
+use arrayvec::ArrayVec;
 use scql_base::{Command, OperationKind, StatusWord};
 use std::marker::Model;
 
@@ -139,9 +140,25 @@ impl Chains {
         ensures command { result ≡ command_of apdu.now (min limit 1020) (concat (parts_of apdu.now.kind (chain_on self.old apdu.now.channel)) ++ apdu.now.body.now) }
         ensures ended { self.new ≡ slice_set self.old apdu.now.channel None }
     {
-        match self.end(apdu.channel, apdu.kind) {
-            Some(chain) => apdu.command(chain.joined(apdu.body).as_slice(), limit),
-            None => apdu.command(apdu.body, limit),
+        let joined = self.joined(apdu);
+        self.forget(apdu.channel);
+        let body = match &joined {
+            Some(octets) => octets.as_slice(),
+            None => apdu.body,
+        };
+        apdu.command(body, limit)
+    }
+
+    // The octets of the parts before an APDU and its own, where there are parts that it goes on with.
+    fn joined(&self, apdu: &Apdu<'_>) -> Option<ArrayVec<u8, 1275>>
+        requires channel { apdu.now.channel < 4 }
+        requires short { length apdu.now.body.now ≤ 255 }
+        ensures some { IfSome result (λ octets. octets.items ≡ concat (parts_of apdu.now.kind (chain_on self.now apdu.now.channel)) ++ apdu.now.body.now) }
+        ensures none { IfNone result (parts_of apdu.now.kind (chain_on self.now apdu.now.channel) ≡ []) }
+    {
+        match &self.chains[usize::from(apdu.channel)] {
+            Some(chain) if chain.goes_on_with(apdu.kind) => Some(chain.joined(apdu.body)),
+            _ => None,
         }
     }
 
