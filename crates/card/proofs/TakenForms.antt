@@ -19,6 +19,9 @@ use Rattle.scql_model.specs.Replies.{said}
 use Rattle.scql_model.specs.Step.{Answer, answered, done_with, carried_out, stepped, step_by, step}
 use Rattle.scql_model.proofs.FormedCommands.{bound, refused-not, kind-form_of, sound-built_operations}
 use Rattle.scql_model.proofs.FormedParts.{IfSome-read_on-named, read_on}
+use Rattle.scql_model.proofs.FieldLaws.{AreOctets}
+use Rattle.scql_model.proofs.ReadFits.{FitsCard-form_of}
+use Rattle.scql_model.specs.WellFormed.{FitsCard}
 use Rattle.apdu_chain.specs.declared.chains.Taken.TheVariants as taken
 use Rattle.apdu_chain.specs.Chaining.{chain_on, chains_after, taken_of}
 use Rattle.record_store.specs.Held.{Held}
@@ -204,6 +207,12 @@ pub built-taken : (octets : List ℕ) (channels : List Bool) (chain : ℕ → Op
     → IsBuilt (kind_of c.operation)
 built-taken octets channels chain limit c most is =
     kind-form_of built_operations octets channels chain limit c sound-built_operations most (taken-whole (form_of built_operations octets channels chain limit) c is)
+
+-- and fits the card
+pub fits-taken : (octets : List ℕ) (channels : List Bool) (chain : ℕ → Option Chain) (limit : ℕ) (c : Command) → AreOctets octets → limit ≤ 1020 → taken.Whole c ≡ taken_of (form_of built_operations octets channels chain limit)
+    → FitsCard limit c.operation
+fits-taken octets channels chain limit c are most is =
+    FitsCard-form_of built_operations octets channels chain limit c sound-built_operations are most (taken-whole (form_of built_operations octets channels chain limit) c is)
 
 -- But for a part, octets leave the machine as before.
 as_before-taken : (m : Machine) (octets : List ℕ) (form : Form) → IfSome (read_on form) (λ channel. channel ≡ channel_named octets) → (taken.Kept ≡ taken_of form → ⊥)

@@ -14,7 +14,7 @@ use Rattle.scql_base.specs.declared.operation.Operation.{Operation}
 use Rattle.scql_base.specs.declared.operation.Operation.TheVariants.{CreateTable, CreateView, CreateDictionary, DropTable, DropView, Grant, Revoke, Insert, Update, Delete, CreateUser, DeleteUser}
 use Rattle.scql_base.specs.Words.{no_space, instruction_not_supported}
 use Rattle.scql_model.specs.Database.{Database}
-use Rattle.scql_model.specs.Creating.{created, is_overfull, stamps_end, user_added}
+use Rattle.scql_model.specs.Creating.{is_overfull, stamps_end, user_added}
 use Rattle.scql_model.specs.Moves.{opened}
 use Rattle.scql_model.specs.Refusals.{◌>>=◌, or_refused, provided}
 use Rattle.scql_model.specs.Edits.{Edit, applied}
@@ -24,12 +24,6 @@ use Rattle.scql_model.specs.Writing.{Assignment, row_inserted, written_through, 
 use Rattle.scql_model.specs.Users.{user_deleted}
 use Rattle.scql_model.specs.Changing.{edits_of, takes_stamp, lacks_room, with_edits, change_of}
 use Rattle.scql_model.proofs.EditLaws.{applied-cells, applied-limit}
-
--- CREATE USER is what `created` says, whatever the cursor.
-pub change_of-CreateUser : (db : Database) (actor : Actor) (cursor : Option Cursor) (name : List ℕ) (profile : Profile) (secret : List ℕ)
-    → change_of db actor cursor (CreateUser name profile secret) ≡ created db actor name profile secret
-unfolding change_of edits_of
-change_of-CreateUser db actor cursor name profile secret = refl
 
 -- A refusal changes nothing, and what has edits is their database or a full card.
 pub change_of-refused : (db : Database) (actor : Actor) (cursor : Option Cursor) (operation : Operation) (word : StatusWord)

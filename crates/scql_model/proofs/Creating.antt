@@ -1,62 +1,26 @@
--- CREATE USER makes a valid database of a valid one.
-use Rattle.std.proofs.Common.{◌≡◌, ℕ, ◌≤◌, ◌+◌, ◌^◌, Bool, true, false, List, [], ◌∷◌, ◌++◌, length, filter, not, ◌&&◌, ◌||◌, Option, Some, None, Result, Ok, Err, refl, sym, ap, subst, ◌∙◌, arith, inl, inr}
-use Rattle.std.specs.Prelude.{nat_le, nat_lt, option_map, if◌then◌else◌, ◌==◌}
+-- The user that CREATE USER makes may be added.
+use Rattle.std.proofs.Common.{◌≡◌, ℕ, ◌≤◌, ◌+◌, ◌^◌, Bool, true, false, List, [], ◌∷◌, ◌++◌, length, filter, not, ◌&&◌, ◌||◌, Option, Some, None, refl, ap, subst, ◌∙◌, arith, inl, inr}
+use Rattle.std.specs.Prelude.{nat_le, nat_lt, option_map, ◌==◌}
 use Rattle.std.specs.List.{list_all, list_any}
 use Rattle.std.specs.Option.{option_map_or}
-use Rattle.std.specs.Result.{result_ok}
 use Rattle.std.specs.Char.{is_ascii_uppercase}
 use Rattle.std.specs.Str.{bytes_eq}
-use Rattle.std.proofs.lemmas.Bool.{cases_Bool, and_parts, and_from, or_parts, false≢true, ltb-true, ltb-false, lt-ltb, le-leb, leb-true, eqb-true, eqb-false}
+use Rattle.std.proofs.lemmas.Bool.{cases_Bool, and_parts, and_from, or_parts, false≢true, ltb-true, lt-ltb, le-leb, leb-true, eqb-true, eqb-false}
 use Rattle.std.proofs.lemmas.List.{length-append}
 use Rattle.std.proofs.lemmas.Option.{none-some, same_Some}
 use Rattle.scql_base.specs.declared.words.Actor.{Actor}
 use Rattle.scql_base.specs.declared.words.Actor.TheVariants.{Public, User as a_user}
 use Rattle.scql_base.specs.declared.words.Profile.{Profile}
 use Rattle.scql_base.specs.declared.words.Profile.TheVariants.{DbO, Dboo, Dbbu}
-use Rattle.scql_base.specs.declared.words.StatusWord.{StatusWord}
-use Rattle.scql_base.specs.Words.{security_not_satisfied, no_space, already_exists}
 use Rattle.scql_base.specs.Name.{is_name, is_name_octet}
 use Rattle.scql_base.specs.declared.records.User.{User}
 use Rattle.scql_model.specs.Records.{is_secret, is_tries, user_record}
 use Rattle.scql_model.specs.Stored.{is_storable}
 use Rattle.scql_model.specs.Rules.{owner, public_name, is_db_o, is_maker, user_stamped, is_made_by_maker, has_maker, has_all_tries, is_named}
-use Rattle.scql_model.specs.Database.{Database, IsValid, weight, stored_user}
-use Rattle.scql_model.specs.Creating.{IsAsked, may_create, actor_stamp, IsActorOf, is_taken, new_user, with_user, stamps_end, is_overfull, created}
-use Rattle.scql_model.specs.Refusals.{◌>>=◌, provided}
-use Rattle.scql_model.specs.Edits.{of_user, making, with_edits}
+use Rattle.scql_model.specs.Database.{Database, IsValid, stored_user}
+use Rattle.scql_model.specs.Creating.{IsAsked, may_create, actor_stamp, IsActorOf, is_taken, new_user, stamps_end}
 use Rattle.scql_model.proofs.LongerLists.{not_equal-sym, find-passes, find-all, all-filtered, any-map}
-use Rattle.scql_model.proofs.AddedUser.{IsAddable, IsValid-with_user, kept_maker}
-
--- what it takes that a user is made, and what is made
-pub record IsCreated (db : Database) (actor : Actor) (name : List ℕ) (profile : Profile) (secret : List ℕ) (new : Database) : Type 0 where
-  pub may : may_create actor profile ≡ true
-  pub free : is_taken db name ≡ false
-  pub stamps_left : (db.next == stamps_end) ≡ false
-  pub room : is_overfull (with_user db (new_user db actor name profile secret)) ≡ false
-  pub made : with_user db (new_user db actor name profile secret) ≡ new
-
--- two refusals in their order, then one where there is no room, and a value where none applies
-chosen-parts : {A T : Type 0} (may taken out full : Bool) (e1 e2 e3 : StatusWord) (edits : A) (with : A → Result T StatusWord) (x y : T) → with edits ≡ (if out || full then Err e3 else Ok x)
-    → (provided may e1 >>= λ _. provided (not taken) e2 >>= λ _. Ok edits) >>= with ≡ Ok y
-    → (may ≡ true) × ((taken ≡ false) × ((out ≡ false) × ((full ≡ false) × (x ≡ y))))
-chosen-parts false taken out full e1 e2 e3 edits with x y is h = absurd (none-some y (ap result_ok h))
-chosen-parts true true out full e1 e2 e3 edits with x y is h = absurd (none-some y (ap result_ok h))
-chosen-parts true false true full e1 e2 e3 edits with x y is h = absurd (none-some y (ap result_ok (sym is ∙ h)))
-chosen-parts true false false true e1 e2 e3 edits with x y is h = absurd (none-some y (ap result_ok (sym is ∙ h)))
-chosen-parts true false false false e1 e2 e3 edits with x y is h = (refl, (refl, (refl, (refl, same_Some x y (ap result_ok (sym is ∙ h))))))
-
-pub IsCreated-from_ok : (db : Database) (actor : Actor) (name : List ℕ) (profile : Profile) (secret : List ℕ) (new : Database) → created db actor name profile secret ≡ Ok new
-    → IsCreated db actor name profile secret new
-IsCreated-from_ok db actor name profile secret new ok =
-    let u : User = new_user db actor name profile secret in
-    let parts = chosen-parts (may_create actor profile) (is_taken db name) (db.next == stamps_end) (is_overfull (with_user db u))
-    security_not_satisfied already_exists no_space (making db (of_user u)) (with_edits db) (with_user db u) new refl ok in
-    record { may = parts.0; free = parts.1.0; stamps_left = parts.1.1.0; room = parts.1.1.1.0; made = parts.1.1.1.1 }
-
--- and the other way: nothing else refuses
-pub ok-from_IsCreated : (db : Database) (actor : Actor) (name : List ℕ) (profile : Profile) (secret : List ℕ) (new : Database) → IsCreated db actor name profile secret new
-    → created db actor name profile secret ≡ Ok new
-ok-from_IsCreated db actor name profile secret new made = rw (made.may, made.free, made.stamps_left, made.room) (ap Ok made.made)
+use Rattle.scql_model.proofs.AddedUser.{IsAddable, kept_maker}
 
 -- the new user is within the limits
 pub name-size : (name : List ℕ) → is_name name ≡ true → length name ≤ 8
@@ -176,12 +140,3 @@ IsAddable-new_user db actor name profile secret valid asked may free =
       maker = new_maker db actor name profile secret (u ∷ []) valid asked.acts may;
       tries = tries_left u refl;
     }
-
-pub IsValid-created : (db : Database) (actor : Actor) (name : List ℕ) (profile : Profile) (secret : List ℕ) (new : Database) → IsValid db → IsAsked db actor name profile secret
-    → created db actor name profile secret ≡ Ok new → IsValid new
-IsValid-created db actor name profile secret new valid asked ok =
-    let made = IsCreated-from_ok db actor name profile secret new ok in
-    let u : User = new_user db actor name profile secret in
-    let room : weight (with_user db u) ≤ db.cells = ltb-false db.cells (weight (with_user db u)) made.room in
-    let addable = IsAddable-new_user db actor name profile secret valid asked made.may made.free in
-    subst IsValid made.made (IsValid-with_user db u valid addable room (next_fits db.next valid.counter made.stamps_left))

@@ -12,7 +12,6 @@ pub mod AddedUser
 pub mod AnswerWords
 pub mod Apart
 pub mod Assigning
-pub mod Bounds
 pub mod ChangeLaws
 pub mod ChangedGrants
 pub mod ChangedLists
@@ -23,7 +22,6 @@ pub mod ChangingSessions
 pub mod ChosenRows
 pub mod CommandsAgain
 pub mod ContentsRise
-pub mod CounterSlot
 pub mod Creating
 pub mod Depths
 pub mod EditLaws

@@ -1,15 +1,15 @@
--- A user is found by its name or its stamp, in a list or among slots in no order.
-use Rattle.std.proofs.Common.{◌≡◌, ℕ, ◌≤◌, ◌==◌, Bool, true, false, List, [], ◌∷◌, map, count_by, not, refl, lit≤, sym, ap, subst, ◌∙◌, arith, inl, inr}
+-- A user is found by its name, in a list or among slots in no order.
+use Rattle.std.proofs.Common.{◌≡◌, ℕ, ◌≤◌, Bool, true, false, List, [], ◌∷◌, map, count_by, not, refl, lit≤, sym, ap, subst, ◌∙◌, arith, inl, inr}
 use Rattle.std.specs.List.{list_any, find, filter_map}
 use Rattle.std.specs.Str.{bytes_eq}
 use Rattle.std.proofs.lemmas.Bool.{cases_Bool, false≢true, and_parts}
 use Rattle.std.proofs.lemmas.Slice.Eq.{bytes_eq-Decides}
-use Rattle.eeprom.proofs.InOrder.{count_by-cons, count_by-in_order, find-in_order, AreApart-rising}
+use Rattle.eeprom.proofs.InOrder.{count_by-cons, count_by-in_order, find-in_order}
 use Rattle.eeprom.specs.Slots.{in_slot, in_order}
 use Rattle.eeprom.specs.StoreOf.{Slots}
 use Rattle.scql_base.specs.declared.records.User.{User}
 use Rattle.scql_model.specs.Records.{user_in}
-use Rattle.scql_model.specs.Database.{Database, IsValid, are_different, is_named, user_named, user_stamped}
+use Rattle.scql_model.specs.Database.{Database, IsValid, are_different, is_named, user_named}
 use Rattle.scql_model.specs.Opens.{Holds}
 
 abbrev names_of : List User → List (List ℕ)
@@ -54,9 +54,3 @@ found-slots slots db p holds one =
 pub user_named-slots : (slots : Slots) (db : Database) (name : List ℕ) → Holds slots db → IsValid db
     → user_named db.users name ≡ find (is_named name) (filter_map (in_slot user_in) slots)
 user_named-slots slots db name holds valid = found-slots slots db (is_named name) holds (one_named name db.users valid.users.names)
-
--- And so is the user of a stamp.
-pub user_stamped-slots : (slots : Slots) (db : Database) (stamp : ℕ) → Holds slots db → IsValid db
-    → user_stamped db.users stamp ≡ find (λ (u : User). u.stamp == stamp) (filter_map (in_slot user_in) slots)
-user_stamped-slots slots db stamp holds valid =
-    found-slots slots db (λ (u : User). u.stamp == stamp) holds (AreApart-rising stamp_of db.users valid.users.rises stamp)

@@ -1,5 +1,5 @@
 -- Each record is read back from its spelling, and what is read as a record is its spelling and within its limits.
-use Rattle.std.proofs.Common.{◌≡◌, ℕ, ◌==◌, Bool, true, false, List, Option, Some, if◌then◌else◌, refl, sym, ◌∙◌, ap}
+use Rattle.std.proofs.Common.{◌≡◌, ℕ, ◌==◌, Bool, true, false, Option, Some, if◌then◌else◌, refl, sym, ◌∙◌, ap}
 use Rattle.std.proofs.lemmas.Bool.{eqb-true}
 use Rattle.std.proofs.lemmas.Option.{none-some, same_Some}
 use Rattle.scql_base.specs.declared.words.Profile.TheVariants.{DbO, Dboo, Dbbu}
@@ -8,9 +8,8 @@ use Rattle.scql_base.specs.declared.words.Comparison.TheVariants.{Equal, Less, G
 use Rattle.scql_base.specs.Name.{is_name}
 use Rattle.scql_base.specs.Row.{is_narrow}
 use Rattle.scql_model.specs.Fields.{number, text, ◌then◌}
-use Rattle.scql_base.specs.declared.records.User.{User}
-use Rattle.scql_model.specs.Records.{profile_code, profile_of, subject_code, subject_of, comparison_code, comparison_of, is_secret, is_tries, is_privileges, is_count_of_columns, is_count_of_conditions, columns, conditions, to_condition, from_condition, to_user, from_user, to_grant, from_grant, to_row, from_row, counter_record, user_record, table_record, view_record, dictionary_record, grant_record, row_record, counter_in, user_in}
-use Rattle.scql_model.proofs.FieldLaws.{AreOctets, Codes, CodesAlone, IsField, IsLastField, IsLastField-from_IsField, IsField-number, IsField-octet, IsField-letter, IsField-text, IsField-then, IsLastField-then, IsField-counted, IsField-as_record, IsLastField-as_record, IsField-marked, IsLastField-marked, IsLastField-values_to_the_end, whole_took, whole_again}
+use Rattle.scql_model.specs.Records.{profile_code, profile_of, subject_code, subject_of, comparison_code, comparison_of, is_secret, is_tries, is_privileges, is_count_of_columns, is_count_of_conditions, columns, conditions, to_condition, from_condition, to_user, from_user, to_grant, from_grant, to_row, from_row, counter_record, user_record, table_record, view_record, dictionary_record, grant_record, row_record}
+use Rattle.scql_model.proofs.FieldLaws.{Codes, CodesAlone, IsField, IsLastField, IsLastField-from_IsField, IsField-number, IsField-octet, IsField-letter, IsField-text, IsField-then, IsLastField-then, IsField-counted, IsField-as_record, IsLastField-as_record, IsField-marked, IsLastField-marked, IsLastField-values_to_the_end}
 
 -- Codes. A chain of choices among numbers gives a value only for its code.
 chosen_alone : {A : Type 0} (code : A → ℕ) (n m : ℕ) (y x : A) (o : Option A) (b : Bool) → (n == m) ≡ b → code y ≡ m → (o ≡ Some x → n ≡ code x)
@@ -105,16 +104,3 @@ IsLastField-counter = IsLastField-from_IsField counter_record IsField-counter
 
 pub IsLastField-user : IsLastField user_record
 IsLastField-user = IsLastField-from_IsField user_record IsField-user
-
--- The readers of the kinds that are built.
-pub counter_in-again : (next : ℕ) → counter_record.fits next ≡ true → counter_in (counter_record.spell next) ≡ Some next
-counter_in-again = whole_again counter_record IsLastField-counter
-
-pub counter_in-took : (octets : List ℕ) (next : ℕ) → AreOctets octets → counter_in octets ≡ Some next → (octets ≡ counter_record.spell next) × (counter_record.fits next ≡ true)
-counter_in-took = whole_took counter_record IsLastField-counter
-
-pub user_in-again : (u : User) → user_record.fits u ≡ true → user_in (user_record.spell u) ≡ Some u
-user_in-again = whole_again user_record IsLastField-user
-
-pub user_in-took : (octets : List ℕ) (u : User) → AreOctets octets → user_in octets ≡ Some u → (octets ≡ user_record.spell u) × (user_record.fits u ≡ true)
-user_in-took = whole_took user_record IsLastField-user

@@ -1,5 +1,5 @@
--- The cells of the filled slots are the database's weight, and slots without an empty one leave no room.
-use Rattle.std.proofs.Common.{◌≡◌, ℕ, zero, suc, ◌≤◌, ◌+◌, true, ◌||◌, List, [], ◌∷◌, length, Option, Some, None, is_some, refl, sym, ap, ◌∙◌, arith}
+-- The cells of the filled slots are the database's weight.
+use Rattle.std.proofs.Common.{◌≡◌, ℕ, zero, suc, ◌≤◌, ◌+◌, true, ◌||◌, List, [], ◌∷◌, Option, Some, None, is_some, refl, sym, ap, ◌∙◌, arith}
 use Rattle.std.specs.List.{list_all, filter_map, cons_option, sum_by}
 use Rattle.std.proofs.lemmas.Bool.{and_parts, false≢true}
 use Rattle.std.proofs.lemmas.List.Sums.{sum_by-cons}
@@ -118,16 +118,3 @@ cells-filled slots db holds =
     let grants = sym (sum_by-in_order (λ (g : Grant). g.stamp) grant_cells (filter_map (in_slot grant_in) slots)) ∙ ap (sum_by grant_cells) holds.grants in
     let rows = sym (sum_by-in_order (λ (r : RowRecord). r.stamp) row_cells (filter_map (in_slot row_in) slots)) ∙ ap (sum_by row_cells) holds.rows in
     omega (arith, all, kinds, counter, next, users, objects, grants, rows)
-
-one_each : (slots : Slots) → list_all (λ (v : Option (List ℕ)). is_some v) slots ≡ true → length slots ≤ sum_by cells_of slots
-one_each [] filled = omega arith
-one_each (None ∷ slots) filled = absurd (false≢true filled)
-one_each (Some octets ∷ slots) filled =
-    let rest = one_each slots filled in
-    let a = sum_by-cons cells_of (Some octets) slots in
-    let b : 1 ≤ cells_for_octets octets = omega arith in
-    omega arith
-
--- where no slot is empty, the records take all cells
-pub weight-filled : (slots : Slots) (db : Database) → Holds slots db → list_all (λ (v : Option (List ℕ)). is_some v) slots ≡ true → db.cells ≤ weight db
-weight-filled slots db holds filled = omega (arith, one_each slots filled, cells-filled slots db holds, holds.cells)

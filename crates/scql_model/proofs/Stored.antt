@@ -37,14 +37,7 @@ cells_of_records-around f front back xs = sum_by-around cells_taken f front back
 pub cells_of_records-kind : {X : Type 0} (f : X → StoredRecord) (xs : List X) → cells_of_records (map f xs) ≡ sum_by (λ x. cells_for_octets (f x).octets) xs
 cells_of_records-kind f xs = sum_by-map cells_taken f xs
 
--- records of one kind alone are apart where what they are made of is
-pub AreApart-of_kind : {X : Type 0} (f : X → StoredRecord) (xs : List X) → AreApart (λ x. (f x).stamp) xs → AreApart stamp_of (map f xs ++ [])
-AreApart-of_kind f xs apart = λ k.
-    let few = apart k in
-    let same = sum_by-around (λ (r : StoredRecord). cond (has stamp_of k r) 1 0) f [] [] xs in
-    omega arith
-
--- and a test of all
+-- a test of all
 all-around : {X : Type 0} (p : StoredRecord → Bool) (f : X → StoredRecord) (front back : List StoredRecord) (xs : List X)
     → list_all p (front ++ (map f xs ++ back)) ≡ (list_all p front && (list_all (λ x. p (f x)) xs && list_all p back))
 all-around p f front back xs = rw (list_all-append, list_all-append, list_all-map) refl
@@ -103,11 +96,6 @@ sum_by-added c f front back xs x =
     let d = sum_by-append (λ y. c (f y)) xs (x ∷ []) in
     let e = sum_by-cons (λ y. c (f y)) x [] in
     omega arith
-
--- a record that is added takes its own cells
-pub cells_of_records-added : {X : Type 0} (f : X → StoredRecord) (front back : List StoredRecord) (xs : List X) (x : X)
-    → cells_of_records (front ++ (map f (xs ++ x ∷ []) ++ back)) ≡ cells_of_records (front ++ (map f xs ++ back)) + cells_for_octets (f x).octets
-cells_of_records-added f front back xs x = sum_by-added cells_taken f front back xs x
 
 -- A record of a kind is added behind the others of its kind, and takes the next stamp, where there is room.
 pub IsStored-added : {X : Type 0} (f : X → StoredRecord) (front back : List StoredRecord) (xs : List X) (x : X) {cells counter_cells next : ℕ} {old new : List StoredRecord}

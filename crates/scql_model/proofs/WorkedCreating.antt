@@ -1,13 +1,20 @@
 -- Worked rows of CREATE USER: the definition computes each answer.
-use Rattle.std.proofs.Common.{◌≡◌, true, [], ◌∷◌, refl, Ok, Err}
+use Rattle.std.proofs.Common.{◌≡◌, ℕ, true, List, [], ◌∷◌, Result, refl, Ok, Err}
 use Rattle.std.specs.Prelude.{codes, is_ok}
 use Rattle.scql_base.specs.declared.words.Actor.{Actor}
 use Rattle.scql_base.specs.declared.words.Actor.TheVariants.{Public, User as a_user}
+use Rattle.scql_base.specs.declared.words.Profile.{Profile}
 use Rattle.scql_base.specs.declared.words.Profile.TheVariants.{DbO, Dboo, Dbbu}
+use Rattle.scql_base.specs.declared.words.StatusWord.{StatusWord}
 use Rattle.scql_base.specs.Words.{security_not_satisfied, no_space, already_exists}
 use Rattle.scql_base.specs.declared.records.User.{User}
 use Rattle.scql_model.specs.Database.{Database, fresh, owner}
-use Rattle.scql_model.specs.Creating.{created}
+use Rattle.scql_model.specs.Refusals.{◌>>=◌}
+use Rattle.scql_model.specs.Edits.{with_edits}
+use Rattle.scql_model.specs.Creating.{user_added}
+
+abbrev created : Database → Actor → List ℕ → Profile → List ℕ → Result Database StatusWord
+created db actor name profile secret = user_added db actor name profile secret >>= with_edits db
 
 abbrev ann : User
 ann = record { stamp = 2; name = codes "ANN"; profile = Dbbu; owner = 1; secret = []; tries = 3 }

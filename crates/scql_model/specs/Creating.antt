@@ -13,7 +13,7 @@ use Rattle.scql_base.specs.Name.{is_name}
 use Rattle.scql_base.specs.declared.records.User.{User}
 use Rattle.scql_model.specs.Records.{is_secret}
 use Rattle.scql_model.specs.Refusals.{◌>>=◌, provided}
-use Rattle.scql_model.specs.Edits.{Edit, of_user, making, applied, with_edits}
+use Rattle.scql_model.specs.Edits.{Edit, of_user, making, applied}
 pub use Rattle.scql_model.specs.Edits.{stamps_end, is_overfull}
 use Rattle.scql_model.specs.Database.{Database, public_name, user_stamped, is_named}
 
@@ -67,9 +67,3 @@ user_added db actor name profile secret = do
 -- the user stands behind all others, and its stamp is taken
 abbrev pub with_user : Database → User → Database
 with_user db u = applied db (making db (of_user u))
-
--- the new database, or the first refusal that applies; refused too where no stamp or no room is left
-abbrev pub created : Database → Actor → List ℕ → Profile → List ℕ → Result Database StatusWord
-created db actor name profile secret = do
-  edits ← user_added db actor name profile secret
-  with_edits db edits

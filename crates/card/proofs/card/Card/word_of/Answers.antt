@@ -10,12 +10,13 @@ use Rattle.scql_model.specs.Machine.{Machine}
 use Rattle.scql_model.specs.Operations.{built_operations}
 use Rattle.scql_model.specs.Replies.{said}
 use Rattle.scql_model.specs.Step.{Answer, answered, carried_out, step}
+use Rattle.scql_model.specs.WellFormed.{FitsCard}
 use Rattle.apdu_chain.specs.Chaining.{chain_on}
 use Rattle.card.specs.Card.{Kept, IsAt}
 use Rattle.card.specs.Answering.{IsDoneOrStays, Performs}
 use Rattle.card.specs.Sessions.{sessions_of, AreUnread}
 use Rattle.card.proofs.SeenSessions.{unread-sessions}
-use Rattle.card.proofs.TakenForms.{taken_at, outcome_of, step-taken, IsAt-taken, bound-taken, octets_taken, octets-whole, taken-committed, taken-refused, taken-kept, outcome-whole, built-taken, done_or_stays-taken}
+use Rattle.card.proofs.TakenForms.{taken_at, outcome_of, step-taken, IsAt-taken, bound-taken, octets_taken, octets-whole, taken-committed, taken-refused, taken-kept, outcome-whole, built-taken, fits-taken, done_or_stays-taken}
 use Rattle.card.proofs.UnreadSteps.{carried_out-done, DoneOrStays}
 use Rattle.card.proofs.Leaving.{Keeps-none}
 use Rattle.card.proofs.Performing.{Performs-from, Performs-unwritten}
@@ -91,6 +92,12 @@ returns-in-Kept-clause-done_or_stays g c = λ m at.
 pub carry_out-requires-clause-built : goal.carry_out-requires-clause-built
 carry_out-requires-clause-built g c =
     built-taken c.args.command.now c.open_channels-channels.result (chain_on c.self.inside.chains) (min c.row_limit.result 1020) c.in-Whole.command (omega arith) (sym c.in-Whole.is ∙ c.take.ensures.taken)
+
+pub carry_out-requires-clause-fits : goal.carry_out-requires-clause-fits
+carry_out-requires-clause-fits g c =
+    subst (λ (limit : ℕ). FitsCard limit c.in-Whole.command.operation)
+    (rows c.row_limit.result _ c.row_limit.ensures.most c.row_limit.ensures.limit)
+    (fits-taken c.args.command.now c.open_channels-channels.result (chain_on c.self.inside.chains) (min c.row_limit.result 1020) c.in-Whole.command (λ i. omega (arith, c.type_inv.command i)) (omega arith) (sym c.in-Whole.is ∙ c.take.ensures.taken))
 
 pub returns-in-Whole-clause-performs : goal.returns-in-Whole-clause-performs
 returns-in-Whole-clause-performs g c = λ m at.
