@@ -16,9 +16,9 @@ use Rattle.record_store.proofs.OpeningSlots.{so_far-first}
 use Rattle.record_store.proofs.Weights.{limited, store-begins}
 use Rattle.scql_model.specs.Records.{counter_in}
 use Rattle.scql_model.specs.Opens.{counter_stamp}
-use Rattle.card.specs.Opening.{Gathers, HoldsNone, gathered, is_taken, summary_in}
+use Rattle.card.specs.Opening.{Gathers, HoldsNone, gathered, is_admitted, summary_in}
 use Rattle.card.specs.declared.summary.Summary.{Summary}
-use Rattle.card.proofs.HeldKinds.{are_taken, taken-held, taken-valid}
+use Rattle.card.proofs.HeldKinds.{are_admitted, admitted-held, admitted-valid}
 
 -- these were found in the slots so far
 abbrev pub GathersSoFar : HeldSoFar → ℕ → Option (List ℕ) → Option ℕ → List Summary → Type 0
@@ -38,12 +38,12 @@ gathered-append k (w ∷ slots) v =
     go None xs ys = refl
     go (Some x) xs ys = refl
 
-gathers-more : (limit count : ℕ) (slots : Slots) (v : Option (List ℕ)) (counter counter' : Option ℕ) (records records' : List Summary) → Gathers limit count slots counter records → is_taken limit v ≡ true
+gathers-more : (limit count : ℕ) (slots : Slots) (v : Option (List ℕ)) (counter counter' : Option ℕ) (records records' : List Summary) → Gathers limit count slots counter records → is_admitted limit v ≡ true
     → cons_option counter' [] ≡ cons_option counter (cons_option (in_slot counter_in v) []) → records' ≡ records ++ cons_option (in_slot (summary_in count) v) []
     → Gathers limit (count + 1) (slots ++ v ∷ []) counter' records'
-gathers-more limit count slots v counter counter' records records' g taken counters added = record {
+gathers-more limit count slots v counter counter' records records' g admitted counters added = record {
   count_is = length-append slots (v ∷ []) ∙ ap (λ n. n + 1) g.count_is;
-  taken = list_all-append (is_taken limit) slots (v ∷ []) ∙ and_from (list_all (is_taken limit) slots) (is_taken limit v && true) g.taken (and_from (is_taken limit v) true taken refl);
+  admitted = list_all-append (is_admitted limit) slots (v ∷ []) ∙ and_from (list_all (is_admitted limit) slots) (is_admitted limit v && true) g.admitted (and_from (is_admitted limit v) true admitted refl);
   counters = filter_map-append (in_slot counter_in) slots (v ∷ []) ∙ ap (λ xs. xs ++ cons_option (in_slot counter_in v) []) g.counters ∙ go counter (cons_option (in_slot counter_in v) []) ∙ sym counters;
   records_are = gathered-append 0 slots v ∙ (rw place (ap (λ xs. xs ++ cons_option (in_slot (summary_in count) v) []) g.records_are)) ∙ sym added;
 }
@@ -61,29 +61,29 @@ gathered-none held None records none empty = tt
 gathered-none held (Some image) records none empty = subst (λ (k : ℕ). IfSome (slots_at image held.chains.cells (take k held.firsts)) (λ slots. Gathers held.row_limit 0 slots None records)) (sym none) (go (nat_le 0 held.chains.cells))
   where
     go : (b : Bool) → IfSome (if b then Some [] else None) (λ slots. Gathers held.row_limit 0 slots None records)
-    go true = record { count_is = refl; taken = refl; counters = refl; records_are = sym empty }
+    go true = record { count_is = refl; admitted = refl; counters = refl; records_are = sym empty }
     go false = tt
 
 pub gathered-next : (held next : HeldSoFar) (image : Option (List ℕ)) (octets : List ℕ) (count : ℕ) (counter counter' : Option ℕ) (records records' : List Summary) → IfSome image (IsNext held next octets) → next.row_limit ≡ held.row_limit
-    → is_taken next.row_limit (slot_with octets) ≡ true → cons_option counter' [] ≡ cons_option counter (cons_option (in_slot counter_in (slot_with octets)) [])
+    → is_admitted next.row_limit (slot_with octets) ≡ true → cons_option counter' [] ≡ cons_option counter (cons_option (in_slot counter_in (slot_with octets)) [])
     → records' ≡ records ++ cons_option (in_slot (summary_in count) (slot_with octets)) [] → GathersSoFar held count image counter records → GathersSoFar next (count + 1) image counter' records'
-gathered-next held next None octets count counter counter' records records' is rows taken counters added g = tt
-gathered-next held next (Some image) octets count counter counter' records records' is rows taken counters added g =
+gathered-next held next None octets count counter counter' records records' is rows admitted counters added g = tt
+gathered-next held next (Some image) octets count counter counter' records records' is rows admitted counters added g =
     subst (λ (o : Option Slots). IfSome o (λ slots. Gathers next.row_limit (count + 1) slots counter' records')) (sym is) (go (slots_so_far held image) g)
   where
     go : (o : Option Slots) → IfSome o (λ slots. Gathers held.row_limit count slots counter records) → IfSome (option_map (λ slots. slots ++ slot_with octets ∷ []) o) (λ slots. Gathers next.row_limit (count + 1) slots counter' records')
     go None g = tt
-    go (Some slots) g = gathers-more next.row_limit count slots (slot_with octets) counter counter' records records' (subst (λ limit. Gathers limit count slots counter records) (sym rows) g) taken counters added
+    go (Some slots) g = gathers-more next.row_limit count slots (slot_with octets) counter counter' records records' (subst (λ limit. Gathers limit count slots counter records) (sym rows) g) admitted counters added
 
--- a slot that isn't taken, or has a second counter, is none of a database
+-- a slot that isn't admitted, or has a second counter, is none of a database
 abbrev pub IsRefused : ℕ → Option ℕ → Option (List ℕ) → Type 0
-IsRefused limit counter v = (is_taken limit v ≡ false) ⊎ ((counter ≢ None) × (in_slot counter_in v ≢ None))
+IsRefused limit counter v = (is_admitted limit v ≡ false) ⊎ ((counter ≢ None) × (in_slot counter_in v ≢ None))
 
-none-untaken : (limit : ℕ) (before : Slots) (v : Option (List ℕ)) (more : Slots) → is_taken limit v ≡ false → HoldsNone (record { row_limit = limit; slots = before ++ v ∷ more })
-none-untaken limit before v more untaken = λ db limited holds valid tables.
-    let all = taken-held limit (before ++ v ∷ more) db holds ∙ ap (λ (n : ℕ). are_taken n db) (sym limited) ∙ taken-valid db valid tables in
-    let parts = and_parts (list_all (is_taken limit) before) (list_all (is_taken limit) (v ∷ more)) (sym (list_all-append (is_taken limit) before (v ∷ more)) ∙ all) in
-    false≢true (sym untaken ∙ (and_parts (is_taken limit v) (list_all (is_taken limit) more) parts.1).0)
+none-unadmitted : (limit : ℕ) (before : Slots) (v : Option (List ℕ)) (more : Slots) → is_admitted limit v ≡ false → HoldsNone (record { row_limit = limit; slots = before ++ v ∷ more })
+none-unadmitted limit before v more unadmitted = λ db limited holds valid tables.
+    let all = admitted-held limit (before ++ v ∷ more) db holds ∙ ap (λ (n : ℕ). are_admitted n db) (sym limited) ∙ admitted-valid db valid tables in
+    let parts = and_parts (list_all (is_admitted limit) before) (list_all (is_admitted limit) (v ∷ more)) (sym (list_all-append (is_admitted limit) before (v ∷ more)) ∙ all) in
+    false≢true (sym unadmitted ∙ (and_parts (is_admitted limit v) (list_all (is_admitted limit) more) parts.1).0)
 
 one : ℕ → ℕ
 one n = 1
@@ -111,7 +111,7 @@ none-second limit count before counter records v more g there some = go counter 
 
 none-refused : (limit count : ℕ) (before : Slots) (counter : Option ℕ) (records : List Summary) (v : Option (List ℕ)) (more : Slots) → Gathers limit count before counter records → IsRefused limit counter v
     → HoldsNone (record { row_limit = limit; slots = before ++ v ∷ more })
-none-refused limit count before counter records v more g (inl untaken) = none-untaken limit before v more untaken
+none-refused limit count before counter records v more g (inl unadmitted) = none-unadmitted limit before v more unadmitted
 none-refused limit count before counter records v more g (inr second) = none-second limit count before counter records v more g second.0 second.1
 
 -- the store of an image begins with the slots so far, and has the row limit that was read

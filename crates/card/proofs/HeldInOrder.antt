@@ -8,7 +8,7 @@ use Rattle.scql_model.specs.Records.{user_in, object_in, grant_in, row_in}
 use Rattle.scql_model.specs.Database.{Database, IsValid}
 use Rattle.scql_model.specs.Opens.{Holds, are_tables}
 use Rattle.card.specs.Opening.{gathered}
-use Rattle.card.specs.Summary.{Summarizes, stamp_of, as_user, as_table, as_grant, as_row, of_table, row_summary, unplaced, users_in, tables_in, grants_in, rows_in}
+use Rattle.card.specs.Summary.{Summarizes, stamp_of, as_user, as_table, as_grant, as_row, kept_of_table, row_summary, unplaced, users_in, tables_in, grants_in, rows_in}
 use Rattle.card.specs.declared.summary.TableSummary.{TableSummary}
 use Rattle.card.specs.declared.summary.RowSummary.{RowSummary}
 use Rattle.card.proofs.ListsInOrder.{filter_map-in_order, map-in_order}
@@ -27,7 +27,7 @@ pub apart-held : (slots : Slots) (db : Database) → Holds slots db → IsValid 
 apart-held slots db holds valid =
     valid-apart db (gathered 0 slots) valid
     (λ k. ap (users_at k) (users-gathered slots) ∙ sym (count_by-in_order user_stamp (has user_stamp k) (filter_map (in_slot user_in) slots)) ∙ ap (users_at k) holds.users)
-    (λ k. ap (tables_at k) (tables-gathered slots) ∙ count-map (has table_stamp k) of_table (filter_map (in_slot object_in) slots)
+    (λ k. ap (tables_at k) (tables-gathered slots) ∙ count-map (has table_stamp k) kept_of_table (filter_map (in_slot object_in) slots)
     ∙ sym (count_by-in_order object_stamp (has object_stamp k) (filter_map (in_slot object_in) slots)) ∙ ap (objects_at k) holds.objects)
     (λ k. ap (grants_at k) (grants-gathered slots) ∙ sym (count_by-in_order grant_stamp (has grant_stamp k) (filter_map (in_slot grant_in) slots)) ∙ ap (grants_at k) holds.grants)
     (λ k. sym (count-map (λ n. n == k) summary_stamp (rows_in (gathered 0 slots))) ∙ ap (count_by (λ n. n == k)) (rows-gathered summary_stamp row_stamp (λ slot r. refl) slots)
@@ -38,10 +38,10 @@ apart-held slots db holds valid =
 users-held : (slots : Slots) (db : Database) → Holds slots db → AreApart stamp_of (gathered 0 slots) → users_in (in_order stamp_of (gathered 0 slots)) ≡ db.users
 users-held slots db holds apart = filter_map-in_order stamp_of user_stamp as_user (gathered 0 slots) user-stamp apart ∙ ap (in_order user_stamp) (users-gathered slots) ∙ holds.users
 
-tables-held : (slots : Slots) (db : Database) → Holds slots db → AreApart stamp_of (gathered 0 slots) → tables_in (in_order stamp_of (gathered 0 slots)) ≡ map of_table db.objects
+tables-held : (slots : Slots) (db : Database) → Holds slots db → AreApart stamp_of (gathered 0 slots) → tables_in (in_order stamp_of (gathered 0 slots)) ≡ map kept_of_table db.objects
 tables-held slots db holds apart =
     filter_map-in_order stamp_of table_stamp as_table (gathered 0 slots) table-stamp apart ∙ ap (in_order table_stamp) (tables-gathered slots)
-    ∙ sym (map-in_order object_stamp table_stamp of_table (filter_map (in_slot object_in) slots) (λ x. refl)) ∙ ap (map of_table) holds.objects
+    ∙ sym (map-in_order object_stamp table_stamp kept_of_table (filter_map (in_slot object_in) slots) (λ x. refl)) ∙ ap (map kept_of_table) holds.objects
 
 grants-held : (slots : Slots) (db : Database) → Holds slots db → AreApart stamp_of (gathered 0 slots) → grants_in (in_order stamp_of (gathered 0 slots)) ≡ db.grants
 grants-held slots db holds apart = filter_map-in_order stamp_of grant_stamp as_grant (gathered 0 slots) grant-stamp apart ∙ ap (in_order grant_stamp) (grants-gathered slots) ∙ holds.grants

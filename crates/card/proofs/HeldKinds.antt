@@ -1,4 +1,4 @@
--- The records of a database that slots hold: they are taken where it is valid, and what is kept of them is theirs.
+-- The records of a database that slots hold: they are admitted where it is valid, and what is kept of them is theirs.
 use Rattle.std.proofs.Common.{◌≡◌, ℕ, suc, ◌+◌, ◌≤◌, ◌==◌, ◌||◌, Bool, true, ◌&&◌, List, [], ◌∷◌, map, Option, Some, None, option_map, refl, sym, ap, ◌∙◌, arith}
 use Rattle.std.specs.Option.{option_and_then, option_map_or, option_or}
 use Rattle.std.specs.List.{list_all, filter_map, cons_option}
@@ -17,13 +17,13 @@ use Rattle.scql_model.specs.Rules.{is_table, are_different, is_within_limit}
 use Rattle.scql_model.specs.Database.{Database, IsValid, weight}
 use Rattle.scql_model.specs.Opens.{Holds, is_spelled, counter_stamp, are_tables}
 use Rattle.scql_model.proofs.KindsApart.{given, one_kind}
-use Rattle.card.specs.Opening.{passes, is_plain_table, is_sound_table, is_sound_row, is_taken, summary_in, object_summary, gathered}
-use Rattle.card.specs.Summary.{as_user, as_table, as_grant, as_row, of_table, row_summary, users_in, tables_in, grants_in, rows_in}
+use Rattle.card.specs.Opening.{gives_only, is_plain_table, is_sound_table, is_sound_row, is_admitted, summary_in, object_summary, gathered}
+use Rattle.card.specs.Summary.{as_user, as_table, as_grant, as_row, kept_of_table, row_summary, users_in, tables_in, grants_in, rows_in}
 use Rattle.card.specs.declared.summary.Summary.{Summary}
 use Rattle.card.specs.declared.summary.Summary.TheVariants as kept_as
 use Rattle.card.specs.declared.summary.RowSummary.{RowSummary}
-use Rattle.card.specs.Validity.{IsWithinLimits}
-use Rattle.card.proofs.Tested.{IsWithinLimits-valid}
+use Rattle.card.specs.Validity.{HasFittingRecords}
+use Rattle.card.proofs.Tested.{HasFittingRecords-valid}
 use Rattle.card.proofs.ListsInOrder.{filter_map-option_map, filter_map-cons_option, and-same, list_all-both}
 
 abbrev pub user_stamp : User → ℕ
@@ -38,50 +38,50 @@ grant_stamp g = g.stamp
 abbrev pub row_stamp : RowRecord → ℕ
 row_stamp r = r.stamp
 
--- Slots are taken where the records of each kind pass their tests.
-list_all-passes : {X : Type 0} (test : X → Bool) (read : List ℕ → Option X) (slots : Slots) → list_all (passes test read) slots ≡ list_all test (filter_map (in_slot read) slots)
-list_all-passes test read [] = refl
-list_all-passes {X} test read (v ∷ slots) = go (in_slot read v) (list_all-passes test read slots)
+-- Slots are admitted where the records of each kind pass their tests.
+list_all-gives_only : {X : Type 0} (test : X → Bool) (read : List ℕ → Option X) (slots : Slots) → list_all (gives_only test read) slots ≡ list_all test (filter_map (in_slot read) slots)
+list_all-gives_only test read [] = refl
+list_all-gives_only {X} test read (v ∷ slots) = go (in_slot read v) (list_all-gives_only test read slots)
   where
-    go : (o : Option X) → list_all (passes test read) slots ≡ list_all test (filter_map (in_slot read) slots)
-        → (option_map_or test o true && list_all (passes test read) slots) ≡ list_all test (cons_option o (filter_map (in_slot read) slots))
+    go : (o : Option X) → list_all (gives_only test read) slots ≡ list_all test (filter_map (in_slot read) slots)
+        → (option_map_or test o true && list_all (gives_only test read) slots) ≡ list_all test (cons_option o (filter_map (in_slot read) slots))
     go None rest = rest
     go (Some x) rest = ap (λ rest. test x && rest) rest
 
-passes-kept : {X : Type 0} (key : X → ℕ) (test : X → Bool) (read : List ℕ → Option X) (slots : Slots) → list_all (passes test read) slots ≡ list_all test (kept key read slots)
-passes-kept key test read slots = list_all-passes test read slots ∙ sym (list_all-in_order key test (filter_map (in_slot read) slots))
+gives_only-kept : {X : Type 0} (key : X → ℕ) (test : X → Bool) (read : List ℕ → Option X) (slots : Slots) → list_all (gives_only test read) slots ≡ list_all test (kept key read slots)
+gives_only-kept key test read slots = list_all-gives_only test read slots ∙ sym (list_all-in_order key test (filter_map (in_slot read) slots))
 
 -- the tests of a database's records
-abbrev pub are_taken : ℕ → Database → Bool
-are_taken limit db =
+abbrev pub are_admitted : ℕ → Database → Bool
+are_admitted limit db =
     list_all counter_record.fits (db.next ∷ []) && (list_all user_record.fits db.users && (list_all is_sound_table db.objects
     && (list_all grant_record.fits db.grants && list_all (is_sound_row limit) db.rows)))
 
-pub taken-held : (limit : ℕ) (slots : Slots) (db : Database) → Holds slots db → list_all (is_taken limit) slots ≡ are_taken limit db
-taken-held limit slots db holds =
-    let counter : list_all (passes counter_record.fits counter_in) slots ≡ list_all counter_record.fits (db.next ∷ []) = passes-kept counter_stamp counter_record.fits counter_in slots ∙ ap (list_all counter_record.fits) holds.counter in
-    let users : list_all (passes user_record.fits user_in) slots ≡ list_all user_record.fits db.users = passes-kept user_stamp user_record.fits user_in slots ∙ ap (list_all user_record.fits) holds.users in
-    let objects : list_all (passes is_sound_table object_in) slots ≡ list_all is_sound_table db.objects = passes-kept object_stamp is_sound_table object_in slots ∙ ap (list_all is_sound_table) holds.objects in
-    let grants : list_all (passes grant_record.fits grant_in) slots ≡ list_all grant_record.fits db.grants = passes-kept grant_stamp grant_record.fits grant_in slots ∙ ap (list_all grant_record.fits) holds.grants in
-    let rows : list_all (passes (is_sound_row limit) row_in) slots ≡ list_all (is_sound_row limit) db.rows = passes-kept row_stamp (is_sound_row limit) row_in slots ∙ ap (list_all (is_sound_row limit)) holds.rows in
-    list_all-both is_spelled _ slots ∙ and-same holds.spelled (list_all-both (passes counter_record.fits counter_in) _ slots ∙ and-same counter (
-    list_all-both (passes user_record.fits user_in) _ slots ∙ and-same users (list_all-both (passes is_sound_table object_in) _ slots ∙ and-same objects (
-    list_all-both (passes grant_record.fits grant_in) (passes (is_sound_row limit) row_in) slots ∙ and-same grants rows))))
+pub admitted-held : (limit : ℕ) (slots : Slots) (db : Database) → Holds slots db → list_all (is_admitted limit) slots ≡ are_admitted limit db
+admitted-held limit slots db holds =
+    let counter : list_all (gives_only counter_record.fits counter_in) slots ≡ list_all counter_record.fits (db.next ∷ []) = gives_only-kept counter_stamp counter_record.fits counter_in slots ∙ ap (list_all counter_record.fits) holds.counter in
+    let users : list_all (gives_only user_record.fits user_in) slots ≡ list_all user_record.fits db.users = gives_only-kept user_stamp user_record.fits user_in slots ∙ ap (list_all user_record.fits) holds.users in
+    let objects : list_all (gives_only is_sound_table object_in) slots ≡ list_all is_sound_table db.objects = gives_only-kept object_stamp is_sound_table object_in slots ∙ ap (list_all is_sound_table) holds.objects in
+    let grants : list_all (gives_only grant_record.fits grant_in) slots ≡ list_all grant_record.fits db.grants = gives_only-kept grant_stamp grant_record.fits grant_in slots ∙ ap (list_all grant_record.fits) holds.grants in
+    let rows : list_all (gives_only (is_sound_row limit) row_in) slots ≡ list_all (is_sound_row limit) db.rows = gives_only-kept row_stamp (is_sound_row limit) row_in slots ∙ ap (list_all (is_sound_row limit)) holds.rows in
+    list_all-both is_spelled _ slots ∙ and-same holds.spelled (list_all-both (gives_only counter_record.fits counter_in) _ slots ∙ and-same counter (
+    list_all-both (gives_only user_record.fits user_in) _ slots ∙ and-same users (list_all-both (gives_only is_sound_table object_in) _ slots ∙ and-same objects (
+    list_all-both (gives_only grant_record.fits grant_in) (gives_only (is_sound_row limit) row_in) slots ∙ and-same grants rows))))
 
--- A valid database of tables is taken.
-pub taken-valid : (db : Database) → IsValid db → are_tables db.objects ≡ true → are_taken db.limit db ≡ true
-taken-valid db valid tables =
-    let within = IsWithinLimits-valid db tables valid in
+-- A valid database of tables is admitted.
+pub admitted-valid : (db : Database) → IsValid db → are_tables db.objects ≡ true → are_admitted db.limit db ≡ true
+admitted-valid db valid tables =
+    let within = HasFittingRecords-valid db tables valid in
     let plain = list_all-both (λ (o : Object). is_table o.kind) (λ (o : Object). are_different (columns_of o.kind)) db.objects ∙ and-same tables within.columns in
     let objects = list_all-both object_fits is_plain_table db.objects ∙ and-same within.objects plain in
     let rows = list_all-both row_record.fits (is_within_limit db.limit) db.rows ∙ and-same within.rows within.lengths in
     and-same (and-same within.counter refl) (and-same within.users (and-same objects (and-same within.grants rows)))
 
--- A database that is taken has tables alone, and is within its limits.
-pub taken-parts : (db : Database) → are_taken db.limit db ≡ true
-    → (are_tables db.objects ≡ true) × ((16 ≤ db.cells) × (db.cells ≤ 2048) → (db.limit == LARGEST_UNMIGRATED || db.limit == LARGEST) ≡ true → weight db ≤ db.cells → IsWithinLimits db)
-taken-parts db taken =
-    let a = and_parts (list_all counter_record.fits (db.next ∷ [])) _ taken in
+-- A database that is admitted has tables alone, and is within its limits.
+pub admitted-parts : (db : Database) → are_admitted db.limit db ≡ true
+    → (are_tables db.objects ≡ true) × ((16 ≤ db.cells) × (db.cells ≤ 2048) → (db.limit == LARGEST_UNMIGRATED || db.limit == LARGEST) ≡ true → weight db ≤ db.cells → HasFittingRecords db)
+admitted-parts db admitted =
+    let a = and_parts (list_all counter_record.fits (db.next ∷ [])) _ admitted in
     let b = and_parts (list_all user_record.fits db.users) _ a.1 in
     let c = and_parts (list_all is_sound_table db.objects) _ b.1 in
     let d = and_parts (list_all grant_record.fits db.grants) _ c.1 in
@@ -114,7 +114,7 @@ user-parts slot None None (Some g) r = refl
 user-parts slot None None None (Some r) = refl
 user-parts slot None None None None = refl
 
-table-parts : (slot : ℕ) (u : Option User) (o : Option Object) (g : Option Grant) (r : Option RowRecord) → given u + (given o + (given g + given r)) ≤ 1 → option_and_then as_table (parts slot u o g r) ≡ option_map of_table o
+table-parts : (slot : ℕ) (u : Option User) (o : Option Object) (g : Option Grant) (r : Option RowRecord) → given u + (given o + (given g + given r)) ≤ 1 → option_and_then as_table (parts slot u o g r) ≡ option_map kept_of_table o
 table-parts slot (Some u) (Some o) g r one = absurd (omega (arith, one))
 table-parts slot (Some u) None g r one = refl
 table-parts slot None (Some o) g r one = refl
@@ -166,10 +166,10 @@ grants-gathered slots = of_kind as_grant (λ slot v. in_slot grant_in v) 0 slots
     go slot None = refl
     go slot (Some octets) = grant-parts slot (user_in octets) (object_in octets) (grant_in octets) (row_in octets) (others octets)
 
-pub tables-gathered : (slots : Slots) → tables_in (gathered 0 slots) ≡ map of_table (filter_map (in_slot object_in) slots)
-tables-gathered slots = of_kind as_table (λ slot v. option_map of_table (in_slot object_in v)) 0 slots go (λ j k v. refl) ∙ filter_map-option_map of_table (in_slot object_in) slots
+pub tables-gathered : (slots : Slots) → tables_in (gathered 0 slots) ≡ map kept_of_table (filter_map (in_slot object_in) slots)
+tables-gathered slots = of_kind as_table (λ slot v. option_map kept_of_table (in_slot object_in v)) 0 slots go (λ j k v. refl) ∙ filter_map-option_map kept_of_table (in_slot object_in) slots
   where
-    go : (slot : ℕ) (v : Option (List ℕ)) → option_and_then as_table (in_slot (summary_in slot) v) ≡ option_map of_table (in_slot object_in v)
+    go : (slot : ℕ) (v : Option (List ℕ)) → option_and_then as_table (in_slot (summary_in slot) v) ≡ option_map kept_of_table (in_slot object_in v)
     go slot None = refl
     go slot (Some octets) = table-parts slot (user_in octets) (object_in octets) (grant_in octets) (row_in octets) (others octets)
 

@@ -17,7 +17,7 @@ use Rattle.card.specs.declared.apart.Label.TheVariants.{UserName, TableName, Gra
 use Rattle.card.specs.declared.summary.Summary.{Summary}
 use Rattle.card.specs.declared.summary.TableSummary.{TableSummary}
 use Rattle.card.specs.Summary.{as_user, as_table, as_grant, users_in, tables_in, grants_in}
-use Rattle.card.specs.Apart.{are_different_numbers, octets_number, pair_number, is_pair, number_by, is_numbered, is_never_shared}
+use Rattle.card.specs.Apart.{are_different_numbers, octets_number, pair_number, is_pair_of_stamps, number_by, is_numbered, is_never_shared}
 
 -- a digit to base 256 that isn't 0
 abbrev is_digit : ℕ → Bool
@@ -70,7 +70,7 @@ name-same a b right right' =
       ])
     ]
 
-pair-same : (a b : Grant) → is_pair a.object a.grantee ≡ true → is_pair b.object b.grantee ≡ true → (pair_number a.object a.grantee == pair_number b.object b.grantee) ≡ is_of_pair a b
+pair-same : (a b : Grant) → is_pair_of_stamps a.object a.grantee ≡ true → is_pair_of_stamps b.object b.grantee ≡ true → (pair_number a.object a.grantee == pair_number b.object b.grantee) ≡ is_of_pair a b
 pair-same a b right right' =
     let p = and_parts (nat_lt a.object (2 ^ 32)) (nat_lt a.grantee (2 ^ 32)) right in
     let q = and_parts (nat_lt b.object (2 ^ 32)) (nat_lt b.grantee (2 ^ 32)) right' in
@@ -135,6 +135,6 @@ never-shared TableName records numbered =
     ∙ different-apart_by octets_number bytes_eq is_name name-same (map (λ (t : TableSummary). t.name) (tables_in records)) (right-kind as_table (λ (t : TableSummary). t.name) is_name records numbered)
 never-shared GrantPair records numbered =
     ap are_different_numbers (numbers-kind as_grant (λ (g : Grant). g) (λ (g : Grant). pair_number g.object g.grantee) records)
-    ∙ different-apart_by (λ (g : Grant). pair_number g.object g.grantee) is_of_pair (λ (g : Grant). is_pair g.object g.grantee) pair-same (map (λ (g : Grant). g) (grants_in records))
-    (right-kind as_grant (λ (g : Grant). g) (λ (g : Grant). is_pair g.object g.grantee) records numbered)
+    ∙ different-apart_by (λ (g : Grant). pair_number g.object g.grantee) is_of_pair (λ (g : Grant). is_pair_of_stamps g.object g.grantee) pair-same (map (λ (g : Grant). g) (grants_in records))
+    (right-kind as_grant (λ (g : Grant). g) (λ (g : Grant). is_pair_of_stamps g.object g.grantee) records numbered)
     ∙ ap (are_apart_by is_of_pair) (map-itself (grants_in records))

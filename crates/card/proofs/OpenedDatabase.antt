@@ -17,11 +17,11 @@ use Rattle.scql_model.specs.Database.{Database, weight}
 use Rattle.scql_model.specs.Opens.{Holds, Opens, counter_stamp, is_spelled}
 use Rattle.scql_model.proofs.LongerLists.{all-weaker}
 use Rattle.scql_model.proofs.Room.{cells-filled}
-use Rattle.card.specs.Opening.{Gathers, HoldsNone, IsOfStore, PassTest, ReadsCard, gathered, is_taken}
+use Rattle.card.specs.Opening.{Gathers, HoldsNone, IsOfStore, PassTest, ReadsCard, gathered, is_admitted}
 use Rattle.card.specs.Summary.{stamp_of}
 use Rattle.card.specs.declared.summary.Summary.{Summary}
 use Rattle.card.proofs.GatheredSlots.{GathersSoFar}
-use Rattle.card.proofs.HeldKinds.{user_stamp, object_stamp, grant_stamp, row_stamp, taken-held, taken-parts}
+use Rattle.card.proofs.HeldKinds.{user_stamp, object_stamp, grant_stamp, row_stamp, admitted-held, admitted-parts}
 use Rattle.card.proofs.HeldInOrder.{apart-held, summarizes-held}
 use Rattle.card.proofs.Tested.{IsValid-tested, tested-IsValid}
 use Rattle.card.proofs.SortedTest.{is_valid_list}
@@ -40,7 +40,7 @@ gathered-all held (Some image) count counter records store opened same stands g 
 -- the records of a store, in their order
 pub of-store : (was : Stored) (count next : ℕ) (records sorted : List Summary) → Gathers was.row_limit count was.slots (Some next) records → sorted ≡ in_order stamp_of records → PassTest next records → IsOfStore was next sorted
 of-store was count next records sorted g is passed = record {
-  taken = g.taken;
+  admitted = g.admitted;
   counters = g.counters;
   apart = rw g.records_are passed.apart;
   records_are = ap (in_order stamp_of) g.records_are ∙ sym is;
@@ -58,13 +58,13 @@ database_of was next = record {
   rows = kept row_stamp row_in was.slots;
 }
 
-spelled-taken : (limit : ℕ) (v : Option (List ℕ)) → is_taken limit v ≡ true → is_spelled v ≡ true
-spelled-taken limit v taken = (and_parts (is_spelled v) _ taken).0
+spelled-admitted : (limit : ℕ) (v : Option (List ℕ)) → is_admitted limit v ≡ true → is_spelled v ≡ true
+spelled-admitted limit v admitted = (and_parts (is_spelled v) _ admitted).0
 
 holds-database : (was : Stored) (count next : ℕ) (records : List Summary) → Gathers was.row_limit count was.slots (Some next) records → Holds was.slots (database_of was next)
 holds-database was count next records g = record {
   cells = refl;
-  spelled = all-weaker (is_taken was.row_limit) is_spelled was.slots (spelled-taken was.row_limit) g.taken;
+  spelled = all-weaker (is_admitted was.row_limit) is_spelled was.slots (spelled-admitted was.row_limit) g.admitted;
   counter = ap (in_order counter_stamp) g.counters;
   users = refl;
   objects = refl;
@@ -79,7 +79,7 @@ opens-tested image was count next records there cells limit room g passed =
     let db = database_of was next in
     let holds : Holds was.slots db = holds-database was count next records g in
     let apart = subst (λ (records : List Summary). AreApart stamp_of records) (sym g.records_are) passed.apart in
-    let taken = taken-parts db (sym (taken-held db.limit was.slots db holds) ∙ g.taken) in
+    let admitted = admitted-parts db (sym (admitted-held db.limit was.slots db holds) ∙ g.admitted) in
     let room' : weight db ≤ db.cells = subst (λ (w : ℕ). w ≤ length was.slots) (cells-filled was.slots db holds) room in
     let sorted = in_order stamp_of (gathered 0 was.slots) in
     let valid = subst (λ (records : List Summary). is_valid_list next (in_order stamp_of records) ≡ true) (sym g.records_are) passed.valid in (
@@ -89,8 +89,8 @@ opens-tested image was count next records there cells limit room g passed =
         stored = there;
         limit = refl;
         holds = holds;
-        valid = IsValid-tested db sorted (summarizes-held was.slots db holds apart taken.0) (taken.1 cells limit room') valid;
-        tables = taken.0;
+        valid = IsValid-tested db sorted (summarizes-held was.slots db holds apart admitted.0) (admitted.1 cells limit room') valid;
+        tables = admitted.0;
       },
     )
 

@@ -1,4 +1,4 @@
--- A list whose keys rise is a list in rising order of its keys, whatever the order was before; and a test of neighbours tells whether they rise.
+-- A list whose numbers rise is a list in rising order of its numbers, whatever the order was before; and a test of neighbours tells whether they rise.
 use Rattle.std.proofs.Common.{◌≡◌, ℕ, zero, suc, ◌+◌, ◌<◌, ◌≤◌, Bool, true, false, ltb, List, [], ◌∷◌, length, get_or, refl, sym, ap, ◌∙◌, ◌⊎◌, inl, inr, subst, arith}
 use Rattle.std.specs.Prelude.{IsTrue}
 use Rattle.std.specs.List.{AllByRecursion, IsAllAdjacentAnswer, count_by}
@@ -69,11 +69,11 @@ IsPermutation-in_order key (x ∷ xs) =
 in-permuted : {X : Type 0} (xs ys : List X) → IsPermutation xs ys → AllByRecursion (λ z. In z xs) ys
 in-permuted xs ys permuted = recursion_from_All (λ z. In z xs) ys (All-permutation (λ z. In z xs) xs ys permuted (All-from_recursion (λ z. In z xs) xs (in-each xs)))
 
--- keys are apart in any order
+-- numbers are apart in any order
 pub AreApart-permuted : {X : Type 0} (key : X → ℕ) (xs ys : List X) → IsPermutation xs ys → AreApart key xs → AreApart key ys
 AreApart-permuted key xs ys permuted apart = λ k. let same : count_by (has key k) ys ≡ count_by (has key k) xs = sum_by-IsPermutation _ xs ys permuted in let few = apart k in omega arith
 
--- Where the keys rise, the elements are in rising order of them.
+-- Where the numbers rise, the elements are in rising order of them.
 pub in_order-permuted : {X : Type 0} (key : X → ℕ) (xs ys : List X) → IsPermutation xs ys → Rises key ys → ys ≡ in_order key xs
 in_order-permuted key xs ys permuted rises =
     let apart = AreApart-permuted key ys xs (IsPermutation-sym xs ys permuted) (AreApart-rising key ys rises) in
@@ -129,6 +129,6 @@ rises-steps key (x ∷ y ∷ ys) up apart =
     omega arith) in
     front-rises key x y ys (omega (arith, first, ne)) (rises-steps key (y ∷ ys) (λ k d h. up (suc k) d (omega arith)) (apart-tail key x (y ∷ ys) apart))
 
--- keys that don't fall, and are apart, rise
+-- numbers that don't fall, and are apart, rise
 pub rises-apart : {X : Type 0} (key : X → ℕ) (xs : List X) → IsNonDecreasingBy key xs → AreApart key xs → Rises key xs
 rises-apart key xs up apart = rises-steps key xs (λ k d h. up k (suc k) d (omega arith) h) apart

@@ -29,8 +29,8 @@ use Rattle.card.specs.declared.summary.Summary.{Summary}
 use Rattle.card.specs.declared.summary.Summary.TheVariants as kept_as
 use Rattle.card.specs.declared.summary.TableSummary.{TableSummary}
 use Rattle.card.specs.declared.summary.RowSummary.{RowSummary}
-use Rattle.card.specs.Summary.{Summarizes, stamp_of, as_user, as_table, as_grant, as_row, users_in, tables_in, grants_in, rows_in, of_table, row_summary, unplaced}
-use Rattle.card.specs.Validity.{IsWithinLimits, is_owner_alone, is_stamp_before, is_right_user, is_right_grant, is_right_row, are_valid_users, are_valid_tables, are_valid_grants, are_valid_rows, is_valid_database}
+use Rattle.card.specs.Summary.{Summarizes, stamp_of, as_user, as_table, as_grant, as_row, users_in, tables_in, grants_in, rows_in, kept_of_table, row_summary, unplaced}
+use Rattle.card.specs.Validity.{HasFittingRecords, is_owner_alone, is_stamp_before, is_right_user, is_right_grant, is_right_row, are_valid_users, are_valid_tables, are_valid_grants, are_valid_rows, is_valid_database}
 use Rattle.card.proofs.OfKinds.{user-stamp, table-stamp, grant-stamp, row-stamp}
 use Rattle.card.proofs.OwnerSearch.{owner_alone-is}
 use Rattle.card.proofs.Stamped.{Rises-kind}
@@ -74,14 +74,14 @@ Rises-of {X = X} key f (x ∷ xs) rises = (above-of (key (f x)) xs rises.0, Rise
 -- The rules of each kind, of what is kept and of the records.
 
 -- a grant's object is among the tables
-grant-alike : (users : List User) (objects : List Object) (g : Grant) → is_right_grant users (map of_table objects) g ≡ has_object_and_grantee users objects g
-grant-alike users objects g = rw (any-map (λ (t : TableSummary). t.stamp == g.object) of_table objects) refl
+grant-alike : (users : List User) (objects : List Object) (g : Grant) → is_right_grant users (map kept_of_table objects) g ≡ has_object_and_grantee users objects g
+grant-alike users objects g = rw (any-map (λ (t : TableSummary). t.stamp == g.object) kept_of_table objects) refl
 
-row-alike : (objects : List Object) (r : RowRecord) → list_all (λ (o : Object). is_table o.kind) objects ≡ true → is_right_row (map of_table objects) (row_summary 0 r) ≡ has_table objects r
-row-alike objects r alone = rw (find-map (λ (t : TableSummary). t.stamp == r.table) of_table objects) (go (find (λ (o : Object). o.stamp == r.table) objects) refl)
+row-alike : (objects : List Object) (r : RowRecord) → list_all (λ (o : Object). is_table o.kind) objects ≡ true → is_right_row (map kept_of_table objects) (row_summary 0 r) ≡ has_table objects r
+row-alike objects r alone = rw (find-map (λ (t : TableSummary). t.stamp == r.table) kept_of_table objects) (go (find (λ (o : Object). o.stamp == r.table) objects) refl)
   where
     go : (found : Option Object) → find (λ (o : Object). o.stamp == r.table) objects ≡ found
-        → option_map_or (λ (t : TableSummary). nat_lt t.stamp r.stamp && (t.columns == length r.row)) (option_map of_table (find (λ (o : Object). o.stamp == r.table) objects)) false ≡ has_table objects r
+        → option_map_or (λ (t : TableSummary). nat_lt t.stamp r.stamp && (t.columns == length r.row)) (option_map kept_of_table (find (λ (o : Object). o.stamp == r.table) objects)) false ≡ has_table objects r
     go None e = rw e refl
     go (Some o) e = rw (e, find-all (λ (o : Object). is_table o.kind) (λ (o : Object). o.stamp == r.table) objects o alone e) refl
 
@@ -109,7 +109,7 @@ user-storable u fits = user-short u (parts u fits).0 (parts u fits).1
 
 -- The test, of what is kept of a database's records.
 abbrev passes : Database → Bool
-passes db = is_valid_database db.next db.users (map of_table db.objects) db.grants (map (row_summary 0) db.rows)
+passes db = is_valid_database db.next db.users (map kept_of_table db.objects) db.grants (map (row_summary 0) db.rows)
 
 pub tested-database : (db : Database) (records : List Summary) → Summarizes records db → is_valid_database db.next (users_in records) (tables_in records) (grants_in records) (rows_in records) ≡ passes db
 tested-database db records s =
@@ -117,7 +117,7 @@ tested-database db records s =
     ∙ ap (λ (b : Bool). nat_le 2 db.next && are_valid_users db.next db.users && are_valid_tables db.next db.users ts && are_valid_grants db.next db.users ts db.grants && b) rows-alike
   where
     ts : List TableSummary
-    ts = map of_table db.objects
+    ts = map kept_of_table db.objects
 
     right : RowSummary → Bool
     right r = is_stamp_before db.next r.stamp && is_right_row ts r
@@ -202,7 +202,7 @@ stored-apart db records s = λ k.
     let kinds = count-kinds k records in
     let all = count-stored k db in
     let users : users_at k (users_in records) ≡ users_at k db.users = ap (users_at k) s.users in
-    let tables : tables_at k (tables_in records) ≡ objects_at k db.objects = ap (tables_at k) s.tables ∙ count-map (λ (t : TableSummary). t.stamp == k) of_table db.objects in
+    let tables : tables_at k (tables_in records) ≡ objects_at k db.objects = ap (tables_at k) s.tables ∙ count-map (λ (t : TableSummary). t.stamp == k) kept_of_table db.objects in
     let grants : grants_at k (grants_in records) ≡ grants_at k db.grants = ap (grants_at k) s.grants in
     let rows : summaries_at k (rows_in records) ≡ rows_at k db.rows =
     sym (count-map (λ (r : RowSummary). r.stamp == k) unplaced (rows_in records)) ∙ ap (summaries_at k) s.rows ∙ count-map (λ (r : RowSummary). r.stamp == k) (row_summary 0) db.rows in
@@ -241,7 +241,7 @@ each-stored p db all =
     }
 
 -- the records are stored where each is within its limits
-stored-within : (db : Database) (records : List Summary) → Summarizes records db → IsWithinLimits db → list_all is_short db.objects ≡ true → list_all (is_given_out db.next) (records_of db) ≡ true
+stored-within : (db : Database) (records : List Summary) → Summarizes records db → HasFittingRecords db → list_all is_short db.objects ≡ true → list_all (is_given_out db.next) (records_of db) ≡ true
     → IsStored db.cells (counter_cells db) db.next (records_of db)
 stored-within db records s within short given = record {
   room = within.room;
@@ -259,7 +259,7 @@ users-rise db records s = subst (Rises (λ (u : User). u.stamp)) s.users (Rises-
 
 objects-rise : (db : Database) (records : List Summary) → Summarizes records db → Rises (λ (o : Object). o.stamp) db.objects
 objects-rise db records s =
-    Rises-of (λ (t : TableSummary). t.stamp) of_table db.objects (subst (Rises (λ (t : TableSummary). t.stamp)) s.tables (Rises-kind stamp_of (λ (t : TableSummary). t.stamp) as_table table-stamp records s.rises))
+    Rises-of (λ (t : TableSummary). t.stamp) kept_of_table db.objects (subst (Rises (λ (t : TableSummary). t.stamp)) s.tables (Rises-kind stamp_of (λ (t : TableSummary). t.stamp) as_table table-stamp records s.rises))
 
 grants-rise : (db : Database) (records : List Summary) → Summarizes records db → Rises (λ (g : Grant). g.stamp) db.grants
 grants-rise db records s = subst (Rises (λ (g : Grant). g.stamp)) s.grants (Rises-kind stamp_of (λ (g : Grant). g.stamp) as_grant grant-stamp records s.rises)
@@ -296,33 +296,33 @@ valid-users next users is stamps =
     rw (each, is.owner, is.names) refl
 
 tables-valid : (next : ℕ) (users : List User) (objects : List Object) → Rises (λ (o : Object). o.stamp) objects → list_all (λ (o : Object). is_table o.kind) objects ≡ true → list_all object_fits objects ≡ true
-    → list_all (λ (o : Object). are_different (columns_of o.kind)) objects ≡ true → are_valid_tables next users (map of_table objects) ≡ true → AreObjects users objects
+    → list_all (λ (o : Object). are_different (columns_of o.kind)) objects ≡ true → are_valid_tables next users (map kept_of_table objects) ≡ true → AreObjects users objects
 tables-valid next users objects rises alone limits columns valid =
-    let ts = map of_table objects in
+    let ts = map kept_of_table objects in
     let one = λ (t : TableSummary). is_stamp_before next t.stamp && is_made_by_maker users t.owner in
     let a = and_parts (list_all one ts) (are_different (map (λ (t : TableSummary). t.name) ts)) valid in
-    let each : list_all (λ (o : Object). is_stamp_before next o.stamp && is_made_by_maker users o.owner) objects ≡ true = sym (list_all-map one of_table objects) ∙ a.0 in record {
+    let each : list_all (λ (o : Object). is_stamp_before next o.stamp && is_made_by_maker users o.owner) objects ≡ true = sym (list_all-map one kept_of_table objects) ∙ a.0 in record {
       rises = rises;
       limits = limits;
       lengths = all-by_both (λ (o : Object). is_table o.kind) object_fits is_short objects table-short alone limits;
-      names = ap are_different (sym (map-twice (λ (t : TableSummary). t.name) of_table objects)) ∙ a.1;
+      names = ap are_different (sym (map-twice (λ (t : TableSummary). t.name) kept_of_table objects)) ∙ a.1;
       makers = all-weaker (λ (o : Object). is_stamp_before next o.stamp && is_made_by_maker users o.owner) (λ (o : Object). is_made_by_maker users o.owner) objects
           (λ o h. (and_parts (is_stamp_before next o.stamp) (is_made_by_maker users o.owner) h).1) each;
       founded = all-by_both (λ (o : Object). is_table o.kind) (λ (o : Object). are_different (columns_of o.kind)) (is_founded objects) objects (λ o is different. founded-alike objects o is ∙ different) alone columns;
     }
 
-valid-tables : (next : ℕ) (users : List User) (objects : List Object) → AreObjects users objects → list_all (λ (o : Object). is_stamp_before next o.stamp) objects ≡ true → are_valid_tables next users (map of_table objects) ≡ true
+valid-tables : (next : ℕ) (users : List User) (objects : List Object) → AreObjects users objects → list_all (λ (o : Object). is_stamp_before next o.stamp) objects ≡ true → are_valid_tables next users (map kept_of_table objects) ≡ true
 valid-tables next users objects are stamps =
-    let ts = map of_table objects in
+    let ts = map kept_of_table objects in
     let one = λ (t : TableSummary). is_stamp_before next t.stamp && is_made_by_maker users t.owner in
     let each = all-both (λ (o : Object). is_stamp_before next o.stamp) (λ (o : Object). is_made_by_maker users o.owner) objects stamps are.makers in
-    and_from (list_all one ts) (are_different (map (λ (t : TableSummary). t.name) ts)) (list_all-map one of_table objects ∙ each)
-    (ap are_different (map-twice (λ (t : TableSummary). t.name) of_table objects) ∙ are.names)
+    and_from (list_all one ts) (are_different (map (λ (t : TableSummary). t.name) ts)) (list_all-map one kept_of_table objects ∙ each)
+    (ap are_different (map-twice (λ (t : TableSummary). t.name) kept_of_table objects) ∙ are.names)
 
 grants-valid : (next : ℕ) (users : List User) (objects : List Object) (grants : List Grant) → Rises (λ (g : Grant). g.stamp) grants → list_all grant_record.fits grants ≡ true
-    → are_valid_grants next users (map of_table objects) grants ≡ true → AreGrants users objects grants
+    → are_valid_grants next users (map kept_of_table objects) grants ≡ true → AreGrants users objects grants
 grants-valid next users objects grants rises limits valid =
-    let ts = map of_table objects in
+    let ts = map kept_of_table objects in
     let one = λ (g : Grant). is_stamp_before next g.stamp && is_right_grant users ts g in
     let a = and_parts (list_all one grants) (are_apart_by is_of_pair grants) valid in record {
       rises = rises;
@@ -332,17 +332,17 @@ grants-valid next users objects grants rises limits valid =
     }
 
 valid-grants : (next : ℕ) (users : List User) (objects : List Object) (grants : List Grant) → AreGrants users objects grants → list_all (λ (g : Grant). is_stamp_before next g.stamp) grants ≡ true
-    → are_valid_grants next users (map of_table objects) grants ≡ true
+    → are_valid_grants next users (map kept_of_table objects) grants ≡ true
 valid-grants next users objects grants are stamps =
-    let ts = map of_table objects in
+    let ts = map kept_of_table objects in
     let right = all-alike (is_right_grant users ts) (has_object_and_grantee users objects) grants (grant-alike users objects) ∙ are.parties in
     and_from (list_all (λ (g : Grant). is_stamp_before next g.stamp && is_right_grant users ts g) grants) (are_apart_by is_of_pair grants)
     (all-both (λ (g : Grant). is_stamp_before next g.stamp) (is_right_grant users ts) grants stamps right) are.pairs
 
 rows-valid : (next limit : ℕ) (objects : List Object) (rows : List RowRecord) → list_all (λ (o : Object). is_table o.kind) objects ≡ true → Rises (λ (r : RowRecord). r.stamp) rows → list_all row_record.fits rows ≡ true
-    → list_all (is_within_limit limit) rows ≡ true → are_valid_rows next (map of_table objects) (map (row_summary 0) rows) ≡ true → AreRows limit objects rows
+    → list_all (is_within_limit limit) rows ≡ true → are_valid_rows next (map kept_of_table objects) (map (row_summary 0) rows) ≡ true → AreRows limit objects rows
 rows-valid next limit objects rows alone rises limits lengths valid =
-    let ts = map of_table objects in
+    let ts = map kept_of_table objects in
     let one = λ (r : RowSummary). is_stamp_before next r.stamp && is_right_row ts r in
     let each : list_all (λ (r : RowRecord). is_stamp_before next r.stamp && is_right_row ts (row_summary 0 r)) rows ≡ true = sym (list_all-map one (row_summary 0) rows) ∙ valid in record {
       rises = rises;
@@ -353,9 +353,9 @@ rows-valid next limit objects rows alone rises limits lengths valid =
     }
 
 valid-rows : (next limit : ℕ) (objects : List Object) (rows : List RowRecord) → list_all (λ (o : Object). is_table o.kind) objects ≡ true → AreRows limit objects rows
-    → list_all (λ (r : RowRecord). is_stamp_before next r.stamp) rows ≡ true → are_valid_rows next (map of_table objects) (map (row_summary 0) rows) ≡ true
+    → list_all (λ (r : RowRecord). is_stamp_before next r.stamp) rows ≡ true → are_valid_rows next (map kept_of_table objects) (map (row_summary 0) rows) ≡ true
 valid-rows next limit objects rows alone are stamps =
-    let ts = map of_table objects in
+    let ts = map kept_of_table objects in
     let right = all-alike (λ (r : RowRecord). is_right_row ts (row_summary 0 r)) (has_table objects) rows (λ r. row-alike objects r alone) ∙ are.tables in
     list_all-map (λ (r : RowSummary). is_stamp_before next r.stamp && is_right_row ts r) (row_summary 0) rows
     ∙ all-both (λ (r : RowRecord). is_stamp_before next r.stamp) (λ (r : RowRecord). is_right_row ts (row_summary 0 r)) rows stamps right
@@ -364,13 +364,13 @@ valid-rows next limit objects rows alone are stamps =
 record Passes (db : Database) : Type 0 where
   next : nat_le 2 db.next ≡ true
   users : are_valid_users db.next db.users ≡ true
-  tables : are_valid_tables db.next db.users (map of_table db.objects) ≡ true
-  grants : are_valid_grants db.next db.users (map of_table db.objects) db.grants ≡ true
-  rows : are_valid_rows db.next (map of_table db.objects) (map (row_summary 0) db.rows) ≡ true
+  tables : are_valid_tables db.next db.users (map kept_of_table db.objects) ≡ true
+  grants : are_valid_grants db.next db.users (map kept_of_table db.objects) db.grants ≡ true
+  rows : are_valid_rows db.next (map kept_of_table db.objects) (map (row_summary 0) db.rows) ≡ true
 
 each-passes : (db : Database) → passes db ≡ true → Passes db
 each-passes db passed =
-    let ts = map of_table db.objects in
+    let ts = map kept_of_table db.objects in
     let a = and_parts (nat_le 2 db.next && are_valid_users db.next db.users && are_valid_tables db.next db.users ts && are_valid_grants db.next db.users ts db.grants) (are_valid_rows db.next ts (map (row_summary 0) db.rows)) passed in
     let b = and_parts (nat_le 2 db.next && are_valid_users db.next db.users && are_valid_tables db.next db.users ts) (are_valid_grants db.next db.users ts db.grants) a.0 in
     let c = and_parts (nat_le 2 db.next && are_valid_users db.next db.users) (are_valid_tables db.next db.users ts) b.0 in
@@ -383,7 +383,7 @@ first-of-both p q xs all = all-weaker (λ x. p x && q x) p xs (λ x h. (and_part
 
 stamps-given : (db : Database) → Passes db → list_all (is_given_out db.next) (records_of db) ≡ true
 stamps-given db passed =
-    let ts = map of_table db.objects in
+    let ts = map kept_of_table db.objects in
     let table = λ (t : TableSummary). is_stamp_before db.next t.stamp && is_made_by_maker db.users t.owner in
     let row = λ (r : RowSummary). is_stamp_before db.next r.stamp && is_right_row ts r in
     let users = and_parts (list_all (λ (u : User). is_stamp_before db.next u.stamp && is_right_user db.users u) db.users && is_owner_alone (filter is_db_o db.users)) (are_different (map (λ (u : User). u.name) db.users)) passed.users in
@@ -392,12 +392,12 @@ stamps-given db passed =
     let grants = and_parts (list_all (λ (g : Grant). is_stamp_before db.next g.stamp && is_right_grant db.users ts g) db.grants) (are_apart_by is_of_pair db.grants) passed.grants in
     all-stored (is_given_out db.next) db
     (first-of-both (λ (u : User). is_stamp_before db.next u.stamp) (is_right_user db.users) db.users user.0)
-    (first-of-both (λ (o : Object). is_stamp_before db.next o.stamp) (λ (o : Object). is_made_by_maker db.users o.owner) db.objects (sym (list_all-map table of_table db.objects) ∙ tables.0))
+    (first-of-both (λ (o : Object). is_stamp_before db.next o.stamp) (λ (o : Object). is_made_by_maker db.users o.owner) db.objects (sym (list_all-map table kept_of_table db.objects) ∙ tables.0))
     (first-of-both (λ (g : Grant). is_stamp_before db.next g.stamp) (is_right_grant db.users ts) db.grants grants.0)
     (first-of-both (λ (r : RowRecord). is_stamp_before db.next r.stamp) (λ (r : RowRecord). is_right_row ts (row_summary 0 r)) db.rows (sym (list_all-map row (row_summary 0) db.rows) ∙ passed.rows))
 
 -- Records that are within their limits and pass the test make a valid database.
-pub IsValid-tested : (db : Database) (records : List Summary) → Summarizes records db → IsWithinLimits db
+pub IsValid-tested : (db : Database) (records : List Summary) → Summarizes records db → HasFittingRecords db
     → is_valid_database db.next (users_in records) (tables_in records) (grants_in records) (rows_in records) ≡ true → IsValid db
 IsValid-tested db records s within tested =
     let passed = each-passes db (sym (tested-database db records s) ∙ tested) in
@@ -414,8 +414,8 @@ IsValid-tested db records s within tested =
     }
 
 -- The records of a valid database are within their limits and pass the test.
-pub IsWithinLimits-valid : (db : Database) → list_all (λ (o : Object). is_table o.kind) db.objects ≡ true → IsValid db → IsWithinLimits db
-IsWithinLimits-valid db alone valid = record {
+pub HasFittingRecords-valid : (db : Database) → list_all (λ (o : Object). is_table o.kind) db.objects ≡ true → IsValid db → HasFittingRecords db
+HasFittingRecords-valid db alone valid = record {
   cells = valid.cells;
   limit = valid.limit;
   room = valid.stored.room;
@@ -430,7 +430,7 @@ IsWithinLimits-valid db alone valid = record {
 
 pub tested-IsValid : (db : Database) (records : List Summary) → Summarizes records db → IsValid db → is_valid_database db.next (users_in records) (tables_in records) (grants_in records) (rows_in records) ≡ true
 tested-IsValid db records s valid =
-    let ts = map of_table db.objects in
+    let ts = map kept_of_table db.objects in
     let stamps = each-stored (is_given_out db.next) db valid.stored.stamped in
     tested-database db records s
     ∙ rw (le-leb 2 db.next valid.next, valid-users db.next db.users valid.users stamps.users, valid-tables db.next db.users db.objects valid.objects stamps.objects, valid-grants db.next db.users db.objects db.grants valid.grants stamps.grants)

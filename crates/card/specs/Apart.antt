@@ -20,7 +20,7 @@ abbrev pub octets_number : List ℕ → ℕ
 octets_number [] = 0
 octets_number (octet ∷ octets) = octet + 256 * octets_number octets
 
--- the number of a pair of numbers of four octets
+-- the number of a pair of stamps
 abbrev pub pair_number : ℕ → ℕ → ℕ
 pair_number object grantee = object * 2 ^ 32 + grantee
 
@@ -30,14 +30,15 @@ number_by UserName s = option_map (λ (u : User). octets_number u.name) (as_user
 number_by TableName s = option_map (λ (t : TableSummary). octets_number t.name) (as_table s)
 number_by GrantPair s = option_map (λ (g : Grant). pair_number g.object g.grantee) (as_grant s)
 
--- where a record has it, it is a name, or a pair of numbers of four octets
-abbrev pub is_pair : ℕ → ℕ → Bool
-is_pair object grantee = nat_lt object (2 ^ 32) && nat_lt grantee (2 ^ 32)
+-- stamps have four octets
+abbrev pub is_pair_of_stamps : ℕ → ℕ → Bool
+is_pair_of_stamps object grantee = nat_lt object (2 ^ 32) && nat_lt grantee (2 ^ 32)
 
+-- where a record has it, it is a name or a pair of stamps
 abbrev pub is_numbered : Label → Summary → Bool
 is_numbered UserName s = option_map_or (λ (u : User). is_name u.name) (as_user s) true
 is_numbered TableName s = option_map_or (λ (t : TableSummary). is_name t.name) (as_table s) true
-is_numbered GrantPair s = option_map_or (λ (g : Grant). is_pair g.object g.grantee) (as_grant s) true
+is_numbered GrantPair s = option_map_or (λ (g : Grant). is_pair_of_stamps g.object g.grantee) (as_grant s) true
 
 -- each number differs from the next, from this one on
 abbrev pub differ_from_next : ℕ → List ℕ → Bool

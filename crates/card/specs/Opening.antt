@@ -17,12 +17,12 @@ use Rattle.card.specs.declared.summary.Summary.{Summary}
 use Rattle.card.specs.declared.summary.Summary.TheVariants as kept_as
 use Rattle.card.specs.declared.slot_record.SlotRecord.{SlotRecord}
 use Rattle.card.specs.declared.slot_record.SlotRecord.TheVariants as found_as
-use Rattle.card.specs.Summary.{stamp_of, of_table, row_summary, users_in, tables_in, grants_in, rows_in}
+use Rattle.card.specs.Summary.{stamp_of, kept_of_table, row_summary, users_in, tables_in, grants_in, rows_in}
 use Rattle.card.specs.Validity.{is_valid_database}
 
 -- what a reader gives of a slot passes a test, where it gives something
-abbrev pub passes : {X : Type 0} → (X → Bool) → (List ℕ → Option X) → Option (List ℕ) → Bool
-passes test read v = option_map_or test (in_slot read v) true
+abbrev pub gives_only : {X : Type 0} → (X → Bool) → (List ℕ → Option X) → Option (List ℕ) → Bool
+gives_only test read v = option_map_or test (in_slot read v) true
 
 -- a table whose columns are different
 abbrev pub is_plain_table : Object → Bool
@@ -36,14 +36,14 @@ abbrev pub is_sound_row : ℕ → RowRecord → Bool
 is_sound_row limit r = row_record.fits r && is_within_limit limit r
 
 -- An empty slot, or the record of some kind within its limits, on a card with this row limit.
-abbrev pub is_taken : ℕ → Option (List ℕ) → Bool
-is_taken limit v =
-    is_spelled v && (passes counter_record.fits counter_in v && (passes user_record.fits user_in v && (passes is_sound_table object_in v
-    && (passes grant_record.fits grant_in v && passes (is_sound_row limit) row_in v))))
+abbrev pub is_admitted : ℕ → Option (List ℕ) → Bool
+is_admitted limit v =
+    is_spelled v && (gives_only counter_record.fits counter_in v && (gives_only user_record.fits user_in v && (gives_only is_sound_table object_in v
+    && (gives_only grant_record.fits grant_in v && gives_only (is_sound_row limit) row_in v))))
 
 -- what is kept of a record in a slot: nothing of the counter
 abbrev pub object_summary : Object → Summary
-object_summary o = kept_as.Table (of_table o)
+object_summary o = kept_as.Table (kept_of_table o)
 
 abbrev pub summary_in : ℕ → List ℕ → Option Summary
 summary_in slot octets =
@@ -64,10 +64,10 @@ abbrev pub summary_of : SlotRecord → Option Summary
 summary_of (found_as.Counter next) = None
 summary_of (found_as.Kept summary) = Some summary
 
--- These are the counter and what is kept of the other records in so many slots, each of which is taken.
+-- These are the counter and what is kept of the other records in so many slots, each of which is admitted.
 pub record Gathers (limit count : ℕ) (slots : Slots) (counter : Option ℕ) (records : List Summary) : Type 0 where
   pub count_is : length slots ≡ count
-  pub taken : list_all (is_taken limit) slots ≡ true
+  pub admitted : list_all (is_admitted limit) slots ≡ true
   pub counters : filter_map (in_slot counter_in) slots ≡ cons_option counter []
   pub records_are : gathered 0 slots ≡ records
 
@@ -78,7 +78,7 @@ pub record PassTest (next : ℕ) (records : List Summary) : Type 0 where
 
 -- A store's counter, and what is kept of its other records, in rising order of their stamps.
 pub record IsOfStore (was : Stored) (next : ℕ) (records : List Summary) : Type 0 where
-  pub taken : list_all (is_taken was.row_limit) was.slots ≡ true
+  pub admitted : list_all (is_admitted was.row_limit) was.slots ≡ true
   pub counters : filter_map (in_slot counter_in) was.slots ≡ next ∷ []
   pub apart : AreApart stamp_of (gathered 0 was.slots)
   pub records_are : in_order stamp_of (gathered 0 was.slots) ≡ records

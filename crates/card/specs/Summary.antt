@@ -63,14 +63,14 @@ abbrev pub unplaced : RowSummary → RowSummary
 unplaced r = record { stamp = r.stamp; table = r.table; slot = 0; values = r.values }
 
 -- what is kept of an object that is a table
-abbrev pub of_table : Object → TableSummary
-of_table o = table_summary o (columns_of o.kind)
+abbrev pub kept_of_table : Object → TableSummary
+kept_of_table o = table_summary o (columns_of o.kind)
 
 -- This is what is kept of the records of a database all of whose objects are tables, in rising order of stamps.
 pub record Summarizes (records : List Summary) (db : Database) : Type 0 where
   pub rises : Rises stamp_of records
   pub tables_alone : list_all (λ (o : Object). is_table o.kind) db.objects ≡ true
   pub users : users_in records ≡ db.users
-  pub tables : tables_in records ≡ map of_table db.objects
+  pub tables : tables_in records ≡ map kept_of_table db.objects
   pub grants : grants_in records ≡ db.grants
   pub rows : map unplaced (rows_in records) ≡ map (row_summary 0) db.rows

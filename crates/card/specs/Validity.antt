@@ -85,7 +85,7 @@ is_right_record next users tables (kept_as.Grant g) = is_stamp_before next g.sta
 is_right_record next users tables (kept_as.Row r) = is_stamp_before next r.stamp && is_right_row tables r
 
 -- What is tested where each record is read: it is within its limits, a table's columns are different, and all records have room.
-pub record IsWithinLimits (db : Database) : Type 0 where
+pub record HasFittingRecords (db : Database) : Type 0 where
   pub cells : (16 ≤ db.cells) × (db.cells ≤ 2048)
   pub limit : (db.limit == LARGEST_UNMIGRATED || db.limit == LARGEST) ≡ true
   pub room : weight db ≤ db.cells

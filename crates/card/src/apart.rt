@@ -1,6 +1,7 @@
 // Names and pairs as numbers, which are put in order to find two that are the same.
 ghost use Rattle.std.specs.Prelude.{◌≡◌, ◌<◌, ◌≤◌, ◌^◌, true, length, vec_capacity};
 ghost use Rattle.scql_base.specs.Name.{IsName};
+ghost use Rattle.scql_base.specs.declared.name.TheConstants.Name.{LONGEST};
 ghost use Rattle.card.specs.Apart as apart;
 
 use crate::summary::Summary;
@@ -47,6 +48,7 @@ impl Label {
     }
 }
 
+// The number of a name.
 fn name_number(name: &Name) -> u64
     ensures number { result ≡ apart.octets_number name.now }
     ensures name { IsName name.now }
@@ -56,7 +58,7 @@ fn name_number(name: &Name) -> u64
 
 // The number whose digits to base 256 are these octets, the least digit first.
 fn octets_number(octets: &[u8]) -> u64
-    requires short { length octets.now ≤ 8 }
+    requires short { length octets.now ≤ LONGEST }
     ensures number { result ≡ apart.octets_number octets.now }
     ensures small { result < 256 ^ length octets.now }
 {
@@ -66,9 +68,10 @@ fn octets_number(octets: &[u8]) -> u64
     }
 }
 
+// The number of two stamps.
 fn pair_number(object: u32, grantee: u32) -> u64
     ensures number { result ≡ apart.pair_number object grantee }
-    ensures pair { apart.is_pair object grantee ≡ true }
+    ensures pair { apart.is_pair_of_stamps object grantee ≡ true }
 {
     u64::from(object) * 0x1_0000_0000 + u64::from(grantee)
 }

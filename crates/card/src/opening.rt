@@ -14,7 +14,7 @@ ghost use Rattle.record_store.specs.declared.side.Side.TheVariants.{Committed};
 ghost use Rattle.scql_model.specs.Records.{counter_in};
 ghost use Rattle.scql_model.specs.Database.{Database};
 ghost use Rattle.scql_model.specs.Opens.{Opens};
-ghost use Rattle.card.specs.Opening.{IsOfStore, PassTest, ReadsCard, is_taken, summary_in};
+ghost use Rattle.card.specs.Opening.{IsOfStore, PassTest, ReadsCard, is_admitted, summary_in};
 ghost use Rattle.card.specs.Summary.{stamp_of};
 
 use crate::slot_record::SlotRecord;
@@ -40,7 +40,7 @@ struct Gathered {
 }
 
 /// Opens the store of an image, where its records are those of a valid database. A journal behind an open gate is replayed first.
-/// All memory is taken before the first record is read: beyond what a card keeps a summary and a key for each cell,
+/// All memory is taken before the first record is read: beyond what a card keeps a summary and a number for each cell,
 /// which are at most 2,048 * (64 + 8) = 147,456 octets.
 pub(crate) fn open_records<B: Eeprom>(alloc: Global, bench: &mut B) -> Result<Opened, OpenRefusal>
     ensures over { IfOk result (λ opened. IsOver opened.store (B.chip bench.new)) }
@@ -62,7 +62,7 @@ pub(crate) fn open_records<B: Eeprom>(alloc: Global, bench: &mut B) -> Result<Op
 {
     let mut opening = Opening::new(alloc, bench)?;
     let cells = opening.cells();
-    let mut keys = Vec::with_capacity(alloc, cells as usize)?;
+    let mut numbers = Vec::with_capacity(alloc, cells as usize)?;
     let mut gathered = Gathered {
         counter: None,
         records: Vec::with_capacity(alloc, cells as usize)?,
@@ -73,7 +73,7 @@ pub(crate) fn open_records<B: Eeprom>(alloc: Global, bench: &mut B) -> Result<Op
         gathered.add_slot(slot, opening.row_limit(), &octets)?;
     }
     let store = opening.finish();
-    let Some((next, records)) = gathered.tested(&mut keys) else {
+    let Some((next, records)) = gathered.tested(&mut numbers) else {
         return Err(OpenRefusal::NotACard);
     };
     Ok(Opened {
@@ -87,13 +87,13 @@ impl Gathered {
     // Adds the record of a slot, where it has one, on a card with this row limit.
     fn add_slot(&mut self, slot: u16, row_limit: u16, octets: &[u8]) -> Result<(), OpenRefusal>
         requires room { length self.old.records.items < vec_capacity self.old.records }
-        ensures taken { OnOk result (is_taken row_limit (slot_with octets.now) ≡ true) }
+        ensures admitted { OnOk result (is_admitted row_limit (slot_with octets.now) ≡ true) }
         ensures counters { OnOk result (cons_option self.new.counter [] ≡ cons_option self.old.counter (cons_option (in_slot counter_in (slot_with octets.now)) [])) }
         ensures records { OnOk result (self.new.records.items ≡ self.old.records.items ++ cons_option (in_slot (summary_in slot) (slot_with octets.now)) []) }
         ensures few { OnOk result (length self.new.records.items ≤ length self.old.records.items + 1) }
         ensures capacity { OnOk result (vec_capacity self.new.records ≡ vec_capacity self.old.records) }
         ensures refused { IsErrOf result OpenRefusal.NotACard
-            → (is_taken row_limit (slot_with octets.now) ≡ false) ⊎ ((self.old.counter ≢ None) × (in_slot counter_in (slot_with octets.now) ≢ None)) }
+            → (is_admitted row_limit (slot_with octets.now) ≡ false) ⊎ ((self.old.counter ≢ None) × (in_slot counter_in (slot_with octets.now) ≢ None)) }
         ensures refusal { IfErr result (λ refusal. refusal ≡ OpenRefusal.NotACard) }
     {
         if octets.is_empty() {
@@ -101,7 +101,7 @@ impl Gathered {
         }
         match SlotRecord::read(octets, slot, row_limit) {
             None => Err(OpenRefusal::NotACard),
-            Some(SlotRecord::Counter(next)) => self.set_counter(next),
+            Some(SlotRecord::Counter(next)) => self.keep_counter(next),
             Some(SlotRecord::Kept(summary)) => {
                 self.records.push_reserved(summary);
                 Ok(())
@@ -110,7 +110,7 @@ impl Gathered {
     }
 
     // Keeps the counter's number, where it is the first.
-    fn set_counter(&mut self, next: u32) -> Result<(), OpenRefusal>
+    fn keep_counter(&mut self, next: u32) -> Result<(), OpenRefusal>
         ensures set { OnOk result ((self.old.counter ≡ None) × (self.new.counter ≡ Some next)) }
         ensures records { self.new.records ≡ self.old.records }
         ensures second { IsErrOf result OpenRefusal.NotACard → self.old.counter ≢ None }
@@ -124,8 +124,8 @@ impl Gathered {
     }
 
     // The counter's number, and the records in rising order of their stamps, where they are those of a valid database.
-    fn tested(self, keys: &mut Vec<u64>) -> Option<(u32, Vec<Summary>)>
-        requires room { length self.records.items ≤ vec_capacity keys.old }
+    fn tested(self, numbers: &mut Vec<u64>) -> Option<(u32, Vec<Summary>)>
+        requires room { length self.records.items ≤ vec_capacity numbers.old }
         ensures counter { IfSome result (λ passed. self.counter ≡ Some passed.0) }
         ensures records { IfSome result (λ passed. passed.1.items ≡ in_order stamp_of self.records.items) }
         ensures passed { IfSome result (λ passed. PassTest passed.0 self.records.items) }
@@ -137,10 +137,10 @@ impl Gathered {
         } = self;
         let next = counter?;
         records.sort_unstable_by_key(|record| record.stamp());
-        if !rise(records.as_slice()) {
+        if !stamps_rise(records.as_slice()) {
             return None;
         }
-        if !are_valid(next, records.as_slice(), keys) {
+        if !are_valid(next, records.as_slice(), numbers) {
             return None;
         }
         Some((next, records))
@@ -148,7 +148,7 @@ impl Gathered {
 }
 
 // Whether each stamp is below the next.
-fn rise(records: &[Summary]) -> bool
+fn stamps_rise(records: &[Summary]) -> bool
     ensures { IsTrue result ↔ Rises stamp_of records.now }
 {
     records.is_sorted_by(|earlier, later| earlier.stamp() < later.stamp())

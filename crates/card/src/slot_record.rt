@@ -1,20 +1,17 @@
-// What opening takes of the record in a slot: the counter's number, or what is kept of another record.
+// What is kept of the record in a slot while a card is opened.
 ghost use Rattle.std.specs.Prelude.{◌≡◌, None, Some, true, false, IfSome};
 ghost use Rattle.std.specs.List.{list_any};
 ghost use Rattle.std.specs.Str.{bytes_eq};
-ghost use Rattle.scql_model.specs.Objects.{columns_of};
-ghost use Rattle.scql_model.specs.Rules as rules;
 ghost use Rattle.scql_model.specs.Records.{counter_in};
-ghost use Rattle.card.specs.Opening.{is_plain_table, is_taken, counter_of, summary_of};
-ghost use Rattle.card.specs.Opening as opening;
-ghost use Rattle.card.specs.Summary.{table_summary};
-ghost use Rattle.card.specs.Summary as summaries;
+ghost use Rattle.scql_model.specs.Rules.{are_different, is_within_limit};
+ghost use Rattle.card.specs.Opening.{is_admitted, is_plain_table, counter_of, summary_in, summary_of};
+ghost use Rattle.card.specs.Summary.{kept_of_table, row_summary};
 
 use crate::summary::{RowSummary, Summary, TableSummary};
 use catalog_codec::{Counter, Record};
 use scql_base::{Grant, Name, Object, ObjectKind, RowRecord, User};
 
-/// What is taken of a record: of the counter the stamp that it gives next.
+/// The stamp that the counter gives next, or what is kept of another record.
 #[derive(Drop)]
 pub(crate) enum SlotRecord {
     Counter(u32),
@@ -22,27 +19,27 @@ pub(crate) enum SlotRecord {
 }
 
 impl SlotRecord {
-    /// What is taken of the record in a slot, where it is of some kind, and within its limits and those of a card with this row limit.
+    /// What the octets of a slot are, where they are the record of some kind within its limits, and within those of a card with this row limit.
     pub(crate) fn read(octets: &[u8], slot: u16, row_limit: u16) -> Option<SlotRecord>
-        ensures taken { IfSome result (λ found. is_taken row_limit (Some octets.now) ≡ true) }
+        ensures admitted { IfSome result (λ found. is_admitted row_limit (Some octets.now) ≡ true) }
         ensures counter { IfSome result (λ found. counter_in octets.now ≡ counter_of found) }
-        ensures summary { IfSome result (λ found. opening.summary_in slot octets.now ≡ summary_of found) }
-        ensures refused { result ≡ None → is_taken row_limit (Some octets.now) ≡ false }
+        ensures summary { IfSome result (λ found. summary_in slot octets.now ≡ summary_of found) }
+        ensures refused { result ≡ None → is_admitted row_limit (Some octets.now) ≡ false }
     {
         if let Some(counter) = Counter::decode(octets) {
             return Some(SlotRecord::Counter(counter.next));
         }
-        let summary = summary_in(octets, slot, row_limit)?;
+        let summary = summary_of_other(octets, slot, row_limit)?;
         Some(SlotRecord::Kept(summary))
     }
 }
 
 // What is kept of a record that isn't the counter.
-fn summary_in(octets: &[u8], slot: u16, row_limit: u16) -> Option<Summary>
+fn summary_of_other(octets: &[u8], slot: u16, row_limit: u16) -> Option<Summary>
     requires other { counter_in octets.now ≡ None }
-    ensures taken { IfSome result (λ summary. is_taken row_limit (Some octets.now) ≡ true) }
-    ensures summary { IfSome result (λ summary. opening.summary_in slot octets.now ≡ Some summary) }
-    ensures refused { result ≡ None → is_taken row_limit (Some octets.now) ≡ false }
+    ensures admitted { IfSome result (λ summary. is_admitted row_limit (Some octets.now) ≡ true) }
+    ensures summary { IfSome result (λ summary. summary_in slot octets.now ≡ Some summary) }
+    ensures refused { result ≡ None → is_admitted row_limit (Some octets.now) ≡ false }
 {
     if let Some(user) = User::decode(octets) {
         return Some(Summary::User(user));
@@ -61,7 +58,7 @@ fn summary_in(octets: &[u8], slot: u16, row_limit: u16) -> Option<Summary>
 
 // What is kept of a table, where its columns are different. Views and dictionaries aren't built yet.
 fn summary_of_table(object: Object) -> Option<TableSummary>
-    ensures summary { IfSome result (λ table. table ≡ table_summary object (columns_of object.kind)) }
+    ensures summary { IfSome result (λ table. table ≡ kept_of_table object) }
     ensures plain { IfSome result (λ table. is_plain_table object ≡ true) }
     ensures refused { result ≡ None → is_plain_table object ≡ false }
 {
@@ -88,9 +85,9 @@ fn summary_of_table(object: Object) -> Option<TableSummary>
 
 // What is kept of a row, where it is within the card's limit.
 fn summary_of_row(stored: &RowRecord, slot: u16, row_limit: u16) -> Option<RowSummary>
-    ensures summary { IfSome result (λ row. row ≡ summaries.row_summary slot stored.now) }
-    ensures within { IfSome result (λ row. rules.is_within_limit row_limit stored.now ≡ true) }
-    ensures refused { result ≡ None → rules.is_within_limit row_limit stored.now ≡ false }
+    ensures summary { IfSome result (λ row. row ≡ row_summary slot stored.now) }
+    ensures within { IfSome result (λ row. is_within_limit row_limit stored.now ≡ true) }
+    ensures refused { result ≡ None → is_within_limit row_limit stored.now ≡ false }
 {
     if stored.row.size() > row_limit as usize {
         return None;
@@ -104,11 +101,11 @@ fn summary_of_row(stored: &RowRecord, slot: u16, row_limit: u16) -> Option<RowSu
 }
 
 fn are_names_different(names: &[Name]) -> bool
-    ensures { result ≡ rules.are_different names.now }
+    ensures { result ≡ are_different names.now }
 {
     let mut rest = names;
     while let [name, others @ ..] = rest {
-        if is_among(name, others) {
+        if is_name_among(name, others) {
             return false;
         }
         rest = others;
@@ -116,7 +113,7 @@ fn are_names_different(names: &[Name]) -> bool
     true
 }
 
-fn is_among(name: &Name, names: &[Name]) -> bool
+fn is_name_among(name: &Name, names: &[Name]) -> bool
     ensures { result ≡ list_any (bytes_eq name.now) names.now }
 {
     names.iter().any(|other| name.octets() == other.octets())

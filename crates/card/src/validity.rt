@@ -57,6 +57,7 @@ fn has_owner_alone(records: &[Summary]) -> bool
     found
 }
 
+// Whether a user has profile 01.
 fn is_db_o(user: &User) -> bool
     ensures { result ≡ rules.is_db_o user.now }
 {
@@ -78,6 +79,7 @@ fn is_owner(user: &User) -> bool
         && user.tries == User::ALL_TRIES
 }
 
+// Whether each record is right.
 fn is_each_right(next: u32, records: &[Summary]) -> bool
     requires rises { Rises stamp_of records.now }
     ensures { result ≡ list_all (validity.is_right_record next (users_in records.now) (tables_in records.now)) records.now }
@@ -106,6 +108,7 @@ fn is_right(next: u32, records: &[Summary], summary: &Summary) -> bool
         }
 }
 
+// Whether a user's name, owner and tries are right.
 fn is_right_user(records: &[Summary], user: &User) -> bool
     requires rises { Rises stamp_of records.now }
     ensures { result ≡ validity.is_right_user (users_in records.now) user.now }
@@ -125,6 +128,7 @@ fn has_maker(records: &[Summary], user: &User) -> bool
     }
 }
 
+// Whether this owner is a user who makes others.
 fn is_made_by_maker(records: &[Summary], owner: u32) -> bool
     requires rises { Rises stamp_of records.now }
     ensures { result ≡ rules.is_made_by_maker (users_in records.now) owner }
@@ -135,6 +139,7 @@ fn is_made_by_maker(records: &[Summary], owner: u32) -> bool
     }
 }
 
+// Whether a user may make users and objects.
 fn is_maker(user: &User) -> bool
     ensures { result ≡ rules.is_maker user.now.profile }
 {
@@ -144,6 +149,7 @@ fn is_maker(user: &User) -> bool
     }
 }
 
+// Whether a user without a secret has all tries.
 fn has_all_tries(user: &User) -> bool
     ensures { result ≡ rules.has_all_tries user.now }
 {
@@ -155,7 +161,8 @@ fn is_right_grant(records: &[Summary], grant: &Grant) -> bool
     requires rises { Rises stamp_of records.now }
     ensures { result ≡ validity.is_right_grant (users_in records.now) (tables_in records.now) grant.now }
 {
-    has_table(records, grant.object) && (grant.grantee == 0 || has_user(records, grant.grantee))
+    is_table_there(records, grant.object)
+        && (grant.grantee == 0 || is_user_there(records, grant.grantee))
 }
 
 // Whether a row's table is there, older than the row, and has a column for each value.
@@ -169,14 +176,16 @@ fn is_right_row(records: &[Summary], row: &RowSummary) -> bool
     }
 }
 
-fn has_user(records: &[Summary], stamp: u32) -> bool
+// Whether there is a user of a stamp.
+fn is_user_there(records: &[Summary], stamp: u32) -> bool
     requires rises { Rises stamp_of records.now }
     ensures { result ≡ list_any (λ (u : base.User). u.stamp == stamp) (users_in records.now) }
 {
     find_user(records, stamp).is_some()
 }
 
-fn has_table(records: &[Summary], stamp: u32) -> bool
+// Whether there is a table of a stamp.
+fn is_table_there(records: &[Summary], stamp: u32) -> bool
     requires rises { Rises stamp_of records.now }
     ensures { result ≡ list_any (λ (t : tables.TableSummary). t.stamp == stamp) (tables_in records.now) }
 {

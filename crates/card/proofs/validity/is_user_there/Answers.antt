@@ -3,7 +3,7 @@ use Rattle.std.proofs.Common.{◌==◌}
 use Rattle.scql_base.specs.declared.records.User.{User}
 use Rattle.card.specs.Summary.{users_in}
 use Rattle.card.proofs.OfKinds.{is_there}
-use Rattle.card.proofs.validity.has_user.Goals as goal
+use Rattle.card.proofs.validity.is_user_there.Goals as goal
 
 pub returns : goal.returns
 returns c = is_there (λ (x : User). x.stamp == c.args.stamp) (users_in c.args.records.now) c.find_user.result c.is_some.result c.find_user.ensures c.is_some.ensures

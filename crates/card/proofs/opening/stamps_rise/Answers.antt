@@ -3,7 +3,7 @@ use Rattle.std.proofs.Common.{rules, ltb}
 use Rattle.std.proofs.lemmas.List.Sorted.{answers_always}
 use Rattle.card.specs.Summary.{stamp_of}
 use Rattle.card.proofs.Sorting.{rises-answered}
-use Rattle.card.proofs.opening.rise.Goals as goal
+use Rattle.card.proofs.opening.stamps_rise.Goals as goal
 
 pub returns : goal.returns
 returns c = rises-answered stamp_of c.args.records.now c.is_sorted_by.result
