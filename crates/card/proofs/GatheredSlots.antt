@@ -15,10 +15,22 @@ use Rattle.record_store.specs.Opening.{HeldSoFar, StandsSoFar, slots_so_far, slo
 use Rattle.record_store.proofs.OpeningSlots.{so_far-first}
 use Rattle.record_store.proofs.Weights.{limited, store-begins}
 use Rattle.scql_model.specs.Records.{counter_in}
-use Rattle.scql_model.specs.Opens.{counter_stamp}
-use Rattle.card.specs.Opening.{Gathers, HoldsNone, gathered, is_admitted, summary_in}
+use Rattle.scql_model.specs.Database.{Database, IsValid}
+use Rattle.scql_model.specs.Opens.{Holds, are_tables, counter_stamp}
+use Rattle.card.specs.Opening.{gathered, is_admitted, summary_in}
 use Rattle.card.specs.declared.summary.Summary.{Summary}
 use Rattle.card.proofs.HeldKinds.{are_admitted, admitted-held, admitted-valid}
+
+-- These are the counter and what is kept of the other records in so many slots, each of which is admitted.
+pub record Gathers (limit count : ℕ) (slots : Slots) (counter : Option ℕ) (records : List Summary) : Type 0 where
+  pub count_is : length slots ≡ count
+  pub admitted : list_all (is_admitted limit) slots ≡ true
+  pub counters : filter_map (in_slot counter_in) slots ≡ cons_option counter []
+  pub records_are : gathered 0 slots ≡ records
+
+-- the store holds no valid database of tables
+abbrev pub HoldsNone : Stored → Type 0
+HoldsNone was = (db : Database) → db.limit ≡ was.row_limit → Holds was.slots db → IsValid db → are_tables db.objects ≡ true → ⊥
 
 -- these were found in the slots so far
 abbrev pub GathersSoFar : HeldSoFar → ℕ → Option (List ℕ) → Option ℕ → List Summary → Type 0

@@ -17,10 +17,10 @@ use Rattle.scql_model.specs.Database.{Database, weight}
 use Rattle.scql_model.specs.Opens.{Holds, Opens, counter_stamp, is_spelled}
 use Rattle.scql_model.proofs.LongerLists.{all-weaker}
 use Rattle.scql_model.proofs.Room.{cells-filled}
-use Rattle.card.specs.Opening.{Gathers, HoldsNone, IsOfStore, PassTest, ReadsCard, gathered, is_admitted}
+use Rattle.card.specs.Opening.{IsOfStore, PassTest, ReadsCard, gathered, is_admitted}
 use Rattle.card.specs.Summary.{stamp_of}
 use Rattle.card.specs.declared.summary.Summary.{Summary}
-use Rattle.card.proofs.GatheredSlots.{GathersSoFar}
+use Rattle.card.proofs.GatheredSlots.{Gathers, GathersSoFar, HoldsNone}
 use Rattle.card.proofs.HeldKinds.{user_stamp, object_stamp, grant_stamp, row_stamp, admitted-held, admitted-parts}
 use Rattle.card.proofs.HeldInOrder.{apart-held, summarizes-held}
 use Rattle.card.proofs.Tested.{IsValid-tested, tested-IsValid}

@@ -1,5 +1,5 @@
 -- What the slots of a card hold, as far as they were read.
-use Rattle.std.specs.Prelude.{◌≡◌, ℕ, suc, ◌+◌, ◌*◌, ◌&&◌, Bool, true, List, [], ◌∷◌, length, Option, Some, None, option_map}
+use Rattle.std.specs.Prelude.{◌≡◌, ℕ, suc, ◌+◌, ◌*◌, ◌&&◌, Bool, true, List, [], ◌∷◌, Option, Some, None, option_map}
 use Rattle.std.specs.Option.{option_or, option_map_or}
 use Rattle.std.specs.List.{list_all, filter_map, cons_option}
 use Rattle.eeprom.specs.Chip.{RisesBy}
@@ -11,8 +11,8 @@ use Rattle.scql_base.specs.declared.records.RowRecord.{RowRecord}
 use Rattle.scql_model.specs.Objects.{columns_of}
 use Rattle.scql_model.specs.Records.{counter_record, user_record, grant_record, row_record, object_fits, counter_in, user_in, object_in, grant_in, row_in}
 use Rattle.scql_model.specs.Rules.{is_table, are_different, is_within_limit}
-use Rattle.scql_model.specs.Database.{Database, IsValid, weight}
-use Rattle.scql_model.specs.Opens.{Holds, is_spelled, are_tables}
+use Rattle.scql_model.specs.Database.{Database, weight}
+use Rattle.scql_model.specs.Opens.{is_spelled}
 use Rattle.card.specs.declared.summary.Summary.{Summary}
 use Rattle.card.specs.declared.summary.Summary.TheVariants as kept_as
 use Rattle.card.specs.declared.slot_record.SlotRecord.{SlotRecord}
@@ -28,10 +28,11 @@ gives_only test read v = option_map_or test (in_slot read v) true
 abbrev pub is_plain_table : Object → Bool
 is_plain_table o = is_table o.kind && are_different (columns_of o.kind)
 
--- a table within its limits whose columns are different, and a row within the limits of rows and the card's
+-- a table within its limits whose columns are different
 abbrev pub is_sound_table : Object → Bool
 is_sound_table o = object_fits o && is_plain_table o
 
+-- a row within the limits of rows and those of a card with this row limit
 abbrev pub is_sound_row : ℕ → RowRecord → Bool
 is_sound_row limit r = row_record.fits r && is_within_limit limit r
 
@@ -41,10 +42,11 @@ is_admitted limit v =
     is_spelled v && (gives_only counter_record.fits counter_in v && (gives_only user_record.fits user_in v && (gives_only is_sound_table object_in v
     && (gives_only grant_record.fits grant_in v && gives_only (is_sound_row limit) row_in v))))
 
--- what is kept of a record in a slot: nothing of the counter
+-- what is kept of an object
 abbrev pub object_summary : Object → Summary
 object_summary o = kept_as.Table (kept_of_table o)
 
+-- what is kept of a record in a slot: nothing of the counter
 abbrev pub summary_in : ℕ → List ℕ → Option Summary
 summary_in slot octets =
     option_or (option_map kept_as.User (user_in octets)) (option_or (option_map object_summary (object_in octets))
@@ -55,21 +57,15 @@ abbrev pub gathered : ℕ → Slots → List Summary
 gathered slot [] = []
 gathered slot (v ∷ slots) = cons_option (in_slot (summary_in slot) v) (gathered (suc slot) slots)
 
--- the stamp that a counter gives next, and what is kept of another record
+-- the stamp that a counter gives next
 abbrev pub counter_of : SlotRecord → Option ℕ
 counter_of (found_as.Counter next) = Some next
 counter_of (found_as.Kept summary) = None
 
+-- what is kept of another record
 abbrev pub summary_of : SlotRecord → Option Summary
 summary_of (found_as.Counter next) = None
 summary_of (found_as.Kept summary) = Some summary
-
--- These are the counter and what is kept of the other records in so many slots, each of which is admitted.
-pub record Gathers (limit count : ℕ) (slots : Slots) (counter : Option ℕ) (records : List Summary) : Type 0 where
-  pub count_is : length slots ≡ count
-  pub admitted : list_all (is_admitted limit) slots ≡ true
-  pub counters : filter_map (in_slot counter_in) slots ≡ cons_option counter []
-  pub records_are : gathered 0 slots ≡ records
 
 -- Records, in any order, of which no two have one stamp, and which pass the test of a valid database.
 pub record PassTest (next : ℕ) (records : List Summary) : Type 0 where
@@ -82,10 +78,6 @@ pub record IsOfStore (was : Stored) (next : ℕ) (records : List Summary) : Type
   pub counters : filter_map (in_slot counter_in) was.slots ≡ next ∷ []
   pub apart : AreApart stamp_of (gathered 0 was.slots)
   pub records_are : in_order stamp_of (gathered 0 was.slots) ≡ records
-
--- the store holds no valid database of tables
-abbrev pub HoldsNone : Stored → Type 0
-HoldsNone was = (db : Database) → db.limit ≡ was.row_limit → Holds was.slots db → IsValid db → are_tables db.objects ≡ true → ⊥
 
 -- So many octets are read where a card is opened at this database: those that begin its image, and as many as the cells of its records have.
 abbrev pub ReadsCard : Database → ℕ → ℕ → Type 0
