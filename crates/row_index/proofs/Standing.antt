@@ -62,7 +62,7 @@ some_of (Some x) some = (x, refl)
 rewritten : (index next : Index) (old new : Held) (step : Slots → Slots → Type 0) (a b : Option (List ℕ)) → IfSome a (StandsFor old) → IfSome (option_and_then (contents old Committed) a) (HasRows index.cells index.committed)
     → IfSome (option_and_then (contents old Working) a) (HasRows index.cells index.working) → Becomes (Rewrites step old new) a b
     → ((committed working after : Slots) → option_and_then (contents old Committed) a ≡ Some committed → option_and_then (contents old Working) a ≡ Some working → HasRows index.cells index.committed committed
-      → HasRows index.cells index.working working → step working after → HasRows next.cells next.committed committed × HasRows next.cells next.working after)
+    → HasRows index.cells index.working working → step working after → HasRows next.cells next.committed committed × HasRows next.cells next.working after)
     → IfSome (option_and_then (contents new Committed) b) (HasRows next.cells next.committed) × IfSome (option_and_then (contents new Working) b) (HasRows next.cells next.working)
 rewritten index next old new step a None stands committed working becomes follows = (tt, tt)
 rewritten index next old new step None (Some now) stands committed working becomes follows = absurd (none-some (becomes now refl).0 (becomes now refl).1)
@@ -79,7 +79,7 @@ rewritten index next old new step (Some was) (Some now) stands committed working
 pub Indexes-rewritten : (index next : Index) (old new : Held) (before after : Chip) (step : Slots → Slots → Type 0) → Indexes index old before → IfSome before.image (StandsFor old) → new.chains.cells ≡ old.chains.cells → next.cells ≡ index.cells
     → Becomes (Rewrites step old new) before.image after.image
     → ((committed working after : Slots) → slots_of old Committed before ≡ Some committed → slots_of old Working before ≡ Some working → HasRows index.cells index.committed committed → HasRows index.cells index.working working
-      → step working after → HasRows next.cells next.committed committed × HasRows next.cells next.working after)
+    → step working after → HasRows next.cells next.committed committed × HasRows next.cells next.working after)
     → Indexes next new after
 Indexes-rewritten index next old new before after step is stands same_cells kept_cells becomes follows =
     let both = rewritten index next old new step before.image after.image stands is.committed is.working becomes follows in

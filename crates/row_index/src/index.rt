@@ -98,6 +98,7 @@ impl RowIndex {
         requires begun { IsTrue self.old.begun }
         ensures added { self.new ≡ (if may_add self.old (record { stamp = stamp; table = table; slot = slot })
             then record { cells = self.old.cells; begun = true; committed = self.old.committed; working = self.old.working ++ record { stamp = stamp; table = table; slot = slot } ∷ [] } else self.old) }
+        ensures begun { IsTrue self.new.begun }
     {
         let place = RowPlace { stamp, table, slot };
         if self.may_add(&place) {

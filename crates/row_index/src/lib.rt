@@ -12,3 +12,6 @@ mod refusal;
 pub use index::RowIndex;
 pub use place::RowPlace;
 pub use refusal::BuildRefusal;
+
+#[cfg(test)]
+mod tests;
