@@ -38,6 +38,13 @@ Ends-store {T} db outcome (Ok x) refusal old new before after gives full = absur
 Ends-store {T} db outcome (Err stop) Full old new before after gives full = subst (λ stop. Ends {T = T} db outcome (Err stop) old new before after) (sym (gives.0 refl)) (full refl)
 Ends-store {T} db outcome (Err stop) StoreFault old new before after gives full = subst (λ stop. Ends {T = T} db outcome (Err stop) old new before after) (sym (gives.1 refl)) tt
 
+-- how an operation ends that hands on a stop of a part of it
+pub Ends-stopped : (T : Type 0) {U : Type 0} (db : Database) (outcome : Result (List Edit) StatusWord) (result : Result U Stop) (stop : Stop) (old new : Held) (before after : Chip) → IsErrAnd result (λ given. given ≡ stop)
+    → Ends {T = T} db outcome (Err stop) old new before after → Ends db outcome result old new before after
+Ends-stopped T {U} db outcome (Ok x) stop old new before after gives ends = absurd gives
+Ends-stopped T {U} db outcome (Err given) (Refused word) old new before after gives ends = subst (λ stop. Ends {T = U} db outcome (Err stop) old new before after) (sym gives) ends
+Ends-stopped T {U} db outcome (Err given) Fault old new before after gives ends = subst (λ stop. Ends {T = U} db outcome (Err stop) old new before after) (sym gives) tt
+
 -- what is said of the slots where they are told
 pub at-told : (store : Held) (side : Side) (chip : Chip) (slots : Slots) (P : Slots → Type 0) → slots_of store side chip ≡ Some slots → IfSome chip.image (λ image. IfSome (contents store side image) P) → P slots
 at-told store side chip slots P told all =

@@ -1,0 +1,21 @@
+-- Who has the name, if it isn't PUBLIC, is the user that was found.
+use Rattle.std.proofs.Common.{◌≡◌, false, Some, sym, ap, ◌∙◌}
+use Rattle.std.specs.Prelude.{option_map}
+use Rattle.std.specs.Str.{bytes_eq}
+use Rattle.record_store.specs.declared.side.Side.TheVariants.{Committed}
+use Rattle.scql_model.specs.Database.{public_name}
+use Rattle.db_access.proofs.NamedUser.{named-held, session-found, session-none}
+use Rattle.db_access.proofs.presenting.present.Goals as goal
+
+pub returns-in-Some-clause-presented : goal.returns-in-Some-clause-presented
+returns-in-Some-clause-presented g c = λ db held.
+    let other : bytes_eq c.args.name public_name ≡ false = rw c.octets.ensures.octets at (sym c.eq.ensures ∙ c.if-eq.false) in
+    let named = named-held c.args.store.now Committed (g.B.Eeprom.chip c.args.bench.now) db c.args.name _ held c.in_ok-found.ensures.first in
+    let found = named ∙ ap (option_map (λ found. found.value)) c.in-Some.is in
+    rw (c.is_empty.ensures, c.as_slice.ensures.octets) (sym (session-found db c.args.name c.in-Some.field-0.value other found))
+
+pub returns-in-None-clause-presented : goal.returns-in-None-clause-presented
+returns-in-None-clause-presented g c = λ db held.
+    let other : bytes_eq c.args.name public_name ≡ false = rw c.octets.ensures.octets at (sym c.eq.ensures ∙ c.if-eq.false) in
+    let named = named-held c.args.store.now Committed (g.B.Eeprom.chip c.args.bench.now) db c.args.name _ held c.in_ok-found.ensures.first in
+    sym (session-none db c.args.name other (named ∙ ap (option_map (λ found. found.value)) c.in-None.is))

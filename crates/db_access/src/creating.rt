@@ -1,0 +1,99 @@
+// CREATE USER.
+ghost use Rattle.std.specs.Prelude.{◌≡◌, List, None, Ok, Some, drop, IfOk, IsTrue, IsErrOf, OnOk, if◌then◌else◌};
+ghost use Rattle.eeprom.specs.Chip.{Keeps};
+ghost use Rattle.eeprom.specs.Fault.{CountsFaults, each_error};
+ghost use Rattle.eeprom.specs.Frame.{Reads};
+ghost use Rattle.eeprom.specs.StoreOf.{store_of, image_size};
+ghost use Rattle.record_store.specs.Held.{IsOver};
+ghost use Rattle.record_store.specs.declared.side.Side.TheVariants.{Working};
+ghost use Rattle.scql_base.specs.declared.operation.Operation.TheVariants as operation;
+ghost use Rattle.scql_model.specs.Creating as model;
+ghost use Rattle.scql_model.specs.Creating.{IsActorOf, actor_stamp, may_create, user_added};
+ghost use Rattle.scql_model.specs.Database.{Database};
+ghost use Rattle.scql_model.specs.WellFormed.{HasForm};
+ghost use Rattle.record_table.specs.Listed.{slots_of};
+ghost use Rattle.record_table.specs.Making.{IsHeld, Ends, GoesOn, KeepsRows, is_stop_fault};
+
+use eeprom::{Eeprom, EepromFault};
+use record_store::{Side, Store};
+use record_table::{Stop, make, next_stamp};
+use scql_base::{Actor, Name, Octets, Profile, StatusWord, User};
+use user_table::find_name;
+
+/// Makes a user for an actor, on the working side. Where it is refused, nothing is done.
+pub fn create_user<B: Eeprom>(
+    store: &mut Store,
+    bench: &mut B,
+    actor: Actor,
+    name: Name,
+    profile: Profile,
+    secret: &Octets<8>,
+) -> Result<(), Stop>
+    requires begun { IsTrue store.old.begun }
+    requires over { IsOver store.old (B.chip bench.old) }
+    ensures ends { (db : Database) → IsHeld store.old Working (B.chip bench.old) db → IsActorOf db actor → HasForm (operation.CreateUser name profile secret.now)
+        → Ends db (user_added db actor name profile secret.now) result store.old store.new (B.chip bench.old) (B.chip bench.new) }
+    ensures goes_on { ¬ IsErrOf result Stop.Fault → GoesOn store.old store.new (B.chip bench.old) (B.chip bench.new) }
+    ensures rows { OnOk result (KeepsRows (slots_of store.old Working (B.chip bench.old)) (slots_of store.new Working (B.chip bench.new))) }
+    ensures moments { Keeps store_of (B.chip bench.old) (B.chip bench.new) }
+    ensures behind { Keeps (drop (image_size store.old.chains.cells)) (B.chip bench.old) (B.chip bench.new) }
+    ensures cause { CountsFaults is_stop_fault (B.faults bench.old) (B.faults bench.new) result }
+{
+    let Some(owner) = owner_for(actor, profile) else {
+        return Err(Stop::Refused {
+            word: StatusWord::SECURITY_NOT_SATISFIED,
+        });
+    };
+    if is_taken(store, bench, &name)? {
+        return Err(Stop::Refused {
+            word: StatusWord::ALREADY_EXISTS,
+        });
+    }
+    let counter = next_stamp(store, bench)?;
+    let user = User {
+        stamp: counter.value.next,
+        name,
+        profile,
+        owner,
+        secret: secret.copy(),
+        tries: User::ALL_TRIES,
+    };
+    make(store, bench, &counter, &user)?;
+    Ok(())
+}
+
+// The stamp of who acts, where the actor may make a user of this profile.
+fn owner_for(actor: Actor, profile: Profile) -> Option<u32>
+    ensures { result ≡ (if may_create actor profile then Some (actor_stamp actor) else None) }
+{
+    match (actor, profile) {
+        (
+            Actor::User {
+                stamp,
+                profile: Profile::DbO,
+            },
+            _,
+        ) => Some(stamp),
+        (
+            Actor::User {
+                stamp,
+                profile: Profile::Dboo,
+            },
+            Profile::Dbbu,
+        ) => Some(stamp),
+        _ => None,
+    }
+}
+
+// Whether a user has the name, or it is PUBLIC.
+fn is_taken<B: Eeprom>(store: &Store, bench: &mut B, name: &Name) -> Result<bool, EepromFault>
+    requires over { IsOver store.now (B.chip bench.old) }
+    ensures taken { (db : Database) → IsHeld store.now Working (B.chip bench.old) db → IfOk result (λ taken. taken ≡ model.is_taken db name.now) }
+    ensures frame { Reads each_error B.chip B.faults bench.old bench.new result }
+{
+    if name.octets() == Name::PUBLIC {
+        return Ok(true);
+    }
+    let user = find_name(store, bench, Side::Working, name.copy())?;
+    Ok(user.is_some())
+}
