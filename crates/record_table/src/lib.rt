@@ -18,7 +18,7 @@ pub use finding::{find_by, find_stamp};
 pub use making::{make, next_stamp};
 pub use marked::Marked;
 pub use next::{next_after, next_by};
-pub use stop::Stop;
+pub use stop::{Stop, refused};
 pub use wanted::{Any, Stamped, Wanted};
 
 #[cfg(test)]
