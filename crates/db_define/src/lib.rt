@@ -7,3 +7,6 @@ mod sweeping;
 
 pub use dropping::drop_table;
 pub use making::create_table;
+
+#[cfg(test)]
+mod tests;
