@@ -6,3 +6,6 @@ mod presenting;
 
 pub use creating::create_user;
 pub use presenting::{Presented, present};
+
+#[cfg(test)]
+mod tests;

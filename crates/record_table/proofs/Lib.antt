@@ -1,6 +1,7 @@
 pub mod Asked
 pub mod ChangedDatabase
 pub mod Ending
+pub mod InPlace
 pub mod HeldRecords
 pub mod ListedChanges
 pub mod ListedSearches

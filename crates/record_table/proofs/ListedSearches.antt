@@ -29,7 +29,7 @@ module _ {X : Type 0} (kind : Kind X) where
   any-listed p slots = sym (list_any-in_order kind.key p (in_slots kind slots))
 
   -- keys that rise in the list are different in the slots
-  AreApart-in_slots : (slots : Slots) → Rises kind.key (listed kind slots) → AreApart kind.key (in_slots kind slots)
+  pub AreApart-in_slots : (slots : Slots) → Rises kind.key (listed kind slots) → AreApart kind.key (in_slots kind slots)
   AreApart-in_slots slots rises = λ k. omega (arith, AreApart-rising kind.key (listed kind slots) rises k, count_by-in_order kind.key (has kind.key k) (in_slots kind slots))
 
   -- the record of a key

@@ -1,12 +1,12 @@
 -- What a kind of record owes towards a database, so that an edit of one record is a change of one slot.
-use Rattle.std.specs.Prelude.{◌≡◌, ℕ, ◌<◌, Bool, true, false, List, length, Option, Some}
-use Rattle.std.specs.List.{list_all, AllByRecursion}
-use Rattle.eeprom.specs.StoreOf.{Slots}
+use Rattle.std.specs.Prelude.{◌≡◌, ℕ, ◌+◌, ◌<◌, Bool, true, false, List, length, Option, Some}
+use Rattle.std.specs.List.{list_all, sum_by, AllByRecursion}
+use Rattle.eeprom.specs.StoreOf.{Slots, cells_for}
 use Rattle.eeprom.specs.Slots.{Rises, kept}
 use Rattle.scql_model.specs.Records.{AnyRecord, record_spelling, record_stamp, counter_in}
-use Rattle.scql_model.specs.Database.{Database, IsValid}
+use Rattle.scql_model.specs.Database.{Database, IsValid, weight}
 use Rattle.scql_model.specs.Edits.{Action, edited, is_counter, list_after}
-use Rattle.catalog_codec.specs.Kinds.{Kind, HaveOtherMarks}
+use Rattle.catalog_codec.specs.Kinds.{Kind, HaveOtherMarks, read_as}
 use Rattle.catalog_codec.specs.Catalog.{counter_kind, user_kind, object_kind, grant_kind, row_kind}
 use Rattle.record_table.specs.Listed.{listed}
 use Rattle.scql_model.specs.Opens.{Holds, is_spelled, counter_stamp}
@@ -21,13 +21,18 @@ pub record LeavesOthers {X : Type 0} (kind : Kind X) (old new : Slots) : Type 0 
   pub grants : HaveOtherMarks kind grant_kind → listed grant_kind new ≡ listed grant_kind old
   pub rows : HaveOtherMarks kind row_kind → listed row_kind new ≡ listed row_kind old
 
+-- how many cells records of a kind take
+abbrev pub cells_of_list : {X : Type 0} → Kind X → List X → ℕ
+cells_of_list {X} kind xs = sum_by (λ x. cells_for (length (kind.form.spell x))) xs
+
 -- What a kind owes towards a database, whose records of it stand among those of all kinds.
 pub record IsEditable {X : Type 0} (kind : Kind X) (any : X → AnyRecord) : Type 0 where
-  -- a record is spelled and named the same there, and is no counter
+  -- a record is spelled and named the same there, and is no counter; it is read of as many octets as it is spelled with
   pub spells : (x : X) → record_spelling (any x) ≡ kind.form.spell x
   pub stamps : (x : X) → record_stamp (any x) ≡ kind.key x
   pub no_counter : (x : X) → is_counter (any x) ≡ false
   pub spelled : (x : X) → kind.form.fits x ≡ true → is_spelled (Some (kind.form.spell x)) ≡ true
+  pub lengths : (octets : List ℕ) (x : X) → read_as kind octets ≡ Some x → length octets ≡ length (kind.form.spell x)
   -- the records of the kind that a database has are those that its slots list
   pub records : Database → List X
   pub held : (slots : Slots) (db : Database) → Holds slots db → listed kind slots ≡ records db
@@ -39,4 +44,6 @@ pub record IsEditable {X : Type 0} (kind : Kind X) (any : X → AnyRecord) : Typ
   pub after : (action : Action) (x : X) (db : Database) → records (edited action (any x) db) ≡ list_after action kind.key x (records db)
   pub holds : (action : Action) (x : X) (old new : Slots) (db : Database) → Holds old db → LeavesOthers kind old new → listed kind new ≡ list_after action kind.key x (records db)
       → Holds new (edited action (any x) db)
+  pub weights : (action : Action) (x : X) (db : Database)
+      → weight (edited action (any x) db) + cells_of_list kind (records db) ≡ weight db + cells_of_list kind (list_after action kind.key x (records db))
   pub counts : (action : Action) (x : X) (next : ℕ) (db : Database) → edited action (any x) (record db { next = next }) ≡ record (edited action (any x) db) { next = next }

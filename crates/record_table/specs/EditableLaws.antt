@@ -1,5 +1,5 @@
 -- Users, objects, grants and rows owe what a kind owes towards a database.
-use Rattle.std.proofs.Common.{◌≡◌, ◌<◌, ◌||◌, ℕ, Bool, true, false, List, [], Option, Some, is_some, refl, sym, ap, ◌∙◌}
+use Rattle.std.proofs.Common.{◌≡◌, ◌<◌, ◌||◌, ℕ, Bool, true, false, List, [], Option, Some, is_some, refl, sym, ap, ◌∙◌, arith}
 use Rattle.std.specs.List.{AllByRecursion}
 use Rattle.scql_base.specs.declared.records.User.{User}
 use Rattle.scql_base.specs.declared.records.Object.{Object}
@@ -7,7 +7,10 @@ use Rattle.scql_base.specs.declared.records.Grant.{Grant}
 use Rattle.scql_base.specs.declared.records.RowRecord.{RowRecord}
 use Rattle.scql_model.specs.Records.{of_user, of_object, of_grant, of_row, counter_in, user_in, object_in, grant_in, row_in}
 use Rattle.scql_model.specs.Database.{Database, IsValid, stored_user, stored_object, stored_grant, stored_row}
+use Rattle.scql_model.specs.Edits.{edited}
+use Rattle.scql_model.proofs.EditLaws.{weight-kinds}
 use Rattle.scql_model.proofs.RecordsOf.{before_rows, before_grants, behind_grants, before_objects, behind_objects, behind_users, records_of-users, records_of-objects, records_of-grants, records_of-rows}
+use Rattle.scql_model.proofs.SpellingLengths.{length-user_in, length-object_in, length-grant_in, length-row_in}
 use Rattle.scql_model.proofs.Stored.{below-of_kind}
 use Rattle.catalog_codec.specs.Catalog.{counter_kind, user_kind, object_kind, grant_kind, row_kind}
 use Rattle.catalog_codec.specs.Kinds.{HaveOtherMarks}
@@ -60,6 +63,7 @@ spelled-row octets x read = fifth (is_some (counter_in octets)) (is_some (user_i
 
 pub IsEditable-user : IsEditable user_kind of_user
 IsEditable-user = record {
+  lengths = length-user_in;
   spells = λ u. refl;
   stamps = λ u. refl;
   no_counter = λ u. refl;
@@ -79,11 +83,13 @@ IsEditable-user = record {
     grants = others.grants HaveOtherMarks-user-grant ∙ holds.grants;
     rows = others.rows (HaveOtherMarks-sym row_kind user_kind HaveOtherMarks-row-user) ∙ holds.rows;
   };
+  weights = λ action u db. omega (arith, weight-kinds db, weight-kinds (edited action (of_user u) db));
   counts = λ action u next db. refl;
 }
 
 pub IsEditable-object : IsEditable object_kind of_object
 IsEditable-object = record {
+  lengths = length-object_in;
   spells = λ o. refl;
   stamps = λ o. refl;
   no_counter = λ o. refl;
@@ -103,11 +109,13 @@ IsEditable-object = record {
     grants = others.grants (HaveOtherMarks-sym grant_kind object_kind HaveOtherMarks-grant-object) ∙ holds.grants;
     rows = others.rows (HaveOtherMarks-sym row_kind object_kind HaveOtherMarks-row-object) ∙ holds.rows;
   };
+  weights = λ action o db. omega (arith, weight-kinds db, weight-kinds (edited action (of_object o) db));
   counts = λ action o next db. refl;
 }
 
 pub IsEditable-grant : IsEditable grant_kind of_grant
 IsEditable-grant = record {
+  lengths = length-grant_in;
   spells = λ g. refl;
   stamps = λ g. refl;
   no_counter = λ g. refl;
@@ -127,11 +135,13 @@ IsEditable-grant = record {
     grants = list;
     rows = others.rows (HaveOtherMarks-sym row_kind grant_kind HaveOtherMarks-row-grant) ∙ holds.rows;
   };
+  weights = λ action g db. omega (arith, weight-kinds db, weight-kinds (edited action (of_grant g) db));
   counts = λ action g next db. refl;
 }
 
 pub IsEditable-row : IsEditable row_kind of_row
 IsEditable-row = record {
+  lengths = length-row_in;
   spells = λ r. refl;
   stamps = λ r. refl;
   no_counter = λ r. refl;
@@ -151,5 +161,6 @@ IsEditable-row = record {
     grants = others.grants HaveOtherMarks-row-grant ∙ holds.grants;
     rows = list;
   };
+  weights = λ action r db. omega (arith, weight-kinds db, weight-kinds (edited action (of_row r) db));
   counts = λ action r next db. refl;
 }

@@ -55,7 +55,7 @@ changed-keys key x (y ∷ ys) =
     ]
 
 -- Sums over a list of which one element goes, or has another in its place.
-sum-removed : {X : Type 0} (key f : X → ℕ) (x : X) (xs : List X) → find (has key (key x)) xs ≡ Some x → count_by (has key (key x)) xs ≤ 1
+pub sum-removed : {X : Type 0} (key f : X → ℕ) (x : X) (xs : List X) → find (has key (key x)) xs ≡ Some x → count_by (has key (key x)) xs ≤ 1
     → sum_by f (without key (key x) xs) + f x ≡ sum_by f xs
 sum-removed key f x [] found one = absurd (none-some x found)
 sum-removed key f x (y ∷ ys) found one =
@@ -72,7 +72,7 @@ sum-removed key f x (y ∷ ys) found one =
           rw e (omega arith))
     ]
 
-sum-replaced : {X : Type 0} (key f : X → ℕ) (x y : X) (xs : List X) → key x ≡ key y → find (has key (key y)) xs ≡ Some y → count_by (has key (key y)) xs ≤ 1
+pub sum-replaced : {X : Type 0} (key f : X → ℕ) (x y : X) (xs : List X) → key x ≡ key y → find (has key (key y)) xs ≡ Some y → count_by (has key (key y)) xs ≤ 1
     → sum_by f (replaced key x xs) + f y ≡ sum_by f xs + f x
 sum-replaced key f x y [] same found one = absurd (none-some y found)
 sum-replaced key f x y (z ∷ zs) same found one =

@@ -1,0 +1,49 @@
+// A record of a database changed in its place, or taken out.
+ghost use Rattle.std.specs.Prelude.{◌≡◌, ◌<◌, [], ◌∷◌, Some, Ok, IsTrue, IfSome, IsErrOf, OnOk, drop};
+ghost use Rattle.eeprom.specs.Chip.{Chip, Keeps};
+ghost use Rattle.eeprom.specs.Fault.{CountsFaults};
+ghost use Rattle.eeprom.specs.StoreOf.{store_of, image_size};
+ghost use Rattle.record_store.specs.Held.{IsOver};
+ghost use Rattle.record_store.specs.declared.side.Side.TheVariants.{Working};
+ghost use Rattle.scql_model.specs.Database.{Database};
+ghost use Rattle.scql_model.specs.Edits.{changing, removing};
+ghost use Rattle.record_table.specs.Listed.{at_slot, slots_of};
+ghost use Rattle.record_table.specs.Making.{Ends, GoesOn, IsHeld, IsValidWith, Makes, is_stop_fault};
+
+use crate::{Editable, Stop, change, remove};
+use eeprom::Eeprom;
+use record_store::Store;
+
+/// Puts a record in the place of the one of its stamp, which the slot has. Where there is no room for it nothing is written.
+pub fn change_in_place<R: Editable, B: Eeprom>(
+    store: &mut Store,
+    bench: &mut B,
+    slot: u16,
+    value: &R,
+) -> Result<(), Stop>
+    requires begun { IsTrue store.old.begun }
+    requires over { IsOver store.old (B.chip bench.old) }
+    requires spelled { R.can_encode value.now }
+    requires there { slot < store.old.chains.cells }
+    ensures ends { (db : Database) (was : R) → IsHeld store.old Working (B.chip bench.old) db → IfSome (slots_of store.old Working (B.chip bench.old)) (λ slots. Some was ≡ at_slot R.kind slot slots)
+        → R.kind.key was ≡ R.kind.key value.now → IsValidWith db (changing (R.any value.now) ∷ [])
+        → Ends db (Ok (changing (R.any value.now) ∷ [])) result store.old store.new (B.chip bench.old) (B.chip bench.new) }
+    ensures goes_on { ¬ IsErrOf result Stop.Fault → GoesOn store.old store.new (B.chip bench.old) (B.chip bench.new) }
+    ensures moments { Keeps store_of (B.chip bench.old) (B.chip bench.new) }
+    ensures behind { Keeps (drop (image_size store.old.chains.cells)) (B.chip bench.old) (B.chip bench.new) }
+    ensures cause { CountsFaults is_stop_fault (B.faults bench.old) (B.faults bench.new) result }
+{
+    change(store, bench, slot, value)?;
+    Ok(())
+}
+
+/// Takes the record of a kind out of the slot that has it.
+pub fn take_out<R: Editable>(store: &mut Store, slot: u16)
+    requires begun { IsTrue store.old.begun }
+    requires there { slot < store.old.chains.cells }
+    ensures makes { (db : Database) (was : R) (chip : Chip) → IsHeld store.old Working chip db → IfSome (slots_of store.old Working chip) (λ slots. Some was ≡ at_slot R.kind slot slots)
+        → IsOver store.old chip → IsValidWith db (removing (R.any was) ∷ []) → Makes db (removing (R.any was) ∷ []) store.old store.new chip chip }
+    ensures goes_on { (chip : Chip) → IsOver store.old chip → GoesOn store.old store.new chip chip }
+{
+    remove(store, slot);
+}
