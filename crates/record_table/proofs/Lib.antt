@@ -1,3 +1,4 @@
+pub mod Asked
 pub mod ChangedDatabase
 pub mod Ending
 pub mod InPlace

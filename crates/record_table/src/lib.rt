@@ -20,7 +20,7 @@ pub use in_place::{change_in_place, take_out};
 pub use making::{make, next_stamp};
 pub use marked::Marked;
 pub use next::{next_after, next_by};
-pub use stop::Stop;
+pub use stop::{Stop, refused};
 pub use wanted::{Any, Stamped, Wanted};
 
 #[cfg(test)]

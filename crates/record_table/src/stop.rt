@@ -1,5 +1,5 @@
 // Why an operation on a database stopped.
-ghost use Rattle.std.specs.Prelude.{◌≡◌};
+ghost use Rattle.std.specs.Prelude.{◌≡◌, Err};
 ghost use Rattle.record_store.specs.declared.refusal.StoreRefusal.TheVariants.{Full, Fault as StoreFault};
 ghost use Rattle.scql_base.specs.Words.{no_space};
 ghost use Rattle.record_table.specs.declared.stop.Stop.TheVariants.{Refused, Fault};
@@ -36,4 +36,11 @@ impl From<StoreRefusal> for Stop {
             StoreRefusal::Fault => Stop::Fault,
         }
     }
+}
+
+/// What an operation answers that this word refuses.
+pub fn refused<T>(word: StatusWord) -> Result<T, Stop>
+    ensures { result ≡ Err (Refused word) }
+{
+    Err(Stop::Refused { word })
 }

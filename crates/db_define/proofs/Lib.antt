@@ -1,0 +1,5 @@
+pub mod LeftRecords
+pub mod SweptSlots
+pub mod TableCreated
+pub mod TableDropped
+pub mod TableLeft

@@ -1,0 +1,19 @@
+-- The records that depend on an object: views, grants and rows.
+use Rattle.std.specs.Prelude.{ℕ, ◌==◌, Bool, false}
+use Rattle.scql_base.specs.declared.records.Grant.{Grant}
+use Rattle.scql_base.specs.declared.records.ObjectKind.{ObjectKind}
+use Rattle.scql_base.specs.declared.records.ObjectKind.TheVariants.{View}
+use Rattle.scql_base.specs.declared.records.RowRecord.{RowRecord}
+
+-- a view rests on the object of a stamp
+abbrev pub is_view_on : ℕ → ObjectKind → Bool
+is_view_on stamp (View base columns conditions) = base == stamp
+is_view_on stamp kind = false
+
+-- a grant is on the object of a stamp
+abbrev pub is_on : ℕ → Grant → Bool
+is_on stamp g = g.object == stamp
+
+-- a row is in the table of a stamp
+abbrev pub is_in : ℕ → RowRecord → Bool
+is_in stamp r = r.table == stamp

@@ -1,0 +1,132 @@
+// DROP TABLE.
+ghost use Rattle.std.specs.Prelude.{◌≡◌, ◌<◌, ◌++◌, Some, Ok, Err, IsTrue, IfOk, IfErr, IfSome, IsErrOf, drop};
+ghost use Rattle.std.specs.List.{list_any};
+ghost use Rattle.eeprom.specs.Chip.{Keeps};
+ghost use Rattle.eeprom.specs.Fault.{CountsFaults, each_error};
+ghost use Rattle.eeprom.specs.Frame.{Reads};
+ghost use Rattle.eeprom.specs.StoreOf.{store_of, image_size};
+ghost use Rattle.record_store.specs.Held.{IsOver};
+ghost use Rattle.record_store.specs.declared.side.Side.TheVariants.{Working};
+ghost use Rattle.scql_model.specs.Database as model;
+ghost use Rattle.scql_model.specs.Database.{Database};
+ghost use Rattle.scql_model.specs.Defining.{has_view, removing_object, removing_rows, table_dropped};
+ghost use Rattle.scql_base.specs.declared.records.Object.{Object};
+ghost use Rattle.catalog_codec.specs.Catalog.{object_kind};
+ghost use Rattle.record_table.specs.Listed.{at_slot, slots_of};
+ghost use Rattle.record_table.specs.Making.{Ends, GoesOn, IsHeld, is_stop_fault};
+ghost use Rattle.db_define.specs.Dependent.{is_in, is_on, is_view_on};
+
+use crate::sweeping::remove_each;
+use eeprom::{Eeprom, EepromFault};
+use privilege_table::{find_seen, is_owned_by};
+use record_store::{Found, Side, Store};
+use record_table::{Stop, Wanted, find_by, refused, remove};
+use scql_base::{Actor, Grant, Name, Object, ObjectKind, RowRecord, StatusWord};
+
+/// DROP TABLE: removes a table that the actor owns and on which no view rests, its rows and the grants on it.
+pub fn drop_table<B: Eeprom>(
+    store: &mut Store,
+    bench: &mut B,
+    actor: Actor,
+    name: Name,
+) -> Result<(), Stop>
+    requires begun { IsTrue store.old.begun }
+    requires over { IsOver store.old (B.chip bench.old) }
+    ensures ends { (db : Database) → IsHeld store.old Working (B.chip bench.old) db
+        → Ends db (table_dropped db actor name) result store.old store.new (B.chip bench.old) (B.chip bench.new) }
+    ensures goes_on { ¬ IsErrOf result Stop.Fault → GoesOn store.old store.new (B.chip bench.old) (B.chip bench.new) }
+    ensures moments { Keeps store_of (B.chip bench.old) (B.chip bench.new) }
+    ensures behind { Keeps (drop (image_size store.old.chains.cells)) (B.chip bench.old) (B.chip bench.new) }
+    ensures cause { CountsFaults is_stop_fault (B.faults bench.old) (B.faults bench.new) result }
+{
+    let table = find_to_drop(store, bench, actor, name)?;
+    remove(store, table.slot);
+    remove_each(store, bench, &OnObject(table.value.stamp))?;
+    remove_each(store, bench, &InTable(table.value.stamp))?;
+    Ok(())
+}
+
+// The table that is dropped, or the first refusal.
+fn find_to_drop<B: Eeprom>(
+    store: &Store,
+    bench: &mut B,
+    actor: Actor,
+    name: Name,
+) -> Result<Found<Object>, Stop>
+    requires over { IsOver store.now (B.chip bench.old) }
+    ensures there { IfOk result (λ table. table.slot < store.now.chains.cells) }
+    ensures at { IfOk result (λ table. IfSome (slots_of store.now Working (B.chip bench.old)) (λ slots. Some table.value ≡ at_slot object_kind table.slot slots)) }
+    ensures found { (db : Database) → IsHeld store.now Working (B.chip bench.old) db
+        → IfOk result (λ table. table_dropped db actor name ≡ Ok (removing_object db table.value ++ removing_rows db table.value)) }
+    ensures refused { (db : Database) → IsHeld store.now Working (B.chip bench.old) db
+        → IfErr result (λ stop. Ends {T = Unit {0}} db (table_dropped db actor name) (Err stop) store.now store.now (B.chip bench.old) (B.chip bench.new)) }
+    ensures frame { Reads is_stop_fault B.chip B.faults bench.old bench.new result }
+{
+    let Some(table) = find_seen(store, bench, Side::Working, actor, name)? else {
+        return refused(StatusWord::NOT_FOUND);
+    };
+    if !is_table(&table.value.kind) {
+        return refused(StatusWord::NOT_FOUND);
+    }
+    if !is_owned_by(actor, table.value.owner) {
+        return refused(StatusWord::SECURITY_NOT_SATISFIED);
+    }
+    if is_viewed(store, bench, table.value.stamp)? {
+        return refused(StatusWord::CONDITIONS_NOT_SATISFIED);
+    }
+    Ok(table)
+}
+
+// Whether a view rests on the object of a stamp.
+fn is_viewed<B: Eeprom>(store: &Store, bench: &mut B, stamp: u32) -> Result<bool, EepromFault>
+    requires over { IsOver store.now (B.chip bench.old) }
+    ensures viewed { (db : Database) → IsHeld store.now Working (B.chip bench.old) db → IfOk result (λ viewed. viewed ≡ list_any (λ (o : Object). is_view_on stamp o.kind) db.objects) }
+    ensures frame { Reads each_error B.chip B.faults bench.old bench.new result }
+{
+    Ok(find_by(store, bench, Side::Working, &ViewOn(stamp))?.is_some())
+}
+
+fn is_table(kind: &ObjectKind) -> bool
+    ensures { result ≡ model.is_table kind.now }
+{
+    matches!(kind, ObjectKind::Table { .. })
+}
+
+// The views on the object of a stamp.
+#[derive(Clone, Copy)]
+struct ViewOn(u32);
+
+impl Wanted<Object> for ViewOn {
+    ghost wants = { λ wanted object. is_view_on wanted.0 object.kind };
+
+    fn is(&self, entry: &Object) -> bool {
+        match &entry.kind {
+            ObjectKind::View { base, .. } => *base == self.0,
+            _ => false,
+        }
+    }
+}
+
+// The grants on the object of a stamp.
+#[derive(Clone, Copy)]
+struct OnObject(u32);
+
+impl Wanted<Grant> for OnObject {
+    ghost wants = { λ wanted grant. is_on wanted.0 grant };
+
+    fn is(&self, entry: &Grant) -> bool {
+        entry.object == self.0
+    }
+}
+
+// The rows of the table of a stamp.
+#[derive(Clone, Copy)]
+struct InTable(u32);
+
+impl Wanted<RowRecord> for InTable {
+    ghost wants = { λ wanted row. is_in wanted.0 row };
+
+    fn is(&self, entry: &RowRecord) -> bool {
+        entry.table == self.0
+    }
+}

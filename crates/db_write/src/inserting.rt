@@ -1,0 +1,106 @@
+// INSERT.
+ghost use Rattle.std.specs.Prelude.{◌≡◌, true, Ok, Err, IsTrue, IfOk, IfErr, IsErrOf, OnOk, drop, length};
+ghost use Rattle.eeprom.specs.Chip.{Keeps};
+ghost use Rattle.eeprom.specs.Fault.{CountsFaults};
+ghost use Rattle.eeprom.specs.Frame.{Reads};
+ghost use Rattle.eeprom.specs.StoreOf.{store_of, image_size};
+ghost use Rattle.record_store.specs.Held.{IsOver};
+ghost use Rattle.record_store.specs.declared.side.Side.TheVariants.{Working};
+ghost use Rattle.scql_base.specs.Row.{IsRow};
+ghost use Rattle.scql_base.specs.declared.operation.Operation.TheVariants as operation;
+ghost use Rattle.scql_model.specs.Database as model;
+ghost use Rattle.scql_model.specs.Database.{Database};
+ghost use Rattle.scql_model.specs.Edits.{making};
+ghost use Rattle.scql_model.specs.Objects.{columns_of};
+ghost use Rattle.scql_model.specs.Records.{of_row};
+ghost use Rattle.scql_model.specs.WellFormed.{FitsCard, HasForm};
+ghost use Rattle.scql_model.specs.Writing.{row_inserted};
+ghost use Rattle.catalog_codec.specs.Catalog.{row_kind};
+ghost use Rattle.catalog_codec.specs.Kinds.{HasRoom};
+ghost use Rattle.record_table.specs.Making.{Ends, GoesOn, IsHeld, is_stop_fault};
+
+use eeprom::Eeprom;
+use privilege_table::{Privilege, find_seen, holds};
+use record_store::{Side, Store};
+use record_table::{Stop, make, next_stamp, refused};
+use scql_base::{Actor, Name, ObjectKind, Row, RowRecord, StatusWord};
+
+/// INSERT: adds a row behind all others of a table.
+pub fn insert<B: Eeprom>(
+    store: &mut Store,
+    bench: &mut B,
+    actor: Actor,
+    table: Name,
+    row: Row,
+) -> Result<(), Stop>
+    requires begun { IsTrue store.old.begun }
+    requires over { IsOver store.old (B.chip bench.old) }
+    ensures ends { (db : Database) → IsHeld store.old Working (B.chip bench.old) db → HasForm (operation.Insert table row) → FitsCard db.limit (operation.Insert table row)
+        → Ends db (row_inserted db actor table row) result store.old store.new (B.chip bench.old) (B.chip bench.new) }
+    ensures goes_on { ¬ IsErrOf result Stop.Fault → GoesOn store.old store.new (B.chip bench.old) (B.chip bench.new) }
+    ensures moments { Keeps store_of (B.chip bench.old) (B.chip bench.new) }
+    ensures behind { Keeps (drop (image_size store.old.chains.cells)) (B.chip bench.old) (B.chip bench.new) }
+    ensures cause { CountsFaults is_stop_fault (B.faults bench.old) (B.faults bench.new) result }
+{
+    let table = find_table(store, bench, actor, table, &row)?;
+    let counter = next_stamp(store, bench)?;
+    let record = new_record(counter.value.next, table, row);
+    make(store, bench, &counter, &record)?;
+    Ok(())
+}
+
+// The stamp of the table into which the actor may insert the row, or the first refusal.
+fn find_table<B: Eeprom>(
+    store: &Store,
+    bench: &mut B,
+    actor: Actor,
+    name: Name,
+    row: &Row,
+) -> Result<u32, Stop>
+    requires over { IsOver store.now (B.chip bench.old) }
+    ensures found { (db : Database) → IsHeld store.now Working (B.chip bench.old) db
+        → IfOk result (λ table. row_inserted db actor name row.now ≡ Ok (making db (of_row (record { stamp = db.next; table = table; row = row.now })))) }
+    ensures refused { (db : Database) → IsHeld store.now Working (B.chip bench.old) db
+        → IfErr result (λ stop. Ends {T = Unit {0}} db (row_inserted db actor name row.now) (Err stop) store.now store.now (B.chip bench.old) (B.chip bench.new)) }
+    ensures frame { Reads is_stop_fault B.chip B.faults bench.old bench.new result }
+{
+    let Some(found) = find_seen(store, bench, Side::Working, actor, name)? else {
+        return refused(StatusWord::NOT_FOUND);
+    };
+    let object = &found.value;
+    if !is_table(&object.kind) {
+        return refused(StatusWord::NOT_FOUND);
+    }
+    if !holds(store, bench, Side::Working, actor, object, Privilege::Insert)? {
+        return refused(StatusWord::SECURITY_NOT_SATISFIED);
+    }
+    if row.len() != column_count(&object.kind) {
+        return refused(StatusWord::WRONG_DATA);
+    }
+    Ok(object.stamp)
+}
+
+fn is_table(kind: &ObjectKind) -> bool
+    ensures { result ≡ model.is_table kind.now }
+{
+    matches!(kind, ObjectKind::Table { .. })
+}
+
+// How many columns a table has.
+fn column_count(kind: &ObjectKind) -> usize
+    ensures { model.is_table kind.now ≡ true → result ≡ length (columns_of kind.now) }
+{
+    match kind {
+        ObjectKind::Table { columns } | ObjectKind::View { columns, .. } => columns.len(),
+        ObjectKind::Dictionary { .. } => 0,
+    }
+}
+
+// A row of a table, whose record a store can have.
+fn new_record(stamp: u32, table: u32, row: Row) -> RowRecord
+    ensures record { result ≡ record { stamp = stamp; table = table; row = row } }
+    ensures short { HasRoom row_kind result }
+{
+    prove!(row.len() <= Row::MOST);
+    RowRecord { stamp, table, row }
+}

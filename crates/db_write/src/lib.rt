@@ -1,0 +1,6 @@
+//! Operations that write rows.
+#![tactic(auto)]
+
+mod inserting;
+
+pub use inserting::insert;
