@@ -36,4 +36,4 @@ returns-then-may_add c =
     let may = rw (← c.self.view_is) at (sym c.may_add.ensures ∙ c.if-may_add.true) in
     let able = IsAddable-may_add index place may in
     let begun = rw (← c.self.view_is) at c.requires.begun in
-    rw (← c.self.view_is, may, c.put.ensures.placed, begun, able.last) record { added = refl }
+    rw (← c.self.view_is, may, c.put.ensures.placed, begun, able.last) record { added = refl; begun = refl }
