@@ -111,8 +111,16 @@ module _ (db : Database) (o : Object) (slot : ℕ) (slots : Slots) (holds : Hold
   weight-left : weight (applied db (dropping_edits db o)) ≤ (applied db (dropping_edits db o)).cells
   weight-left =
       let room : weight db ≤ db.cells = valid.stored.room in
-      omega (arith, room, cells-filled slots db holds, cells-filled (slots_left slot o.stamp slots) (applied db (dropping_edits db o)) Holds-left, less-without row_kind (is_in o.stamp) (slots_without_grants slot o.stamp slots),
-      less-without grant_kind (is_on o.stamp) (slots_without_table slot slots), less-set slots slot, applied-cells db (dropping_edits db o))
+      omega (
+        arith,
+        room,
+        cells-filled slots db holds,
+        cells-filled (slots_left slot o.stamp slots) (applied db (dropping_edits db o)) Holds-left,
+        less-without row_kind (is_in o.stamp) (slots_without_grants slot o.stamp slots),
+        less-without grant_kind (is_on o.stamp) (slots_without_table slot slots),
+        less-set slots slot,
+        applied-cells db (dropping_edits db o),
+      )
 
   pub room-left : lacks_room db (dropping_edits db o) ≡ false
   room-left =

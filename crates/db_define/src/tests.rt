@@ -60,8 +60,7 @@ fn word_for(
     made_name: &[u8],
     dropped: &[u8],
     actor: Actor,
-) -> Result<Option<StatusWord>, AllocError>
-{
+) -> Result<Option<StatusWord>, AllocError> {
     let mut bench = made(alloc)?;
     let (Ok(mut store), Some(first), Some(second)) = (
         Store::open(alloc, &mut bench),

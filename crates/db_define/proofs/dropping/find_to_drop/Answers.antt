@@ -23,8 +23,12 @@ pub returns-then-branch-clause-refused : goal.returns-then-branch-clause-refused
 returns-then-branch-clause-refused g c = λ db held.
     let seen = rw c.in-Some.is at (c.in_ok-table.ensures.seen db held) in
     let there = subst (λ chip. IsHeld c.args.store.now Working chip db) (sym c.in_ok-table.ensures.frame.same) held in
-    rw c.refused-then-branch.ensures (drops-viewed db c.args.actor c.args.name c.in-Some.table.value seen (sym c.is_table.ensures ∙ c.if-not-is_table.false) (sym c.is_owned_by.ensures ∙ c.if-not-is_owned_by.false)
-    (sym (c.in_ok-is_viewed.ensures.viewed db there) ∙ c.if-branch.true), refl, c.in_ok-is_viewed.ensures.frame.same ∙ c.in_ok-table.ensures.frame.same)
+    rw c.refused-then-branch.ensures (
+      drops-viewed db c.args.actor c.args.name c.in-Some.table.value seen (sym c.is_table.ensures ∙ c.if-not-is_table.false) (sym c.is_owned_by.ensures ∙ c.if-not-is_owned_by.false)
+          (sym (c.in_ok-is_viewed.ensures.viewed db there) ∙ c.if-branch.true),
+      refl,
+      c.in_ok-is_viewed.ensures.frame.same ∙ c.in_ok-table.ensures.frame.same,
+    )
 
 pub returns-clause-found : goal.returns-clause-found
 returns-clause-found g c = λ db held.
