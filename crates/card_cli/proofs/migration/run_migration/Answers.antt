@@ -8,7 +8,7 @@ use Rattle.card_cli.specs.Beginning.{IsOpenTo}
 use Rattle.card_cli.specs.CutOff.{IsCutShort}
 use Rattle.card_cli.specs.Migrating.{KeepsOthers, LeavesLongRows, IsInMigration, IsMigratedFrom}
 use Rattle.card_cli.specs.RunState.{Prints}
-use Rattle.card_cli.proofs.LongerRows.{long-untold, long-told, others-untold, others-told, leaves-between, silent-moments, told-moments, migration-behind, told-behind, migrated-from, migrated-same, text-migrated}
+use Rattle.card_cli.proofs.LongerRows.{long-untold, long-told, others-untold, others-told, leaves-between, silent-moments, told-moments, migration-behind, told-behind, migrated-from, migrated-same, text-migrated, left-some}
 use Rattle.card_cli.proofs.Moving.{gives-throughout}
 use Rattle.card_cli.proofs.migration.run_migration.Goals as goal
 use Rattle.card_cli.proofs.migration.run_migration.Goals.{After-give as Told}
@@ -41,6 +41,14 @@ pub returns-in_default-clause-moments : goal.returns-in_default-clause-moments
 returns-in_default-clause-moments g c = λ db opens told.
     silent-moments db (g.B.Eeprom.chip c.args.bench.now) (g.B.Eeprom.chip c.migrate.new.bench)
     (leaves-between (g.B.Eeprom.chip c.args.bench.now) (g.B.Eeprom.chip c.migrate.new.bench) db opens c.migrate.ensures.moments)
+
+pub returns-in_default-clause-migrates : goal.returns-in_default-clause-migrates
+returns-in_default-clause-migrates g c = λ db opens.
+    let old : Chip = g.B.Eeprom.chip c.args.bench.now in
+    let new : Chip = g.B.Eeprom.chip c.migrate.new.bench in (
+      ap (λ (s : Still). s.given) c.migrate.ensures.still,
+      left-some old new db (leaves-between old new db opens c.migrate.ensures.moments),
+    )
 
 pub returns-in-Ok-give-clause-migrates : goal.returns-in-Ok-give-clause-migrates
 returns-in-Ok-give-clause-migrates g c = λ db opens.
