@@ -1,7 +1,7 @@
 -- What a change leaves on a store and its EEPROM, by the ways in which it ends.
-use Rattle.std.proofs.Common.{◌≡◌, ℕ, ◌+◌, ◌*◌, ◌≤◌, Bool, true, false, List, [], ◌∷◌, drop, length, Option, Some, None, is_some, Result, Ok, Err, refl, sym, ap, subst, ◌∙◌, inl, inr, arith}
-use Rattle.std.specs.Prelude.{IfSome, IfOk, OnOk}
-use Rattle.std.proofs.lemmas.Bool.{cases_Bool, false≢true}
+use Rattle.std.proofs.Common.{◌≡◌, ℕ, ◌+◌, ◌*◌, Bool, true, false, List, [], ◌∷◌, drop, Option, Some, None, is_some, Result, Ok, Err, refl, sym, ap, subst, ◌∙◌, inl, inr, arith}
+use Rattle.std.specs.Prelude.{IfSome, IfOk}
+use Rattle.std.proofs.lemmas.Bool.{false≢true}
 use Rattle.std.proofs.lemmas.Option.{none-some}
 use Rattle.eeprom.specs.Chip.{Chip, Becomes, Keeps, RisesAtMost, RisesBy}
 use Rattle.eeprom.specs.Frame.{HasRoom}
@@ -17,9 +17,8 @@ use Rattle.record_store.proofs.Weights.{limited, store_of-stands}
 use Rattle.scql_base.specs.declared.words.StatusWord.{StatusWord}
 use Rattle.scql_base.specs.Words.{done}
 use Rattle.scql_model.specs.Database.{Database}
-use Rattle.scql_model.specs.Edits.{Edit, applied, cells_written, octets_for, octets_for_cells, touched, with_edits}
+use Rattle.scql_model.specs.Edits.{Edit, applied, octets_for}
 use Rattle.scql_model.specs.Opens.{Opens, are_tables}
-use Rattle.scql_model.specs.Refusals.{◌>>=◌}
 use Rattle.record_table.specs.Listed.{slots_of}
 use Rattle.record_table.specs.Making.{IsHeld, Makes}
 use Rattle.card.specs.Answering.{LeavesOneOf}

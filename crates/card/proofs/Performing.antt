@@ -4,9 +4,7 @@ use Rattle.std.specs.Prelude.{IfOk, OnOk, option_and_then, slice_get, slice_set}
 use Rattle.std.specs.Option.{option_map_or, option_flatten}
 use Rattle.eeprom.specs.declared.EepromFault.{EepromFault}
 use Rattle.eeprom.specs.Chip.{Chip, Becomes, RisesAtMost}
-use Rattle.eeprom.specs.StoreOf.{Slots}
 use Rattle.record_store.specs.Held.{Held}
-use Rattle.record_store.specs.declared.side.Side.TheVariants.{Committed}
 use Rattle.scql_base.specs.declared.cursor.Presented.{Presented}
 use Rattle.scql_base.specs.declared.operation.Operation.{Operation}
 use Rattle.scql_base.specs.declared.words.Actor.{Actor}
@@ -23,13 +21,11 @@ use Rattle.scql_model.specs.Sessions as sessions
 use Rattle.scql_model.specs.Sessions.{cursor_of}
 use Rattle.scql_model.specs.Step.{Answer, answered, changed, done_with, session_named, user_presented}
 use Rattle.scql_model.proofs.ChangingSessions.{changing_session-set}
-use Rattle.record_table.specs.Listed.{slots_of}
-use Rattle.record_table.specs.Making.{IsHeld}
 use Rattle.db_access.specs.Presenting.{session_presented}
 use Rattle.db_access.specs.declared.presenting.Presented.{Presented as Found}
 use Rattle.card.specs.Answering.{Answers, LeavesOneOf, Performs, committed_at_once, with_session_for}
 use Rattle.card.specs.Card.{Kept, IsReady, IsAt, committed_slots}
-use Rattle.card.specs.Changing.{IsAtRest, Concludes, Changes, acting, new_of, octets_of, commits_of}
+use Rattle.card.specs.Changing.{IsAtRest, Concludes, Changes, acting, new_of, commits_of}
 use Rattle.card.specs.Sessions.{AreUnread, proved_stamp, proved_user}
 use Rattle.card.proofs.Leaving.{rises-none, unwritten_leaves}
 use Rattle.card.proofs.SlotCount.{length-committed_slots}

@@ -1,5 +1,5 @@
 -- Who was found is who acts.
-use Rattle.std.proofs.Common.{◌≡◌, Some, None}
+use Rattle.std.proofs.Common.{Some, None}
 use Rattle.card.proofs.ChangingOperations.{acting-found}
 use Rattle.card.proofs.changing.actor_of.Goals as goal
 

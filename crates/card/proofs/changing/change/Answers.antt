@@ -1,9 +1,8 @@
 -- Each way in which a change ends.
-use Rattle.std.proofs.Common.{◌≡◌, ℕ, Option, drop, sym, ap, subst, ◌∙◌, rules, refl}
+use Rattle.std.proofs.Common.{ℕ, Option, sym, ap, subst, ◌∙◌, rules}
 use Rattle.eeprom.specs.Chip.{Chip, Keeps}
 use Rattle.eeprom.specs.StoreOf.{store_of}
-use Rattle.record_store.specs.Held.{Held}
-use Rattle.record_store.specs.declared.side.Side.TheVariants.{Committed, Working}
+use Rattle.record_store.specs.declared.side.Side.TheVariants.{Committed}
 use Rattle.scql_base.specs.declared.cursor.Cursor.{Cursor}
 use Rattle.scql_model.specs.Changing.{edits_of}
 use Rattle.scql_model.specs.Creating.{IsActorOf}

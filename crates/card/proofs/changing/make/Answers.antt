@@ -1,5 +1,4 @@
 -- An operation ends as its edits say.
-use Rattle.std.proofs.Common.{◌≡◌}
 use Rattle.scql_model.specs.Changing.{edits_of}
 use Rattle.card.proofs.changing.make.Goals as goal
 

@@ -1,9 +1,9 @@
 -- A command is PRESENT USER, or it changes the database.
-use Rattle.std.proofs.Common.{◌≡◌, ℕ, drop, Result, sym, ap, subst, ◌∙◌, arith, rules}
+use Rattle.std.proofs.Common.{◌≡◌, ℕ, drop, Result, sym, ap, subst, ◌∙◌, arith}
 use Rattle.eeprom.specs.StoreOf.{image_size}
 use Rattle.scql_base.specs.declared.words.StatusWord.{StatusWord}
 use Rattle.scql_base.specs.declared.operation.Operation.{Operation}
-use Rattle.scql_model.specs.Bound.{octets_carried_out, octets_changed, or_nothing}
+use Rattle.scql_model.specs.Bound.{octets_carried_out, or_nothing}
 use Rattle.scql_model.specs.Step.{Answer, answered, carried_out, changed, user_presented}
 use Rattle.card.specs.Answering.{Performs}
 use Rattle.card.proofs.BuiltLines.{IsChange-built}

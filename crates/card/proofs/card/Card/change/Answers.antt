@@ -1,9 +1,8 @@
 -- What a change does to the store, it does to the machine.
-use Rattle.std.proofs.Common.{◌≡◌, ℕ, sym, ap, subst, ◌∙◌}
+use Rattle.std.proofs.Common.{sym, subst}
 use Rattle.scql_model.specs.Bound.{octets_changed, or_nothing}
 use Rattle.scql_model.specs.Sessions.{cursor_of}
 use Rattle.scql_model.specs.Step.{answered, changed}
-use Rattle.record_store.specs.Held.{Held}
 use Rattle.card.specs.Answering.{Performs}
 use Rattle.card.specs.Card.{Kept}
 use Rattle.card.specs.Changing.{IsAtRest}

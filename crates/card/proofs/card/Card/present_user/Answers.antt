@@ -1,10 +1,8 @@
 -- Whose session a channel gets.
-use Rattle.std.proofs.Common.{◌≡◌, Ok, Err, ap, subst, sym, ◌∙◌, refl}
-use Rattle.scql_base.specs.Words.{done, not_found}
-use Rattle.scql_model.specs.Machine.{Machine}
-use Rattle.scql_model.specs.Step.{session_named}
+use Rattle.std.proofs.Common.{ap, subst, sym, refl}
+use Rattle.scql_base.specs.Words.{not_found}
 use Rattle.db_access.specs.Presenting.{session_presented}
-use Rattle.card.specs.Card.{Kept, IsAt}
+use Rattle.card.specs.Card.{Kept}
 use Rattle.card.specs.Changing.{IsAtRest}
 use Rattle.card.proofs.Performing.{IsAtRest-at, Answers-unknown, Answers-presented}
 use Rattle.card.proofs.card.Card.present_user.Goals.{After-branch-present, in-Public, in-User}
