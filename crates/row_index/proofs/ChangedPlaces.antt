@@ -1,25 +1,23 @@
 -- What becomes of the places of the rows of slots when one slot is changed.
-use Rattle.std.proofs.Common.{◌≡◌, ℕ, zero, suc, ◌+◌, ◌<◌, ◌≤◌, Bool, true, false, cond, not, ◌&&◌, ◌||◌, ltb, eqb, List, [], ◌∷◌, ◌++◌, length, Option, Some, None, get_or, inl, inr, refl, sym, ap, ◌∙◌, arith, subst}
+use Rattle.std.proofs.Common.{◌≡◌, ℕ, zero, suc, ◌+◌, ◌<◌, ◌≤◌, Bool, true, false, cond, not, ltb, eqb, List, [], ◌∷◌, ◌++◌, length, Option, Some, None, get_or, inl, inr, refl, sym, ap, ◌∙◌, arith, subst}
 use Rattle.std.proofs.Math.ListN.{set}
 use Rattle.std.proofs.lemmas.List.{length-set}
-use Rattle.std.specs.Prelude.{option_map, IfSome}
-use Rattle.std.specs.List.{filter, filter_map, cons_option, count_by, sum_by, list_all, list_any, AllByRecursion}
-use Rattle.std.proofs.lemmas.Bool.{cases_Bool, ltb-true, ltb-false, lt-ltb, le-ltb, eqb-true, eqb-false, eq-eqb, ne_eqb, or_left, and_from, not_from_false}
+use Rattle.std.specs.Prelude.{option_map}
+use Rattle.std.specs.List.{filter, cons_option, count_by, list_all, list_any, AllByRecursion}
+use Rattle.std.proofs.lemmas.Bool.{cases_Bool, ltb-true, ltb-false, lt-ltb, eq-eqb, ne_eqb, and_from, not_from_false}
 use Rattle.std.proofs.lemmas.List.Sums.{sum_by-append}
-use Rattle.eeprom.specs.Slots.{Rises, AreApart, has, in_order, in_slot, put_in_order, without}
+use Rattle.eeprom.specs.Slots.{has, in_order, put_in_order, without}
 use Rattle.eeprom.specs.StoreOf.{Slots}
-use Rattle.eeprom.proofs.InOrder.{counts, counts_not, count_by-cons, count-below, count_by-in_order, in_order-middle, put_in_order-last, put_in_order-first, list_any-in_order, without-none, AreApart-rising, Rises-in_order}
+use Rattle.eeprom.proofs.InOrder.{counts, counts_not, count-below, count_by-in_order, in_order-middle, put_in_order-last, list_any-in_order, without-none}
 use Rattle.scql_base.specs.declared.records.RowRecord.{RowRecord}
 use Rattle.catalog_codec.specs.Catalog.{row_kind}
 use Rattle.record_table.specs.Changed.{IsAdded, IsChanged, IsEmptied}
-use Rattle.catalog_codec.specs.Kinds.{IsKind}
 use Rattle.catalog_codec.specs.CatalogLaws.{IsKind-row}
-use Rattle.record_table.specs.Listed.{at_slot, listed}
+use Rattle.record_table.specs.Listed.{at_slot}
 use Rattle.row_index.specs.Index.{HasRows, Index, is_above, may_add}
-use Rattle.row_index.specs.Places.{numbered, place_in, place_of, place_slot, place_stamp, row_places}
+use Rattle.row_index.specs.Places.{place_in, place_of, place_slot, place_stamp, row_places}
 use Rattle.row_index.specs.declared.place.RowPlace.{RowPlace}
 use Rattle.row_index.proofs.Changes.{length-in_order}
-use Rattle.row_index.proofs.Kept.{none-list_any}
 use Rattle.row_index.proofs.Scans.{row_in, places_from, slots_from, none_lower, lower_part}
 
 -- The places before a slot, and those behind it: what the slot has stands between.

@@ -1,11 +1,10 @@
 -- The places of the rows of the slots up to one: the scan that builds an index.
-use Rattle.std.proofs.Common.{◌≡◌, ℕ, zero, suc, ◌+◌, ◌<◌, ◌≤◌, Bool, true, false, cond, eqb, List, [], ◌∷◌, ◌++◌, length, Option, Some, None, take, drop, get_or, inl, inr, refl, sym, ap, ◌∙◌, arith, subst, add-one}
+use Rattle.std.proofs.Common.{◌≡◌, ℕ, zero, suc, ◌+◌, ◌<◌, ◌≤◌, Bool, cond, List, [], ◌∷◌, ◌++◌, length, Option, Some, None, take, drop, get_or, inl, inr, refl, sym, ap, ◌∙◌, arith, subst, add-one}
 use Rattle.std.specs.Prelude.{option_map, IfSome}
-use Rattle.std.specs.List.{find, filter_map, cons_option, count_by, AllByRecursion}
+use Rattle.std.specs.List.{find, cons_option, count_by, AllByRecursion}
 use Rattle.std.proofs.lemmas.Bool.{cases_Bool, eq-eqb}
 use Rattle.std.proofs.lemmas.List.{append-nil}
 use Rattle.std.proofs.lemmas.List.Sums.{sum_by-append}
-use Rattle.std.proofs.lemmas.Option.{none-some}
 use Rattle.eeprom.specs.Slots.{AreApart, has, in_order, put_in_order}
 use Rattle.eeprom.specs.StoreOf.{Slots}
 use Rattle.eeprom.proofs.InOrder.{counts, counts_not, count-below, count_by-in_order, in_order-middle}
@@ -17,7 +16,7 @@ use Rattle.row_index.specs.Index.{AreKept}
 use Rattle.row_index.specs.Places.{place_in, place_of, place_slot, place_stamp, row_places}
 use Rattle.row_index.specs.declared.place.RowPlace.{RowPlace}
 use Rattle.row_index.proofs.Changes.{length-put_in_order}
-use Rattle.row_index.proofs.Kept.{AreKept-put, none-found}
+use Rattle.row_index.proofs.Kept.{AreKept-put}
 use Rattle.row_index.proofs.Scans.{row_in, places_from}
 use Rattle.row_index.proofs.Tables.{all-put_in_order}
 

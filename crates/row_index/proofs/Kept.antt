@@ -1,16 +1,16 @@
 -- What an index keeps of its places when one is put among them or taken out.
-use Rattle.std.proofs.Common.{◌≡◌, ℕ, zero, suc, ◌+◌, ◌<◌, ◌≤◌, Bool, true, false, cond, not, ◌&&◌, ltb, eqb, List, [], ◌∷◌, ◌++◌, length, Option, Some, None, inl, inr, refl, sym, ap, ◌∙◌, arith, subst}
-use Rattle.std.specs.Prelude.{option_map, IfSome, is_some}
-use Rattle.std.specs.List.{find, filter, count_by, sum_by, list_all, list_any, AllByRecursion}
-use Rattle.std.proofs.lemmas.Bool.{cases_Bool, ltb-true, ltb-false, eqb-true, eqb-false, eq-eqb, ne_eqb, and_parts, or_parts, not-true}
-use Rattle.std.proofs.lemmas.List.Sums.{sum_by-cons, count_by-le-length, length-filter}
-use Rattle.std.proofs.lemmas.Option.{none-some, same_Some}
-use Rattle.eeprom.specs.Slots.{Rises, AreApart, has, put_in_order, without}
-use Rattle.eeprom.proofs.InOrder.{counts, counts_not, count_by-cons, count-below, put_in_order-last, without-none, sum_by-put_in_order, all-filter}
+use Rattle.std.proofs.Common.{◌≡◌, ℕ, ◌+◌, ◌<◌, ◌≤◌, Bool, true, false, cond, not, ◌&&◌, ltb, eqb, List, [], ◌∷◌, ◌++◌, length, Option, Some, None, inl, inr, refl, sym, ap, ◌∙◌, arith, subst}
+use Rattle.std.specs.Prelude.{IfSome, is_some}
+use Rattle.std.specs.List.{find, filter, count_by, list_all, list_any, AllByRecursion}
+use Rattle.std.proofs.lemmas.Bool.{cases_Bool, ltb-true, eqb-true, eq-eqb, and_parts, or_parts, not-true}
+use Rattle.std.proofs.lemmas.List.Sums.{count_by-le-length, length-filter}
+use Rattle.std.proofs.lemmas.Option.{none-some}
+use Rattle.eeprom.specs.Slots.{has, put_in_order, without}
+use Rattle.eeprom.proofs.InOrder.{counts_not, count_by-cons, count-below, put_in_order-last, without-none, sum_by-put_in_order, all-filter}
 use Rattle.row_index.specs.Index.{AreKept, Index, is_above, may_add}
 use Rattle.row_index.specs.Places.{place_stamp, place_slot, IsOneMore}
 use Rattle.row_index.specs.declared.place.RowPlace.{RowPlace}
-use Rattle.row_index.proofs.Changes.{Rises-put, Rises-filter, IsOneMore-found, length-put_in_order, count_by-put}
+use Rattle.row_index.proofs.Changes.{Rises-put, Rises-filter, length-put_in_order, count_by-put}
 use Rattle.row_index.proofs.Tables.{all-put_in_order}
 
 -- each passes where all pass

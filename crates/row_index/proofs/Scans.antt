@@ -1,22 +1,18 @@
 -- The places of the rows of slots, against the list of the rows; and what becomes of them when one slot is changed.
-use Rattle.std.proofs.Common.{◌≡◌, ℕ, zero, suc, ◌+◌, ◌<◌, ◌≤◌, Bool, true, false, cond, not, ◌&&◌, ◌||◌, ltb, eqb, List, [], ◌∷◌, ◌++◌, length, Option, Some, None, get_or, inl, inr, refl, sym, ap, ◌∙◌, arith, subst, map}
-use Rattle.std.proofs.Math.ListN.{set}
+use Rattle.std.proofs.Common.{◌≡◌, ℕ, zero, suc, ◌+◌, ◌<◌, ◌≤◌, Bool, true, false, cond, ltb, List, [], ◌∷◌, length, Option, Some, None, get_or, inl, inr, refl, sym, ap, ◌∙◌, arith, subst, map}
 use Rattle.std.specs.Prelude.{option_map, option_and_then, IfSome, is_some}
-use Rattle.std.specs.List.{find, filter, filter_map, cons_option, count_by, sum_by, list_all, list_any, AllByRecursion}
-use Rattle.std.proofs.lemmas.Bool.{cases_Bool, ltb-true, ltb-false, lt-ltb, le-ltb, eqb-true, eqb-false, eq-eqb, ne_eqb}
-use Rattle.std.proofs.lemmas.List.Sums.{sum_by-append, sum_by-cons}
-use Rattle.eeprom.specs.Slots.{Rises, AreApart, has, in_order, in_slot, put_in_order, without}
+use Rattle.std.specs.List.{find, filter_map, cons_option, count_by, AllByRecursion}
+use Rattle.std.proofs.lemmas.Bool.{cases_Bool, ne_eqb}
+use Rattle.eeprom.specs.Slots.{has, in_order, in_slot, put_in_order}
 use Rattle.eeprom.specs.StoreOf.{Slots}
-use Rattle.eeprom.proofs.InOrder.{counts, counts_not, count_by-cons, count-below, count_by-in_order, in_order-middle, put_in_order-last, put_in_order-first, list_any-in_order, list_all-in_order, AreApart-rising, Rises-in_order}
+use Rattle.eeprom.proofs.InOrder.{counts_not, count_by-cons}
 use Rattle.scql_base.specs.declared.records.RowRecord.{RowRecord}
 use Rattle.catalog_codec.specs.Catalog.{row_kind}
 use Rattle.catalog_codec.specs.Kinds.{read_as}
 use Rattle.record_table.specs.Listed.{at_slot, listed}
-use Rattle.row_index.specs.Index.{AreKept, HasRows, is_above}
 use Rattle.row_index.specs.Places.{numbered, place_in, place_of, place_slot, place_stamp, row_places}
 use Rattle.row_index.specs.declared.place.RowPlace.{RowPlace}
-use Rattle.row_index.proofs.Changes.{all-push, length-in_order}
-use Rattle.row_index.proofs.Tables.{all-put_in_order, all-in_order}
+use Rattle.row_index.proofs.Tables.{all-in_order}
 
 abbrev pub row_in : Option (List ℕ) → Option RowRecord
 row_in = in_slot (read_as row_kind)

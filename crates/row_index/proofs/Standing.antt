@@ -7,7 +7,7 @@ use Rattle.eeprom.proofs.Places.{length-numbers_at}
 use Rattle.eeprom.specs.Chip.{Becomes, Chip}
 use Rattle.eeprom.specs.Slots.{AreApart}
 use Rattle.eeprom.specs.StoreOf.{Slots, slots_at}
-use Rattle.record_store.specs.Held.{Held, StandsFor, contents, firsts}
+use Rattle.record_store.specs.Held.{Held, StandsFor, contents}
 use Rattle.record_store.specs.declared.side.Side.{Side}
 use Rattle.record_store.specs.declared.side.Side.TheVariants.{Committed, Working}
 use Rattle.record_table.specs.Changed.{Rewrites}

@@ -1,14 +1,12 @@
 -- Places in order of their stamps, and the same places by tables.
-use Rattle.std.proofs.Common.{◌≡◌, ℕ, zero, suc, ◌+◌, ◌*◌, ◌<◌, ◌≤◌, Bool, true, false, cond, not, ◌&&◌, ltb, leb, eqb, List, [], ◌∷◌, ◌++◌, length, Option, Some, None, take, drop, get_or, inl, inr, refl, sym, ap, ◌∙◌, arith, subst}
-use Rattle.std.specs.List.{find, filter, insert, slice_get, count_by, list_all, sum_by, AllByRecursion}
-use Rattle.std.specs.List.Sorted.{IsPermutation, IsNonDecreasingBy}
-use Rattle.std.proofs.lemmas.Bool.{cases_Bool, ltb-true, ltb-false, leb-true, leb-false, lt-ltb, le-ltb, le-leb, lt-leb, eqb-true, eqb-false, eq-eqb, ne_eqb, and_left, and_right}
-use Rattle.std.proofs.lemmas.List.Sums.{sum_by-cons, count_by-le-length}
-use Rattle.std.proofs.lemmas.List.Sorted.{sum_by-IsPermutation}
-use Rattle.eeprom.specs.Slots.{Rises, AreApart, has, is_after, in_order, put_in_order, without}
-use Rattle.eeprom.proofs.InOrder.{counts, counts_not, count_by-cons, count-above, AreApart-rising, all-filter, filter-in_order, in_order-rising, in_order-middle, Rises-in_order, sum_by-in_order, list_all-in_order}
+use Rattle.std.proofs.Common.{◌≡◌, ℕ, suc, ◌*◌, ◌<◌, ◌≤◌, Bool, true, false, cond, ◌&&◌, ltb, leb, eqb, List, [], ◌∷◌, length, Option, Some, None, inl, inr, refl, sym, ap, ◌∙◌, arith, subst}
+use Rattle.std.specs.List.{find, filter, slice_get, count_by, list_all, AllByRecursion}
+use Rattle.std.proofs.lemmas.Bool.{cases_Bool, ltb-true, ltb-false, lt-ltb, le-ltb, eqb-true, eqb-false, eq-eqb, ne_eqb, and_left, and_right}
+use Rattle.std.proofs.lemmas.List.Sums.{count_by-le-length}
+use Rattle.eeprom.specs.Slots.{Rises, AreApart, has, is_after, in_order, put_in_order}
+use Rattle.eeprom.proofs.InOrder.{counts, counts_not, filter-in_order, in_order-rising, Rises-in_order}
 use Rattle.row_index.proofs.Searches.{find-after}
-use Rattle.row_index.specs.Places.{place_stamp, place_slot, key_of, key_in_table, is_later_in}
+use Rattle.row_index.specs.Places.{place_stamp, key_of, key_in_table, is_later_in}
 use Rattle.row_index.specs.declared.place.RowPlace.{RowPlace}
 use Rattle.row_index.specs.declared.order.Order.TheVariants.{ByTable}
 

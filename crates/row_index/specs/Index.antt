@@ -1,5 +1,5 @@
 -- An index of rows: where the rows of both sides of a store stand.
-use Rattle.std.specs.Prelude.{◌≡◌, ℕ, ◌≤◌, ◌<◌, ◌&&◌, not, nat_lt, Bool, true, false, if◌then◌else◌, List, IfSome, count_by, length}
+use Rattle.std.specs.Prelude.{◌≡◌, ℕ, ◌≤◌, ◌<◌, ◌&&◌, not, nat_lt, Bool, true, false, List, IfSome, length}
 use Rattle.std.specs.List.{AllByRecursion, list_all, list_any}
 use Rattle.eeprom.specs.Chip.{Chip}
 use Rattle.eeprom.specs.Slots.{AreApart, Rises, has}

@@ -1,19 +1,19 @@
 -- An index follows a change of one slot.
-use Rattle.std.proofs.Common.{◌≡◌, ℕ, ◌<◌, Bool, true, false, List, [], ◌∷◌, ◌++◌, Option, Some, None, get_or, refl, sym, ap, ◌∙◌, subst, arith}
-use Rattle.std.specs.Prelude.{IfOk, IfSome, OnOk, Result, Ok, Err, if◌then◌else◌}
+use Rattle.std.proofs.Common.{◌≡◌, ℕ, ◌<◌, Bool, true, false, List, [], ◌∷◌, ◌++◌, Option, Some, refl, sym, subst, arith}
+use Rattle.std.specs.Prelude.{IfSome, OnOk, Result, Ok, Err, if◌then◌else◌}
 use Rattle.std.specs.List.{AllByRecursion}
 use Rattle.eeprom.specs.Chip.{Becomes, Chip}
 use Rattle.eeprom.specs.Slots.{without}
 use Rattle.eeprom.specs.StoreOf.{Slots}
-use Rattle.record_store.specs.Held.{Held, IsOver, StandsFor}
+use Rattle.record_store.specs.Held.{Held, StandsFor}
 use Rattle.record_store.specs.declared.side.Side.{Side}
 use Rattle.record_store.specs.declared.side.Side.TheVariants.{Committed, Working}
 use Rattle.scql_base.specs.declared.records.RowRecord.{RowRecord}
 use Rattle.catalog_codec.specs.Catalog.{row_kind}
 use Rattle.record_table.specs.Changed.{IsAdded, IsChanged, IsEmptied, Rewrites}
 use Rattle.record_table.specs.Listed.{listed, slots_of}
-use Rattle.row_index.specs.Index.{HasRows, Index, Indexes, may_add}
-use Rattle.row_index.specs.Places.{place_of, place_slot, place_stamp, row_places}
+use Rattle.row_index.specs.Index.{Index, Indexes, may_add}
+use Rattle.row_index.specs.Places.{place_of, place_slot, place_stamp}
 use Rattle.row_index.specs.declared.place.RowPlace.{RowPlace}
 use Rattle.row_index.proofs.ChangedPlaces.{HasRows-added, HasRows-changed, HasRows-removed, may_add-told}
 use Rattle.row_index.proofs.Scans.{places-below}

@@ -1,5 +1,5 @@
 -- What an index answers is what a search among the rows of the slots would.
-use Rattle.std.proofs.Common.{◌≡◌, ℕ, ◌*◌, Bool, true, false, Option, Some, None, get_or, refl, sym, ap, ◌∙◌, subst}
+use Rattle.std.proofs.Common.{◌≡◌, ℕ, ◌*◌, Bool, true, false, Option, Some, None, get_or, refl, sym, ap, ◌∙◌}
 use Rattle.std.specs.Prelude.{IfOk, IfSome, Result, Ok, Err, is_some, option_map, option_and_then}
 use Rattle.std.specs.List.{find}
 use Rattle.eeprom.specs.Chip.{Becomes, Chip, RisesAtMost}

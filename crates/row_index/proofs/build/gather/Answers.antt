@@ -1,11 +1,11 @@
 -- The rows of the slots so far are gathered, slot by slot.
-use Rattle.std.proofs.Common.{◌≡◌, ◌<◌, ◌+◌, Option, Some, None, refl, sym, ◌∙◌, arith, subst}
+use Rattle.std.proofs.Common.{◌<◌, Option, refl, ◌∙◌, arith}
 use Rattle.eeprom.specs.Slots.{has}
 use Rattle.eeprom.specs.StoreOf.{Slots}
 use Rattle.record_store.specs.declared.side.Side.TheVariants.{Committed}
 use Rattle.catalog_codec.specs.Catalog.{row_kind}
 use Rattle.record_table.specs.Listed.{slots_of}
-use Rattle.record_table.proofs.Scan.{empty-told, reads-none, reads-behind, reads-all}
+use Rattle.record_table.proofs.Scan.{empty-told, reads-none, reads-behind}
 use Rattle.row_index.proofs.Gathering.{gathered-none, gathered-passed, gathered-put, gathered-twice, gathered-all}
 use Rattle.row_index.specs.Places.{place_stamp}
 use Rattle.row_index.proofs.Kept.{unfound-counted, found-some}

@@ -1,5 +1,5 @@
 -- Where one more stands on the other side, there is room for it.
-use Rattle.std.proofs.Common.{◌≡◌, ap, length, ◌∙◌, arith}
+use Rattle.std.proofs.Common.{ap, length, ◌∙◌, arith}
 use Rattle.row_index.specs.Places.{place_stamp}
 use Rattle.row_index.proofs.Changes.{length-put_in_order}
 use Rattle.row_index.proofs.index.follow.Goals as goal

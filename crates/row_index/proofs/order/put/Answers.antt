@@ -1,5 +1,5 @@
 -- A place stands behind those of keys up to its own.
-use Rattle.std.proofs.Common.{List, ap, ◌∙◌, sym, arith}
+use Rattle.std.proofs.Common.{List, ap, ◌∙◌}
 use Rattle.std.specs.List.{insert}
 use Rattle.row_index.specs.Places.{key_of}
 use Rattle.row_index.specs.declared.place.RowPlace.{RowPlace}

@@ -1,6 +1,5 @@
 -- One place more.
-use Rattle.std.proofs.Common.{◌≡◌, ◌<◌, ◌+◌, List, [], ◌∷◌, ◌++◌, get_or, length, ◌∙◌, ap, sym, arith, take}
-use Rattle.std.specs.List.{AllByRecursion}
+use Rattle.std.proofs.Common.{◌<◌, List, [], ◌∷◌, ◌++◌, get_or, length, ◌∙◌, ap, sym, arith, take}
 use Rattle.std.specs.Vec.{vec_len, vec_capacity}
 use Rattle.std.proofs.lemmas.List.{take_more, length-take-le}
 use Rattle.row_index.specs.Places.{place_stamp}

@@ -1,6 +1,4 @@
 -- The index takes the row that the store took.
-use Rattle.std.proofs.Common.{subst, sym}
-use Rattle.row_index.specs.Index.{Index, Indexes}
 use Rattle.row_table.proofs.Followed.{Indexes-added}
 use Rattle.row_table.proofs.changing.add.Goals as goal
 

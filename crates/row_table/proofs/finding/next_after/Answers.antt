@@ -1,10 +1,8 @@
 -- The index answers the slot of the row that is wanted, and none where there is none.
-use Rattle.std.proofs.Common.{ℕ, Option, refl}
-use Rattle.eeprom.specs.Slots.{has}
+use Rattle.std.proofs.Common.{Option, refl}
 use Rattle.eeprom.specs.StoreOf.{Slots}
-use Rattle.catalog_codec.specs.Catalog.{row_kind}
 use Rattle.record_table.specs.Listed.{slots_of}
-use Rattle.row_index.specs.Places.{is_later_in, place_stamp}
+use Rattle.row_index.specs.Places.{is_later_in}
 use Rattle.row_index.specs.declared.place.RowPlace.{RowPlace}
 use Rattle.row_table.specs.Found.{is_row_after}
 use Rattle.row_table.proofs.FoundRows.{cells-read, finds-told, none-found, read-found}

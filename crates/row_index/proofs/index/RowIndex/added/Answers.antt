@@ -1,8 +1,7 @@
 -- What may be added goes behind all others, and comes out again by its slot.
-use Rattle.std.proofs.Common.{◌≡◌, true, List, sym, ap, ◌∙◌, refl, subst}
+use Rattle.std.proofs.Common.{sym, ◌∙◌, refl}
 use Rattle.std.proofs.lemmas.Bool.{both_ways}
-use Rattle.row_index.specs.Index.{Index, IsIndex, may_add}
-use Rattle.row_index.specs.Ordered.{Ordered}
+use Rattle.row_index.specs.Index.{Index}
 use Rattle.row_index.specs.declared.place.RowPlace.{RowPlace}
 use Rattle.row_index.proofs.Kept.{AreKept-put, IsAddable-may_add, IsOneMore-put}
 use Rattle.row_index.proofs.index.RowIndex.added.Goals as goal

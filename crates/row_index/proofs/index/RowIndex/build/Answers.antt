@@ -1,5 +1,5 @@
 -- Where no two rows have one stamp, both sides have the rows of the store.
-use Rattle.std.proofs.Common.{◌≡◌, ◌∙◌, ap}
+use Rattle.std.proofs.Common.{◌∙◌, ap}
 use Rattle.row_index.specs.Index.{Index}
 use Rattle.row_index.proofs.Standing.{stands-read}
 use Rattle.row_index.proofs.index.RowIndex.build.Goals as goal

@@ -1,10 +1,6 @@
 -- The row that a slot has comes out, and goes back to its place.
-use Rattle.std.proofs.Common.{◌≡◌, true, List, sym, ap, ◌∙◌, refl, subst}
+use Rattle.std.proofs.Common.{sym, ap, ◌∙◌, refl}
 use Rattle.std.proofs.lemmas.Bool.{both_ways}
-use Rattle.eeprom.specs.Slots.{without}
-use Rattle.row_index.specs.Index.{Index, IsIndex}
-use Rattle.row_index.specs.Places.{place_slot}
-use Rattle.row_index.specs.declared.place.RowPlace.{RowPlace}
 use Rattle.row_index.proofs.Kept.{AreKept-filter, without-not_found}
 use Rattle.row_index.proofs.index.RowIndex.removed.Goals as goal
 

@@ -1,6 +1,5 @@
 -- All stamps are below one where so many are as there are places.
-use Rattle.std.proofs.Common.{eqb, ltb, length, ap, sym, ◌∙◌}
-use Rattle.std.specs.List.{count_by}
+use Rattle.std.proofs.Common.{ltb, length, ap, sym, ◌∙◌}
 use Rattle.row_index.specs.Places.{place_stamp}
 use Rattle.row_index.specs.declared.place.RowPlace.{RowPlace}
 use Rattle.row_index.proofs.Tables.{count_by-all}

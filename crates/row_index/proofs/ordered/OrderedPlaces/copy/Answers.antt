@@ -1,5 +1,5 @@
 -- There is room in both lists.
-use Rattle.std.proofs.Common.{◌≡◌, ap, length, sym, ◌∙◌, arith}
+use Rattle.std.proofs.Common.{ap, length, ◌∙◌, arith}
 use Rattle.row_index.proofs.Changes.{length-in_order}
 use Rattle.row_index.proofs.Tables.{table_key}
 use Rattle.row_index.proofs.ordered.OrderedPlaces.copy.Goals as goal

@@ -1,5 +1,5 @@
 -- What is sorted by tables is in order by tables.
-use Rattle.std.proofs.Common.{◌≡◌, List, refl, rules, sym, ap, ◌∙◌, arith}
+use Rattle.std.proofs.Common.{rules, arith}
 use Rattle.std.proofs.lemmas.List.Sorted.{IsNonDecreasingBy-from_sort_by_key}
 use Rattle.row_index.proofs.Changes.{sorted-tables}
 use Rattle.row_index.proofs.Tables.{table_key}

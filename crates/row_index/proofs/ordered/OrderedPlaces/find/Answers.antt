@@ -1,9 +1,7 @@
 -- The row of a stamp stands behind those of lesser stamps.
-use Rattle.std.proofs.Common.{◌≡◌, Option, Some, None, sym, ap, ◌∙◌}
-use Rattle.std.specs.List.{slice_get}
+use Rattle.std.proofs.Common.{◌≡◌, Some, None, sym, ◌∙◌}
 use Rattle.std.proofs.lemmas.Bool.{eq-eqb, ne_eqb}
 use Rattle.row_index.specs.Places.{place_stamp}
-use Rattle.row_index.specs.declared.place.RowPlace.{RowPlace}
 use Rattle.row_index.proofs.Searches.{find-at, at_place, at_no_place, with_key}
 use Rattle.row_index.proofs.ordered.OrderedPlaces.find.Goals as goal
 

@@ -1,9 +1,6 @@
 -- The next row of a table stands behind those of keys up to its own.
-use Rattle.std.proofs.Common.{◌≡◌, Option, Some, None, sym, ap, ◌∙◌}
-use Rattle.std.specs.List.{find, slice_get}
+use Rattle.std.proofs.Common.{◌≡◌, Some, None, sym, ◌∙◌}
 use Rattle.std.proofs.lemmas.Bool.{eq-eqb, ne_eqb}
-use Rattle.row_index.specs.Places.{is_later_in}
-use Rattle.row_index.specs.declared.place.RowPlace.{RowPlace}
 use Rattle.row_index.proofs.Searches.{at_place, at_no_place}
 use Rattle.row_index.proofs.Tables.{Rises-tables, later-by_tables, of_table}
 use Rattle.row_index.proofs.ordered.OrderedPlaces.next_after.Goals as goal

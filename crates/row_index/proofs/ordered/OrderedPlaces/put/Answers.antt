@@ -1,5 +1,5 @@
 -- The place goes where it stands in both orders.
-use Rattle.std.proofs.Common.{◌≡◌, ap, length, sym, ◌∙◌, arith}
+use Rattle.std.proofs.Common.{ap, length, ◌∙◌, arith}
 use Rattle.row_index.proofs.Changes.{IsOrdered-put, length-in_order}
 use Rattle.row_index.proofs.Tables.{Rises-tables, table_key}
 use Rattle.row_index.proofs.ordered.OrderedPlaces.put.Goals as goal

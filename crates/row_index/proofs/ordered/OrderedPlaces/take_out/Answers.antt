@@ -1,9 +1,6 @@
 -- Both orders keep what stands in other slots.
-use Rattle.std.proofs.Common.{◌≡◌, List, not, eqb, rules, sym, ap, ◌∙◌}
-use Rattle.std.specs.List.{filter}
+use Rattle.std.proofs.Common.{List, not, eqb, rules, ap}
 use Rattle.std.proofs.lemmas.Fn.{filter_same}
-use Rattle.eeprom.specs.Slots.{without}
-use Rattle.row_index.specs.Places.{place_slot}
 use Rattle.row_index.specs.declared.place.RowPlace.{RowPlace}
 use Rattle.row_index.proofs.Changes.{IsOrdered-filter, IsOneMore-found}
 use Rattle.row_index.proofs.ordered.OrderedPlaces.take_out.Goals as goal
