@@ -1,5 +1,6 @@
 // Commands, read from octets and written (ISO/IEC 7816-4, command APDU).
 ghost use Rattle.std.specs.Prelude.{◌≡◌, ◌<◌, ◌+◌, [], ℕ, Bool, List, Some, true, IfOk, slice_get, min};
+ghost use Rattle.scql_base.specs.declared.row.TheConstants.Row.{LARGEST};
 ghost use Rattle.scql_model.specs.Form as form;
 ghost use Rattle.scql_model.specs.Operations as table;
 ghost use Rattle.scql_model.specs.Spelling as spelling;
@@ -62,7 +63,7 @@ impl CommandApdu for Command {
     ghost part_octets = { spelling.part_octets };
 
     fn read(octets: &[u8], channels: [bool; 4], limit: u16) -> Result<Command, StatusWord>
-        ensures command { result ≡ form.as_command (form.form_of table.built_operations octets.now channels form.no_chain (min limit 1020)) }
+        ensures command { result ≡ form.as_command (form.form_of table.built_operations octets.now channels form.no_chain (min limit LARGEST)) }
         ensures formed { IfOk result IsWellFormed }
         ensures on_open { IfOk result (λ command. slice_get channels command.channel ≡ Some true) }
     {
@@ -137,7 +138,7 @@ fn write_at(command: &Command, part: u8, out: &mut CommandOctets)
 }
 
 fn command_in(octets: &[u8], channels: [bool; 4], limit: u16) -> Result<Command, StatusWord>
-    ensures command { result ≡ form.as_command (form.form_of table.built_operations octets.now channels form.no_chain (min limit 1020)) }
+    ensures command { result ≡ form.as_command (form.form_of table.built_operations octets.now channels form.no_chain (min limit LARGEST)) }
     ensures on_open { IfOk result (λ command. slice_get channels command.channel ≡ Some true) }
 {
     match Apdu::read(octets, channels) {

@@ -1,6 +1,7 @@
 // The data fields of commands, read: which operation the parameters of each ask for (ISO/IEC 7816-7).
 ghost use Rattle.std.specs.Prelude.{◌≡◌, ◌≤◌, option_map};
 ghost use Rattle.scql_base.specs.declared.operation.Operation.TheVariants as operation;
+ghost use Rattle.scql_base.specs.declared.row.TheConstants.Row.{LARGEST};
 ghost use Rattle.scql_model.specs.Parameters as parameters;
 ghost use Rattle.apdu.specs.Fields as fields;
 
@@ -18,7 +19,7 @@ pub(crate) fn operation_in(
     limit: u16,
     octets: &[u8],
 ) -> Option<Operation>
-    requires { limit ≤ 1020 }
+    requires { limit ≤ LARGEST }
     ensures { result ≡ parameters.operation_in secrets kind limit octets.now }
 {
     match kind {
@@ -148,7 +149,7 @@ fn declare_cursor_in(octets: &[u8]) -> Option<Operation>
 }
 
 fn insert_in(limit: u16, octets: &[u8]) -> Option<Operation>
-    requires { limit ≤ 1020 }
+    requires { limit ≤ LARGEST }
     ensures { result ≡ fields.read_by (parameters.insert_in limit) octets.now }
 {
     let (table, rest) = Params::first_in(octets)?;

@@ -2,6 +2,7 @@
 ghost use Rattle.std.specs.Prelude.{◌≡◌, ◌≤◌, option_map};
 ghost use Rattle.std.specs.List.{list_any};
 ghost use Rattle.std.specs.Str.{bytes_eq};
+ghost use Rattle.scql_base.specs.declared.row.TheConstants.Row.{LARGEST};
 ghost use Rattle.scql_model.specs.Database as database;
 ghost use Rattle.apdu.specs.Fields as fields;
 
@@ -125,7 +126,7 @@ pub(crate) fn changes_in(octets: &[u8]) -> Option<Changes>
 
 // A row of 1 to 15 values and at most so many octets, to the end.
 pub(crate) fn row_in(limit: u16, octets: &[u8]) -> Option<Row>
-    requires { limit ≤ 1020 }
+    requires { limit ≤ LARGEST }
     ensures { result ≡ fields.read_by (fields.row_in limit) octets.now }
 {
     let row = Row::read(octets)?;

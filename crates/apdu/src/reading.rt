@@ -1,6 +1,7 @@
 // Command APDUs, read as far as their data fields (ISO/IEC 7816-4).
 ghost use Rattle.std.specs.Prelude.{◌≡◌, ◌≤◌, ◌<◌, ℕ, true, Some, Option, IfOk, IfErr, length, slice_get, min};
 ghost use Rattle.scql_base.specs.Words.{instruction_not_supported};
+ghost use Rattle.scql_base.specs.declared.row.TheConstants.Row.{LARGEST};
 ghost use Rattle.scql_model.specs.Form as form;
 ghost use Rattle.scql_model.specs.Machine.{Chain};
 ghost use Rattle.scql_model.specs.Refusals as refusals;
@@ -10,7 +11,10 @@ ghost use Rattle.apdu.specs.Reading.{IsOnOpen, apdu_on, apdu_view, command_of, c
 use crate::fields::operation_in;
 use crate::table::{has_instruction, line_of};
 use crate::tail::taken_in;
-use scql_base::{Command, Line, OperationKind, StatusWord};
+use scql_base::{Command, Line, OperationKind, Row, StatusWord};
+
+// The largest row, in the type of a limit.
+const LARGEST_ROW: u16 = Row::LARGEST as u16;
 
 /// A command APDU on an open channel, before its data field is read: the operation that it asks for, whether the command goes
 /// on in the next APDU, and the data field, which has no octets where there is none.
@@ -57,10 +61,10 @@ impl<'a> Apdu<'a> {
     /// The command of this APDU's operation that has this data field, where a row has at most so many octets, and never more
     /// than 1,020.
     pub fn command(&self, body: &[u8], limit: u16) -> Result<Command, StatusWord>
-        ensures { result ≡ command_of self.now (min limit 1020) body.now }
+        ensures { result ≡ command_of self.now (min limit LARGEST) body.now }
     {
         let secrets = has_instruction(0x20);
-        let Some(operation) = operation_in(secrets, self.kind, limit.min(1020), body) else {
+        let Some(operation) = operation_in(secrets, self.kind, limit.min(LARGEST_ROW), body) else {
             return Err(StatusWord::WRONG_DATA);
         };
         Ok(Command {

@@ -1,6 +1,7 @@
 // Commands that come in parts: a chain for each channel (ISO/IEC 7816-4, command chaining).
 ghost use Rattle.std.specs.Prelude.{◌≡◌, ◌≤◌, ◌<◌, ◌++◌, ℕ, [], ◌∷◌, Some, None, true, false, IfSome, IfNone, length, min, slice_set};
 ghost use Rattle.std.specs.List.{concat};
+ghost use Rattle.scql_base.specs.declared.row.TheConstants.Row.{LARGEST};
 ghost use Rattle.scql_model.specs.Form as form;
 ghost use Rattle.scql_model.specs.Form.{parts_of};
 ghost use Rattle.scql_model.specs.Operations as table;
@@ -52,8 +53,8 @@ impl Chains {
     /// Takes octets, where these channels are open and a row has at most so many octets, and never more than 1,020. Only the
     /// chain of the command's own channel changes.
     pub fn take(&mut self, octets: &[u8], channels: [bool; 4], limit: u16) -> Taken
-        ensures taken { result ≡ taken_of (form.form_of table.built_operations octets.now channels (chain_on self.old) (min limit 1020)) }
-        ensures chains { self.new ≡ chains_after self.old (form.form_of table.built_operations octets.now channels (chain_on self.old) (min limit 1020)) }
+        ensures taken { result ≡ taken_of (form.form_of table.built_operations octets.now channels (chain_on self.old) (min limit LARGEST)) }
+        ensures chains { self.new ≡ chains_after self.old (form.form_of table.built_operations octets.now channels (chain_on self.old) (min limit LARGEST)) }
         ensures formed { IfWhole result IsWellFormed }
     {
         match Apdu::read(octets, channels) {
@@ -84,8 +85,8 @@ impl Chains {
     fn taken(&mut self, apdu: &Apdu<'_>, limit: u16) -> Taken
         requires channel { apdu.now.channel < 4 }
         requires short { length apdu.now.body.now ≤ 255 }
-        ensures taken { result ≡ taken_of (on_channel self.old apdu.now (min limit 1020)) }
-        ensures chains { self.new ≡ chains_after self.old (on_channel self.old apdu.now (min limit 1020)) }
+        ensures taken { result ≡ taken_of (on_channel self.old apdu.now (min limit LARGEST)) }
+        ensures chains { self.new ≡ chains_after self.old (on_channel self.old apdu.now (min limit LARGEST)) }
     {
         if apdu.is_part {
             self.keep(apdu)
@@ -124,8 +125,8 @@ impl Chains {
         requires whole { apdu.now.is_part ≡ false }
         requires channel { apdu.now.channel < 4 }
         requires short { length apdu.now.body.now ≤ 255 }
-        ensures taken { result ≡ taken_of (on_channel self.old apdu.now (min limit 1020)) }
-        ensures chains { self.new ≡ chains_after self.old (on_channel self.old apdu.now (min limit 1020)) }
+        ensures taken { result ≡ taken_of (on_channel self.old apdu.now (min limit LARGEST)) }
+        ensures chains { self.new ≡ chains_after self.old (on_channel self.old apdu.now (min limit LARGEST)) }
     {
         match self.command(apdu, limit) {
             Ok(command) => Taken::Whole { command },
@@ -137,7 +138,7 @@ impl Chains {
     fn command(&mut self, apdu: &Apdu<'_>, limit: u16) -> Result<Command, StatusWord>
         requires channel { apdu.now.channel < 4 }
         requires short { length apdu.now.body.now ≤ 255 }
-        ensures command { result ≡ command_of apdu.now (min limit 1020) (concat (parts_of apdu.now.kind (chain_on self.old apdu.now.channel)) ++ apdu.now.body.now) }
+        ensures command { result ≡ command_of apdu.now (min limit LARGEST) (concat (parts_of apdu.now.kind (chain_on self.old apdu.now.channel)) ++ apdu.now.body.now) }
         ensures ended { self.new ≡ slice_set self.old apdu.now.channel None }
     {
         let joined = self.joined(apdu);

@@ -1,16 +1,17 @@
 // What is left of an answer that is given in parts (ISO/IEC 7816-4, GET RESPONSE).
 ghost use Rattle.std.specs.Prelude.{◌≡◌, ◌≢◌, ◌≤◌, ◌==◌, [], length};
+ghost use Rattle.scql_base.specs.declared.row.TheConstants.Row.{LARGEST};
 ghost use Rattle.scql_model.specs.ReadingCommands.{cut, rest_word};
 
 use apdu::Reply;
 use arrayvec::ArrayVec;
-use scql_base::StatusWord;
+use scql_base::{Row, StatusWord};
 use std::marker::Model;
 
 /// The octets of a row that are still to be given, at most 1,020.
 #[derive(Drop)]
 pub struct Pending {
-    octets: ArrayVec<u8, 1020>,
+    octets: ArrayVec<u8, { Row::LARGEST }>,
     given: usize,
 }
 
@@ -37,7 +38,7 @@ impl Pending {
 
     /// Gives as much of a row as Le allows, 1 to 256 octets. What follows is pending, and nothing else.
     pub fn start(&mut self, row: &[u8], le: u16, reply: &mut Reply)
-        requires row { length row.now ≤ 1020 }
+        requires row { length row.now ≤ LARGEST }
         requires least { 1 ≤ le }
         requires most { le ≤ 256 }
         ensures reply { reply.new ≡ (cut row.now le).reply }

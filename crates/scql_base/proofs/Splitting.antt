@@ -1,5 +1,5 @@
 -- Octets split into strings in one way, string by string.
-use Rattle.std.proofs.Common.{◌≡◌, ℕ, zero, suc, ◌+◌, ◌<◌, ◌≤◌, nat_lt, List, [], ◌∷◌, ◌++◌, length, take, drop, Option, Some, None, refl, sym, ◌∙◌, ap, arith, ◌-◌, ◌==◌, if◌then◌else◌, get_or, Bool, true, false, slice_get, add-one, option_map, unwrap_or, is_some, ◌≢◌, append-nil}
+use Rattle.std.proofs.Common.{◌≡◌, ℕ, zero, suc, ◌+◌, ◌<◌, ◌≤◌, nat_lt, List, [], ◌∷◌, ◌++◌, length, take, drop, Option, Some, None, refl, sym, ◌∙◌, ap, arith, ◌-◌, ◌==◌, if◌then◌else◌, get_or, Bool, true, false, slice_get, add-one, option_map, unwrap_or, ◌≢◌, append-nil}
 use Rattle.std.proofs.lemmas.Bool.{false≢true, eqb-true, ltb-false, ltb-true}
 use Rattle.std.proofs.lemmas.List.{length-take-le, take-append-drop, length-append, length-drop}
 use Rattle.std.proofs.Math.Seq.{take-append_seam, drop-append_seam, take-length}
@@ -154,10 +154,10 @@ pub at_end : (strings : List (List ℕ)) (n : ℕ) (is_empty : Bool) → Some (d
 at_end strings n false at = absurd cc
 at_end strings n true at = let none : drop n strings ≡ [] = grind arith in let size : length (drop n strings) ≡ 0 = ap length none in omega (arith, length-drop n strings)
 
--- octets that split, split into their strings
-pub splits_told : (strings : Option (List (List ℕ))) → true ≡ is_some strings → strings ≡ Some (unwrap_or strings [])
-splits_told None told = absurd (false≢true (sym told))
-splits_told (Some strings) told = refl
+-- octets of which the number of strings is known split
+pub splits_counted : (strings : Option (List (List ℕ))) (count : ℕ) → Some count ≡ option_map length strings → strings ≡ Some (unwrap_or strings [])
+splits_counted None count counted = absurd cc
+splits_counted (Some strings) count counted = refl
 
 -- one string, and nothing behind it
 pub params_of-last : (octets string after : List ℕ) → params_of octets ≡ with_string string (params_of after) → (length after == 0) ≡ true → params_of octets ≡ Some (string ∷ [])

@@ -1,5 +1,5 @@
 // The parameters of a command: the strings that its data field splits into.
-ghost use Rattle.std.specs.Prelude.{◌≡◌, ◌≢◌, ◌<◌, ◌↔◌, ◌==◌, ℕ, List, [], ◌∷◌, Some, None, if◌then◌else◌, is_some, IsSome, IfSome, IfNone, length, option_copied, option_map, slice_get};
+ghost use Rattle.std.specs.Prelude.{◌≡◌, ◌≢◌, ◌<◌, ◌↔◌, ◌==◌, ℕ, List, [], ◌∷◌, Some, None, if◌then◌else◌, IsSome, IfSome, IfNone, length, option_copied, option_map, slice_get};
 ghost use Rattle.scql_base.specs.Strings.{AreParams, first_of, params_of, with_string};
 
 use std::marker::Model;
@@ -8,17 +8,18 @@ use std::marker::Model;
 #[derive(Drop)]
 pub struct Params<'a> {
     pub(crate) octets: &'a [u8],
+    pub(crate) count: usize,
 }
 
 impl<'a> Model for Params<'a> {
-    ghost use Rattle.std.specs.Prelude.{List, ℕ, Some, ◌≡◌};
+    ghost use Rattle.std.specs.Prelude.{List, ℕ, Some, length, ◌≡◌};
     ghost use Rattle.scql_base.specs.Strings.{params_of, strings_of};
 
     ghost Value = { List (List ℕ) };
 
     ghost view = { λ p. strings_of p.octets.now };
 
-    ghost invariant = { λ p. params_of p.octets.now ≡ Some (strings_of p.octets.now) };
+    ghost invariant = { λ p. (params_of p.octets.now ≡ Some (strings_of p.octets.now)) × (p.count ≡ length (strings_of p.octets.now)) };
 }
 
 impl<'a> Params<'a> {
@@ -28,11 +29,15 @@ impl<'a> Params<'a> {
         ensures found { IfSome result (λ strings. AreParams octets.now strings) }
         ensures only { (strings : List (List ℕ)) → AreParams octets.now strings → result ≡ Some strings }
     {
-        if do_split(octets) {
-            Some(Params { octets })
-        } else {
-            None
-        }
+        let count = count_of(octets)?;
+        Some(Params { octets, count })
+    }
+
+    /// How many parameters there are.
+    pub fn count(&self) -> usize
+        ensures { result ≡ length self.now }
+    {
+        self.count
     }
 
     /// The parameter at a place, counted from 0.
@@ -76,13 +81,15 @@ impl<'a> Params<'a> {
     }
 }
 
-// Whether octets split into parameters.
-fn do_split(octets: &[u8]) -> bool
-    ensures { result ≡ is_some (params_of octets.now) }
+// How many parameters octets split into, where they do.
+fn count_of(octets: &[u8]) -> Option<usize>
+    ensures { result ≡ option_map length (params_of octets.now) }
 {
+    let mut count = 0;
     let mut rest = octets;
     while let Some((_, after)) = Params::first_in(rest) {
         rest = after;
+        count += 1;
     }
-    rest.is_empty()
+    if rest.is_empty() { Some(count) } else { None }
 }

@@ -97,6 +97,7 @@ impl Row {
     {
         Params {
             octets: self.octets.as_slice(),
+            count: self.count,
         }
         .get(place)
     }

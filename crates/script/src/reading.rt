@@ -1,5 +1,6 @@
 // Reads the statement of a line.
 ghost use Rattle.std.specs.Prelude.{◌≡◌, ◌≤◌, length};
+ghost use Rattle.scql_model.specs.Lines.{longest_line};
 ghost use Rattle.script.specs.Line as lines;
 ghost use Rattle.script.specs.Parsed.{stated};
 
@@ -15,7 +16,7 @@ impl Statement {
     /// `At` comes exactly where the line is in no statement's grammar. `TooLarge` comes exactly where it is a statement, but
     /// a row is over 1,020 octets, or a command doesn't fit: its data field is over 255, and over 1,275 for INSERT and UPDATE.
     pub fn read(line: &[u8]) -> Result<Statement, ScriptFault>
-        requires { length line.now ≤ 1000 }
+        requires { length line.now ≤ longest_line }
         ensures { result ≡ lines.statement_of line.now }
     {
         if is_nothing(after_blanks(line)) {

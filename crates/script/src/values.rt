@@ -1,6 +1,7 @@
 // The values of an INSERT, which may be too many octets for a row.
 ghost use Rattle.std.specs.Prelude.{◌≡◌, ◌<◌, ◌≤◌, [], ◌∷◌, ◌++◌, length, if◌then◌else◌, Some, None, nat_le};
 ghost use Rattle.scql_base.specs.Row.{row_size};
+ghost use Rattle.scql_base.specs.declared.row.TheConstants.Row.{LARGEST};
 
 use arrayvec::ArrayVec;
 use scql_base::{Octets, Row};
@@ -63,7 +64,7 @@ impl Values {
     }
     /// The row of these values, where it isn't too wide.
     pub fn row(&self) -> Option<Row>
-        ensures { result ≡ (if nat_le (row_size self.now) 1020 then Some self.now else None) }
+        ensures { result ≡ (if nat_le (row_size self.now) LARGEST then Some self.now else None) }
     {
         let mut row = Row::new();
         for value in self.held.as_slice() {
