@@ -1,10 +1,10 @@
 -- All records of a kind that pass a test are taken out of slots: the database that the slots hold then.
-use Rattle.std.proofs.Common.{◌≡◌, ℕ, ◌+◌, ◌≤◌, Bool, true, false, not, cond, List, [], ◌∷◌, length, map, count_by, Option, Some, None, refl, sym, ap, subst, ◌∙◌, inl, inr, arith}
+use Rattle.std.proofs.Common.{◌≡◌, ℕ, ◌+◌, Bool, true, false, not, cond, List, [], ◌∷◌, length, count_by, Option, Some, None, refl, sym, ap, subst, ◌∙◌, inl, inr, arith}
 use Rattle.std.specs.List.{filter, filter_map, list_all, cons_option}
 use Rattle.std.proofs.lemmas.Bool.{cases_Bool, and_parts}
 use Rattle.std.proofs.lemmas.List.{length-map}
 use Rattle.std.proofs.lemmas.List.Sums.{length-filter}
-use Rattle.eeprom.specs.Slots.{Rises, has, in_order, in_slot, kept}
+use Rattle.eeprom.specs.Slots.{Rises, has, in_order, in_slot}
 use Rattle.eeprom.specs.StoreOf.{Slots}
 use Rattle.eeprom.proofs.InOrder.{AreApart-rising, count_by-cons, count_by-in_order, filter-in_order}
 use Rattle.scql_base.specs.declared.records.Grant.{Grant}
@@ -12,7 +12,7 @@ use Rattle.scql_base.specs.declared.records.RowRecord.{RowRecord}
 use Rattle.scql_model.specs.Database.{Database}
 use Rattle.scql_model.specs.Opens.{Holds, counter_stamp, is_spelled}
 use Rattle.scql_model.specs.Records.{counter_in}
-use Rattle.catalog_codec.specs.Kinds.{Kind, IsKind, HaveOtherMarks, read_as}
+use Rattle.catalog_codec.specs.Kinds.{Kind, IsKind, read_as}
 use Rattle.catalog_codec.specs.KindLaws.{HaveOtherMarks-sym}
 use Rattle.catalog_codec.specs.Catalog.{counter_kind, user_kind, object_kind, grant_kind, row_kind}
 use Rattle.catalog_codec.specs.CatalogLaws.{IsKind-counter, IsKind-user, IsKind-object, IsKind-grant, IsKind-row, HaveOtherMarks-counter-grant, HaveOtherMarks-user-grant, HaveOtherMarks-grant-object, HaveOtherMarks-row-counter, HaveOtherMarks-row-user, HaveOtherMarks-row-object, HaveOtherMarks-row-grant}

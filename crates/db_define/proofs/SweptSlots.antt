@@ -1,11 +1,9 @@
 -- Slots from which all records of a kind that pass a test are taken, one slot after another.
-use Rattle.std.proofs.Common.{◌≡◌, ℕ, zero, suc, ◌+◌, ◌≤◌, Bool, true, false, cond, List, [], ◌∷◌, map, drop, count_by, Option, Some, None, get_or, refl, sym, ap, subst, ◌∙◌, inl, inr, arith, add-one}
+use Rattle.std.proofs.Common.{◌≡◌, ℕ, zero, suc, ◌+◌, ◌≤◌, Bool, true, false, cond, List, [], ◌∷◌, drop, count_by, Option, Some, None, get_or, refl, sym, ap, subst, ◌∙◌, arith, add-one}
 use Rattle.std.specs.Prelude.{IfSome, option_and_then}
-use Rattle.std.specs.List.{sum_by}
 use Rattle.std.proofs.Math.ListN.{set}
 use Rattle.std.proofs.Math.Seq.{drop-nil}
 use Rattle.std.proofs.lemmas.List.Sums.{sum_by-cons}
-use Rattle.std.proofs.lemmas.Option.{same_Some}
 use Rattle.eeprom.specs.Chip.{Chip}
 use Rattle.eeprom.specs.Slots.{in_slot}
 use Rattle.eeprom.specs.StoreOf.{Slots}

@@ -1,5 +1,5 @@
 -- CREATE TABLE: which object it makes, or the first refusal.
-use Rattle.std.proofs.Common.{◌≡◌, ℕ, ◌≤◌, Bool, true, false, not, List, [], ◌∷◌, length, Option, Some, None, Ok, Err, refl, sym, ap, subst, ◌∙◌, arith}
+use Rattle.std.proofs.Common.{◌≡◌, ℕ, true, false, List, ◌∷◌, length, None, Ok, Err, refl, arith}
 use Rattle.std.specs.List.{flat_map, list_any}
 use Rattle.std.proofs.lemmas.List.{length-append}
 use Rattle.scql_base.specs.Lists.{AreNames}
@@ -7,7 +7,6 @@ use Rattle.scql_base.specs.Name.{is_name}
 use Rattle.scql_base.specs.Strings.{spelled}
 use Rattle.scql_base.specs.Words.{already_exists, security_not_satisfied}
 use Rattle.scql_base.specs.declared.operation.Operation.TheVariants.{CreateTable}
-use Rattle.scql_base.specs.declared.records.Object.{Object}
 use Rattle.scql_base.specs.declared.records.ObjectKind.TheVariants.{Table}
 use Rattle.scql_base.specs.declared.words.Actor.{Actor}
 use Rattle.scql_model.specs.Changing.{edits_of}

@@ -1,5 +1,5 @@
 -- DROP TABLE: which table it is, or the first refusal.
-use Rattle.std.proofs.Common.{◌≡◌, ℕ, Bool, true, false, List, [], ◌∷◌, ◌++◌, Option, Some, None, Ok, Err, refl, sym, ap, ◌∙◌}
+use Rattle.std.proofs.Common.{◌≡◌, ℕ, Bool, true, false, List, [], ◌∷◌, ◌++◌, Some, None, Ok, Err, refl, sym, ◌∙◌}
 use Rattle.std.specs.List.{list_any}
 use Rattle.scql_base.specs.Words.{not_found, security_not_satisfied, conditions_not_satisfied}
 use Rattle.scql_base.specs.declared.words.Actor.{Actor}

@@ -6,7 +6,7 @@ use Rattle.std.proofs.Math.ListN.{set}
 use Rattle.std.proofs.lemmas.Bool.{cases_Bool, false≢true, le-ltb}
 use Rattle.std.proofs.lemmas.List.{length-append, length-map}
 use Rattle.std.proofs.lemmas.List.Sums.{sum_by-cons}
-use Rattle.eeprom.specs.Chip.{Chip, Becomes, RisesAtMost}
+use Rattle.eeprom.specs.Chip.{Chip}
 use Rattle.eeprom.specs.StoreOf.{Slots, cells_of}
 use Rattle.record_store.specs.Held.{Held, StandsFor, contents}
 use Rattle.record_store.specs.Transaction.{entries}
@@ -17,7 +17,7 @@ use Rattle.scql_base.specs.declared.records.Object.{Object}
 use Rattle.scql_base.specs.declared.records.RowRecord.{RowRecord}
 use Rattle.scql_model.specs.Database.{Database, IsValid, weight}
 use Rattle.scql_model.specs.Defining.{removing_object, removing_rows, table_dropped}
-use Rattle.scql_model.specs.Edits.{Edit, applied, cells_written, edited, is_overfull, lacks_room, octets_for_cells, removing, takes_stamp, to_remove, touched}
+use Rattle.scql_model.specs.Edits.{Edit, applied, edited, is_overfull, lacks_room, removing, takes_stamp, to_remove, touched}
 use Rattle.scql_model.specs.Opens.{Holds}
 use Rattle.scql_model.specs.Records.{of_grant, of_object, of_row, record_stamp}
 use Rattle.scql_model.proofs.EditLaws.{applied-cells, applied-limit}
@@ -29,7 +29,7 @@ use Rattle.catalog_codec.specs.CatalogLaws.{IsKind-object}
 use Rattle.catalog_codec.specs.Kinds.{Kind}
 use Rattle.record_table.specs.Changed.{IsEmptied, Rewrites}
 use Rattle.record_table.specs.EditableLaws.{IsEditable-object}
-use Rattle.record_table.specs.Listed.{at_slot, listed, slots_of}
+use Rattle.record_table.specs.Listed.{at_slot, slots_of}
 use Rattle.record_table.specs.Making.{IsHeld, Makes}
 use Rattle.record_table.proofs.ChangedDatabase.{Holds-removed}
 use Rattle.privilege_table.proofs.Seen.{told-held}

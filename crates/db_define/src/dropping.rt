@@ -9,7 +9,7 @@ ghost use Rattle.record_store.specs.Held.{IsOver};
 ghost use Rattle.record_store.specs.declared.side.Side.TheVariants.{Working};
 ghost use Rattle.scql_model.specs.Database as model;
 ghost use Rattle.scql_model.specs.Database.{Database};
-ghost use Rattle.scql_model.specs.Defining.{has_view, removing_object, removing_rows, table_dropped};
+ghost use Rattle.scql_model.specs.Defining.{removing_object, removing_rows, table_dropped};
 ghost use Rattle.scql_base.specs.declared.records.Object.{Object};
 ghost use Rattle.catalog_codec.specs.Catalog.{object_kind};
 ghost use Rattle.record_table.specs.Listed.{at_slot, slots_of};

@@ -1,5 +1,5 @@
 -- INSERT: which row it makes, or the first refusal.
-use Rattle.std.proofs.Common.{◌≡◌, ℕ, ◌==◌, true, false, List, length, Option, Some, None, Ok, Err, refl, sym, ap, ◌∙◌, arith}
+use Rattle.std.proofs.Common.{◌≡◌, ℕ, true, false, List, length, Some, None, Ok, Err, refl, sym, arith}
 use Rattle.std.proofs.lemmas.Bool.{eq-eqb, le-leb, ltb-false, ne_eqb}
 use Rattle.scql_base.proofs.RowOctets.{row_size-spelled}
 use Rattle.scql_base.specs.Row.{IsRow, row_size}

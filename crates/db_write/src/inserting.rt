@@ -1,12 +1,11 @@
 // INSERT.
-ghost use Rattle.std.specs.Prelude.{◌≡◌, true, Ok, Err, IsTrue, IfOk, IfErr, IsErrOf, OnOk, drop, length};
+ghost use Rattle.std.specs.Prelude.{◌≡◌, true, Ok, Err, IsTrue, IfOk, IfErr, IsErrOf, drop, length};
 ghost use Rattle.eeprom.specs.Chip.{Keeps};
 ghost use Rattle.eeprom.specs.Fault.{CountsFaults};
 ghost use Rattle.eeprom.specs.Frame.{Reads};
 ghost use Rattle.eeprom.specs.StoreOf.{store_of, image_size};
 ghost use Rattle.record_store.specs.Held.{IsOver};
 ghost use Rattle.record_store.specs.declared.side.Side.TheVariants.{Working};
-ghost use Rattle.scql_base.specs.Row.{IsRow};
 ghost use Rattle.scql_base.specs.declared.operation.Operation.TheVariants as operation;
 ghost use Rattle.scql_model.specs.Database as model;
 ghost use Rattle.scql_model.specs.Database.{Database};
@@ -71,7 +70,14 @@ fn find_table<B: Eeprom>(
     if !is_table(&object.kind) {
         return refused(StatusWord::NOT_FOUND);
     }
-    if !holds(store, bench, Side::Working, actor, object, Privilege::Insert)? {
+    if !holds(
+        store,
+        bench,
+        Side::Working,
+        actor,
+        object,
+        Privilege::Insert,
+    )? {
         return refused(StatusWord::SECURITY_NOT_SATISFIED);
     }
     if row.len() != column_count(&object.kind) {

@@ -1,7 +1,5 @@
 -- The table goes, then the grants on it, and then its rows.
-use Rattle.std.proofs.Common.{sym, subst, ◌∙◌}
-use Rattle.record_store.specs.declared.side.Side.TheVariants.{Working}
-use Rattle.record_table.specs.Making.{Makes}
+use Rattle.std.proofs.Common.{◌∙◌}
 use Rattle.db_define.proofs.SweptSlots.{emptied-told}
 use Rattle.db_define.proofs.TableLeft.{Makes-dropped, committed-told, dropping_edits}
 use Rattle.db_define.proofs.dropping.drop_table.Goals as goal

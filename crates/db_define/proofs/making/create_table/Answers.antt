@@ -1,5 +1,5 @@
 -- The new table is the model's, and so is the database with it.
-use Rattle.std.proofs.Common.{◌≡◌, ℕ, Ok, Err, refl, sym, ap, subst, ◌∙◌}
+use Rattle.std.proofs.Common.{ℕ, Ok, Err, refl, sym, ap, subst, ◌∙◌}
 use Rattle.record_store.specs.declared.side.Side.TheVariants.{Working}
 use Rattle.scql_base.specs.declared.records.ObjectKind.TheVariants.{Table}
 use Rattle.scql_model.specs.Creating.{actor_stamp}

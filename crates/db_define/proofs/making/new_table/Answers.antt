@@ -1,5 +1,4 @@
 -- Names are short, and few.
-use Rattle.std.proofs.Common.{sym}
 use Rattle.db_define.proofs.TableCreated.{short-named}
 use Rattle.db_define.proofs.making.new_table.Goals as goal
 

@@ -1,5 +1,5 @@
 -- The new row is the model's, and so is the database with it.
-use Rattle.std.proofs.Common.{◌≡◌, ℕ, Ok, Err, sym, ap, subst, ◌∙◌}
+use Rattle.std.proofs.Common.{ℕ, Ok, Err, sym, ap, subst, ◌∙◌}
 use Rattle.record_store.specs.declared.side.Side.TheVariants.{Working}
 use Rattle.scql_model.specs.Records.{of_row}
 use Rattle.record_table.specs.Making.{IsHeld}
