@@ -1,18 +1,45 @@
-// The counter of stamps.
-use std::marker::Model;
+// The counter in octets.
+ghost use Rattle.std.specs.Prelude.{◌≡◌};
 
-/// The stamp that the next record takes.
-#[derive(Clone, Copy, Debug, PartialEq, Eq)]
-pub struct Counter {
-    pub next: u32,
-}
+use crate::{Counter, Record};
+use cell_store::RecordOctets;
+use row_codec::{number_and_rest, put_number};
 
-impl Model for Counter {
-    ghost use Rattle.std.specs.Prelude.{ℕ};
+const MARK: u8 = Counter::MARK;
 
-    ghost Value = { ℕ };
+impl Record for Counter {
+    ghost use Rattle.catalog_codec.specs.Catalog.{counter_kind};
+    ghost use Rattle.catalog_codec.specs.CatalogLaws.{IsKind-counter};
 
-    ghost view = { λ c. c.next };
+    ghost kind = { counter_kind };
 
-    ghost inverse = { λ next. record { next = next } };
+    ghost can_encode = { λ _. Unit {0} };
+
+    fn has_mark(octet: u8) -> bool {
+        octet == MARK
+    }
+
+    fn read(octets: &[u8]) -> Option<Counter> {
+        let [MARK, octets @ ..] = octets else {
+            return None;
+        };
+        let (next, rest) = number_and_rest(octets)?;
+        if rest.is_empty() {
+            Some(Counter { next })
+        } else {
+            None
+        }
+    }
+
+    fn encode(&self, out: &mut RecordOctets) {
+        out.clear();
+        out.push(MARK);
+        put_number(out, self.next);
+    }
+
+    fn stamp(&self) -> u32 {
+        self.next
+    }
+
+    ghost lawful = { IsKind-counter };
 }

@@ -7,7 +7,7 @@ use cell_store::RecordOctets;
 use row_codec::{number_and_rest, put_number};
 use scql_base::Grant;
 
-const MARK: u8 = 0x05;
+const MARK: u8 = Grant::MARK;
 
 impl Record for Grant {
     ghost use Rattle.catalog_codec.specs.Catalog.{grant_kind};
@@ -16,6 +16,10 @@ impl Record for Grant {
     ghost kind = { grant_kind };
 
     ghost can_encode = { λ _. Unit {0} };
+
+    fn has_mark(octet: u8) -> bool {
+        octet == MARK
+    }
 
     fn read(octets: &[u8]) -> Option<Grant> {
         let [MARK, octets @ ..] = octets else {

@@ -2,7 +2,6 @@
 #![tactic(auto)]
 
 mod counter;
-mod counter_record;
 mod fields;
 mod grant;
 mod lists;
@@ -12,5 +11,5 @@ mod row;
 mod user;
 mod writing;
 
-pub use counter::Counter;
 pub use record::Record;
+pub use scql_base::Counter;

@@ -1,5 +1,6 @@
 // Tables, views and dictionaries in octets.
 ghost use Rattle.std.specs.Prelude.{◌≡◌, ◌∷◌, option_map};
+ghost use Rattle.scql_base.specs.declared.records.TheConstants.Object.{TABLE_MARK, VIEW_MARK, DICTIONARY_MARK};
 ghost use Rattle.scql_model.specs.Records.{object_from};
 
 use crate::Record;
@@ -10,11 +11,11 @@ use cell_store::RecordOctets;
 use row_codec::{number_and_rest, put_number};
 use scql_base::{Object, ObjectKind};
 
-const TABLE: u8 = 0x02;
+const TABLE: u8 = Object::TABLE_MARK;
 
-const VIEW: u8 = 0x03;
+const VIEW: u8 = Object::VIEW_MARK;
 
-const DICTIONARY: u8 = 0x04;
+const DICTIONARY: u8 = Object::DICTIONARY_MARK;
 
 impl Record for Object {
     ghost use Rattle.catalog_codec.specs.Kinds.{HasRoom};
@@ -24,6 +25,10 @@ impl Record for Object {
     ghost kind = { object_kind };
 
     ghost can_encode = { HasRoom object_kind };
+
+    fn has_mark(octet: u8) -> bool {
+        matches!(octet, TABLE | VIEW | DICTIONARY)
+    }
 
     fn read(octets: &[u8]) -> Option<Object> {
         let (object, rest) = object_at(octets)?;
@@ -82,7 +87,7 @@ fn object_at(octets: &[u8]) -> Option<(Object, &[u8])>
 }
 
 fn table_at(fields: &[u8]) -> Option<(Object, &[u8])>
-    ensures { option_map (λ x. (x.0, x.1.now)) result ≡ object_from (0x02 ∷ fields.now) }
+    ensures { option_map (λ x. (x.0, x.1.now)) result ≡ object_from (TABLE_MARK ∷ fields.now) }
 {
     let (stamp, rest) = number_and_rest(fields)?;
     let (owner, rest) = number_and_rest(rest)?;
@@ -101,7 +106,7 @@ fn table_at(fields: &[u8]) -> Option<(Object, &[u8])>
 }
 
 fn view_at(fields: &[u8]) -> Option<(Object, &[u8])>
-    ensures { option_map (λ x. (x.0, x.1.now)) result ≡ object_from (0x03 ∷ fields.now) }
+    ensures { option_map (λ x. (x.0, x.1.now)) result ≡ object_from (VIEW_MARK ∷ fields.now) }
 {
     let (stamp, rest) = number_and_rest(fields)?;
     let (owner, rest) = number_and_rest(rest)?;
@@ -126,7 +131,7 @@ fn view_at(fields: &[u8]) -> Option<(Object, &[u8])>
 }
 
 fn dictionary_at(fields: &[u8]) -> Option<(Object, &[u8])>
-    ensures { option_map (λ x. (x.0, x.1.now)) result ≡ object_from (0x04 ∷ fields.now) }
+    ensures { option_map (λ x. (x.0, x.1.now)) result ≡ object_from (DICTIONARY_MARK ∷ fields.now) }
 {
     let (stamp, rest) = number_and_rest(fields)?;
     let (owner, rest) = number_and_rest(rest)?;

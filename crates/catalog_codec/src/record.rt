@@ -12,6 +12,10 @@ pub trait Record: Drop {
     /// Which records may be spelled: those whose spelling a store can hold, where that isn't so of all.
     ghost can_encode: { Self → Type 0 };
 
+    /// Whether a record that begins with this octet is of the kind, if it is one at all.
+    fn has_mark(octet: u8) -> bool
+        ensures { result ≡ kind.marks octet };
+
     /// The record whose spelling these octets are, as each kind reads it; callers take `decode`.
     fn read(octets: &[u8]) -> Option<Self>
         ensures { result ≡ read_as kind octets.now };

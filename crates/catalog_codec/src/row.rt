@@ -14,6 +14,10 @@ impl Record for RowRecord {
 
     ghost can_encode = { HasRoom row_kind };
 
+    fn has_mark(octet: u8) -> bool {
+        octet == RowRecord::MARK
+    }
+
     fn read(octets: &[u8]) -> Option<RowRecord> {
         row_codec::decode(octets)
     }

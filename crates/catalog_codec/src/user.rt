@@ -8,7 +8,7 @@ use cell_store::RecordOctets;
 use row_codec::{number_and_rest, put_number};
 use scql_base::User;
 
-const MARK: u8 = 0x01;
+const MARK: u8 = User::MARK;
 
 impl Record for User {
     ghost use Rattle.catalog_codec.specs.Catalog.{user_kind};
@@ -17,6 +17,10 @@ impl Record for User {
     ghost kind = { user_kind };
 
     ghost can_encode = { λ _. Unit {0} };
+
+    fn has_mark(octet: u8) -> bool {
+        octet == MARK
+    }
 
     fn read(octets: &[u8]) -> Option<User> {
         let [MARK, octets @ ..] = octets else {

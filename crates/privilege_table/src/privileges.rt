@@ -13,7 +13,6 @@ ghost use Rattle.privilege_table.specs.Granted.{AreHeld, gives_bit};
 use catalog_codec::Record;
 use eeprom::{Eeprom, EepromFault};
 use record_store::{RecordOctets, Side, Store};
-use record_table::Marked;
 use scql_base::Grant;
 
 /// The bits of the privileges on an object that grants give to a user or to PUBLIC.

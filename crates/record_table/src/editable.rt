@@ -1,9 +1,9 @@
 // Records of which the edits of a database speak.
-use crate::Marked;
+use catalog_codec::Record;
 use scql_base::{Grant, Object, RowRecord, User};
 
 /// A record that edits of a database add, change or remove.
-pub trait Editable: Marked {
+pub trait Editable: Record {
     ghost use Rattle.scql_model.specs.Records.{AnyRecord};
     ghost use Rattle.record_table.specs.Editable.{IsEditable};
 

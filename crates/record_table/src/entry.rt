@@ -8,12 +8,12 @@ ghost use Rattle.record_store.specs.Held.{IsOver, StandsFor, record_at};
 ghost use Rattle.record_table.specs.Listed.{at_slot, kind_cells, slots_of};
 ghost use Rattle.record_table.specs.Listed as listed;
 
-use crate::Marked;
+use catalog_codec::Record;
 use eeprom::{Eeprom, EepromFault};
 use record_store::{RecordOctets, Side, Store};
 
 /// The record of a slot, if it is of the kind. A record with another first octet isn't read. Records are read into `octets`.
-pub fn read_entry<R: Marked, B: Eeprom>(
+pub fn read_entry<R: Record, B: Eeprom>(
     store: &Store,
     bench: &mut B,
     side: Side,
@@ -38,7 +38,7 @@ pub fn read_entry<R: Marked, B: Eeprom>(
 }
 
 // Whether the first octet of a slot's record is a mark of the kind.
-fn is_marked<R: Marked>(store: &Store, side: Side, slot: u16) -> bool
+fn is_marked<R: Record>(store: &Store, side: Side, slot: u16) -> bool
     requires { slot < store.now.chains.cells }
     ensures { (image : List ℕ) → StandsFor store.now image → result ≡ listed.has_kind_mark R.kind (record_at store.now side slot image) }
 {

@@ -10,12 +10,13 @@ ghost use Rattle.record_store.specs.Held.{IsOver};
 ghost use Rattle.record_table.specs.Listed.{at_slot, in_slots, listed, cells_marked, slots_of};
 
 use crate::entry::read_entry;
-use crate::{Marked, Stamped, Wanted};
+use crate::{Stamped, Wanted};
+use catalog_codec::Record;
 use eeprom::{Eeprom, EepromFault};
 use record_store::{Found, RecordOctets, Side, Store};
 
 /// Finds a record of the kind that is wanted, where there is one: that of the lowest slot. Where there is one at most, it is the one that the list has.
-pub fn find_by<R: Marked, W: Wanted<R>, B: Eeprom>(
+pub fn find_by<R: Record, W: Wanted<R>, B: Eeprom>(
     store: &Store,
     bench: &mut B,
     side: Side,
@@ -47,7 +48,7 @@ pub fn find_by<R: Marked, W: Wanted<R>, B: Eeprom>(
 }
 
 /// Finds the record of a stamp.
-pub fn find_stamp<R: Marked, B: Eeprom>(
+pub fn find_stamp<R: Record, B: Eeprom>(
     store: &Store,
     bench: &mut B,
     side: Side,

@@ -10,13 +10,13 @@ ghost use Rattle.record_store.specs.Held.{IsOver};
 ghost use Rattle.record_table.specs.Listed.{at_slot, listed, cells_marked, slots_of};
 
 use crate::entry::read_entry;
-use crate::{Any, Marked, Wanted};
+use crate::{Any, Wanted};
 use catalog_codec::Record;
 use eeprom::{Eeprom, EepromFault};
 use record_store::{Found, RecordOctets, Side, Store};
 
 /// Of the records that are wanted, the one of the least greater stamp.
-pub fn next_by<R: Marked, W: Wanted<R>, B: Eeprom>(
+pub fn next_by<R: Record, W: Wanted<R>, B: Eeprom>(
     store: &Store,
     bench: &mut B,
     side: Side,
@@ -47,7 +47,7 @@ pub fn next_by<R: Marked, W: Wanted<R>, B: Eeprom>(
 }
 
 /// The record of the least greater stamp.
-pub fn next_after<R: Marked, B: Eeprom>(
+pub fn next_after<R: Record, B: Eeprom>(
     store: &Store,
     bench: &mut B,
     side: Side,

@@ -9,7 +9,7 @@ use crate::{number_and_rest, put, put_number};
 use cell_store::RecordOctets;
 use scql_base::{Row, RowRecord};
 
-const MARK: u8 = 0x06;
+const MARK: u8 = RowRecord::MARK;
 
 /// Fills `out` with the record of a row: its stamp, its table's and its values as they stand in the row.
 pub fn encode(row: &RowRecord, out: &mut RecordOctets)

@@ -16,6 +16,9 @@ pub struct User {
 }
 
 impl User {
+    /// The first octet of a user's record.
+    pub const MARK: u8 = 0x01;
+
     /// The octets of the shortest secret that isn't empty.
     pub const SHORTEST_SECRET: usize = 4;
 
@@ -53,6 +56,13 @@ pub struct Object {
 }
 
 impl Object {
+    /// The first octets of the records of tables, views and dictionaries.
+    pub const TABLE_MARK: u8 = 0x02;
+
+    pub const VIEW_MARK: u8 = 0x03;
+
+    pub const DICTIONARY_MARK: u8 = 0x04;
+
     /// The octets of the longest record of an object.
     pub const LONGEST: usize = 512;
 }
@@ -67,6 +77,11 @@ pub struct Grant {
     pub privileges: Privileges,
 }
 
+impl Grant {
+    /// The first octet of a grant's record.
+    pub const MARK: u8 = 0x05;
+}
+
 /// A row of a table.
 #[derive(Drop)]
 pub struct RowRecord {
@@ -76,6 +91,9 @@ pub struct RowRecord {
 }
 
 impl RowRecord {
+    /// The first octet of a row's record.
+    pub const MARK: u8 = 0x06;
+
     /// The octets of the longest record of a row: its mark, two stamps and the row.
     pub const LONGEST: usize = 9 + Row::LARGEST;
 }

@@ -1,7 +1,11 @@
 -- The records of a database, and how each is spelled.
 use Rattle.std.specs.Prelude.{ℕ, ◌==◌, nat_le, ◌&&◌, ◌||◌, Bool, false, List, [], ◌∷◌, length, Option, Some, None, option_and_then, if◌then◌else◌}
 use Rattle.std.specs.List.{flat_map, list_all}
-use Rattle.scql_base.specs.declared.records.TheConstants.User.{SHORTEST_SECRET, LONGEST_SECRET, ALL_TRIES}
+use Rattle.scql_base.specs.declared.counter.TheConstants.Counter.{MARK as counter_mark}
+use Rattle.scql_base.specs.declared.records.TheConstants.User.{SHORTEST_SECRET, LONGEST_SECRET, ALL_TRIES, MARK as user_mark}
+use Rattle.scql_base.specs.declared.records.TheConstants.Object.{TABLE_MARK, VIEW_MARK, DICTIONARY_MARK}
+use Rattle.scql_base.specs.declared.records.TheConstants.Grant.{MARK as grant_mark}
+use Rattle.scql_base.specs.declared.records.TheConstants.RowRecord.{MARK as row_mark}
 use Rattle.scql_base.specs.declared.privileges.TheConstants.Privileges.{ALL}
 use Rattle.scql_base.specs.declared.conditions.TheConstants.Conditions as Conditions
 use Rattle.scql_base.specs.declared.name_list.TheConstants.NameList as NameList
@@ -71,7 +75,7 @@ values_to_the_end = record {
 
 -- counter: the next stamp
 abbrev pub counter_record : Field ℕ
-counter_record = with_mark 0x00 number
+counter_record = with_mark counter_mark number
 
 -- user: stamp, owner, profile, tries, name, secret
 abbrev pub to_user : ℕ × (ℕ × (Profile × (ℕ × (List ℕ × List ℕ)))) → User
@@ -82,19 +86,19 @@ from_user u = (u.stamp, (u.owner, (u.profile, (u.tries, (u.name, u.secret)))))
 
 abbrev pub user_record : Field User
 user_record =
-    with_mark 0x01 (as_record to_user from_user (number then number then letter profile_code profile_of then octet is_tries then text is_name then text is_secret))
+    with_mark user_mark (as_record to_user from_user (number then number then letter profile_code profile_of then octet is_tries then text is_name then text is_secret))
 
 -- table: stamp, owner, name, columns
 abbrev pub table_record : Field (ℕ × (ℕ × (List ℕ × List (List ℕ))))
-table_record = with_mark 0x02 (number then number then text is_name then columns)
+table_record = with_mark TABLE_MARK (number then number then text is_name then columns)
 
 -- view: stamp, owner, base, name, columns, conditions
 abbrev pub view_record : Field (ℕ × (ℕ × (ℕ × (List ℕ × (List (List ℕ) × List Condition)))))
-view_record = with_mark 0x03 (number then number then number then text is_name then columns then conditions)
+view_record = with_mark VIEW_MARK (number then number then number then text is_name then columns then conditions)
 
 -- dictionary: stamp, owner, name, letter
 abbrev pub dictionary_record : Field (ℕ × (ℕ × (List ℕ × Subject)))
-dictionary_record = with_mark 0x04 (number then number then text is_name then letter subject_code subject_of)
+dictionary_record = with_mark DICTIONARY_MARK (number then number then text is_name then letter subject_code subject_of)
 
 -- grant: stamp, object, grantee, privileges
 abbrev pub to_grant : ℕ × (ℕ × (ℕ × ℕ)) → Grant
@@ -104,7 +108,7 @@ abbrev pub from_grant : Grant → ℕ × (ℕ × (ℕ × ℕ))
 from_grant g = (g.stamp, (g.object, (g.grantee, g.privileges)))
 
 abbrev pub grant_record : Field Grant
-grant_record = with_mark 0x05 (as_record to_grant from_grant (number then number then number then octet is_privileges))
+grant_record = with_mark grant_mark (as_record to_grant from_grant (number then number then number then octet is_privileges))
 
 -- row: stamp, table, values
 abbrev pub to_row : ℕ × (ℕ × List (List ℕ)) → RowRecord
@@ -114,7 +118,7 @@ abbrev pub from_row : RowRecord → ℕ × (ℕ × List (List ℕ))
 from_row r = (r.stamp, (r.table, r.row))
 
 abbrev pub row_record : Field RowRecord
-row_record = with_mark 0x06 (as_record to_row from_row (number then number then values_to_the_end))
+row_record = with_mark row_mark (as_record to_row from_row (number then number then values_to_the_end))
 
 abbrev pub object_spelling : Object → List ℕ
 object_spelling o = kind_spelling o o.kind
@@ -148,8 +152,8 @@ starts_with mark (octet ∷ octets) = octet == mark
 
 abbrev pub object_from : List ℕ → Option (Object × List ℕ)
 object_from octets =
-    if starts_with 0x02 octets then made_at to_table table_record.read octets
-    else if starts_with 0x03 octets then made_at to_view view_record.read octets
+    if starts_with TABLE_MARK octets then made_at to_table table_record.read octets
+    else if starts_with VIEW_MARK octets then made_at to_view view_record.read octets
     else made_at to_dictionary dictionary_record.read octets
 
 abbrev pub object_record : Field Object

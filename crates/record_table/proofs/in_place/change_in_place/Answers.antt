@@ -40,21 +40,24 @@ returns-clause-ends g c = λ db was held there same with.
     let at = subst (λ o. IfSome o (λ slots. Some was ≡ at_slot kind c.args.slot slots)) held.told there in
     let within = at-told c.args.store.now Working chip held.slots (λ slots. weight_with c.args.slot (kind.form.spell x) slots ≤ c.args.store.now.chains.cells) held.told c.in_ok-change.ensures.within in
     let new = IsEditedTo-changed kind any g.met.R.Record.lawful g.met.R.Editable.edits held.slots end.now c.args.slot was x db held.holds held.valid (sym at) same (omega (arith, within, held.cells)) end.is with in
-    let cells = cells-any kind any g.met.R.Record.lawful g.met.R.Editable.edits x in
-    (change, refl, record {
-      room = new.room;
-      held = record {
-        slots = end.now;
-        told = end.told;
-        cells = applied-cells db change ∙ (held.cells ∙ sym c.in_ok-change.ensures.cells);
-        limit = applied-limit db change ∙ (held.limit ∙ sym c.in_ok-change.ensures.rows);
-        holds = new.holds;
-        valid = new.valid;
-      };
-      committed = end.committed;
-      octets = λ after told. (let wrote = c.in_ok-change.ensures.octets_written after told in (wrote.0, wrote.1, omega (arith, wrote.2, cells)));
-      entries = c.in_ok-change.ensures.entries;
-    })
+    let cells = cells-any kind any g.met.R.Record.lawful g.met.R.Editable.edits x in (
+      change,
+      refl,
+      record {
+        room = new.room;
+        held = record {
+          slots = end.now;
+          told = end.told;
+          cells = applied-cells db change ∙ (held.cells ∙ sym c.in_ok-change.ensures.cells);
+          limit = applied-limit db change ∙ (held.limit ∙ sym c.in_ok-change.ensures.rows);
+          holds = new.holds;
+          valid = new.valid;
+        };
+        committed = end.committed;
+        octets = λ after told. (let wrote = c.in_ok-change.ensures.octets_written after told in (wrote.0, wrote.1, omega (arith, wrote.2, cells)));
+        entries = c.in_ok-change.ensures.entries;
+      },
+    )
 
 pub returns-clause-rows : goal.returns-clause-rows
 returns-clause-rows g c = λ was apart there.
