@@ -8,12 +8,13 @@ ghost use Rattle.record_store.specs.declared.side.Side.TheVariants.{Committed, W
 ghost use Rattle.record_table.specs.Listed.{slots_of};
 ghost use Rattle.db_define.specs.Swept.{all_without, has_passing, without_passing};
 
+use catalog_codec::Record;
 use eeprom::{Eeprom, EepromFault};
 use record_store::{RecordOctets, Side, Store};
-use record_table::{Marked, Wanted, read_entry, remove};
+use record_table::{Wanted, read_entry, remove};
 
 /// Removes each record of the kind that is wanted.
-pub(crate) fn remove_each<R: Marked, W: Wanted<R>, B: Eeprom>(
+pub(crate) fn remove_each<R: Record, W: Wanted<R>, B: Eeprom>(
     store: &mut Store,
     bench: &mut B,
     wanted: &W,
@@ -39,7 +40,7 @@ pub(crate) fn remove_each<R: Marked, W: Wanted<R>, B: Eeprom>(
 }
 
 // Removes the record of one slot, if it is of the kind and wanted. It is read into `octets`.
-fn remove_wanted<R: Marked, W: Wanted<R>, B: Eeprom>(
+fn remove_wanted<R: Record, W: Wanted<R>, B: Eeprom>(
     store: &mut Store,
     bench: &mut B,
     slot: u16,
