@@ -3,6 +3,7 @@ use Rattle.std.specs.Prelude.{◌≡◌, ℕ, ◌≤◌, ◌==◌, nat_le, nat_l
 use Rattle.std.specs.List.{list_all, list_any, find}
 use Rattle.std.specs.Option.{option_map_or}
 use Rattle.std.specs.Str.{bytes_eq}
+use Rattle.eeprom.specs.StoreOf.{fewest_cells, most_cells}
 use Rattle.scql_base.specs.declared.records.TheConstants.User.{ALL_TRIES}
 use Rattle.scql_base.specs.declared.records.User.{User}
 use Rattle.scql_base.specs.declared.row.TheConstants.Row.{LARGEST, LARGEST_UNMIGRATED}
@@ -86,7 +87,7 @@ is_right_record next users tables (kept_as.Row r) = is_stamp_before next r.stamp
 
 -- What is tested where each record is read: it is within its limits, a table's columns are different, and all records have room.
 pub record HasFittingRecords (db : Database) : Type 0 where
-  pub cells : (16 ≤ db.cells) × (db.cells ≤ 2048)
+  pub cells : (fewest_cells ≤ db.cells) × (db.cells ≤ most_cells)
   pub limit : (db.limit == LARGEST_UNMIGRATED || db.limit == LARGEST) ≡ true
   pub room : weight db ≤ db.cells
   pub counter : counter_record.fits db.next ≡ true

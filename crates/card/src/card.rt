@@ -67,8 +67,8 @@ impl Model for Card {
 impl Card {
     /// Makes a card of so many cells, whose database has the user `OWNER` alone.
     pub fn format<B: Eeprom>(bench: &mut B, n: u16) -> Result<(), FormatRefusal>
-        requires few { 16 ≤ n }
-        requires many { n ≤ 2048 }
+        requires few { fewest_cells ≤ n }
+        requires many { n ≤ most_cells }
         ensures image { OnOk result ((B.chip bench.new).image ≡ option_map (λ image. overwrite image 0 (fresh_card n)) (B.chip bench.old).image) }
         ensures fresh { OnOk result (IfSome (B.chip bench.new).image (λ image. Opens image (fresh n))) }
         ensures still { (B.chip bench.new).still ≡ (B.chip bench.old).still }

@@ -4,6 +4,7 @@ use Rattle.std.specs.List.{fold, list_all}
 use Rattle.std.specs.Option.{option_map_or}
 use Rattle.std.specs.Char.{is_ascii_digit}
 use Rattle.std.specs.Str.{bytes_eq}
+use Rattle.eeprom.specs.StoreOf.{fewest_cells, most_cells}
 use Rattle.card_cli.specs.declared.words.Form.{Form}
 use Rattle.card_cli.specs.declared.words.Form.TheVariants.{New, Apdu, Migrate}
 
@@ -20,7 +21,7 @@ decimal_in digits = if is_number digits then Some (fold with_digit 0 digits) els
 
 -- a card has 16 to 2,048 cells
 abbrev pub in_limits : ℕ → Option ℕ
-in_limits cells = if nat_lt cells 16 || nat_lt 2048 cells then None else Some cells
+in_limits cells = if nat_lt cells fewest_cells || nat_lt most_cells cells then None else Some cells
 
 -- the number of cells that digits tell
 abbrev pub cells_asked : List ℕ → Option ℕ
@@ -34,7 +35,7 @@ form_in words = None
 
 -- the card that is to be made has 16 to 2,048 cells
 abbrev pub IsWithinLimits : Form → Type 0
-IsWithinLimits (New n) = (16 ≤ n) × (n ≤ 2048)
+IsWithinLimits (New n) = (fewest_cells ≤ n) × (n ≤ most_cells)
 IsWithinLimits form = Unit {0}
 
 -- the run of this form answers the lines of its input

@@ -1,5 +1,6 @@
 -- A database: its records, what makes it valid, and the one that a card is made with.
 use Rattle.std.specs.Prelude.{◌≡◌, ℕ, ◌+◌, ◌≤◌, ◌==◌, ◌||◌, true, List, [], ◌∷◌, ◌++◌, map}
+use Rattle.eeprom.specs.StoreOf.{fewest_cells, most_cells}
 use Rattle.scql_base.specs.declared.row.TheConstants.Row.{LARGEST, LARGEST_UNMIGRATED}
 use Rattle.scql_base.specs.declared.records.User.{User}
 use Rattle.scql_base.specs.declared.records.Object.{Object}
@@ -57,8 +58,8 @@ weight db = counter_cells db + cells_of_records (records_of db)
 
 -- A database that a card may hold.
 pub record IsValid (db : Database) : Type 0 where
-  -- a card has 16 to 2,048 cells
-  pub cells : (16 ≤ db.cells) × (db.cells ≤ 2048)
+  -- a card has so many cells
+  pub cells : (fewest_cells ≤ db.cells) × (db.cells ≤ most_cells)
   -- the limit of rows is that of a new card, or of a migrated one
   pub limit : (db.limit == LARGEST_UNMIGRATED || db.limit == LARGEST) ≡ true
   -- the next stamp is at least 2, since OWNER has stamp 1, and a number of four octets
