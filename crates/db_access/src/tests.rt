@@ -54,8 +54,7 @@ fn make_user<B: Eeprom>(
 }
 
 // The word that refuses a user of this name, or none.
-fn word_for(alloc: Global, actor: Actor, name: &[u8]) -> Result<Option<StatusWord>, AllocError>
-{
+fn word_for(alloc: Global, actor: Actor, name: &[u8]) -> Result<Option<StatusWord>, AllocError> {
     let mut bench = made(alloc)?;
     let (Ok(mut store), Some(name)) = (Store::open(alloc, &mut bench), Name::read(name)) else {
         return Ok(None);
@@ -91,8 +90,7 @@ fn with_anna(alloc: Global) -> Result<MemBench, AllocError> {
 }
 
 // Who has a name in that image.
-fn who(alloc: Global, name: &[u8]) -> Result<Option<Presented>, AllocError>
-{
+fn who(alloc: Global, name: &[u8]) -> Result<Option<Presented>, AllocError> {
     let mut bench = with_anna(alloc)?;
     let (Ok(store), Some(name)) = (Store::open(alloc, &mut bench), Name::read(name)) else {
         return Ok(None);
@@ -104,9 +102,20 @@ fn who(alloc: Global, name: &[u8]) -> Result<Option<Presented>, AllocError>
 fn users_are_presented(rt: HostRuntime) -> Result<(), Fail> {
     let alloc = rt.alloc();
     let anna = who(alloc, b"ANNA")?;
-    assert!(rt; anna == Some(Presented::User { stamp: 2, proved: false }));
+    assert!(rt;
+        anna == Some(Presented::User {
+            stamp: 2,
+            proved: false
+        })
+    );
     let owner = who(alloc, Name::OWNER)?;
-    assert!(rt; owner == Some(Presented::User { stamp: 1, proved: true }));
+    assert!(rt;
+        owner
+            == Some(Presented::User {
+                stamp: 1,
+                proved: true
+            })
+    );
     let everybody = who(alloc, Name::PUBLIC)?;
     assert!(rt; everybody == Some(Presented::Public));
     let nobody = who(alloc, b"BERTA")?;
