@@ -5,7 +5,7 @@ use Rattle.std.specs.Option.{option_map_or, option_flatten}
 use Rattle.eeprom.specs.declared.EepromFault.{EepromFault}
 use Rattle.eeprom.specs.Chip.{Chip, Becomes, RisesAtMost}
 use Rattle.record_store.specs.Held.{Held}
-use Rattle.scql_base.specs.declared.cursor.Presented.{Presented}
+use Rattle.scql_base.specs.declared.cursor.PresentedUser.{PresentedUser}
 use Rattle.scql_base.specs.declared.operation.Operation.{Operation}
 use Rattle.scql_base.specs.declared.words.Actor.{Actor}
 use Rattle.scql_base.specs.declared.words.Actor.TheVariants.{Public}
@@ -86,7 +86,7 @@ IsAt-rest card store chip m db none sessions rest = record {
 }
 
 -- For whom a channel acts, by the stamp of its proved user.
-actor-stamped : (db : Database) (o : Option Presented) → option_map_or (actor_of db) o Public ≡ acting db (option_and_then proved_stamp o)
+actor-stamped : (db : Database) (o : Option PresentedUser) → option_map_or (actor_of db) o Public ≡ acting db (option_and_then proved_stamp o)
 actor-stamped db None = refl
 actor-stamped db (Some p) = chosen p.proved
   where
@@ -152,7 +152,7 @@ module _ (card : Kept) (old new : Chip) (m : Machine) (channel : ℕ) (name : Li
       (subst (λ (o : Result Answer StatusWord). Answers (answered m o) (said word) card old) (sym (presented-by (Err word) was)) (record { reply = refl; at = at }))
 
   -- the session of the channel is a new one
-  pub Answers-presented : (after : Kept) (user : Option Presented) → after ≡ with_session_for card channel user → session_presented found ≡ Ok (session_for user)
+  pub Answers-presented : (after : Kept) (user : Option PresentedUser) → after ≡ with_session_for card channel user → session_presented found ≡ Ok (session_for user)
       → Answers (answered m (user_presented m channel name)) (said done) after new
   Answers-presented after user set was =
       let next : Machine = sessions.with_session m channel (Some (session_for user)) in

@@ -11,7 +11,7 @@ use Rattle.scql_model.specs.Machine.{Chain}
 use Rattle.card.specs.Card.{Kept}
 use Rattle.card.specs.Sessions.{session_seen, sessions_of, AreUnread, proved_stamp, proved_user}
 use Rattle.card.specs.Answering.{with_session_for}
-use Rattle.scql_base.specs.declared.cursor.Presented.{Presented}
+use Rattle.scql_base.specs.declared.cursor.PresentedUser.{PresentedUser}
 use Rattle.card.specs.declared.session.Session.{Session}
 
 -- which of four channels have a session
@@ -88,7 +88,7 @@ sessions_of-chain change next seen (session ∷ sessions) (chain ∷ chains) (su
     ap (λ rest. option_map (session_seen chain) session ∷ rest) (sessions_of-chain change next seen sessions chains channel)
 
 -- A new session of a channel has no parts.
-sessions_of-new : (sessions : List (Option Session)) (chains : List (Option Chain)) (channel : ℕ) (user : Option Presented)
+sessions_of-new : (sessions : List (Option Session)) (chains : List (Option Chain)) (channel : ℕ) (user : Option PresentedUser)
     → sessions_of (slice_set sessions channel (Some (record { user = user }))) (slice_set chains channel None) ≡ slice_set (sessions_of sessions chains) channel (Some (machine.session_for user))
 sessions_of-new [] chains channel user = refl
 sessions_of-new (session ∷ sessions) [] zero user = refl
@@ -97,7 +97,7 @@ sessions_of-new (session ∷ sessions) (chain ∷ chains) zero user = refl
 sessions_of-new (session ∷ sessions) (chain ∷ chains) (suc channel) user =
     ap (λ rest. option_map (session_seen chain) session ∷ rest) (sessions_of-new sessions chains channel user)
 
-pub sessions_of-set : (store : Held) (live : Bool) (sessions : List (Option Session)) (chains left : List (Option Chain)) (channel : ℕ) (user : Option Presented) → (card : Kept)
+pub sessions_of-set : (store : Held) (live : Bool) (sessions : List (Option Session)) (chains left : List (Option Chain)) (channel : ℕ) (user : Option PresentedUser) → (card : Kept)
     → record { store = store; sessions = sessions_of sessions chains; live = live } ≡ card → left ≡ slice_set chains channel None
     → record { store = store; sessions = sessions_of (slice_set sessions channel (Some (record { user = user }))) left; live = live } ≡ with_session_for card channel user
 sessions_of-set store live sessions chains left channel user card is ended =

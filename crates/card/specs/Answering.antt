@@ -12,7 +12,7 @@ use Rattle.scql_model.specs.Replies.{said}
 use Rattle.scql_model.specs.Accepting.{channel_named, IsAsBefore}
 use Rattle.scql_model.specs.Step.{Answer}
 use Rattle.card.specs.Card.{Kept, IsAt}
-use Rattle.scql_base.specs.declared.cursor.Presented.{Presented}
+use Rattle.scql_base.specs.declared.cursor.PresentedUser.{PresentedUser}
 
 -- the machine's answer is this reply, and card and EEPROM are at its machine
 pub record Answers (answer : Answer) (sent : model.Reply) (card : Kept) (chip : Chip) : Type 0 where
@@ -32,7 +32,7 @@ pub record Performs (m : Machine) (answer : Answer) (most : ℕ) (result : Resul
   pub octets : OnOk result (Becomes (RisesAtMost most) old.written new.written)
 
 -- a new session of a channel, for this user
-abbrev pub with_session_for : Kept → ℕ → Option Presented → Kept
+abbrev pub with_session_for : Kept → ℕ → Option PresentedUser → Kept
 with_session_for card channel user =
     record card { sessions = slice_set card.sessions channel (Some (session_for user)) }
 

@@ -2,7 +2,7 @@
 use Rattle.std.specs.Prelude.{◌≡◌, ℕ, List, [], ◌∷◌, Option, Some, None, option_map, option_and_then, IfSome, if◌then◌else◌}
 use Rattle.std.specs.List.{AllByRecursion}
 use Rattle.scql_model.specs.Machine as machine
-use Rattle.scql_base.specs.declared.cursor.Presented.{Presented}
+use Rattle.scql_base.specs.declared.cursor.PresentedUser.{PresentedUser}
 use Rattle.card.specs.declared.session.Session.{Session}
 
 -- a session with these parts of a command; no cursor is built yet
@@ -23,7 +23,7 @@ abbrev pub AreUnread : List (Option machine.Session) → Type 0
 AreUnread sessions = AllByRecursion (λ (s : Option machine.Session). IfSome s IsUnread) sessions
 
 -- the stamp of a session's user, where there is one that is proved
-abbrev pub proved_stamp : Presented → Option ℕ
+abbrev pub proved_stamp : PresentedUser → Option ℕ
 proved_stamp p = if p.proved then Some p.stamp else None
 
 abbrev pub proved_user : Option machine.Session → Option ℕ

@@ -39,7 +39,7 @@ use catalog_codec::{Counter, Record};
 use db_access::present;
 use eeprom::{Eeprom, EepromFault};
 use record_store::{FormatRefusal, OpenRefusal, RecordOctets, Store};
-use scql_base::{Command, Name, Octets, Operation, Presented, Profile, StatusWord, User};
+use scql_base::{Command, Name, Octets, Operation, PresentedUser, Profile, StatusWord, User};
 use std::alloc::Global;
 use std::marker::Model;
 
@@ -256,7 +256,7 @@ impl Card {
         let user = match present(&self.store, bench, name)? {
             db_access::Presented::Unknown => return Ok(StatusWord::NOT_FOUND),
             db_access::Presented::Public => None,
-            db_access::Presented::User { stamp, proved } => Some(Presented { stamp, proved }),
+            db_access::Presented::User { stamp, proved } => Some(PresentedUser { stamp, proved }),
         };
         self.set_user(channel, user);
         Ok(StatusWord::DONE)
@@ -296,7 +296,7 @@ impl Card {
     }
 
     // A new session of a channel, for this user.
-    fn set_user(&mut self, channel: u8, user: Option<Presented>)
+    fn set_user(&mut self, channel: u8, user: Option<PresentedUser>)
         requires channel { channel < 4 }
         ensures { self.new ≡ with_session_for self.old channel user }
     {

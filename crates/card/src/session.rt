@@ -1,9 +1,9 @@
 // What is kept for an open channel.
 
-use scql_base::Presented;
+use scql_base::PresentedUser;
 
 /// The session of an open channel: its user, or nobody.
 #[derive(Clone, Copy)]
 pub(crate) struct Session {
-    pub user: Option<Presented>,
+    pub user: Option<PresentedUser>,
 }

@@ -9,9 +9,9 @@ use Rattle.scql_model.proofs.Hearing.{kept-idle, kept-failing, kept-answered, ke
 use Rattle.card_cli.specs.Line.{line_content, is_empty_line}
 use Rattle.card_cli.specs.Running.{Running, from_machine, after, text_of}
 use Rattle.card_cli.specs.Moments.{IsInLine, IsInAnswered, IsInStopped, IsWhile, IsUntil, IsAtEnd, Passes}
-use Rattle.card_cli.specs.declared.stop.Stop.{Stop}
-use Rattle.card_cli.specs.declared.stop.Stop.TheVariants.{Eeprom, Outlet, Both}
-use Rattle.card_cli.specs.Keeping.{AreKept, AreAllKept, lines_carried_out}
+use Rattle.card_cli.specs.declared.stop.FailedDevice.{FailedDevice}
+use Rattle.card_cli.specs.declared.stop.FailedDevice.TheVariants.{Eeprom, Outlet, Both}
+use Rattle.card_cli.specs.Keeping.{AreKeptInRun, AreAllKept, lines_carried_out}
 use Rattle.card_cli.proofs.Streaming.{open_end, line_content-begun_line, text_of-lines, after-lines, lines-open, lines-line_feed, lines-prefix}
 use Rattle.card_cli.proofs.Moving.{throughout-both}
 use Rattle.eeprom.proofs.Moments.{throughout-weaker}
@@ -101,21 +101,21 @@ kept-taken m taken old new moments =
     (kept-while false m taken [] count old.still.mark g left (omega arith) during))
 
 -- in a line in which a device fails, which is clean where the outlet alone does
-kept-in_stopped : (stop : Stop) (m : Machine) (before : List (List ℕ)) (line : List ℕ) (rest : List (List ℕ)) (mark g : ℕ) (left : List ℕ)
+kept-in_stopped : (stop : FailedDevice) (m : Machine) (before : List (List ℕ)) (line : List ℕ) (rest : List (List ℕ)) (mark g : ℕ) (left : List ℕ)
     → IsInStopped stop (machine_after m before) (content_of line) (mark + length (run_text m before)) g left → KeptFrom m (before ++ line ∷ rest) (lines_carried_out stop before) mark g left
 kept-in_stopped Outlet m before line rest mark g left stopped = kept-in_answered m before line rest 0 mark g left stopped
 kept-in_stopped Eeprom m before line rest mark g left stopped = kept-in_line m before line rest mark g left stopped
 kept-in_stopped Both m before line rest mark g left stopped = kept-in_line m before line rest mark g left stopped
 
-carried_out-most : (stop : Stop) (before : List (List ℕ)) → length before ≤ lines_carried_out stop before
+carried_out-most : (stop : FailedDevice) (before : List (List ℕ)) → length before ≤ lines_carried_out stop before
 carried_out-most Outlet before = omega arith
 carried_out-most Eeprom before = omega arith
 carried_out-most Both before = omega arith
 
 -- of calls that take octets of the input and fail in the line behind them
-pub kept-until : (stop : Stop) (m : Machine) (input taken behind : List ℕ) (rest : List (List ℕ)) (old now : Chip) → input ≡ taken ++ behind
+pub kept-until : (stop : FailedDevice) (m : Machine) (input taken behind : List ℕ) (rest : List (List ℕ)) (old now : Chip) → input ≡ taken ++ behind
     → lines input true ≡ lines taken false ++ open_end taken ∷ rest
-    → Throughout old now (IsUntil stop taken (from_machine m) old.still.mark) → AreKept m (lines input true) (lines_carried_out stop (lines taken false)) old now
+    → Throughout old now (IsUntil stop taken (from_machine m) old.still.mark) → AreKeptInRun m (lines input true) (lines_carried_out stop (lines taken false)) old now
 kept-until stop m input taken behind rest old now split cut moments =
     let count : ℕ = lines_carried_out stop (lines taken false) in
     throughout-weaker old now (IsUntil stop taken (from_machine m) old.still.mark) (KeptFrom m (lines input true) count old.still.mark) moments
@@ -150,7 +150,7 @@ kept-at_end m input mark g left (inr last) =
 
 -- of calls that take all of the input, and answer the last line
 pub kept-ended : (m : Machine) (input : List ℕ) (old mid new : Chip) → Passes input (from_machine m) old mid
-    → Throughout mid new (IsAtEnd (after (from_machine m) input) mid.still.mark) → AreKept m (lines input true) (length (lines input true)) old new
+    → Throughout mid new (IsAtEnd (after (from_machine m) input) mid.still.mark) → AreKeptInRun m (lines input true) (length (lines input true)) old new
 kept-ended m input old mid new passes last =
     throughout-both old mid new (IsWhile input (from_machine m) old.still.mark) (IsAtEnd (after (from_machine m) input) mid.still.mark) (KeptFrom m (lines input true) (length (lines input true)) old.still.mark)
     passes.moments last
@@ -162,7 +162,7 @@ kept-ended m input old mid new passes last =
     (λ g left during. kept-at_end m input old.still.mark g left (subst (λ (mark : ℕ). IsAtEnd (after (from_machine m) input) mark g left) passes.mark during))
 
 -- of calls that take all of the input, and fail in the last line
-pub until-last : (stop : Stop) (input : List ℕ) (r : Running) (old mid now : Chip) → Passes input r old mid
+pub until-last : (stop : FailedDevice) (input : List ℕ) (r : Running) (old mid now : Chip) → Passes input r old mid
     → Throughout mid now (IsInStopped stop (after r input).machine (line_content (after r input).begun) mid.still.mark) → Throughout old now (IsUntil stop input r old.still.mark)
 until-last stop input r old mid now passes last =
     throughout-both old mid now (IsWhile input r old.still.mark) (IsInStopped stop (after r input).machine (line_content (after r input).begun) mid.still.mark) (IsUntil stop input r old.still.mark)

@@ -7,7 +7,7 @@ use Rattle.eeprom.specs.StoreOf.{store_of, row_limit, is_gate_open, image_size}
 use Rattle.eeprom.proofs.SameFrom.{drop-from}
 use Rattle.eeprom.proofs.Moments.{throughout-weaker, throughout-then}
 use Rattle.eeprom.proofs.Leaves.{at-told}
-use Rattle.migrate.specs.Migration.{KeepsRest, IsMigrated, IsBetween, with_limit}
+use Rattle.migrate.specs.Migration.{KeepsAllElse, IsMigrated, IsBetweenVersions, with_rows_up_to}
 use Rattle.record_store.specs.Recovery.{KeepsStore}
 use Rattle.scql_model.specs.Database.{Database, IsValid}
 use Rattle.scql_model.specs.Machine.{start}
@@ -59,11 +59,11 @@ longer-among image db valid opens = elim (cases_Bool (db.limit == 240)) [
 ]
 
 -- the same records with longer rows
-opens-longer : (was left : List ℕ) (db : Database) → Opens was db → store_of left ≡ option_map (with_limit 1020) (store_of was) → Opens left (migrated db)
-opens-longer was left db opens longer = Opens-migrated was left db opens (longer ∙ ap (option_map (with_limit 1020)) opens.stored)
+opens-longer : (was left : List ℕ) (db : Database) → Opens was db → store_of left ≡ option_map (with_rows_up_to 1020) (store_of was) → Opens left (migrated db)
+opens-longer was left db opens longer = Opens-migrated was left db opens (longer ∙ ap (option_map (with_rows_up_to 1020)) opens.stored)
 
 -- what a power loss leaves of a migration
-opens-between : (was left : List ℕ) (db : Database) → Opens was db → IsBetween was left → OpensToOneOf (db ∷ migrate_commits db) left
+opens-between : (was left : List ℕ) (db : Database) → Opens was db → IsBetweenVersions was left → OpensToOneOf (db ∷ migrate_commits db) left
 opens-between was left db opens between = elim between.one [
   | inl same ↦ inl (opens-same was left (sym same) db opens)
   | inr longer ↦ longer-among left db opens.valid (opens-longer was left db opens longer)
@@ -73,7 +73,7 @@ opens-between was left db opens between = elim between.one [
 abbrev pub LeavesSome : Database → Chip → Chip → Type 0
 LeavesSome db old new = Throughout old new (λ g left. (g ≡ old.still.mark) × OpensToOneOf (db ∷ migrate_commits db) left)
 
-pub leaves-between : (old mid : Chip) (db : Database) → IsOpenTo old db → LeavesOf IsBetween old mid → LeavesSome db old mid
+pub leaves-between : (old mid : Chip) (db : Database) → IsOpenTo old db → LeavesOf IsBetweenVersions old mid → LeavesSome db old mid
 leaves-between old mid db opens leaves = throughout-weaker old mid _ _ leaves (λ g left during. (
   during.0,
   opens-between during.1 left db (opens-told old db during.1 opens during.2) during.3,
@@ -173,7 +173,7 @@ unopened status opening opened = false≢true opened
 -- Behind the image.
 
 -- a migration writes three octets of the front
-pub migration-behind : (old mid : Chip) → LeavesOf IsBetween old mid → KeepsBehind own_cells old mid
+pub migration-behind : (old mid : Chip) → LeavesOf IsBetweenVersions old mid → KeepsBehind own_cells old mid
 migration-behind old mid leaves = throughout-weaker old mid _ _ leaves (λ g left during. (
   during.1,
   during.2,
@@ -181,7 +181,7 @@ migration-behind old mid leaves = throughout-weaker old mid _ _ leaves (λ g lef
 ))
 
 -- and no more of the number of cells
-migration-cells : (was left : List ℕ) → KeepsRest was left → own_cells left ≡ own_cells was
+migration-cells : (was left : List ℕ) → KeepsAllElse was left → own_cells left ≡ own_cells was
 migration-cells was left rest = rw (octet 0 (omega arith), octet 1 (omega arith)) refl
   where
     octet : (k : ℕ) → k < 3 → slice_index left (6 + k) ≡ slice_index was (6 + k)
@@ -190,7 +190,7 @@ migration-cells was left rest = rw (octet 0 (omega arith), octet 1 (omega arith)
         ∙ ap (λ (xs : List ℕ). get_or xs k 0) rest.between ∙ get_or-take 3 (drop 6 was) k 0 inside ∙ get_or-drop 6 was k 0
 
 -- what goes out behind it writes nothing
-pub told-behind : (old mid new : Chip) → LeavesOf IsBetween old mid → KeepsBehind own_cells mid new → KeepsBehind own_cells old new
+pub told-behind : (old mid new : Chip) → LeavesOf IsBetweenVersions old mid → KeepsBehind own_cells mid new → KeepsBehind own_cells old new
 told-behind old mid new leaves after =
     behind-then own_cells own_cells old mid new (λ now told. let from = leaves.now now told in (from.1, from.2, migration-cells from.1 now from.3.rest)) (migration-behind old mid leaves) after
 
@@ -209,10 +209,10 @@ long-told old mid new same gives piece = λ image told long.
     (record { image = gives.image; written = gives.written; moments = throughout-weaker mid new _ _ piece (λ g left during. during.2) })
 
 -- and else no octets but the version and the row limit
-pub others-untold : (old mid : Chip) → LeavesOf IsBetween old mid → KeepsOthers old mid
+pub others-untold : (old mid : Chip) → LeavesOf IsBetweenVersions old mid → KeepsOthers old mid
 others-untold old mid leaves = throughout-weaker old mid _ _ leaves (λ g left during. (during.1, during.2, during.3.rest))
 
-pub others-told : (old mid new : Chip) → LeavesOf IsBetween old mid → Throughout mid new (IsInPiece mid new.still.mark) → KeepsOthers old new
+pub others-told : (old mid new : Chip) → LeavesOf IsBetweenVersions old mid → Throughout mid new (IsInPiece mid new.still.mark) → KeepsOthers old new
 others-told old mid new leaves piece =
     throughout-then old mid new _ (others-untold old mid leaves)
     (throughout-weaker mid new _ _ piece (λ g left during. let from = leaves.now left during.2 in (from.1, from.2, from.3.rest)))

@@ -9,7 +9,7 @@ use Rattle.scql_model.specs.Opens.{Opens, OpensToOneOf}
 use Rattle.card.specs.Answering.{LeavesOneOf}
 use Rattle.card.specs.Card.{Kept, IsReady, IsAt}
 use Rattle.card.proofs.Leaving.{Opens-at, unwritten_leaves}
-use Rattle.card_cli.specs.declared.stop.Stop.{Stop}
+use Rattle.card_cli.specs.declared.stop.FailedDevice.{FailedDevice}
 use Rattle.card_cli.specs.RunState.{Prints}
 use Rattle.card_cli.specs.Line.{line_content, is_empty_line}
 use Rattle.card_cli.specs.Running.{Running, after, text_of}
@@ -109,7 +109,7 @@ line-silent m reading chip none opens = record {
 }
 
 -- of a call that was done
-pub on_given : {P Q : Type 0} → (result : Result (Unit {0}) Stop) (now : Chip) → OnOk result (IfGiven now P) → (P → Q) → OnOk result (IfGiven now Q)
+pub on_given : {P Q : Type 0} → (result : Result (Unit {0}) FailedDevice) (now : Chip) → OnOk result (IfGiven now P) → (P → Q) → OnOk result (IfGiven now Q)
 on_given (Ok x) now holds then = λ told. then (holds told)
 on_given (Err stop) now holds then = tt
 
@@ -169,7 +169,7 @@ while-behind xs ys r mark g left (inr answering) = inr (record {
 })
 
 -- So it is where a device fails behind the later octets.
-until-behind : (stop : Stop) (xs ys : List ℕ) (r : Running) (mark g : ℕ) (left : List ℕ) → IsUntil stop ys (after r xs) (mark + length (text_of r xs)) g left → IsUntil stop (xs ++ ys) r mark g left
+until-behind : (stop : FailedDevice) (xs ys : List ℕ) (r : Running) (mark g : ℕ) (left : List ℕ) → IsUntil stop ys (after r xs) (mark + length (text_of r xs)) g left → IsUntil stop (xs ++ ys) r mark g left
 until-behind stop xs ys r mark g left (inl during) = inl (while-behind xs ys r mark g left during)
 until-behind stop xs ys r mark g left (inr line) =
     inr (subst (λ (mark : ℕ). IsInStopped stop (after r (xs ++ ys)).machine (line_content (after r (xs ++ ys)).begun) mark g left) (mark-append xs ys r mark)
@@ -199,7 +199,7 @@ Passes-then xs ys r a b c first second = record {
 }
 
 -- a device fails behind octets that were taken
-pub until-then : (stop : Stop) (xs ys : List ℕ) (r : Running) (a b now : Chip) → Passes xs r a b → Throughout b now (IsUntil stop ys (after r xs) b.still.mark) → Throughout a now (IsUntil stop (xs ++ ys) r a.still.mark)
+pub until-then : (stop : FailedDevice) (xs ys : List ℕ) (r : Running) (a b now : Chip) → Passes xs r a b → Throughout b now (IsUntil stop ys (after r xs) b.still.mark) → Throughout a now (IsUntil stop (xs ++ ys) r a.still.mark)
 until-then stop xs ys r a b now first second =
     throughout-both a b now (IsWhile xs r a.still.mark) (IsUntil stop ys (after r xs) b.still.mark) (IsUntil stop (xs ++ ys) r a.still.mark) first.moments second
     (λ g left during. inl (while-longer xs ys r a.still.mark g left during))
@@ -221,7 +221,7 @@ Passes-line_feed r old new answered =
     }
 
 -- or a device fails in it
-pub until-line_feed : (stop : Stop) (r : Running) (old now : Chip) → Throughout old now (IsInStopped stop r.machine (line_content r.begun) old.still.mark) → Throughout old now (IsUntil stop [] r old.still.mark)
+pub until-line_feed : (stop : FailedDevice) (r : Running) (old now : Chip) → Throughout old now (IsInStopped stop r.machine (line_content r.begun) old.still.mark) → Throughout old now (IsUntil stop [] r old.still.mark)
 until-line_feed stop r old now moments =
     throughout-weaker old now (IsInStopped stop r.machine (line_content r.begun) old.still.mark) (IsUntil stop [] r old.still.mark) moments
     (λ g left during. inr (subst (λ (mark : ℕ). IsInStopped stop r.machine (line_content r.begun) mark g left) (omega arith) during))

@@ -11,8 +11,8 @@ use Rattle.scql_model.specs.Lines.{LineContent, lines, content_of, content_text,
 use Rattle.scql_model.specs.Opens.{Opens, OpensToOneOf}
 use Rattle.card.specs.Card.{Kept, IsReady, IsAt}
 use Rattle.card.proofs.Leaving.{Opens-at}
-use Rattle.card_cli.specs.declared.stop.Stop.{Stop}
-use Rattle.card_cli.specs.declared.stop.Stop.TheVariants.{Eeprom, Outlet, Both}
+use Rattle.card_cli.specs.declared.stop.FailedDevice.{FailedDevice}
+use Rattle.card_cli.specs.declared.stop.FailedDevice.TheVariants.{Eeprom, Outlet, Both}
 use Rattle.card_cli.specs.Line.{line_content, is_empty_line}
 use Rattle.card_cli.specs.Running.{Running, from_machine, after, text_of}
 use Rattle.card_cli.specs.RunState.{Prints, RunState, IsRunning, Feeds}
@@ -30,7 +30,7 @@ cut_short (Ok x) text before now given = tt
 cut_short (Err fault) text before now given = record { said = take given.0 text; start = (drop given.0 text, sym (take-append-drop given.0 text)); given = given.1 }
 
 -- what holds where the outlet failed, holds of the stop that its fault becomes
-pub at_outlet : (P : Stop → Type 0) (result : Result (Unit {0}) Stop) → IsErrAnd result (λ (stop : Stop). stop ≡ Outlet) → P Outlet → IfErr result P
+pub at_outlet : (P : FailedDevice → Type 0) (result : Result (Unit {0}) FailedDevice) → IsErrAnd result (λ (stop : FailedDevice). stop ≡ Outlet) → P Outlet → IfErr result P
 at_outlet P (Ok x) is holds = tt
 at_outlet P (Err stop) is holds = subst P (sym is) holds
 
@@ -84,7 +84,7 @@ unfolding encode_with
 mute_text-reply body word empty is = rw (empty, is) refl
 
 -- behind what was printed before
-pub FailsIn-after : (stop : Stop) (first text : List ℕ) (m : Machine) (reading : LineContent) (a b : Option (List ℕ)) (now : Chip)
+pub FailsIn-after : (stop : FailedDevice) (first text : List ℕ) (m : Machine) (reading : LineContent) (a b : Option (List ℕ)) (now : Chip)
     → Prints first a b → FailsIn stop text m reading b now → FailsIn stop (first ++ text) m reading a now
 FailsIn-after stop first text m reading a b now printed fails = record {
   said = fails.said;
@@ -94,7 +94,7 @@ FailsIn-after stop first text m reading a b now printed fails = record {
 }
 
 -- a device fails at a line feed
-pub Halts-line_feed : (stop : Stop) (octet : ℕ) (old : RunState) (now : Chip) → octet ≡ 10
+pub Halts-line_feed : (stop : FailedDevice) (octet : ℕ) (old : RunState) (now : Chip) → octet ≡ 10
     → ((r : Running) → IsRunning old r → FailsAt stop [] r old.chip.still.given now)
     → ((m : Machine) → IsAt old.card old.chip m → IfGiven now (Throughout old.chip now (IsInStopped stop m (line_content old.line) old.chip.still.mark))) → Halts stop (octet ∷ []) old now
 Halts-line_feed stop octet old now is fails moments = λ r running. record {
@@ -107,19 +107,19 @@ Halts-line_feed stop octet old now is fails moments = λ r running. record {
 }
 
 -- the line that fails is the one that has begun
-pub FailsAt-begun : (stop : Stop) (old : RunState) (now : Chip) (r : Running) → old.line ≡ r.begun → FailsIn stop [] r.machine (line_content old.line) old.chip.still.given now
+pub FailsAt-begun : (stop : FailedDevice) (old : RunState) (now : Chip) (r : Running) → old.line ≡ r.begun → FailsIn stop [] r.machine (line_content old.line) old.chip.still.given now
     → FailsAt stop [] r old.chip.still.given now
 FailsAt-begun stop old now r line fails = subst (λ (l : Option (List ℕ)). FailsIn stop [] r.machine (line_content l) old.chip.still.given now) line fails
 
 -- so does one in the last line, which has an octet
-pub fails_last : (result : Result (Unit {0}) Stop) (old : RunState) (now : Chip) (r : Running) → old.line ≡ r.begun → is_empty_line old.line ≡ false
-    → IfErr result (λ (stop : Stop). FailsIn stop [] r.machine (line_content old.line) old.chip.still.given now)
-    → IfErr result (λ (stop : Stop). (is_empty_line r.begun ≡ false) × FailsAt stop [] r old.chip.still.given now)
+pub fails_last : (result : Result (Unit {0}) FailedDevice) (old : RunState) (now : Chip) (r : Running) → old.line ≡ r.begun → is_empty_line old.line ≡ false
+    → IfErr result (λ (stop : FailedDevice). FailsIn stop [] r.machine (line_content old.line) old.chip.still.given now)
+    → IfErr result (λ (stop : FailedDevice). (is_empty_line r.begun ≡ false) × FailsAt stop [] r old.chip.still.given now)
 fails_last (Ok x) old now r line some fails = tt
 fails_last (Err stop) old now r line some fails = (subst (λ (l : Option (List ℕ)). is_empty_line l ≡ false) line some, FailsAt-begun stop old now r line fails)
 
 -- after octets that were taken, and before others
-pub Halts-within : (stop : Stop) (xs ys zs : List ℕ) (a b : RunState) (now : Chip) → Feeds xs a b → Halts stop ys b now → Halts stop (xs ++ (ys ++ zs)) a now
+pub Halts-within : (stop : FailedDevice) (xs ys zs : List ℕ) (a b : RunState) (now : Chip) → Feeds xs a b → Halts stop ys b now → Halts stop (xs ++ (ys ++ zs)) a now
 Halts-within stop xs ys zs a b now feeds halts = λ r running.
     let first = feeds r running in
     let then = halts (after r xs) first.running in
@@ -136,7 +136,7 @@ Halts-within stop xs ys zs a b now feeds halts = λ r running.
     }
 
 -- octet by octet the whole lines were answered
-pub FailsIn-lines : (stop : Stop) (m : Machine) (taken : List ℕ) (before : Option (List ℕ)) (now : Chip) → FailsAt stop (text_of (from_machine m) taken) (after (from_machine m) taken) before now
+pub FailsIn-lines : (stop : FailedDevice) (m : Machine) (taken : List ℕ) (before : Option (List ℕ)) (now : Chip) → FailsAt stop (text_of (from_machine m) taken) (after (from_machine m) taken) before now
     → FailsIn stop (run_text m (lines taken false)) (machine_after m (lines taken false)) (content_of (open_end taken)) before now
 FailsIn-lines stop m taken before now fails =
     let text : List ℕ = run_text m (lines taken false) in
@@ -145,7 +145,7 @@ FailsIn-lines stop m taken before now fails =
     (subst (λ (r : Running). FailsAt stop text r before now) (after-lines m taken)
     (subst (λ (t : List ℕ). FailsAt stop t (after (from_machine m) taken) before now) (text_of-lines m taken) fails))
 
-abbrev pub StopsIn-halted : (stop : Stop) (m : Machine) (input : List ℕ) (old now : Chip) → HaltsAt stop input (from_machine m) old now → StopsIn stop m (lines input true) old.still.given now
+abbrev pub StopsIn-halted : (stop : FailedDevice) (m : Machine) (input : List ℕ) (old now : Chip) → HaltsAt stop input (from_machine m) old now → StopsIn stop m (lines input true) old.still.given now
 StopsIn-halted stop m input old now halts = record {
   answered = lines halts.taken false;
   line = open_end halts.taken;
@@ -155,7 +155,7 @@ StopsIn-halted stop m input old now halts = record {
 }
 
 -- a device fails in the last line, which no line feed ends
-abbrev pub StopsIn-last : (stop : Stop) (m : Machine) (input : List ℕ) (old mid : RunState) (now : Chip) → IsRunning old (from_machine m) → Feeds input old mid
+abbrev pub StopsIn-last : (stop : FailedDevice) (m : Machine) (input : List ℕ) (old mid : RunState) (now : Chip) → IsRunning old (from_machine m) → Feeds input old mid
     → ((r : Running) → IsRunning mid r → (is_empty_line r.begun ≡ false) × FailsAt stop [] r mid.chip.still.given now) → StopsIn stop m (lines input true) old.chip.still.given now
 StopsIn-last stop m input old mid now running feeds ends =
     let r : Running = after (from_machine m) input in

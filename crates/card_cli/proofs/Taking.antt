@@ -10,8 +10,8 @@ use Rattle.scql_model.specs.Machine.{Machine}
 use Rattle.scql_model.specs.Lines.{lines, machine_after}
 use Rattle.card.specs.Card.{IsReady, IsAt}
 use Rattle.card.proofs.Leaving.{Opens-at}
-use Rattle.card_cli.specs.declared.stop.Stop.{Stop}
-use Rattle.card_cli.specs.declared.stop.Stop.TheVariants.{Eeprom, Outlet, Both}
+use Rattle.card_cli.specs.declared.stop.FailedDevice.{FailedDevice}
+use Rattle.card_cli.specs.declared.stop.FailedDevice.TheVariants.{Eeprom, Outlet, Both}
 use Rattle.card_cli.specs.declared.status.Status.{Status}
 use Rattle.card_cli.specs.declared.status.Status.TheVariants.{Done, ReadFault, TooLong}
 use Rattle.card_cli.specs.StatusNumber.{status_of}
@@ -20,7 +20,7 @@ use Rattle.card_cli.specs.RunState.{Prints, RunState, IsRunning, Feeds, Faults, 
 use Rattle.card_cli.specs.Ends.{EndsAs, longest_input}
 use Rattle.card_cli.specs.Line.{line_content, is_empty_line}
 use Rattle.card_cli.specs.Moments.{IsInStopped, IsAtEnd, IfGiven}
-use Rattle.card_cli.specs.Keeping.{AreKept, AreAllKept, KeepsTo, lines_carried_out}
+use Rattle.card_cli.specs.Keeping.{AreKeptInRun, AreAllKept, KeepsTo, lines_carried_out}
 use Rattle.card_cli.proofs.Keeping.{kept-taken, kept-until, kept-ended, until-last}
 use Rattle.card_cli.proofs.Moving.{told-before}
 use Rattle.card_cli.specs.CutOff.{HasAnswered, StopsIn}
@@ -199,23 +199,23 @@ Ends-too_long from to room count piece old mid new start before now m over withi
     )
 
 -- At a stop the EEPROM's count of faults stays where the outlet alone failed, and rose else.
-abbrev pub CountsAt : Stop → ℕ → ℕ → Type 0
+abbrev pub CountsAt : FailedDevice → ℕ → ℕ → Type 0
 CountsAt Outlet from to = to ≡ from
 CountsAt stop from to = Rose from to
 
-pub counts-at : (stop : Stop) (start : ℕ) (old new : Faults) → old.eeprom ≡ start → Causes {T = Unit {0}} old new (Err stop) → CountsAt stop start new.eeprom
+pub counts-at : (stop : FailedDevice) (start : ℕ) (old new : Faults) → old.eeprom ≡ start → Causes {T = Unit {0}} old new (Err stop) → CountsAt stop start new.eeprom
 counts-at Eeprom start old new same causes = subst (λ (n : ℕ). Rose n new.eeprom) same (causes.eeprom refl)
 counts-at Outlet start old new same causes = causes.eeprom_stays refl ∙ same
 counts-at Both start old new same causes = subst (λ (n : ℕ). Rose n new.eeprom) same (causes.both refl).0
 
-Ends-stopped : (stop : Stop) (from to : ℕ) (m : Machine) (input left : List ℕ) (old now : Chip) → CountsAt stop from to → (stops : StopsIn stop m (lines input true) old.still.given now)
-    → IfGiven now (AreKept m (lines input true) (lines_carried_out stop stops.answered) old now) → Ends (status_of stop) from to m old now input left
+Ends-stopped : (stop : FailedDevice) (from to : ℕ) (m : Machine) (input left : List ℕ) (old now : Chip) → CountsAt stop from to → (stops : StopsIn stop m (lines input true) old.still.given now)
+    → IfGiven now (AreKeptInRun m (lines input true) (lines_carried_out stop stops.answered) old now) → Ends (status_of stop) from to m old now input left
 Ends-stopped Eeprom from to m input left old now counts stops kept = record { ended = stops; keeps = λ given. (stops, kept given) }
 Ends-stopped Outlet from to m input left old now counts stops kept = record { ended = inl (counts, stops); keeps = λ given. inl (counts, (stops, kept given)) }
 Ends-stopped Both from to m input left old now counts stops kept = record { ended = inr (counts, stops); keeps = λ given. inr (counts, (stops, kept given)) }
 
 -- a device stopped the run among the octets of a piece, of which so many were looked at
-pub Ends-halted : (stop : Stop) (from to : ℕ) → CountsAt stop from to → (room count k : ℕ) (piece : List ℕ) (old mid : RunState) (now : Chip) (start before taken : Option (List ℕ)) (m : Machine) → k ≤ count
+pub Ends-halted : (stop : FailedDevice) (from to : ℕ) → CountsAt stop from to → (room count k : ℕ) (piece : List ℕ) (old mid : RunState) (now : Chip) (start before taken : Option (List ℕ)) (m : Machine) → k ≤ count
     → IsRunning old (from_machine m) → Becomes (HasTaken room old mid) start before → TakesPiece count piece before taken → Halts stop (take k piece) mid now
     → Becomes (Ends (status_of stop) from to m old.chip now) start taken
 Ends-halted stop from to counts room count k piece old mid now start before taken m fits running so_far takes halts = λ left told.
@@ -231,7 +231,7 @@ Ends-halted stop from to counts room count k piece old mid now start before take
     )
 
 -- a device stopped the run in the last line
-pub Ends-last : (stop : Stop) (from to : ℕ) → CountsAt stop from to → (room : ℕ) (piece : List ℕ) (old mid : RunState) (now : Chip) (start before taken : Option (List ℕ)) (m : Machine)
+pub Ends-last : (stop : FailedDevice) (from to : ℕ) → CountsAt stop from to → (room : ℕ) (piece : List ℕ) (old mid : RunState) (now : Chip) (start before taken : Option (List ℕ)) (m : Machine)
     → IsRunning old (from_machine m) → Becomes (HasTaken room old mid) start before → TakesPiece 0 piece before taken
     → ((r : Running) → IsRunning mid r → (is_empty_line r.begun ≡ false) × FailsAt stop [] r mid.chip.still.given now)
     → ((r : Running) → IsRunning mid r → IfGiven now (Throughout mid.chip now (IsInStopped stop r.machine (line_content r.begun) mid.chip.still.mark)))

@@ -6,7 +6,7 @@ use Rattle.scql_model.specs.Machine.{Machine}
 use Rattle.scql_model.specs.Lines.{lines}
 use Rattle.card_cli.specs.declared.status.Status.{Status}
 use Rattle.card_cli.specs.declared.status.Status.TheVariants.{Done, Eeprom, ReadFault, WriteFault, NotACard, NoMemory, TooLong, TooSmall}
-use Rattle.card_cli.specs.declared.stop.Stop.TheVariants as stop
+use Rattle.card_cli.specs.declared.stop.FailedDevice.TheVariants as stop
 use Rattle.card_cli.specs.CutOff.{HasAnswered, StopsIn, OutletFails}
 
 -- how many octets of input a run takes

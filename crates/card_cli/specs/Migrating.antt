@@ -3,7 +3,7 @@ use Rattle.std.specs.Prelude.{◌≡◌, ℕ, ◌+◌, ◌<◌, ◌≤◌, Bool,
 use Rattle.eeprom.specs.Chip.{Chip, Throughout}
 use Rattle.eeprom.specs.StoreOf.{row_limit, is_gate_open}
 use Rattle.eeprom.specs.declared.layout.TheConstants.{MIGRATED_ROW_LIMIT}
-use Rattle.migrate.specs.Migration.{KeepsRest}
+use Rattle.migrate.specs.Migration.{KeepsAllElse}
 use Rattle.record_store.specs.Recovery.{KeepsStore}
 use Rattle.scql_model.specs.Database.{Database}
 use Rattle.scql_model.specs.Migrating.{migrated, migrate_text, migrate_commits}
@@ -59,7 +59,7 @@ LeavesLongRows old new = (image : List ℕ) → old.image ≡ Some image → row
 
 -- at each moment from old on to new all octets but the version and the row limit are as they were
 abbrev pub KeepsOthers : Chip → Chip → Type 0
-KeepsOthers old new = Throughout old new (λ g left. (was : List ℕ) × (old.image ≡ Some was) × KeepsRest was left)
+KeepsOthers old new = Throughout old new (λ g left. (was : List ℕ) × (old.image ≡ Some was) × KeepsAllElse was left)
 
 -- What a run of `migrate` owes that ended so.
 pub record Migrates {S : Type 0} (status : Status) (before after : S) (old new : Chip) (was now : AllFaults) : Type 0 where

@@ -4,8 +4,8 @@ use Rattle.eeprom.specs.Chip.{Chip, Throughout}
 use Rattle.scql_model.specs.Machine.{Machine}
 use Rattle.scql_model.specs.Lines.{LineContent, content_text, content_step, content_commits}
 use Rattle.scql_model.specs.Opens.{Opens, OpensToOneOf}
-use Rattle.card_cli.specs.declared.stop.Stop.{Stop}
-use Rattle.card_cli.specs.declared.stop.Stop.TheVariants.{Outlet}
+use Rattle.card_cli.specs.declared.stop.FailedDevice.{FailedDevice}
+use Rattle.card_cli.specs.declared.stop.FailedDevice.TheVariants.{Outlet}
 use Rattle.card_cli.specs.Line.{line_content, is_empty_line}
 use Rattle.card_cli.specs.Running.{Running, after, text_of}
 
@@ -21,7 +21,7 @@ pub record IsInAnswered (m : Machine) (reading : LineContent) (mark g : ℕ) (im
   pub done : mark < g → Opens image (content_step m reading).committed
 
 -- in a line in which a device fails, which was carried out where the outlet alone does
-abbrev pub IsInStopped : Stop → Machine → LineContent → ℕ → ℕ → List ℕ → Type 0
+abbrev pub IsInStopped : FailedDevice → Machine → LineContent → ℕ → ℕ → List ℕ → Type 0
 IsInStopped Outlet m reading mark g image = IsInAnswered m reading mark g image
 IsInStopped stop m reading mark g image = IsInLine m reading mark g image
 
@@ -31,7 +31,7 @@ pub record IsAnswered (m : Machine) (reading : LineContent) (old new : Chip) : T
   pub moments : Throughout old new (IsInAnswered m reading old.still.mark)
 
 -- Between two octets of input the image opens to the database of the machine there.
-pub record IsBetween (octets : List ℕ) (r : Running) (mark g : ℕ) (image : List ℕ) : Type 0 where
+pub record IsBetweenOctets (octets : List ℕ) (r : Running) (mark g : ℕ) (image : List ℕ) : Type 0 where
   pub taken : List ℕ
   pub rest : List ℕ
   pub split : octets ≡ taken ++ rest
@@ -47,10 +47,10 @@ pub record IsAnswering (octets : List ℕ) (r : Running) (mark g : ℕ) (image :
 
 -- while octets of input are taken
 abbrev pub IsWhile : List ℕ → Running → ℕ → ℕ → List ℕ → Type 0
-IsWhile octets r mark g image = IsBetween octets r mark g image ⊎ IsAnswering octets r mark g image
+IsWhile octets r mark g image = IsBetweenOctets octets r mark g image ⊎ IsAnswering octets r mark g image
 
 -- while octets are taken, or in the line that has begun behind them, in which a device fails
-abbrev pub IsUntil : Stop → List ℕ → Running → ℕ → ℕ → List ℕ → Type 0
+abbrev pub IsUntil : FailedDevice → List ℕ → Running → ℕ → ℕ → List ℕ → Type 0
 IsUntil stop octets r mark g image =
     IsWhile octets r mark g image
     ⊎ IsInStopped stop (after r octets).machine (line_content (after r octets).begun) (mark + length (text_of r octets)) g image

@@ -3,8 +3,8 @@ use Rattle.std.specs.Prelude.{◌≡◌, ℕ, ◌≤◌, List, ◌++◌, Option,
 use Rattle.eeprom.specs.Chip.{Chip, Becomes}
 use Rattle.eeprom.specs.Fault.{Rose}
 use Rattle.card.specs.Card.{Kept, IsAt}
-use Rattle.card_cli.specs.declared.stop.Stop.{Stop}
-use Rattle.card_cli.specs.declared.stop.Stop.TheVariants.{Eeprom, Outlet, Both}
+use Rattle.card_cli.specs.declared.stop.FailedDevice.{FailedDevice}
+use Rattle.card_cli.specs.declared.stop.FailedDevice.TheVariants.{Eeprom, Outlet, Both}
 use Rattle.card_cli.specs.Running.{Running, after, text_of}
 use Rattle.card_cli.specs.Moments.{Passes, IfGiven}
 
@@ -38,7 +38,7 @@ pub record Faults : Type 0 where
   pub outlet : ℕ
 
 -- Each stop has its cause: the count of a device that failed rises, and that of one that didn't stays. No count falls.
-pub record Causes {T : Type 0} (old new : Faults) (result : Result T Stop) : Type 0 where
+pub record Causes {T : Type 0} (old new : Faults) (result : Result T FailedDevice) : Type 0 where
   pub quiet : OnOk result (new ≡ old)
   pub eeprom : IsErrOf result Eeprom → Rose old.eeprom new.eeprom
   pub outlet_stays : IsErrOf result Eeprom → new.outlet ≡ old.outlet

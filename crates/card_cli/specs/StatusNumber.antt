@@ -2,8 +2,8 @@
 use Rattle.std.specs.Prelude.{ℕ}
 use Rattle.card_cli.specs.declared.ending.Ending.{Ending}
 use Rattle.card_cli.specs.declared.ending.Ending.TheVariants.{Run, NoFile}
-use Rattle.card_cli.specs.declared.stop.Stop.{Stop}
-use Rattle.card_cli.specs.declared.stop.Stop.TheVariants as stops
+use Rattle.card_cli.specs.declared.stop.FailedDevice.{FailedDevice}
+use Rattle.card_cli.specs.declared.stop.FailedDevice.TheVariants as stops
 use Rattle.card_cli.specs.declared.status.Status.{Status}
 use Rattle.card_cli.specs.declared.status.Status.TheVariants.{Done, Refused, Usage, Eeprom, ReadFault, WriteFault, NotACard, NoMemory, TooLong, TooSmall}
 
@@ -21,7 +21,7 @@ number_of TooLong = 8
 number_of TooSmall = 9
 
 -- how a run ends that a device stops
-abbrev pub status_of : Stop → Status
+abbrev pub status_of : FailedDevice → Status
 status_of stops.Eeprom = Eeprom
 status_of stops.Outlet = WriteFault
 status_of stops.Both = WriteFault

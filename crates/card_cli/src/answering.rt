@@ -15,7 +15,7 @@ ghost use Rattle.eeprom.specs.Chip.{Gives, Throughout};
 ghost use Rattle.eeprom.specs.Fault.{Counts};
 
 use crate::line::{Line, LineContent};
-use crate::stop::Stop;
+use crate::stop::FailedDevice;
 use apdu::Reply;
 use arrayvec::ArrayVec;
 use card::{Card, Outcome};
@@ -31,7 +31,7 @@ pub(crate) fn take_octets<B: Bench>(
     bench: &mut B,
     line: &mut Line,
     octets: &[u8],
-) -> Result<(), Stop>
+) -> Result<(), FailedDevice>
     requires ready { IsReady card.old (B.chip bench.old) }
     ensures halts { IfErr result (λ stop. Halts stop octets.now
         (record { card = card.old; line = line_octets line.old; chip = B.chip bench.old }) (B.chip bench.new)) }
@@ -55,7 +55,7 @@ fn take_octet<B: Bench>(
     bench: &mut B,
     line: &mut Line,
     octet: u8,
-) -> Result<(), Stop>
+) -> Result<(), FailedDevice>
     requires ready { IsReady card.old (B.chip bench.old) }
     ensures halts { IfErr result (λ stop. Halts stop (octet ∷ [])
         (record { card = card.old; line = line_octets line.old; chip = B.chip bench.old }) (B.chip bench.new)) }
@@ -78,7 +78,11 @@ fn take_octet<B: Bench>(
 }
 
 /// Answers a whole line.
-pub(crate) fn answer_line<B: Bench>(card: &mut Card, bench: &mut B, line: &Line) -> Result<(), Stop>
+pub(crate) fn answer_line<B: Bench>(
+    card: &mut Card,
+    bench: &mut B,
+    line: &Line,
+) -> Result<(), FailedDevice>
     requires ready { IsReady card.old (B.chip bench.old) }
     ensures at { (m : Machine) → IsAt card.old (B.chip bench.old) m
         → OnOk result (IsAt card.new (B.chip bench.new) (model.content_step m (line_content (line_octets line.now)))) }
@@ -110,7 +114,11 @@ pub(crate) fn answer_line<B: Bench>(card: &mut Card, bench: &mut B, line: &Line)
     }
 }
 
-fn answer_command<B: Bench>(card: &mut Card, bench: &mut B, octets: &[u8]) -> Result<(), Stop>
+fn answer_command<B: Bench>(
+    card: &mut Card,
+    bench: &mut B,
+    octets: &[u8],
+) -> Result<(), FailedDevice>
     requires ready { IsReady card.old (B.chip bench.old) }
     ensures at { (m : Machine) → IsAt card.old (B.chip bench.old) m → OnOk result (IsAt card.new (B.chip bench.new) (step m octets.now).machine) }
     ensures text { (m : Machine) → IsAt card.old (B.chip bench.old) m
@@ -134,8 +142,8 @@ fn answer_command<B: Bench>(card: &mut Card, bench: &mut B, octets: &[u8]) -> Re
     match card.answer(bench, octets, &mut reply) {
         Outcome::Replied => Ok(give(bench, &reply_text(&reply))?),
         Outcome::Mute => match give(bench, &reply_text(&reply)) {
-            Ok(()) => Err(Stop::Eeprom),
-            Err(_) => Err(Stop::Both),
+            Ok(()) => Err(FailedDevice::Eeprom),
+            Err(_) => Err(FailedDevice::Both),
         },
     }
 }

@@ -16,7 +16,7 @@ ghost use Rattle.card_cli.specs.Ends.{EndsBy, EndsAs, ends_input, longest_input}
 use crate::answering::{answer_line, take_octets};
 use crate::line::Line;
 use crate::status::Status;
-use crate::stop::Stop;
+use crate::stop::FailedDevice;
 use card::Card;
 use eeprom::{Bench, Source};
 
@@ -72,7 +72,7 @@ pub(crate) fn answer_input<S: Source, B: Bench>(
 }
 
 // Where the input ends behind octets without a line feed, they are a line.
-fn answer_last<B: Bench>(card: &mut Card, bench: &mut B, line: &Line) -> Result<(), Stop>
+fn answer_last<B: Bench>(card: &mut Card, bench: &mut B, line: &Line) -> Result<(), FailedDevice>
     requires { IsReady card.old (B.chip bench.old) }
     ensures text { (r : Running) → IsRunning (record { card = card.old; line = line_octets line.now; chip = B.chip bench.old }) r
         → OnOk result (Prints (end_text r) (B.chip bench.old).still.given (B.chip bench.new).still.given) }

@@ -8,7 +8,7 @@ ghost use Rattle.scql_model.specs.Machine.{start};
 ghost use Rattle.scql_model.specs.Lines.{lines, run_text};
 ghost use Rattle.record_store.specs.Recovery.{KeepsStore};
 ghost use Rattle.card_cli.specs.Words.{form_in, ask_for_lines};
-ghost use Rattle.card_cli.specs.declared.stop.Stop.TheVariants as stop;
+ghost use Rattle.card_cli.specs.declared.stop.FailedDevice.TheVariants as stop;
 ghost use Rattle.card.specs.Behind.{KeepsBehind};
 ghost use Rattle.card_cli.specs.Behind.{run_cells};
 ghost use Rattle.card_cli.specs.Beginning.{BeginsWith, FindsNoCard, EndsUnread};

@@ -22,8 +22,8 @@ starts marks [] = false
 starts marks (octet ∷ octets) = marks octet
 
 -- the spelling of a record is one that a store can hold
-abbrev pub HasRoom : {X : Type 0} → Kind X → X → Type 0
-HasRoom {X} kind x = length (kind.form.spell x) ≤ longest_record
+abbrev pub FitsChain : {X : Type 0} → Kind X → X → Type 0
+FitsChain {X} kind x = length (kind.form.spell x) ≤ longest_record
 
 -- What a kind owes.
 pub record IsKind {X : Type 0} (kind : Kind X) : Type 0 where

@@ -18,13 +18,13 @@ const VIEW: u8 = Object::VIEW_MARK;
 const DICTIONARY: u8 = Object::DICTIONARY_MARK;
 
 impl Record for Object {
-    ghost use Rattle.catalog_codec.specs.Kinds.{HasRoom};
+    ghost use Rattle.catalog_codec.specs.Kinds.{FitsChain};
     ghost use Rattle.catalog_codec.specs.Catalog.{object_kind};
     ghost use Rattle.catalog_codec.specs.CatalogLaws.{IsKind-object};
 
     ghost kind = { object_kind };
 
-    ghost can_encode = { HasRoom object_kind };
+    ghost can_encode = { FitsChain object_kind };
 
     fn has_mark(octet: u8) -> bool {
         matches!(octet, TABLE | VIEW | DICTIONARY)

@@ -6,13 +6,13 @@ use cell_store::RecordOctets;
 use scql_base::RowRecord;
 
 impl Record for RowRecord {
-    ghost use Rattle.catalog_codec.specs.Kinds.{HasRoom};
+    ghost use Rattle.catalog_codec.specs.Kinds.{FitsChain};
     ghost use Rattle.catalog_codec.specs.Catalog.{row_kind};
     ghost use Rattle.catalog_codec.specs.CatalogLaws.{IsKind-row};
 
     ghost kind = { row_kind };
 
-    ghost can_encode = { HasRoom row_kind };
+    ghost can_encode = { FitsChain row_kind };
 
     fn has_mark(octet: u8) -> bool {
         octet == RowRecord::MARK

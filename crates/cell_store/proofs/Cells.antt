@@ -8,7 +8,7 @@ use Rattle.eeprom.specs.StoreOf.{chain_of, cell_place, payload_of, number_at, im
 use Rattle.cell_store.specs.Cells.{link_in}
 use Rattle.cell_store.specs.Chains.{AreLinked}
 use Rattle.cell_store.specs.Marks.{IsFreeRun, StaysMarked, is_marked}
-use Rattle.cell_store.specs.Placed.{Keeping, SameCell, IsTaken, IsPlaced, IsLaid}
+use Rattle.cell_store.specs.Placed.{Keeping, SameCell, IsTakenBefore, IsPlaced, IsLaid}
 use Rattle.cell_store.proofs.FreeRuns.{one-free, outside-run}
 use Rattle.cell_store.proofs.Marking.{marked-here, marks-stay, with_marked-all, with_marked-set, with_marked-stays}
 use Rattle.cell_store.proofs.Linking.{linked-same, linked-inside}
@@ -102,15 +102,15 @@ payload-written image n at high low piece fits size =
     payload_of-behind (take place image) ((high ∷ low ∷ piece) ++ rest) n at (sym (length-take-le place image fits))
     ∙ take-whole piece rest 30 size
 
-same-chain : (n : ℕ) (start marks : List Bool) (now later : List ℕ) (chain : List ℕ) → Keeping marks n later now → AllByRecursion (IsTaken n start marks) chain → AllByRecursion (SameCell later now n) chain
+same-chain : (n : ℕ) (start marks : List Bool) (now later : List ℕ) (chain : List ℕ) → Keeping marks n later now → AllByRecursion (IsTakenBefore n start marks) chain → AllByRecursion (SameCell later now n) chain
 same-chain n start marks now later [] keeping taken = tt
 same-chain n start marks now later (cell ∷ chain) keeping taken = (keeping.cells cell taken.0.now, same-chain n start marks now later chain keeping taken.1)
 
-taken-more : (n at : ℕ) (start marks : List Bool) (chain : List ℕ) → AllByRecursion (IsTaken n start marks) chain → AllByRecursion (IsTaken n start (set marks at true)) chain
+taken-more : (n at : ℕ) (start marks : List Bool) (chain : List ℕ) → AllByRecursion (IsTakenBefore n start marks) chain → AllByRecursion (IsTakenBefore n start (set marks at true)) chain
 taken-more n at start marks [] taken = tt
 taken-more n at start marks (cell ∷ chain) taken = (record { inside = taken.0.inside; free = taken.0.free; now = marks-stay marks at cell taken.0.now }, taken-more n at start marks chain taken.1)
 
-not-among : (n at : ℕ) (start marks : List Bool) (chain : List ℕ) → is_marked marks at ≡ false → AllByRecursion (IsTaken n start marks) chain → list_any (λ cell. at == cell) chain ≡ false
+not-among : (n at : ℕ) (start marks : List Bool) (chain : List ℕ) → is_marked marks at ≡ false → AllByRecursion (IsTakenBefore n start marks) chain → list_any (λ cell. at == cell) chain ≡ false
 not-among n at start marks [] free taken = refl
 not-among n at start marks (cell ∷ chain) free taken =
     let other : cell ≢ at = marked-apart marks cell at free taken.0.now in

@@ -7,7 +7,7 @@ use Rattle.eeprom.specs.StoreOf.{chain_of, cell_place, cells_for, payload_of, nu
 use Rattle.cell_store.specs.Cells.{Cells, IsInRange, cells_from, link_in}
 use Rattle.cell_store.specs.Chains.{AreLinked, link_of, IsRecordChain}
 use Rattle.cell_store.specs.Marks.{is_marked}
-use Rattle.cell_store.specs.Placed.{IsPlaced, IsLaid, IsTaken}
+use Rattle.cell_store.specs.Placed.{IsPlaced, IsLaid, IsTakenBefore}
 use Rattle.cell_store.specs.Writing.{IsWritten}
 use Rattle.cell_store.proofs.Chains.{length-payload}
 use Rattle.cell_store.proofs.Freeing.{linked-within}
@@ -30,7 +30,7 @@ record-front payload m long =
     ∙ sym (cut payload 2 (2 + k) (omega arith))
 
 record-written : (image : List ℕ) (n : ℕ) (payload octets : List ℕ) (count : ℕ) (chain : List ℕ) (start marks : List Bool) → 70 * n + 34 ≤ length image → length chain ≡ count → count ≡ cells_for (length octets) → 1 ≤ length octets → length octets ≤ longest_record
-    → number_at payload 0 ≡ length octets → record_in payload ≡ octets → flat_map (payload_of image n) chain ≡ slice_range payload 0 (30 * count) → AllByRecursion (IsTaken n start marks) chain
+    → number_at payload 0 ≡ length octets → record_in payload ≡ octets → flat_map (payload_of image n) chain ≡ slice_range payload 0 (30 * count) → AllByRecursion (IsTakenBefore n start marks) chain
     → (is_record image n chain ≡ true) × (slot_of image n chain ≡ Some octets)
 record-written image n payload octets count [] start marks room size cells some most number record_is flat taken = absurd (omega arith)
 record-written image n payload octets count (cell ∷ chain) start marks room size cells some most number record_is flat taken =
@@ -55,7 +55,7 @@ mark-cases marks cell = elim (is_marked marks cell) as (λ t. is_marked marks ce
 ] refl
 
 taken-agree : (n : ℕ) (start marks : List Bool) (links now : List ℕ) (chain : List ℕ) → ((cell : ℕ) → is_marked marks cell ≡ true → is_marked start cell ≡ false → slice_index links cell ≡ number_at now (cell_place n cell))
-    → AllByRecursion (IsTaken n start marks) chain → AllByRecursion (λ cell. slice_index links cell ≡ number_at now (cell_place n cell)) chain
+    → AllByRecursion (IsTakenBefore n start marks) chain → AllByRecursion (λ cell. slice_index links cell ≡ number_at now (cell_place n cell)) chain
 taken-agree n start marks links now [] new taken = tt
 taken-agree n start marks links now (cell ∷ chain) new taken = (new cell taken.0.now taken.0.free, taken-agree n start marks links now chain new taken.1)
 

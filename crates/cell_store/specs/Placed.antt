@@ -20,7 +20,7 @@ pub record Keeping (marks : List Bool) (n : ℕ) (left was : List ℕ) : Type 0 
   pub cells : (cell : ℕ) → is_marked marks cell ≡ true → SameCell left was n cell
 
 -- a cell that was taken for the chain
-pub record IsTaken (n : ℕ) (start marks : List Bool) (cell : ℕ) : Type 0 where
+pub record IsTakenBefore (n : ℕ) (start marks : List Bool) (cell : ℕ) : Type 0 where
   pub inside : cell < 2 * n
   pub free : is_marked start cell ≡ false
   pub now : is_marked marks cell ≡ true
@@ -31,7 +31,7 @@ pub record Placed (n : ℕ) (start marks : List Bool) (payload : List ℕ) (piec
   pub of : (most : ℕ) → length chain ≤ most → chain_of image n most first ≡ Some chain
   pub cells : length chain + piece ≡ count
   pub octets : flat_map (payload_of image n) chain ≡ slice_range payload (piece_size * piece) (piece_size * count)
-  pub taken : AllByRecursion (IsTaken n start marks) chain
+  pub taken : AllByRecursion (IsTakenBefore n start marks) chain
   pub distinct : is_distinct chain ≡ true
 
 -- the same, and the image keeps what was marked, and links the cells that were taken as they are linked in memory

@@ -21,12 +21,12 @@ use Rattle.scql_model.proofs.Creating.{name-size}
 use Rattle.scql_model.proofs.KeepsValid.{IsValid-edits_of}
 use Rattle.scql_model.proofs.RecordLengths.{names-size}
 use Rattle.catalog_codec.specs.Catalog.{object_kind}
-use Rattle.catalog_codec.specs.Kinds.{HasRoom}
+use Rattle.catalog_codec.specs.Kinds.{FitsChain}
 use Rattle.object_table.specs.Named.{has_name}
 use Rattle.record_table.specs.Making.{IsValidWith}
 
 -- a table's record isn't too long
-pub short-named : (stamp owner : ℕ) (name : List ℕ) (columns : List (List ℕ)) → is_name name ≡ true → AreNames columns → HasRoom object_kind (record { stamp = stamp; name = name; owner = owner; kind = Table columns })
+pub short-named : (stamp owner : ℕ) (name : List ℕ) (columns : List (List ℕ)) → is_name name ≡ true → AreNames columns → FitsChain object_kind (record { stamp = stamp; name = name; owner = owner; kind = Table columns })
 short-named stamp owner name columns named are =
     let a = name-size name named in
     let b = names-size columns are.each in

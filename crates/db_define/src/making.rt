@@ -15,7 +15,7 @@ ghost use Rattle.scql_model.specs.Defining as model;
 ghost use Rattle.scql_model.specs.Defining.{object_created};
 ghost use Rattle.scql_model.specs.WellFormed.{HasForm};
 ghost use Rattle.catalog_codec.specs.Catalog.{object_kind};
-ghost use Rattle.catalog_codec.specs.Kinds.{HasRoom};
+ghost use Rattle.catalog_codec.specs.Kinds.{FitsChain};
 ghost use Rattle.object_table.specs.Named.{has_name};
 ghost use Rattle.record_table.specs.Listed.{slots_of};
 ghost use Rattle.record_table.specs.Making.{Ends, GoesOn, IsHeld, KeepsRows, is_stop_fault};
@@ -82,7 +82,7 @@ fn is_taken<B: Eeprom>(store: &Store, bench: &mut B, name: Name) -> Result<bool,
 // A table of a stamp, owned by who makes it. Its record isn't too long, whatever names it has.
 fn new_table(stamp: u32, actor: Actor, name: Name, columns: NameList) -> Object
     ensures table { result ≡ record { stamp = stamp; name = name; owner = actor_stamp actor; kind = Table columns } }
-    ensures short { HasRoom object_kind result }
+    ensures short { FitsChain object_kind result }
 {
     prove!(name.octets().len() <= Name::LONGEST);
     prove!(columns.len() <= NameList::MOST);

@@ -19,11 +19,11 @@ use Rattle.scql_model.specs.Writing.{row_inserted}
 use Rattle.scql_model.proofs.ChangeLaws.{AreMade-with_edits}
 use Rattle.scql_model.proofs.KeepsRows.{inserted-keeps}
 use Rattle.catalog_codec.specs.Catalog.{row_kind}
-use Rattle.catalog_codec.specs.Kinds.{HasRoom}
+use Rattle.catalog_codec.specs.Kinds.{FitsChain}
 use Rattle.record_table.specs.Making.{IsValidWith}
 
 -- the record of a row isn't too long
-pub short-row : (stamp table : ℕ) (values : Values) → IsRow values → HasRoom row_kind (record { stamp = stamp; table = table; row = values })
+pub short-row : (stamp table : ℕ) (values : Values) → IsRow values → FitsChain row_kind (record { stamp = stamp; table = table; row = values })
 short-row stamp table values row = omega (arith, row.size, row_size-spelled values)
 
 pub inserts-none : (db : Database) (actor : Actor) (name : List ℕ) (values : Values) → None ≡ seen_named db actor name → (row_inserted db actor name values >>= with_edits db) ≡ Err not_found

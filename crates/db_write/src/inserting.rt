@@ -15,7 +15,7 @@ ghost use Rattle.scql_model.specs.Records.{of_row};
 ghost use Rattle.scql_model.specs.WellFormed.{FitsCard, HasForm};
 ghost use Rattle.scql_model.specs.Writing.{row_inserted};
 ghost use Rattle.catalog_codec.specs.Catalog.{row_kind};
-ghost use Rattle.catalog_codec.specs.Kinds.{HasRoom};
+ghost use Rattle.catalog_codec.specs.Kinds.{FitsChain};
 ghost use Rattle.record_table.specs.Making.{Ends, GoesOn, IsHeld, is_stop_fault};
 
 use eeprom::Eeprom;
@@ -105,7 +105,7 @@ fn column_count(kind: &ObjectKind) -> usize
 // A row of a table, whose record a store can have.
 fn new_record(stamp: u32, table: u32, row: Row) -> RowRecord
     ensures record { result ≡ record { stamp = stamp; table = table; row = row } }
-    ensures short { HasRoom row_kind result }
+    ensures short { FitsChain row_kind result }
 {
     prove!(row.len() <= Row::MOST);
     RowRecord { stamp, table, row }

@@ -6,7 +6,7 @@ use Rattle.std.specs.List.{list_all}
 use Rattle.eeprom.specs.Image.{overwrite, IsTorn}
 use Rattle.eeprom.specs.StoreOf.{number_at, entries_at, journal_place, journal, is_entry, is_gate_open, written_directory, with_entries, directory, image_size}
 use Rattle.eeprom.specs.declared.entry.Entry.{Entry}
-use Rattle.journal.specs.Journal.{KeepsRest, TakesEntries, IsBetween, IsReplayed, KeepsDirectory}
+use Rattle.journal.specs.Journal.{KeepsRest, TakesEntries, IsBetweenDirectories, IsReplayed, KeepsDirectory}
 use Rattle.journal.specs.Redo.{HasJournal, IsOpenWith}
 use Rattle.journal.specs.Writing.{AreJournal}
 use Rattle.journal.proofs.Outside.{torn-outside, torn-whole, alike-written, number-alike, entries-alike, gate-stays, directory-before, directory-behind, rest-gate, rest-body, rest-then}
@@ -27,7 +27,7 @@ journaled-torn n count was left room few closed torn =
       written = directory-before (32 + 2 * n) (34 + 6 * n) n left was (omega arith) same;
     }
 
-pub journaled-between : (n : ℕ) (entries : List Entry) (was left : List ℕ) → IsJournaled n was left → IsBetween n entries was left
+pub journaled-between : (n : ℕ) (entries : List Entry) (was left : List ℕ) → IsJournaled n was left → IsBetweenDirectories n entries was left
 journaled-between n entries was left is = record { rest = is.rest; one = inl (directory-closed n left (written_directory was n) is.closed is.written) }
 
 -- the journal is there once it was written
@@ -49,7 +49,7 @@ journal-there n entries was octets room are =
     in-range count n all few is = rw (is, le-leb count n few) refl
 
 -- while the gate is opened
-pub opening-between : (n : ℕ) (entries : List Entry) (was mid left : List ℕ) → IsJournaled n was mid → HasJournal n entries mid → 9 ≤ length mid → IsTorn mid 8 1 left → IsBetween n entries was left
+pub opening-between : (n : ℕ) (entries : List Entry) (was mid left : List ℕ) → IsJournaled n was mid → HasJournal n entries mid → 9 ≤ length mid → IsTorn mid 8 1 left → IsBetweenDirectories n entries was left
 opening-between n entries was mid left is has room torn =
     let same = torn-outside mid left 8 1 8 9 (omega arith) (omega arith) (omega arith) torn in
     record {
@@ -74,7 +74,7 @@ opened n entries was mid is has room =
       with = directory-open n entries left (written_directory was n) (gate-open mid room) has' (directory-behind 8 9 n left mid (omega arith) same ∙ is.written);
     }
 
-pub opened-between : (n : ℕ) (entries : List Entry) (was mid left : List ℕ) → IsOpened n entries was mid → KeepsDirectory n mid left → IsBetween n entries was left
+pub opened-between : (n : ℕ) (entries : List Entry) (was mid left : List ℕ) → IsOpened n entries was mid → KeepsDirectory n mid left → IsBetweenDirectories n entries was left
 opened-between n entries was mid left is keeps = record { rest = rest-then n was mid left is.rest keeps.rest; one = inr (keeps.same ∙ is.with) }
 
 pub opened-done : (n : ℕ) (entries : List Entry) (was mid now : List ℕ) → IsOpened n entries was mid → IsReplayed n mid now → TakesEntries n entries was now

@@ -7,7 +7,7 @@ use Rattle.eeprom.specs.Image.{overwrite, IsTorn}
 use Rattle.eeprom.specs.StoreOf.{image_size, journal_place, is_gate_open, written_directory, with_entries}
 use Rattle.eeprom.specs.declared.entry.Entry.{Entry}
 use Rattle.eeprom.proofs.Overwrite.{map-some}
-use Rattle.journal.specs.Journal.{TakesEntries, IsBetween, IsReplayed, KeepsDirectory}
+use Rattle.journal.specs.Journal.{TakesEntries, IsBetweenDirectories, IsReplayed, KeepsDirectory}
 use Rattle.journal.specs.Redo.{HasJournal, IsOpenWith, IsRewritten}
 use Rattle.eeprom.proofs.Leaves.{at-told, write-leaves, leaves-weaker, leaves-then, leaves-last}
 use Rattle.journal.specs.Writing.{AreJournal}
@@ -91,8 +91,8 @@ journaled-leaves n entries octets place old mid begins are room sized closed clo
     (subst (λ (place : ℕ). IsTorn was place (length octets) left) begins torn))
     (write-leaves place octets old mid clocked w)
 
-pub commit-first : (n : ℕ) (entries : List Entry) (old mid : Chip) → LeavesOf (IsJournaled n) old mid → LeavesOf (IsBetween n entries) old mid
-commit-first n entries old mid = leaves-weaker old mid (IsJournaled n) (IsBetween n entries) (λ was left told is. journaled-between n entries was left is)
+pub commit-first : (n : ℕ) (entries : List Entry) (old mid : Chip) → LeavesOf (IsJournaled n) old mid → LeavesOf (IsBetweenDirectories n entries) old mid
+commit-first n entries old mid = leaves-weaker old mid (IsJournaled n) (IsBetweenDirectories n entries) (λ was left told is. journaled-between n entries was left is)
 
 -- the journal is whole, and its gate is still closed
 record IsWhole (n : ℕ) (entries : List Entry) (was mid : List ℕ) : Type 0 where
@@ -122,9 +122,9 @@ whole n entries octets place old mid begins are room sized moments written after
 -- and then its gate is opened
 pub commit-second : (n : ℕ) (entries : List Entry) (octets : List ℕ) (place : ℕ) (old mid new : Chip) (gate : List ℕ) → gate ≡ 1 ∷ [] → mid.still ≡ old.still → place ≡ journal_place n → AreJournal n entries octets → HasRoom n old
     → IfSome old.image (λ image. length image ≡ old.still.size) → LeavesOf (IsJournaled n) old mid → mid.image ≡ option_map (λ image. overwrite image place octets) old.image
-    → IfSome mid.past (λ past. length past ≡ mid.clock) → Writes 8 gate mid new → LeavesOf (IsBetween n entries) old new
+    → IfSome mid.past (λ past. length past ≡ mid.clock) → Writes 8 gate mid new → LeavesOf (IsBetweenDirectories n entries) old new
 commit-second n entries octets place old mid new gate is still begins are room sized moments written clocked w =
-    leaves-then old mid new (IsWhole n entries) (λ was left. IsTorn was 8 (length gate) left) (IsBetween n entries) still (whole n entries octets place old mid begins are room sized moments written)
+    leaves-then old mid new (IsWhole n entries) (λ was left. IsTorn was 8 (length gate) left) (IsBetweenDirectories n entries) still (whole n entries octets place old mid begins are room sized moments written)
     (λ was mid left done torn. opening-between n entries was mid left done.journaled done.has done.room (subst (λ (gate : List ℕ). IsTorn mid 8 (length gate) left) is torn))
     (commit-first n entries old mid moments) (write-leaves 8 gate mid new clocked w)
 
@@ -145,9 +145,9 @@ pub opened-over : (n : ℕ) (entries : List Entry) (old new : Option (List ℕ))
 opened-over n entries old new there = if-told (IsOpenWith n entries) new (λ image told. let o = there image told in let is = o.2 in is.gate)
 
 -- what the redo behind an opened gate leaves
-pub commit-third : (n : ℕ) (entries : List Entry) (old mid new : Chip) → mid.still ≡ old.still → Becomes (IsOpened n entries) old.image mid.image → LeavesOf (IsBetween n entries) old mid → LeavesOf (KeepsDirectory n) mid new → LeavesOf (IsBetween n entries) old new
+pub commit-third : (n : ℕ) (entries : List Entry) (old mid new : Chip) → mid.still ≡ old.still → Becomes (IsOpened n entries) old.image mid.image → LeavesOf (IsBetweenDirectories n entries) old mid → LeavesOf (KeepsDirectory n) mid new → LeavesOf (IsBetweenDirectories n entries) old new
 commit-third n entries old mid new still there first second =
-    leaves-then old mid new (IsOpened n entries) (KeepsDirectory n) (IsBetween n entries) still there (λ was mid left is keeps. opened-between n entries was mid left is keeps) first second
+    leaves-then old mid new (IsOpened n entries) (KeepsDirectory n) (IsBetweenDirectories n entries) still there (λ was mid left is keeps. opened-between n entries was mid left is keeps) first second
 
 pub commit-replayed : (n : ℕ) (entries : List Entry) (old mid new : Option (List ℕ)) → Becomes (IsOpened n entries) old mid → Becomes (IsReplayed n) mid new → Becomes (TakesEntries n entries) old new
 commit-replayed n entries old mid new there redo after told =

@@ -17,7 +17,7 @@ pub record TakesEntries (n : ℕ) (entries : List Entry) (was now : List ℕ) : 
   pub written : written_directory now n ≡ with_entries entries (written_directory was n)
 
 -- during a commit the directory in force is the one from before, or the one with all entries
-pub record IsBetween (n : ℕ) (entries : List Entry) (was left : List ℕ) : Type 0 where
+pub record IsBetweenDirectories (n : ℕ) (entries : List Entry) (was left : List ℕ) : Type 0 where
   pub rest : KeepsRest n was left
   pub one : (directory left n ≡ Some (written_directory was n)) ⊎ (directory left n ≡ Some (with_entries entries (written_directory was n)))
 

@@ -6,7 +6,7 @@ ghost use Rattle.eeprom.specs.Fault.{Counts, CountsFaults, each_error};
 ghost use Rattle.eeprom.specs.Frame.{HasRoom, Reads};
 ghost use Rattle.eeprom.specs.StoreOf.{most_cells, is_entry, is_gate_open, directory, number_at, entries_at, journal_place};
 ghost use Rattle.journal.specs.Faults.{is_replay_fault};
-ghost use Rattle.journal.specs.Journal.{TakesEntries, IsBetween, IsReplayed, KeepsDirectory};
+ghost use Rattle.journal.specs.Journal.{TakesEntries, IsBetweenDirectories, IsReplayed, KeepsDirectory};
 
 use crate::ReplayRefusal;
 use crate::octets::Entries;
@@ -37,7 +37,7 @@ impl Journal {
         ensures done { OnOk result (Becomes (TakesEntries cells entries.now) (B.chip bench.old).image (B.chip bench.new).image) }
         ensures told { OnOk result (is_some (B.chip bench.new).image ≡ is_some (B.chip bench.old).image) }
         ensures still { (B.chip bench.new).still ≡ (B.chip bench.old).still }
-        ensures moments { LeavesOf (IsBetween cells entries.now) (B.chip bench.old) (B.chip bench.new) }
+        ensures moments { LeavesOf (IsBetweenDirectories cells entries.now) (B.chip bench.old) (B.chip bench.new) }
         ensures octets_written { OnOk result (Becomes (RisesBy (4 + 6 * length entries.now)) (B.chip bench.old).written (B.chip bench.new).written) }
         ensures octets_read { B.octets_read bench.new ≡ B.octets_read bench.old }
         ensures cause { Counts (B.faults bench.old) (B.faults bench.new) result }

@@ -6,7 +6,7 @@ use Rattle.eeprom.specs.Image.{overwrite, IsTorn}
 use Rattle.eeprom.specs.StoreOf.{Slots, Stored, starts_with_magic, has_header, has_version, number_at, row_limit, is_gate_open, slots_at, directory, store_of}
 use Rattle.eeprom.proofs.Regions.{length-overwrite, take-overwrite, drop-overwrite, get-before, get-inside, get-behind}
 use Rattle.eeprom.proofs.SameFrom.{drop-from, in-force-from}
-use Rattle.migrate.specs.Migration.{has_even_version, KeepsRest, with_limit, IsMigrated, IsBetween}
+use Rattle.migrate.specs.Migration.{has_even_version, KeepsAllElse, with_rows_up_to, IsMigrated, IsBetweenVersions}
 
 abbrev stored : ℕ → Slots → Stored
 stored limit slots = record { row_limit = limit; slots = slots }
@@ -26,16 +26,16 @@ magic-front (a ∷ b ∷ []) = refl
 magic-front (a ∷ b ∷ c ∷ []) = refl
 magic-front (a ∷ b ∷ c ∷ d ∷ rest) = refl
 
-octet-before : (was left : List ℕ) (k : ℕ) → k < 5 → KeepsRest was left → slice_index left k ≡ slice_index was k
+octet-before : (was left : List ℕ) (k : ℕ) → k < 5 → KeepsAllElse was left → slice_index left k ≡ slice_index was k
 octet-before was left k inside rest =
     sym (get_or-take 5 left k 0 inside) ∙ ap (λ (xs : List ℕ). get_or xs k 0) rest.before_version ∙ get_or-take 5 was k 0 inside
 
-octet-between : (was left : List ℕ) (k : ℕ) → k < 3 → KeepsRest was left → slice_index left (6 + k) ≡ slice_index was (6 + k)
+octet-between : (was left : List ℕ) (k : ℕ) → k < 3 → KeepsAllElse was left → slice_index left (6 + k) ≡ slice_index was (6 + k)
 octet-between was left k inside rest =
     sym (get_or-take 3 (drop 6 left) k 0 inside ∙ get_or-drop 6 left k 0)
     ∙ ap (λ (xs : List ℕ). get_or xs k 0) rest.between ∙ get_or-take 3 (drop 6 was) k 0 inside ∙ get_or-drop 6 was k 0
 
-header-rest : (was left : List ℕ) → KeepsRest was left → has_version left ≡ true → has_version was ≡ true → has_header left ≡ has_header was
+header-rest : (was left : List ℕ) → KeepsAllElse was left → has_version left ≡ true → has_version was ≡ true → has_header left ≡ has_header was
 header-rest was left rest now before =
     rw (
       now,
@@ -47,7 +47,7 @@ header-rest was left rest now before =
     ) refl
 
 -- where the rest stays and both versions are good, the store is the same but for its row limit
-store-rest : (was left : List ℕ) → KeepsRest was left → has_version left ≡ true → has_version was ≡ true → store_of left ≡ store_with (row_limit left) was
+store-rest : (was left : List ℕ) → KeepsAllElse was left → has_version left ≡ true → has_version was ≡ true → store_of left ≡ store_with (row_limit left) was
 store-rest was left rest now before =
     let magic : starts_with_magic left ≡ starts_with_magic was = magic-front left ∙ ap starts_with_magic rest.before_version ∙ sym (magic-front was) in
     let header = header-rest was left rest now before in
@@ -64,11 +64,11 @@ store-rest was left rest now before =
     built a b c d limit xs ys magic header slots = rw (magic, header, slots) refl
 
 -- another row limit
-store-limit : (image : List ℕ) (limit : ℕ) → store_with limit image ≡ option_map (with_limit limit) (store_of image)
+store-limit : (image : List ℕ) (limit : ℕ) → store_with limit image ≡ option_map (with_rows_up_to limit) (store_of image)
 store-limit image limit = limited (starts_with_magic image) (has_header image) (option_and_then (slots_at image (number_at image 6)) (directory image (number_at image 6))) (row_limit image)
   where
     limited : (magic header : Bool) (slots : Option Slots) (before : ℕ) → (if magic then (if header then option_map (stored limit) slots else None) else None)
-        ≡ option_map (with_limit limit) (if magic then (if header then option_map (stored before) slots else None) else None)
+        ≡ option_map (with_rows_up_to limit) (if magic then (if header then option_map (stored before) slots else None) else None)
     limited false header slots before = refl
     limited true false slots before = refl
     limited true true None before = refl
@@ -81,7 +81,7 @@ pub limit-odd : (image : List ℕ) → has_even_version image ≡ false → row_
 limit-odd image odd = rw odd refl
 
 -- both images have an even version
-even-between : (was left : List ℕ) → KeepsRest was left → has_even_version was ≡ true → has_even_version left ≡ true → IsBetween was left
+even-between : (was left : List ℕ) → KeepsAllElse was left → has_even_version was ≡ true → has_even_version left ≡ true → IsBetweenVersions was left
 even-between was left rest before now = record {
   rest = rest;
   one = inl (store-rest was left rest (rw now refl) (rw before refl)
@@ -90,18 +90,18 @@ even-between was left rest before now = record {
 
 -- the row limit is written, and the version is still even
 pub record IsLimited (was mid : List ℕ) : Type 0 where
-  pub rest : KeepsRest was mid
+  pub rest : KeepsAllElse was mid
   pub even : has_even_version was ≡ true
   pub high : slice_index mid 9 ≡ 0x03
   pub low : slice_index mid 10 ≡ 0xFC
   pub room : 11 ≤ length mid
 
-odd-store : (was left : List ℕ) → KeepsRest was left → has_even_version was ≡ true → has_even_version left ≡ false → slice_index left 9 ≡ 0x03 → slice_index left 10 ≡ 0xFC
-    → store_of left ≡ option_map (with_limit 1020) (store_of was)
+odd-store : (was left : List ℕ) → KeepsAllElse was left → has_even_version was ≡ true → has_even_version left ≡ false → slice_index left 9 ≡ 0x03 → slice_index left 10 ≡ 0xFC
+    → store_of left ≡ option_map (with_rows_up_to 1020) (store_of was)
 odd-store was left rest before now high low =
     store-rest was left rest (rw (now, high, low) refl) (rw before refl) ∙ ap (λ (limit : ℕ). store_with limit was) (limit-odd left now) ∙ store-limit was 1020
 
-rest-then : (was mid left : List ℕ) → KeepsRest was mid → KeepsRest mid left → KeepsRest was left
+rest-then : (was mid left : List ℕ) → KeepsAllElse was mid → KeepsAllElse mid left → KeepsAllElse was left
 rest-then was mid left first second = record {
   size = second.size ∙ first.size;
   before_version = second.before_version ∙ first.before_version;
@@ -109,11 +109,11 @@ rest-then was mid left first second = record {
   behind_limit = second.behind_limit ∙ first.behind_limit;
 }
 
-pub rest-none : (was : List ℕ) → KeepsRest was was
+pub rest-none : (was : List ℕ) → KeepsAllElse was was
 rest-none was = record { size = refl; before_version = refl; between = refl; behind_limit = refl }
 
 -- a write of the row limit
-limit-rest : (was octets : List ℕ) → length octets ≡ 2 → 11 ≤ length was → KeepsRest was (overwrite was 9 octets)
+limit-rest : (was octets : List ℕ) → length octets ≡ 2 → 11 ≤ length was → KeepsAllElse was (overwrite was 9 octets)
 limit-rest was octets two room =
     let left = overwrite was 9 octets in
     let head : take 9 left ≡ take 9 was = take-overwrite 9 9 was octets (omega arith) (omega arith) in
@@ -127,9 +127,9 @@ limit-rest was octets two room =
 limit-even-stays : (was octets : List ℕ) → length octets ≡ 2 → 11 ≤ length was → has_even_version (overwrite was 9 octets) ≡ has_even_version was
 limit-even-stays was octets two room = ap (λ (octet : ℕ). octet % 2 == 0) (get-before was 9 octets 5 (omega arith) (omega arith))
 
-pub limit-torn : (was left : List ℕ) → 11 ≤ length was → has_even_version was ≡ true → IsTorn was 9 2 left → IsBetween was left
+pub limit-torn : (was left : List ℕ) → 11 ≤ length was → has_even_version was ≡ true → IsTorn was 9 2 left → IsBetweenVersions was left
 limit-torn was left room even torn =
-    subst (λ (left : List ℕ). IsBetween was left) (sym torn.is)
+    subst (λ (left : List ℕ). IsBetweenVersions was left) (sym torn.is)
     (even-between was (overwrite was 9 torn.octets) (limit-rest was torn.octets torn.count_is room) even (limit-even-stays was torn.octets torn.count_is room ∙ even))
 
 pub limited : (was : List ℕ) → 11 ≤ length was → has_even_version was ≡ true → IsLimited was (overwrite was 9 (0x03 ∷ 0xFC ∷ []))
@@ -144,7 +144,7 @@ limited was room even =
     }
 
 -- a write of the version
-version-rest : (mid octets : List ℕ) → length octets ≡ 1 → 11 ≤ length mid → KeepsRest mid (overwrite mid 5 octets)
+version-rest : (mid octets : List ℕ) → length octets ≡ 1 → 11 ≤ length mid → KeepsAllElse mid (overwrite mid 5 octets)
 version-rest mid octets one room =
     let left = overwrite mid 5 octets in
     let tail : drop 6 left ≡ drop 6 mid = drop-overwrite 6 5 mid octets (omega arith) (omega arith) in
@@ -158,17 +158,17 @@ version-rest mid octets one room =
 version-octet : (mid octets : List ℕ) (k : ℕ) → length octets ≡ 1 → 11 ≤ length mid → 6 ≤ k → slice_index (overwrite mid 5 octets) k ≡ slice_index mid k
 version-octet mid octets k one room behind = get-behind mid 5 octets k (omega arith) (omega arith)
 
-version-rests : (was mid octets : List ℕ) → length octets ≡ 1 → IsLimited was mid → KeepsRest was (overwrite mid 5 octets)
+version-rests : (was mid octets : List ℕ) → length octets ≡ 1 → IsLimited was mid → KeepsAllElse was (overwrite mid 5 octets)
 version-rests was mid octets one is = rest-then was mid (overwrite mid 5 octets) is.rest (version-rest mid octets one is.room)
 
-version-odd : (was mid octets : List ℕ) → length octets ≡ 1 → IsLimited was mid → has_even_version (overwrite mid 5 octets) ≡ false → store_of (overwrite mid 5 octets) ≡ option_map (with_limit 1020) (store_of was)
+version-odd : (was mid octets : List ℕ) → length octets ≡ 1 → IsLimited was mid → has_even_version (overwrite mid 5 octets) ≡ false → store_of (overwrite mid 5 octets) ≡ option_map (with_rows_up_to 1020) (store_of was)
 version-odd was mid octets one is odd =
     odd-store was (overwrite mid 5 octets) (version-rests was mid octets one is) is.even odd (version-octet mid octets 9 one is.room (omega arith) ∙ is.high) (version-octet mid octets 10 one is.room (omega arith) ∙ is.low)
 
-pub version-torn : (was mid left : List ℕ) → IsLimited was mid → IsTorn mid 5 1 left → IsBetween was left
+pub version-torn : (was mid left : List ℕ) → IsLimited was mid → IsTorn mid 5 1 left → IsBetweenVersions was left
 version-torn was mid left is torn =
     let rest = version-rests was mid torn.octets torn.count_is is in
-    subst (λ (left : List ℕ). IsBetween was left) (sym torn.is) (elim (cases_Bool (has_even_version (overwrite mid 5 torn.octets))) [
+    subst (λ (left : List ℕ). IsBetweenVersions was left) (sym torn.is) (elim (cases_Bool (has_even_version (overwrite mid 5 torn.octets))) [
       | inl even ↦ even-between was (overwrite mid 5 torn.octets) rest is.even even
       | inr odd ↦ record { rest = rest; one = inr (version-odd was mid torn.octets torn.count_is is odd) }
     ])
@@ -188,7 +188,7 @@ migrated was mid is =
     }
 
 -- a card that was migrated stays as it is
-pub between-none : (was : List ℕ) → IsBetween was was
+pub between-none : (was : List ℕ) → IsBetweenVersions was was
 between-none was = record { rest = rest-none was; one = inl refl }
 
 pub migrated-none : (was : List ℕ) → has_even_version was ≡ false → IsMigrated was was

@@ -4,7 +4,7 @@ use Rattle.std.proofs.lemmas.Option.{same_Some}
 use Rattle.eeprom.specs.Chip.{Chip, Writes, Becomes, LeavesOf}
 use Rattle.eeprom.specs.Image.{overwrite, IsTorn}
 use Rattle.eeprom.proofs.Leaves.{at-told, write-leaves, leaves-weaker, leaves-then}
-use Rattle.migrate.specs.Migration.{has_even_version, IsMigrated, IsBetween}
+use Rattle.migrate.specs.Migration.{has_even_version, IsMigrated, IsBetweenVersions}
 use Rattle.migrate.proofs.Versions.{IsLimited, limit-torn, limited, version-torn, migrated, between-none, migrated-none}
 
 long-enough : (old : Chip) (was : List ℕ) → 11 ≤ old.still.size → IfSome old.image (λ image. length image ≡ old.still.size) → old.image ≡ Some was → 11 ≤ length was
@@ -12,9 +12,9 @@ long-enough old was room sized told = let size = at-told (λ image. length image
 
 -- the row limit is written
 pub limit-leaves : (old mid : Chip) (octets : List ℕ) → octets ≡ 0x03 ∷ 0xFC ∷ [] → 11 ≤ old.still.size → IfSome old.image (λ image. length image ≡ old.still.size) → IfSome old.image (λ image. has_even_version image ≡ true)
-    → IfSome old.past (λ past. length past ≡ old.clock) → Writes 9 octets old mid → LeavesOf IsBetween old mid
+    → IfSome old.past (λ past. length past ≡ old.clock) → Writes 9 octets old mid → LeavesOf IsBetweenVersions old mid
 limit-leaves old mid octets is room sized even clocked w =
-    leaves-weaker old mid (λ was left. IsTorn was 9 (length octets) left) IsBetween
+    leaves-weaker old mid (λ was left. IsTorn was 9 (length octets) left) IsBetweenVersions
     (λ was left told torn. limit-torn was left (long-enough old was room sized told) (at-told (λ image. has_even_version image ≡ true) old.image was told even)
     (subst (λ (octets : List ℕ). IsTorn was 9 (length octets) left) is torn))
     (write-leaves 9 octets old mid clocked w)
@@ -34,10 +34,10 @@ limit-there old mid octets is room sized even written after told =
     )
 
 -- and then the version
-pub version-leaves : (old mid new : Chip) (octets : List ℕ) → octets ≡ 1 ∷ [] → mid.still ≡ old.still → Becomes IsLimited old.image mid.image → LeavesOf IsBetween old mid
-    → IfSome mid.past (λ past. length past ≡ mid.clock) → Writes 5 octets mid new → LeavesOf IsBetween old new
+pub version-leaves : (old mid new : Chip) (octets : List ℕ) → octets ≡ 1 ∷ [] → mid.still ≡ old.still → Becomes IsLimited old.image mid.image → LeavesOf IsBetweenVersions old mid
+    → IfSome mid.past (λ past. length past ≡ mid.clock) → Writes 5 octets mid new → LeavesOf IsBetweenVersions old new
 version-leaves old mid new octets is still there first clocked w =
-    leaves-then old mid new IsLimited (λ was left. IsTorn was 5 (length octets) left) IsBetween still there
+    leaves-then old mid new IsLimited (λ was left. IsTorn was 5 (length octets) left) IsBetweenVersions still there
     (λ was mid left done torn. version-torn was mid left done (subst (λ (octets : List ℕ). IsTorn mid 5 (length octets) left) is torn))
     first (write-leaves 5 octets mid new clocked w)
 
@@ -51,8 +51,8 @@ version-there old mid new octets is there written after told =
     )
 
 -- nothing is written
-pub leaves-none : (old new : Chip) → new ≡ old → LeavesOf IsBetween old new
-leaves-none old new same = subst (λ (new : Chip). LeavesOf IsBetween old new) (sym same) (record {
+pub leaves-none : (old new : Chip) → new ≡ old → LeavesOf IsBetweenVersions old new
+leaves-none old new same = subst (λ (new : Chip). LeavesOf IsBetweenVersions old new) (sym same) (record {
   later = omega arith;
   only = λ t g left since there. inl there;
   now = λ image told. (refl, image, told, between-none image);

@@ -8,15 +8,15 @@ abbrev pub has_even_version : List ℕ → Bool
 has_even_version image = slice_index image 5 % 2 == 0
 
 -- all octets but the version and the two that repeat the row limit are as they were
-pub record KeepsRest (was left : List ℕ) : Type 0 where
+pub record KeepsAllElse (was left : List ℕ) : Type 0 where
   pub size : length left ≡ length was
   pub before_version : take 5 left ≡ take 5 was
   pub between : slice_range left 6 9 ≡ slice_range was 6 9
   pub behind_limit : drop 11 left ≡ drop 11 was
 
 -- the same slots, with rows of at most so many octets
-abbrev pub with_limit : ℕ → Stored → Stored
-with_limit limit stored = record stored { row_limit = limit }
+abbrev pub with_rows_up_to : ℕ → Stored → Stored
+with_rows_up_to limit stored = record stored { row_limit = limit }
 
 -- the version of a migrated card is 01, and behind the gate the row limit is repeated
 pub record HasLongRows (now : List ℕ) : Type 0 where
@@ -26,11 +26,11 @@ pub record HasLongRows (now : List ℕ) : Type 0 where
 
 -- after a migration the store is the one from before, with the longer rows; and where the version was even it is that of a migrated card
 pub record IsMigrated (was now : List ℕ) : Type 0 where
-  pub rest : KeepsRest was now
+  pub rest : KeepsAllElse was now
   pub octets : has_even_version was ≡ true → HasLongRows now
-  pub store : store_of now ≡ option_map (with_limit MIGRATED_ROW_LIMIT) (store_of was)
+  pub store : store_of now ≡ option_map (with_rows_up_to MIGRATED_ROW_LIMIT) (store_of was)
 
 -- during a migration the store is the one from before, or the one with the longer rows
-pub record IsBetween (was left : List ℕ) : Type 0 where
-  pub rest : KeepsRest was left
-  pub one : (store_of left ≡ store_of was) ⊎ (store_of left ≡ option_map (with_limit MIGRATED_ROW_LIMIT) (store_of was))
+pub record IsBetweenVersions (was left : List ℕ) : Type 0 where
+  pub rest : KeepsAllElse was left
+  pub one : (store_of left ≡ store_of was) ⊎ (store_of left ≡ option_map (with_rows_up_to MIGRATED_ROW_LIMIT) (store_of was))

@@ -4,7 +4,7 @@ ghost use Rattle.eeprom.specs.Chip.{Becomes, RisesBy, LeavesOf};
 ghost use Rattle.eeprom.specs.Fault.{Counts, each_error};
 ghost use Rattle.eeprom.specs.Frame.{HasRoom, Reads};
 ghost use Rattle.eeprom.specs.StoreOf.{fewest_cells, row_limit};
-ghost use Rattle.migrate.specs.Migration.{IsMigrated, IsBetween, has_even_version};
+ghost use Rattle.migrate.specs.Migration.{IsMigrated, IsBetweenVersions, has_even_version};
 
 use eeprom::{Eeprom, EepromFault, GATE_PLACE, MIGRATED_ROW_LIMIT, ROW_LIMIT};
 
@@ -26,7 +26,7 @@ pub fn migrate<B: Eeprom>(bench: &mut B) -> Result<bool, EepromFault>
     ensures told { OnOk result (is_some (B.chip bench.new).image ≡ is_some (B.chip bench.old).image) }
     ensures already { (image : List ℕ) → (B.chip bench.old).image ≡ Some image → row_limit image ≡ MIGRATED_ROW_LIMIT → B.chip bench.new ≡ B.chip bench.old }
     ensures still { (B.chip bench.new).still ≡ (B.chip bench.old).still }
-    ensures moments { LeavesOf IsBetween (B.chip bench.old) (B.chip bench.new) }
+    ensures moments { LeavesOf IsBetweenVersions (B.chip bench.old) (B.chip bench.new) }
     ensures octets_written { IfOk result (λ migrates. Becomes (RisesBy (if migrates then 3 else 0)) (B.chip bench.old).written (B.chip bench.new).written) }
     ensures octets_read { Becomes (RisesBy 1) (B.octets_read bench.old) (B.octets_read bench.new) }
     ensures cause { Counts (B.faults bench.old) (B.faults bench.new) result }
@@ -57,7 +57,7 @@ fn write_version<B: Eeprom>(bench: &mut B) -> Result<(), EepromFault>
     ensures done { OnOk result (Becomes IsMigrated (B.chip bench.old).image (B.chip bench.new).image) }
     ensures told { OnOk result (is_some (B.chip bench.new).image ≡ is_some (B.chip bench.old).image) }
     ensures still { (B.chip bench.new).still ≡ (B.chip bench.old).still }
-    ensures moments { LeavesOf IsBetween (B.chip bench.old) (B.chip bench.new) }
+    ensures moments { LeavesOf IsBetweenVersions (B.chip bench.old) (B.chip bench.new) }
     ensures octets_written { OnOk result (Becomes (RisesBy 3) (B.chip bench.old).written (B.chip bench.new).written) }
     ensures octets_read { B.octets_read bench.new ≡ B.octets_read bench.old }
     ensures cause { Counts (B.faults bench.old) (B.faults bench.new) result }

@@ -7,7 +7,7 @@ ghost use Rattle.record_store.specs.Faults.{is_put_fault};
 ghost use Rattle.record_store.specs.Held.{IsOver, StandsFor};
 ghost use Rattle.record_store.specs.Put.{IsFull, IsWithin};
 ghost use Rattle.record_store.specs.Transaction.{entries};
-ghost use Rattle.catalog_codec.specs.Kinds.{HasRoom};
+ghost use Rattle.catalog_codec.specs.Kinds.{FitsChain};
 ghost use Rattle.catalog_codec.specs.Catalog.{object_kind};
 ghost use Rattle.record_table.specs.Changed.{IsAdded, IsChanged, IsEmptied, Rewrites};
 
@@ -19,7 +19,7 @@ use scql_base::Object;
 pub fn add<B: Eeprom>(store: &mut Store, bench: &mut B, value: &Object) -> Result<u16, StoreRefusal>
     requires begun { IsTrue store.old.begun }
     requires over { IsOver store.old (B.chip bench.old) }
-    requires spelled { HasRoom object_kind value.now }
+    requires spelled { FitsChain object_kind value.now }
     ensures there { IfOk result (λ slot. slot < store.old.chains.cells) }
     ensures added { IfOk result (λ slot. Becomes (Rewrites (IsAdded object_kind value.now slot) store.old store.new) (B.chip bench.old).image (B.chip bench.new).image) }
     ensures over { OnOk result (IsOver store.new (B.chip bench.new)) }
@@ -49,7 +49,7 @@ pub fn change<B: Eeprom>(
     requires begun { IsTrue store.old.begun }
     requires slot { slot < store.old.chains.cells }
     requires over { IsOver store.old (B.chip bench.old) }
-    requires spelled { HasRoom object_kind value.now }
+    requires spelled { FitsChain object_kind value.now }
     ensures changed { OnOk result (Becomes (Rewrites (IsChanged object_kind value.now slot) store.old store.new) (B.chip bench.old).image (B.chip bench.new).image) }
     ensures over { OnOk result (IsOver store.new (B.chip bench.new)) }
     ensures within { OnOk result (IfSome (B.chip bench.old).image (IsWithin store.old slot (object_kind.form.spell value.now))) }

@@ -7,7 +7,7 @@ use Rattle.eeprom.specs.declared.entry.Entry.{Entry}
 use Rattle.eeprom.proofs.SameFrom.{slots-from}
 use Rattle.eeprom.proofs.Regions.{same-magic, same-cells, same-header, same-limit}
 use Rattle.cell_store.specs.Marks.{StaysMarked}
-use Rattle.journal.specs.Journal.{IsBetween, TakesEntries}
+use Rattle.journal.specs.Journal.{IsBetweenDirectories, TakesEntries}
 use Rattle.record_store.specs.Held.{Held, StandsFor, AreKept, firsts, contents, stored}
 use Rattle.record_store.specs.Slots.{AreFirsts, changed}
 use Rattle.record_store.specs.Sound.{AreChains, IsSound}
@@ -66,7 +66,7 @@ pub changed-few : (held : Held) (entries : List Entry) → Ready held entries �
 changed-few held entries ready = omega (arith, ready.count, changed-most held.committed held.working, ready.sound.committed_count)
 
 -- at each moment the store is the committed one, or the working one
-between : (held : Held) (entries : List Entry) (was left : List ℕ) → Ready held entries → StandsFor held was → IsBetween held.chains.cells entries was left → (store_of left ≡ stored held Committed was) ⊎ (store_of left ≡ stored held Working was)
+between : (held : Held) (entries : List Entry) (was left : List ℕ) → Ready held entries → StandsFor held was → IsBetweenDirectories held.chains.cells entries was left → (store_of left ≡ stored held Committed was) ⊎ (store_of left ≡ stored held Working was)
 between held entries was left ready stands b =
     let n = held.chains.cells in
     let begins = stands.begins in
@@ -80,7 +80,7 @@ between held entries was left ready stands b =
 told-image : (P : List ℕ → Type 0) (o : Option (List ℕ)) (image : List ℕ) → o ≡ Some image → IfSome o P → P image
 told-image P o image told holds = subst (λ (o : Option (List ℕ)). IfSome o P) told holds
 
-pub commits-from : (held : Held) (entries : List Entry) (old new : Chip) → Ready held entries → IfSome old.image (StandsFor held) → new.still ≡ old.still → LeavesOf (IsBetween held.chains.cells entries) old new → Commits held old new
+pub commits-from : (held : Held) (entries : List Entry) (old new : Chip) → Ready held entries → IfSome old.image (StandsFor held) → new.still ≡ old.still → LeavesOf (IsBetweenDirectories held.chains.cells entries) old new → Commits held old new
 commits-from held entries old new ready stands still leaves = record {
   still = still;
   moments = record {
@@ -93,7 +93,7 @@ commits-from held entries old new ready stands still leaves = record {
   };
 }
   where
-    one : (left was : List ℕ) → old.image ≡ Some was → IsBetween held.chains.cells entries was left → (store_of left ≡ stored held Committed was) ⊎ (store_of left ≡ stored held Working was)
+    one : (left was : List ℕ) → old.image ≡ Some was → IsBetweenDirectories held.chains.cells entries was left → (store_of left ≡ stored held Committed was) ⊎ (store_of left ≡ stored held Working was)
     one left was told b = between held entries was left ready (told-image (StandsFor held) old.image was told stands) b
 
 -- once it is done the working store is that of the image

@@ -8,7 +8,7 @@ use Rattle.eeprom.proofs.Leaves.{at-told, write-leaves, leaves-weaker}
 use Rattle.eeprom.proofs.Regions.{drop-overwrite}
 use Rattle.eeprom.proofs.SameFrom.{drop-from}
 use Rattle.cell_store.specs.Placed.{Keeping, KeepsMarked}
-use Rattle.journal.specs.Journal.{IsBetween, KeepsDirectory}
+use Rattle.journal.specs.Journal.{IsBetweenDirectories, KeepsDirectory}
 use Rattle.record_store.specs.Header.{IsHeaderOf}
 use Rattle.record_store.specs.declared.header.Header.{Header}
 
@@ -42,9 +42,9 @@ behind-marked marks n cells old new same keeps =
     (λ was left told keeping. subst (λ (n : ℕ). drop (image_size n) left ≡ drop (image_size n) was) same keeping.behind) keeps.moments
 
 -- and during a commit
-pub behind-commit : (n cells : ℕ) (entries : List Entry) (old new : Chip) → n ≡ cells → new.still ≡ old.still → LeavesOf (IsBetween n entries) old new → Keeps (drop (image_size cells)) old new
+pub behind-commit : (n cells : ℕ) (entries : List Entry) (old new : Chip) → n ≡ cells → new.still ≡ old.still → LeavesOf (IsBetweenDirectories n entries) old new → Keeps (drop (image_size cells)) old new
 behind-commit n cells entries old new same still leaves =
-    keeps-leaves (drop (image_size cells)) (IsBetween n entries) old new still (λ was left told between. drop-from (front_size n) (image_size cells) left was (omega (arith, same)) between.rest.cells) leaves
+    keeps-leaves (drop (image_size cells)) (IsBetweenDirectories n entries) old new still (λ was left told between. drop-from (front_size n) (image_size cells) left was (omega (arith, same)) between.rest.cells) leaves
 
 -- a replay by the number of cells that the image's header says
 pub rest-replayed : (header : Header) (old new : Chip) → IfSome old.image (λ image. IsHeaderOf image header) → LeavesOf (KeepsDirectory header.cells) old new → LeavesOf (λ was left. KeepsDirectory (number_at was 6) was left) old new

@@ -7,7 +7,7 @@ use Rattle.eeprom.specs.StoreOf.{is_distinct}
 use Rattle.cell_store.specs.Cells.{Cells}
 use Rattle.cell_store.specs.Chains.{is_among}
 use Rattle.record_store.specs.Held.{Held, StandsFor, firsts}
-use Rattle.record_store.specs.Kept.{HasMemory, IsTouched, IsKept}
+use Rattle.record_store.specs.Kept.{HasMemory, IsTouched, IsInMemory}
 use Rattle.record_store.specs.Opening.{HeldSoFar}
 use Rattle.record_store.specs.Sound.{AreBeside, HasChains, IsSound, cells_in}
 use Rattle.record_store.specs.Touched.{TouchedSlots, AreSlots, SameOutside, with_touched}
@@ -146,7 +146,7 @@ begun-weighed held committed working w idle = record {
   working_is = w.working_is ∙ ap (λ (cells : List ℕ). walk held.chains.links cells) (let same : firsts held Working ≡ held.committed = rw idle refl in same);
 }
 
-pub begun-kept : (held : Held) (committed working count : ℕ) (touched : TouchedSlots) (room : ℕ) → IsKept held committed working count touched room → held.begun ≡ false → IsKept (record held { begun = true }) committed working count touched room
+pub begun-kept : (held : Held) (committed working count : ℕ) (touched : TouchedSlots) (room : ℕ) → IsInMemory held committed working count touched room → held.begun ≡ false → IsInMemory (record held { begun = true }) committed working count touched room
 begun-kept held committed working count touched room k idle =
     let same : record held { begun = true } ≡ begun_from held = begun-view held held touched room refl k.weighed.sound k.transaction idle in
     record {

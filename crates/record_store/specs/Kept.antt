@@ -29,7 +29,7 @@ pub record IsTouched (held : Held) (touched : TouchedSlots) (room : ℕ) : Type 
   pub room_is : held.chains.cells ≤ room
 
 -- how many cells the committed records and the working ones have, how many slots are in use, and which ones a transaction touched
-pub record IsKept (held : Held) (committed_weight working_weight slots_in_use : ℕ) (touched : TouchedSlots) (room : ℕ) : Type 0 where
+pub record IsInMemory (held : Held) (committed_weight working_weight slots_in_use : ℕ) (touched : TouchedSlots) (room : ℕ) : Type 0 where
   pub weighed : IsWeighed held committed_weight working_weight
   pub in_use : AreInUse held slots_in_use
   pub transaction : IsTouched held touched room

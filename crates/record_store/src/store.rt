@@ -55,13 +55,13 @@ pub struct Store {
 impl Model for Store {
     ghost use Rattle.std.specs.Vec.{vec_capacity};
     ghost use Rattle.record_store.specs.Held.{Held};
-    ghost use Rattle.record_store.specs.Kept.{IsKept};
+    ghost use Rattle.record_store.specs.Kept.{IsInMemory};
 
     ghost Value = { Held };
 
     ghost view = { λ store. record { chains = store.chains; row_limit = store.row_limit; committed = store.committed.items; working = store.working.items; begun = store.begun; first_octets = store.first_octets.items } };
 
-    ghost invariant = { λ store. IsKept (record { chains = store.chains; row_limit = store.row_limit; committed = store.committed.items; working = store.working.items; begun = store.begun; first_octets = store.first_octets.items }) store.committed_weight store.working_weight store.slots_in_use store.touched (vec_capacity store.entries) };
+    ghost invariant = { λ store. IsInMemory (record { chains = store.chains; row_limit = store.row_limit; committed = store.committed.items; working = store.working.items; begun = store.begun; first_octets = store.first_octets.items }) store.committed_weight store.working_weight store.slots_in_use store.touched (vec_capacity store.entries) };
 }
 
 impl Opening {

@@ -12,11 +12,11 @@ use Rattle.scql_base.specs.declared.records.RowRecord.{RowRecord}
 use Rattle.catalog_codec.specs.Catalog.{row_kind}
 use Rattle.record_table.specs.Listed.{at_slot}
 use Rattle.record_table.proofs.Scan.{AreEmptyFrom}
-use Rattle.row_index.specs.Index.{AreKept}
+use Rattle.row_index.specs.Index.{ArePlaces}
 use Rattle.row_index.specs.Places.{place_in, place_of, place_slot, place_stamp, row_places}
 use Rattle.row_index.specs.declared.place.RowPlace.{RowPlace}
 use Rattle.row_index.proofs.Changes.{length-put_in_order}
-use Rattle.row_index.proofs.Kept.{AreKept-put}
+use Rattle.row_index.proofs.Kept.{ArePlaces-put}
 use Rattle.row_index.proofs.Scans.{row_in, places_from}
 use Rattle.row_index.proofs.Tables.{all-put_in_order}
 
@@ -65,7 +65,7 @@ none_left (suc n) first (entry ∷ slots) empty = none_left n first slots (λ k 
 
 -- The rows of the slots up to one are gathered, if no two have one stamp.
 pub record IsGathered (cells slot : ℕ) (slots : Option Slots) (places : List RowPlace) : Type 0 where
-  pub kept : AreKept cells places
+  pub kept : ArePlaces cells places
   pub lower : AllByRecursion (λ place. place_slot place < slot) places
   pub few : length places ≤ slot
   pub gathered : IfSome slots (λ slots. AreApart place_stamp (row_places slots) → places ≡ in_order place_stamp (places_from 0 (take slot slots)))
@@ -132,7 +132,7 @@ none_lower_slot slot places lower = count-below place_slot slot places lower
 pub gathered-put : (cells slot : ℕ) (slots : Option Slots) (places : List RowPlace) (row : RowRecord) → IsGathered cells slot slots places → slot < cells → count_by (has place_stamp row.stamp) places ≡ 0
     → IfSome slots (λ slots. Some row ≡ at_slot row_kind slot slots) → IsGathered cells (slot + 1) slots (put_in_order place_stamp (place_of slot row) places)
 gathered-put cells slot slots places row so_far within free here = record {
-  kept = AreKept-put cells (place_of slot row) places so_far.kept free (none_lower_slot slot places so_far.lower) within (omega (arith, so_far.few));
+  kept = ArePlaces-put cells (place_of slot row) places so_far.kept free (none_lower_slot slot places so_far.lower) within (omega (arith, so_far.few));
   lower = all-put_in_order place_stamp (λ place. place_slot place < slot + 1) (place_of slot row) places (omega arith) (lower_more slot places so_far.lower);
   few = omega (arith, length-put_in_order place_stamp (place_of slot row) places, so_far.few);
   gathered = told slots so_far.gathered here;

@@ -7,7 +7,7 @@ use Rattle.std.proofs.lemmas.List.Sums.{count_by-le-length, length-filter}
 use Rattle.std.proofs.lemmas.Option.{none-some}
 use Rattle.eeprom.specs.Slots.{has, put_in_order, without}
 use Rattle.eeprom.proofs.InOrder.{counts_not, count_by-cons, count-below, put_in_order-last, without-none, sum_by-put_in_order, all-filter}
-use Rattle.row_index.specs.Index.{AreKept, Index, is_above, may_add}
+use Rattle.row_index.specs.Index.{ArePlaces, Index, is_above, may_add}
 use Rattle.row_index.specs.Places.{place_stamp, place_slot, IsOneMore}
 use Rattle.row_index.specs.declared.place.RowPlace.{RowPlace}
 use Rattle.row_index.proofs.Changes.{Rises-put, Rises-filter, length-put_in_order, count_by-put}
@@ -62,17 +62,17 @@ filter_count p q (x ∷ xs) =
       | inr f ↦ rw f (omega arith)
     ]
 
-pub AreKept-filter : (cells : ℕ) (p : RowPlace → Bool) (xs : List RowPlace) → AreKept cells xs → AreKept cells (filter p xs)
-AreKept-filter cells p xs kept = record {
+pub ArePlaces-filter : (cells : ℕ) (p : RowPlace → Bool) (xs : List RowPlace) → ArePlaces cells xs → ArePlaces cells (filter p xs)
+ArePlaces-filter cells p xs kept = record {
   rises = Rises-filter place_stamp p xs kept.rises;
   apart = λ k. let a = kept.apart k in let b = filter_count p (has place_slot k) xs in omega arith;
   within = all-filter (λ place. place_slot place < cells) p xs kept.within;
   few = omega (arith, length-filter p xs, count_by-le-length p xs, kept.few);
 }
 
-pub AreKept-put : (cells : ℕ) (place : RowPlace) (xs : List RowPlace) → AreKept cells xs → count_by (has place_stamp place.stamp) xs ≡ 0 → count_by (has place_slot place.slot) xs ≡ 0 → place.slot < cells → length xs < cells
-    → AreKept cells (put_in_order place_stamp place xs)
-AreKept-put cells place xs kept new_stamp new_slot there room = record {
+pub ArePlaces-put : (cells : ℕ) (place : RowPlace) (xs : List RowPlace) → ArePlaces cells xs → count_by (has place_stamp place.stamp) xs ≡ 0 → count_by (has place_slot place.slot) xs ≡ 0 → place.slot < cells → length xs < cells
+    → ArePlaces cells (put_in_order place_stamp place xs)
+ArePlaces-put cells place xs kept new_stamp new_slot there room = record {
   rises = Rises-put place_stamp place xs kept.rises new_stamp;
   apart = λ k.
       (elim (cases_Bool (eqb place.slot k)) [

@@ -29,7 +29,7 @@ side_places index Committed = index.committed
 side_places index Working = index.working
 
 -- places that an index can hold: their stamps rise, no two have one slot, and their slots are those of the store
-pub record AreKept (cells : ℕ) (places : List RowPlace) : Type 0 where
+pub record ArePlaces (cells : ℕ) (places : List RowPlace) : Type 0 where
   pub rises : Rises place_stamp places
   pub apart : AreApart place_slot places
   pub within : AllByRecursion (λ place. place_slot place < cells) places
@@ -55,8 +55,8 @@ LeadsTo Much from to = Unit {0}
 -- What an index keeps of both sides: the working places are those that what was done makes of the committed ones.
 pub record IsIndex (done : Done) (begun : Bool) (committed working : Ordered) : Type 0 where
   pub same_cells : working.cells ≡ committed.cells
-  pub kept : AreKept committed.cells committed.places
-  pub kept_working : AreKept committed.cells working.places
+  pub kept : ArePlaces committed.cells committed.places
+  pub kept_working : ArePlaces committed.cells working.places
   pub leads : LeadsTo done committed.places working.places
   pub idle : begun ≡ false → done ≡ Nothing
 

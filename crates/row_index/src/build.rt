@@ -9,7 +9,7 @@ ghost use Rattle.record_store.specs.Held.{IsOver};
 ghost use Rattle.record_store.specs.declared.side.Side.TheVariants.{Committed};
 ghost use Rattle.catalog_codec.specs.Catalog.{row_kind};
 ghost use Rattle.record_table.specs.Listed.{cells_marked, slots_of};
-ghost use Rattle.row_index.specs.Index.{AreKept, Indexes, is_build_fault};
+ghost use Rattle.row_index.specs.Index.{ArePlaces, Indexes, is_build_fault};
 ghost use Rattle.row_index.specs.Places.{place_stamp, row_places};
 
 use crate::ordered::OrderedPlaces;
@@ -52,7 +52,7 @@ pub(crate) fn gather<B: Eeprom>(
     requires none { places.old.places ≡ [] }
     requires cells { places.old.cells ≡ store.now.chains.cells }
     ensures cells { places.new.cells ≡ places.old.cells }
-    ensures kept { AreKept places.old.cells places.new.places }
+    ensures kept { ArePlaces places.old.cells places.new.places }
     ensures gathered { OnOk result (IfSome (slots_of store.now Committed (B.chip bench.old)) (λ slots. AreApart place_stamp (row_places slots) → places.new.places ≡ row_places slots)) }
     ensures octets_read { IfOk result (λ _. IfSome (slots_of store.now Committed (B.chip bench.old))
         (λ slots. Becomes (RisesAtMost (cell_size * cells_marked row_kind slots)) (B.octets_read bench.old) (B.octets_read bench.new))) }

@@ -10,7 +10,7 @@ ghost use Rattle.record_store.specs.Held.{IsOver};
 ghost use Rattle.record_store.specs.declared.side.Side.TheVariants.{Committed};
 ghost use Rattle.catalog_codec.specs.Catalog.{row_kind};
 ghost use Rattle.record_table.specs.Listed.{cells_marked, slots_of};
-ghost use Rattle.row_index.specs.Index.{AreKept, Index, LeadsTo, may_add, side_places};
+ghost use Rattle.row_index.specs.Index.{ArePlaces, Index, LeadsTo, may_add, side_places};
 ghost use Rattle.row_index.specs.Index as specs;
 ghost use Rattle.row_index.specs.Ordered.{Ordered};
 ghost use Rattle.row_index.specs.Places.{is_later_in, place_slot, place_stamp, row_places};
@@ -60,7 +60,7 @@ impl RowIndex {
     /// Has these rows on both sides, in the place of its own. Takes no memory.
     pub fn fill(&mut self, places: &[RowPlace])
         requires idle { self.old.begun ≡ false }
-        requires kept { AreKept self.old.cells places.now }
+        requires kept { ArePlaces self.old.cells places.now }
         ensures filled { self.new ≡ record { cells = self.old.cells; begun = false; committed = places.now; working = places.now } }
     {
         self.committed.fill(places);
@@ -164,7 +164,7 @@ impl RowIndex {
     // The places of a side.
     fn side(&self, side: Side) -> &OrderedPlaces
         ensures places { result.now.places ≡ side_places self.now side }
-        ensures kept { AreKept self.now.cells result.now.places }
+        ensures kept { ArePlaces self.now.cells result.now.places }
     {
         match side {
             Side::Committed => &self.committed,

@@ -11,7 +11,7 @@ ghost use Rattle.record_store.specs.Transaction.{entries};
 ghost use Rattle.record_store.specs.declared.side.Side.{Side};
 ghost use Rattle.record_store.specs.declared.side.Side.TheVariants.{Working};
 ghost use Rattle.catalog_codec.specs.Catalog.{row_kind};
-ghost use Rattle.catalog_codec.specs.Kinds.{HasRoom};
+ghost use Rattle.catalog_codec.specs.Kinds.{FitsChain};
 ghost use Rattle.record_table.specs.Changed.{IsAdded, IsChanged, IsEmptied, Rewrites};
 ghost use Rattle.record_table.specs.Listed.{listed, slots_of};
 ghost use Rattle.row_index.specs.Index.{Indexes};
@@ -31,7 +31,7 @@ pub fn add<B: Eeprom>(
 ) -> Result<u16, StoreRefusal>
     requires begun { IsTrue store.old.begun }
     requires over { IsOver store.old (B.chip bench.old) }
-    requires spelled { HasRoom row_kind value.now }
+    requires spelled { FitsChain row_kind value.now }
     requires limits { row_kind.form.fits value.now ≡ true }
     requires index { Indexes index.old store.old (B.chip bench.old) }
     requires index_begun { IsTrue index.old.begun }
@@ -71,7 +71,7 @@ pub fn change<B: Eeprom>(
     requires begun { IsTrue store.old.begun }
     requires slot { slot < store.old.chains.cells }
     requires over { IsOver store.old (B.chip bench.old) }
-    requires spelled { HasRoom row_kind value.now }
+    requires spelled { FitsChain row_kind value.now }
     requires limits { row_kind.form.fits value.now ≡ true }
     requires index { Indexes index.now store.old (B.chip bench.old) }
     requires same { IfSome (slots_of store.old Working (B.chip bench.old)) (HasRowLike value.now slot) }

@@ -20,7 +20,7 @@ pub struct Cursor {
 
 /// A user who was presented, by the stamp of its record, and whether that user is proved.
 #[derive(Clone, Copy, PartialEq, Eq, Debug)]
-pub struct Presented {
+pub struct PresentedUser {
     pub stamp: u32,
     pub proved: bool,
 }

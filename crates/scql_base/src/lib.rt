@@ -24,7 +24,7 @@ pub use changes::{Change, Changes};
 pub use condition::Condition;
 pub use conditions::Conditions;
 pub use counter::Counter;
-pub use cursor::{Cursor, Place, Presented};
+pub use cursor::{Cursor, Place, PresentedUser};
 pub use list_full::ListFull;
 pub use name::Name;
 pub use name_list::NameList;

@@ -6,7 +6,7 @@ use Rattle.std.proofs.lemmas.Bool.{eqb-true}
 use Rattle.scql_base.specs.declared.words.Actor.TheVariants.{Public, User as a_user}
 use Rattle.scql_base.specs.declared.records.User.{User}
 use Rattle.scql_model.specs.Database.{Database, user_stamped}
-use Rattle.scql_base.specs.declared.cursor.Presented.{Presented}
+use Rattle.scql_base.specs.declared.cursor.PresentedUser.{PresentedUser}
 use Rattle.scql_model.specs.Machine.{Machine, Session, actor, actor_of, base, session_of}
 use Rattle.scql_model.specs.Creating.{IsActorOf}
 use Rattle.scql_model.proofs.LongerLists.{find-passes}
@@ -25,7 +25,7 @@ of_presented : (db : Database) (stamp : ℕ) (proved : Bool) → IsActorOf db (i
 of_presented db stamp true = IsActorOf-stamped db stamp
 of_presented db stamp false = tt
 
-of_session : (db : Database) (o : Option Presented) → IsActorOf db (option_map_or (actor_of db) o Public)
+of_session : (db : Database) (o : Option PresentedUser) → IsActorOf db (option_map_or (actor_of db) o Public)
 of_session db None = tt
 of_session db (Some p) = of_presented db p.stamp p.proved
 

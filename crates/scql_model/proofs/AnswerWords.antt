@@ -9,7 +9,7 @@ use Rattle.scql_base.specs.declared.words.StatusWord.{StatusWord}
 use Rattle.scql_base.specs.declared.words.Actor.{Actor}
 use Rattle.scql_base.specs.declared.cursor.Cursor.{Cursor}
 use Rattle.scql_base.specs.declared.cursor.Place.{Place}
-use Rattle.scql_base.specs.declared.cursor.Presented.{Presented}
+use Rattle.scql_base.specs.declared.cursor.PresentedUser.{PresentedUser}
 use Rattle.scql_base.specs.declared.cursor.Place.TheVariants.{NotOpen, At, End}
 use Rattle.scql_base.specs.declared.records.User.{User}
 use Rattle.scql_base.specs.declared.operation.Command.{Command}
@@ -202,7 +202,7 @@ module _ (m : Machine) (c : Command) where
       not-true true is = absurd (false≢true is)
       not-true false is = refl
 
-      go : (p : Presented) (u : User) → user_of m channel ≡ Some p → p.proved ≡ false → user_stamped m.committed.users p.stamp ≡ Some u → not (u.tries == 0) ≡ true
+      go : (p : PresentedUser) (u : User) → user_of m channel ≡ Some p → p.proved ≡ false → user_stamped m.committed.users p.stamp ≡ Some u → not (u.tries == 0) ≡ true
           → (b : Bool) → bytes_eq secret u.secret ≡ b → Answers m c (if b then secret_right ended channel u else secret_wrong ended u)
       go p u at unproved stored had true is = inl plain-done
       go p u at unproved stored had false is =

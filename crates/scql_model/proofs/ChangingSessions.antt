@@ -2,7 +2,7 @@
 use Rattle.std.proofs.Common.{◌≡◌, ℕ, zero, suc, List, [], ◌∷◌, Option, Some, None, option_map, refl, sym, ap, ◌∙◌}
 use Rattle.std.specs.Prelude.{slice_get, slice_set, IfSome}
 use Rattle.std.specs.Option.{option_flatten}
-use Rattle.scql_base.specs.declared.cursor.Presented.{Presented}
+use Rattle.scql_base.specs.declared.cursor.PresentedUser.{PresentedUser}
 use Rattle.scql_model.specs.Machine.{Machine, Session, session_for, session_of}
 use Rattle.scql_model.specs.Sessions.{IsIdle, AreIdle, with_session, changing_session}
 
@@ -38,7 +38,7 @@ idle-at (s ∷ sessions) zero are = are.0
 idle-at (s ∷ sessions) (suc channel) are = idle-at sessions channel are.1
 
 -- what leaves each idle session leaves a machine whose sessions are idle
-pub changing_session-idle : (change : Session → Session) → ((user : Option Presented) → change (session_for user) ≡ session_for user)
+pub changing_session-idle : (change : Session → Session) → ((user : Option PresentedUser) → change (session_for user) ≡ session_for user)
     → (m : Machine) (channel : ℕ) → AreIdle m.sessions → changing_session change m channel ≡ m
 changing_session-idle change stays m channel are = changing_session-same change m channel (same (session_of m channel) (idle-at m.sessions channel are))
   where

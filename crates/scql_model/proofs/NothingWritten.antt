@@ -9,7 +9,7 @@ use Rattle.scql_base.specs.declared.operation.Command.{Command}
 use Rattle.scql_base.specs.declared.operation.Line.{Line}
 use Rattle.scql_base.specs.declared.operation.Operation.{Operation}
 use Rattle.scql_base.specs.declared.operation.Operation.TheVariants.{DeclareCursor, OpenCursor, Next, Fetch, FetchNext, GetResponse, DeleteUser, Begin, Commit, Rollback, PresentUser, Verify, OpenChannel, CloseChannel}
-use Rattle.scql_base.specs.declared.cursor.Presented.{Presented}
+use Rattle.scql_base.specs.declared.cursor.PresentedUser.{PresentedUser}
 use Rattle.scql_base.specs.Words.{conditions_not_satisfied, not_found}
 use Rattle.scql_model.specs.Refusals.{◌>>=◌, or_refused, provided}
 use Rattle.scql_model.specs.Database.{Database, user_named, user_stamped}
@@ -78,8 +78,8 @@ none-deleted m channel name = of_user (user_named (base m channel).users name) r
 none-verified : (m : Machine) (channel : ℕ) (secret : List ℕ) → NoneFor m.transaction (verified m channel secret) (or_nothing (octets_verified m channel secret))
 none-verified m channel secret = of_answer (verified m channel secret)
   where
-    of_users : (n : ℕ) (p : Result Presented StatusWord) (found : Presented → Result User StatusWord) → n ≡ 0
-        → or_nothing (p >>= λ (p : Presented). found p >>= λ (u : User). Ok (n * octets_for (changing (of_user u) ∷ []))) ≡ 0
+    of_users : (n : ℕ) (p : Result PresentedUser StatusWord) (found : PresentedUser → Result User StatusWord) → n ≡ 0
+        → or_nothing (p >>= λ (p : PresentedUser). found p >>= λ (u : User). Ok (n * octets_for (changing (of_user u) ∷ []))) ≡ 0
     of_users n (Err word) found zero = refl
     of_users n (Ok p) found zero = of_found (found p)
       where
@@ -89,7 +89,7 @@ none-verified m channel secret = of_answer (verified m channel secret)
 
     of_answer : (r : Result Answer StatusWord)
         → NoneFor m.transaction r (or_nothing (r >>= λ (answer : Answer). or_refused (user_of m channel) conditions_not_satisfied
-        >>= λ (p : Presented). or_refused (user_stamped m.committed.users p.stamp) conditions_not_satisfied
+        >>= λ (p : PresentedUser). or_refused (user_stamped m.committed.users p.stamp) conditions_not_satisfied
         >>= λ (u : User). Ok (length answer.commits * octets_for (changing (of_user u) ∷ []))))
     of_answer (Err word) = refl
     of_answer (Ok answer) = λ none empty.

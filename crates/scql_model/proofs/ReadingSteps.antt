@@ -5,7 +5,7 @@ use Rattle.std.specs.Option.{option_flatten, option_map_or}
 use Rattle.std.proofs.lemmas.Option.{none-some}
 use Rattle.scql_base.specs.declared.words.Actor.{Actor}
 use Rattle.scql_base.specs.declared.words.Actor.TheVariants.{Public}
-use Rattle.scql_base.specs.declared.cursor.Presented.{Presented}
+use Rattle.scql_base.specs.declared.cursor.PresentedUser.{PresentedUser}
 use Rattle.scql_base.specs.declared.operation.Command.{Command}
 use Rattle.scql_base.specs.declared.operation.Operation.{Operation}
 use Rattle.scql_base.specs.declared.operation.Operation.TheVariants.{DeclareCursor, OpenCursor, Next, Fetch, FetchNext, GetResponse}
@@ -37,7 +37,7 @@ unchanged_elsewhere y (x ∷ xs) (suc i) zero apart = refl
 unchanged_elsewhere y (x ∷ xs) (suc i) (suc j) apart = unchanged_elsewhere y xs i j (λ same. apart (ap suc same))
 
 -- What is shown on a channel is told by its session, the committed database and the transaction.
-abbrev user_in : Option Session → Option Presented
+abbrev user_in : Option Session → Option PresentedUser
 user_in session = option_and_then (λ (s : Session). s.user) session
 
 abbrev reading_in : Option Session → Reading
@@ -71,7 +71,7 @@ module _ (m : Machine) (channel : ℕ) where
   ended-user = ap user_in ended-session ∙ without_chain-user (session_of m channel)
 
   pub ended-actor : actor ended channel ≡ actor m channel
-  ended-actor = ap (λ (user : Option Presented). option_map_or (actor_of (base m channel)) user Public) (ap user_in ended-session ∙ without_chain-user (session_of m channel))
+  ended-actor = ap (λ (user : Option PresentedUser). option_map_or (actor_of (base m channel)) user Public) (ap user_in ended-session ∙ without_chain-user (session_of m channel))
 
   pub ended-reading : reading_of ended channel ≡ reading_of m channel
   ended-reading = ap reading_in ended-session ∙ without_chain-reading (session_of m channel)
@@ -91,7 +91,7 @@ shown_on-reading : (m : Machine) (channel : ℕ) (s : Session) (reading : Readin
 unfolding shown_on
 shown_on-reading m channel s reading is =
     let there : session_of (changing_session (reading_so reading) m channel) channel ≡ option_map (reading_so reading) (session_of m channel) = changed_there (reading_so reading) m.sessions channel in
-    ap (λ (user : Option Presented). shown (base m channel) (option_map_or (actor_of (base m channel)) user Public) (reading_of (changing_session (reading_so reading) m channel) channel))
+    ap (λ (user : Option PresentedUser). shown (base m channel) (option_map_or (actor_of (base m channel)) user Public) (reading_of (changing_session (reading_so reading) m channel) channel))
     (ap user_in there ∙ reading_so-user reading (session_of m channel))
     ∙ ap (shown (base m channel) (actor m channel)) (ap reading_in there ∙ ap (λ (session : Option Session). reading_in (option_map (reading_so reading) session)) is)
 

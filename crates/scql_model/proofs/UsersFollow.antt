@@ -29,7 +29,7 @@ use Rattle.scql_model.specs.Users.{owns_user, is_needed, removing_user, user_del
 use Rattle.scql_model.specs.Edits.{Action, Edit, edited, applied, making, changing, removing, takes_stamp}
 use Rattle.scql_model.specs.Changing.{edits_of}
 use Rattle.eeprom.specs.Slots.{replaced}
-use Rattle.scql_base.specs.declared.cursor.Presented.{Presented}
+use Rattle.scql_base.specs.declared.cursor.PresentedUser.{PresentedUser}
 use Rattle.scql_model.specs.Step.{with_tries}
 use Rattle.scql_model.specs.ValidMachine.{HasSecret, IsPresentedIn}
 use Rattle.scql_model.proofs.Removing.{applied-removing_user}
@@ -203,7 +203,7 @@ edits_of-follow db actor cursor (DeleteUser name) valid = follow-user_deleted db
 edits_of-follow db actor cursor operation valid = record { each = λ edits (is : Err instruction_not_supported ≡ Ok edits). absurd cc }
 
 -- Where a command changes a database, whoever was presented in it is presented in the new one.
-pub presented-edits_of : (db : Database) (actor : Actor) (cursor : Option Cursor) (operation : Operation) (edits : List Edit) (p : Presented) → IsValid db → edits_of db actor cursor operation ≡ Ok edits
+pub presented-edits_of : (db : Database) (actor : Actor) (cursor : Option Cursor) (operation : Operation) (edits : List Edit) (p : PresentedUser) → IsValid db → edits_of db actor cursor operation ≡ Ok edits
     → IsPresentedIn db p → IsPresentedIn (applied db edits) p
 presented-edits_of db actor cursor operation edits p valid made is = record {
   stamp = more (takes_stamp edits) (edits_of-next db actor cursor operation edits made);
@@ -229,6 +229,6 @@ secret-replaced (v ∷ users) u stamp secret has =
       ]
     ]
 
-pub presented-with_tries : (db : Database) (u : User) (tries : ℕ) (p : Presented) → HasSecret u → IsPresentedIn db p → IsPresentedIn (with_tries db u tries) p
+pub presented-with_tries : (db : Database) (u : User) (tries : ℕ) (p : PresentedUser) → HasSecret u → IsPresentedIn db p → IsPresentedIn (with_tries db u tries) p
 presented-with_tries db u tries p secret is =
     record { stamp = is.stamp; secret = λ unproved. secret-replaced db.users (record u { tries = tries }) p.stamp secret (is.secret unproved) }

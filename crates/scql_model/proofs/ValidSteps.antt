@@ -7,7 +7,7 @@ use Rattle.std.specs.Str.{bytes_eq}
 use Rattle.std.proofs.lemmas.Bool.{cases_Bool, and_parts, false≢true, not-true, le-leb, leb-true}
 use Rattle.std.proofs.lemmas.Option.{none-some, same_Some}
 use Rattle.scql_base.specs.declared.words.StatusWord.{StatusWord}
-use Rattle.scql_base.specs.declared.cursor.Presented.{Presented}
+use Rattle.scql_base.specs.declared.cursor.PresentedUser.{PresentedUser}
 use Rattle.scql_base.specs.declared.records.User.{User}
 use Rattle.scql_base.specs.declared.operation.Command.{Command}
 use Rattle.scql_base.specs.declared.operation.Operation.{Operation}
@@ -67,7 +67,7 @@ if_some-weaker P Q None more is = tt
 if_some-weaker P Q (Some x) more is = more x is
 
 -- who is presented in one database is in another
-are_presented-in : (db new : Database) (sessions : List (Option Session)) → ((p : Presented) → IsPresentedIn db p → IsPresentedIn new p) → ArePresentedIn db sessions → ArePresentedIn new sessions
+are_presented-in : (db new : Database) (sessions : List (Option Session)) → ((p : PresentedUser) → IsPresentedIn db p → IsPresentedIn new p) → ArePresentedIn db sessions → ArePresentedIn new sessions
 are_presented-in db new sessions each are =
     each-weaker (Presents db) (Presents new) sessions (λ session is. if_some-weaker (IsPresentedIn db) (IsPresentedIn new) (option_and_then (λ (s : Session). s.user) session) each is) are
 
@@ -273,7 +273,7 @@ valid-presented m channel name valid free =
     }
 
 -- VERIFY: a user who isn't proved has a secret, and so may have fewer tries
-module _ (m : Machine) (valid : IsValidMachine m) (none : m.transaction ≡ None) (p : Presented) (u : User)
+module _ (m : Machine) (valid : IsValidMachine m) (none : m.transaction ≡ None) (p : PresentedUser) (u : User)
     (stored : user_stamped m.committed.users p.stamp ≡ Some u) (secret : HasSecret u) where
   valid-tries : (tries : ℕ) → is_tries tries ≡ true → IsValid (with_tries m.committed u tries)
   valid-tries tries few = IsValid-with_tries m.committed (λ (v : User). v.stamp == p.stamp) u tries valid.committed stored few secret
@@ -300,7 +300,7 @@ module _ (m : Machine) (valid : IsValidMachine m) (none : m.transaction ≡ None
       valid-done (changing_session proving restored channel) channel (with_tries m.committed u (u.tries - 1) ∷ with_tries m.committed u 3 ∷ [])
       (valid-changing restored channel proving (λ db s is. proved db s.user is) (valid-with_tries 3 refl)) (valid-tries (u.tries - 1) fewer, (valid-tries 3 refl, tt))
     where
-      proved : (db : Database) (user : Option Presented) → IfSome user (IsPresentedIn db) → IfSome (option_map (λ (p : Presented). record p { proved = true }) user) (IsPresentedIn db)
+      proved : (db : Database) (user : Option PresentedUser) → IfSome user (IsPresentedIn db) → IfSome (option_map (λ (p : PresentedUser). record p { proved = true }) user) (IsPresentedIn db)
       proved db None is = tt
       proved db (Some q) is = record { stamp = is.stamp; secret = λ unproved. absurd (false≢true (sym unproved)) }
   valid-compared channel false = record { machine = valid-with_tries (u.tries - 1) fewer; commits = (valid-tries (u.tries - 1) fewer, tt) }
@@ -312,7 +312,7 @@ valid-verified m channel secret valid free =
     bound-ok IsValidAnswer (or_refused (user_stamped m.committed.users p.stamp) conditions_not_satisfied) _ (λ u is.
     of_outcome IsValidAnswer (provided (not (u.tries == 0)) authentication_blocked) _ (λ _.
     let stored = not_refused (user_stamped m.committed.users p.stamp) conditions_not_satisfied u is in
-    let who : IsPresentedIn m.committed p = subst (λ (o : Option Presented). IfSome o (IsPresentedIn m.committed)) (not_refused (user_of m channel) conditions_not_satisfied p at)
+    let who : IsPresentedIn m.committed p = subst (λ (o : Option PresentedUser). IfSome o (IsPresentedIn m.committed)) (not_refused (user_of m channel) conditions_not_satisfied p at)
     (all-get (Presents m.committed) m.sessions channel valid.presented tt) in
     let has : HasSecret u = subst (λ (o : Option User). IfSome o HasSecret) stored (who.secret (not-true p.proved (not_unless (not p.proved) conditions_not_satisfied x unproved))) in
     valid-compared m valid (none_open m.transaction channel free) p u stored has channel (bytes_eq secret u.secret)))))

@@ -2,7 +2,7 @@
 use Rattle.std.specs.Prelude.{◌≡◌, ◌≢◌, ◌⊎◌, ℕ, ◌%◌, ◌-◌, List, [], ◌∷◌, Some, None, Ok}
 use Rattle.scql_base.specs.declared.cursor.Cursor.{Cursor}
 use Rattle.scql_base.specs.declared.cursor.Place.TheVariants.{End}
-use Rattle.scql_base.specs.declared.cursor.Presented.{Presented}
+use Rattle.scql_base.specs.declared.cursor.PresentedUser.{PresentedUser}
 use Rattle.scql_base.specs.declared.records.User.{User}
 use Rattle.scql_base.specs.declared.words.StatusWord.{StatusWord}
 use Rattle.scql_base.specs.Words.{done, end_reached, more_left, tries_left}
@@ -53,7 +53,7 @@ pub record EndsCursor (m : Machine) (channel : ℕ) (answer : Answer) : Type 0 w
 -- What 63CX says: the user who is presented on the channel had tries left, and one less is committed. Of the machine the tries of that user
 -- alone change, and the channel's chain.
 pub record CostsTry (m : Machine) (channel : ℕ) (answer : Answer) : Type 0 where
-  pub who : Presented
+  pub who : PresentedUser
   pub presented : user_of m channel ≡ Some who
   pub user : User
   pub stored : user_stamped m.committed.users who.stamp ≡ Some user

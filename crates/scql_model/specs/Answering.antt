@@ -4,7 +4,7 @@ use Rattle.std.specs.Str.{bytes_eq}
 use Rattle.scql_base.specs.declared.cursor.Cursor.{Cursor}
 use Rattle.scql_base.specs.declared.cursor.Place.{Place}
 use Rattle.scql_base.specs.declared.cursor.Place.TheVariants.{End}
-use Rattle.scql_base.specs.declared.cursor.Presented.{Presented}
+use Rattle.scql_base.specs.declared.cursor.PresentedUser.{PresentedUser}
 use Rattle.scql_base.specs.declared.records.User.{User}
 use Rattle.scql_base.specs.declared.operation.Command.{Command}
 use Rattle.scql_base.specs.declared.operation.Line.{Line}
@@ -60,7 +60,7 @@ pub record ComparesWrong (m : Machine) (c : Command) : Type 0 where
   pub secret : List ℕ
   pub verifies : c.operation ≡ Verify secret
   pub outside : m.transaction ≡ None
-  pub who : Presented
+  pub who : PresentedUser
   pub presented : user_of m c.channel ≡ Some who
   pub unproved : who.proved ≡ false
   pub user : User

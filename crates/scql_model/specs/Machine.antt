@@ -4,7 +4,7 @@ use Rattle.std.specs.Option.{option_flatten, option_map_or}
 use Rattle.scql_base.specs.declared.words.Actor.{Actor}
 use Rattle.scql_base.specs.declared.words.Actor.TheVariants.{Public, User as a_user}
 use Rattle.scql_base.specs.declared.cursor.Cursor.{Cursor}
-use Rattle.scql_base.specs.declared.cursor.Presented.{Presented}
+use Rattle.scql_base.specs.declared.cursor.PresentedUser.{PresentedUser}
 use Rattle.scql_base.specs.declared.operation.OperationKind.{OperationKind}
 use Rattle.scql_base.specs.declared.records.User.{User}
 use Rattle.scql_model.specs.Database.{Database, user_stamped}
@@ -20,7 +20,7 @@ pub record Chain : Type 0 where
   pub parts : List (List ℕ)
 
 pub record Session : Type 0 where
-  pub user : Option Presented
+  pub user : Option PresentedUser
   pub reading : Reading
   pub chain : Option Chain
 
@@ -41,7 +41,7 @@ abbrev pub no_reading : Reading
 no_reading = record { cursor = None; pending = [] }
 
 -- the session of a user, or of nobody
-abbrev pub session_for : Option Presented → Session
+abbrev pub session_for : Option PresentedUser → Session
 session_for user = record { user = user; reading = no_reading; chain = None }
 
 abbrev pub new_session : Session
@@ -70,7 +70,7 @@ abbrev pub base : Machine → ℕ → Database
 base m channel = base_of m.transaction m.committed channel
 
 -- for whom a channel acts: the presented user where proved, else PUBLIC
-abbrev pub actor_of : Database → Presented → Actor
+abbrev pub actor_of : Database → PresentedUser → Actor
 actor_of db p =
     if p.proved then option_map_or (λ (u : User). a_user u.stamp u.profile) (user_stamped db.users p.stamp) Public else Public
 

@@ -3,7 +3,7 @@ use Rattle.std.specs.Prelude.{◌≡◌, ℕ, ◌==◌, not, Bool, true, false, 
 use Rattle.std.specs.List.{find, AllByRecursion}
 use Rattle.std.specs.Option.{option_map_or}
 use Rattle.scql_base.specs.declared.cursor.Cursor.{Cursor}
-use Rattle.scql_base.specs.declared.cursor.Presented.{Presented}
+use Rattle.scql_base.specs.declared.cursor.PresentedUser.{PresentedUser}
 use Rattle.scql_base.specs.declared.operation.OperationKind.{OperationKind}
 use Rattle.scql_base.specs.declared.records.User.{User}
 use Rattle.scql_model.specs.Machine.{Machine, Reading, Session, Chain, no_reading, session_for, session_of}
@@ -47,20 +47,20 @@ abbrev pub without_cursor : Session → Session
 without_cursor s = reading_so no_reading s
 
 -- The user of a channel.
-abbrev pub user_of : Machine → ℕ → Option Presented
+abbrev pub user_of : Machine → ℕ → Option PresentedUser
 user_of m channel = option_and_then (λ (s : Session). s.user) (session_of m channel)
 
 -- a user is presented, proved where the secret is empty
-abbrev pub presented : User → Presented
+abbrev pub presented : User → PresentedUser
 presented u = record { stamp = u.stamp; proved = length u.secret == 0 }
 
 -- the user has shown the secret
 abbrev pub proving : Session → Session
-proving s = record s { user = option_map (λ (p : Presented). record p { proved = true }) s.user }
+proving s = record s { user = option_map (λ (p : PresentedUser). record p { proved = true }) s.user }
 
 -- the user of a stamp is presented in a session
 abbrev pub is_of_user : ℕ → Session → Bool
-is_of_user stamp s = option_map_or (λ (p : Presented). p.stamp == stamp) s.user false
+is_of_user stamp s = option_map_or (λ (p : PresentedUser). p.stamp == stamp) s.user false
 
 -- such a session has neither user nor cursor any more
 abbrev pub left_by : ℕ → Session → Session

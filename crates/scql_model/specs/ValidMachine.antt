@@ -1,7 +1,7 @@
 -- Machines whose databases are valid, and whose sessions present users of them.
 use Rattle.std.specs.Prelude.{◌≡◌, ◌<◌, ◌==◌, false, List, length, Option, IfSome, option_and_then}
 use Rattle.std.specs.List.{AllByRecursion}
-use Rattle.scql_base.specs.declared.cursor.Presented.{Presented}
+use Rattle.scql_base.specs.declared.cursor.PresentedUser.{PresentedUser}
 use Rattle.scql_base.specs.declared.records.User.{User}
 use Rattle.scql_model.specs.Database.{Database, IsValid, user_stamped}
 use Rattle.scql_model.specs.Machine.{Machine, Session, Transaction}
@@ -10,7 +10,7 @@ abbrev pub HasSecret : User → Type 0
 HasSecret u = (length u.secret == 0) ≡ false
 
 -- who is presented was given a stamp, and has a secret where it isn't proved, if the user is there still
-pub record IsPresentedIn (db : Database) (p : Presented) : Type 0 where
+pub record IsPresentedIn (db : Database) (p : PresentedUser) : Type 0 where
   pub stamp : p.stamp < db.next
   pub secret : p.proved ≡ false → IfSome (user_stamped db.users p.stamp) HasSecret
 

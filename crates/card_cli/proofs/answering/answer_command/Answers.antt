@@ -12,7 +12,7 @@ use Rattle.scql_model.specs.Step.{step}
 use Rattle.card.proofs.Leaving.{Opens-at}
 use Rattle.card_cli.proofs.Moving.{gives-throughout, line-moments, answered-moments}
 use Rattle.scql_model.specs.Lines.{command, content_text, reply_octets}
-use Rattle.card_cli.specs.declared.stop.Stop.TheVariants.{Eeprom, Outlet, Both}
+use Rattle.card_cli.specs.declared.stop.FailedDevice.TheVariants.{Eeprom, Outlet, Both}
 use Rattle.card_cli.specs.CutOff.{FailsIn, mute_text}
 use Rattle.card.specs.Behind.{KeepsBehind}
 use Rattle.card_cli.proofs.Behind.{behind-keeps, behind-on}

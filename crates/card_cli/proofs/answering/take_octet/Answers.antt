@@ -2,7 +2,7 @@ use Rattle.std.proofs.lemmas.Result.{err_from_is_err_and}
 use Rattle.std.proofs.Common.{refl}
 use Rattle.eeprom.specs.Chip.{Chip}
 use Rattle.card_cli.proofs.Behind.{behind-same}
-use Rattle.card_cli.specs.declared.stop.Stop.{Stop}
+use Rattle.card_cli.specs.declared.stop.FailedDevice.{FailedDevice}
 use Rattle.card_cli.specs.RunState.{RunState}
 use Rattle.card_cli.specs.Line.{line_octets}
 use Rattle.card_cli.proofs.Stopping.{Halts-line_feed, FailsAt-begun}
@@ -25,7 +25,7 @@ pub returns-in_err-answer_line-clause-halts : goal.returns-in_err-answer_line-cl
 returns-in_err-answer_line-clause-halts g c =
     let old : RunState = record { card = c.args.card.now; line = line_octets c.args.line.now; chip = g.B.Eeprom.chip c.args.bench.now } in
     let now : Chip = g.B.Eeprom.chip c.answer_line.new.bench in
-    let stop : Stop = c.in_err-answer_line.field-0.0 in
+    let stop : FailedDevice = c.in_err-answer_line.field-0.0 in
     let is = err_from_is_err_and c.from_residual.result c.from_residual.ensures.1 in
     rw (is.1, is.2) (Halts-line_feed stop c.args.octet old now c.if-octet-ne10.false
     (λ r running. FailsAt-begun stop old now r running.line (c.in_err-answer_line.ensures.fails r.machine running.at)) c.in_err-answer_line.ensures.moments)

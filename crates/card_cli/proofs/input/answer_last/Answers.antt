@@ -1,6 +1,6 @@
 use Rattle.std.proofs.Common.{List, ℕ, Option, sym, subst, ◌∙◌, refl, inl}
 use Rattle.std.specs.Prelude.{OnOk, IfErr}
-use Rattle.card_cli.specs.declared.stop.Stop.{Stop}
+use Rattle.card_cli.specs.declared.stop.FailedDevice.{FailedDevice}
 use Rattle.scql_model.specs.Machine.{Machine}
 use Rattle.card.specs.Card.{IsAt}
 use Rattle.card_cli.specs.Line.{line_octets, line_content}
@@ -47,7 +47,7 @@ pub returns-clause-moments : goal.returns-clause-moments
 returns-clause-moments g c = λ r running.
     let old = g.B.Eeprom.chip c.args.bench.now in
     let new = g.B.Eeprom.chip c.answer_line.new.bench in
-    subst (λ (l : Option (List ℕ)). IfErr c.answer_line.result (λ (stop : Stop). IfGiven new (Throughout old new (IsInStopped stop r.machine (line_content l) old.still.mark)))) running.line (c.answer_line.ensures.moments r.machine running.at)
+    subst (λ (l : Option (List ℕ)). IfErr c.answer_line.result (λ (stop : FailedDevice). IfGiven new (Throughout old new (IsInStopped stop r.machine (line_content l) old.still.mark)))) running.line (c.answer_line.ensures.moments r.machine running.at)
 
 pub returns-then-is_empty-clause-behind : goal.returns-then-is_empty-clause-behind
 returns-then-is_empty-clause-behind g c = behind-same (λ was. c.args.card.now.store.chains.cells) (g.B.Eeprom.chip c.args.bench.now) (g.B.Eeprom.chip c.args.bench.now) refl

@@ -1,12 +1,12 @@
 use Rattle.std.proofs.Common.{◌∷◌, [], refl}
 use Rattle.std.proofs.lemmas.Result.{on_ok_weaker}
 use Rattle.eeprom.specs.Chip.{LeavesOf}
-use Rattle.migrate.specs.Migration.{IsBetween}
+use Rattle.migrate.specs.Migration.{IsBetweenVersions}
 use Rattle.migrate.proofs.Writing.{limit-leaves, limit-there, version-leaves, version-there}
 use Rattle.migrate.proofs.version.write_version.Goals.{After-write}
 use Rattle.migrate.proofs.version.write_version.Goals as goal
 
-first : (g : _) (c : After-write g) → LeavesOf IsBetween (g.B.Eeprom.chip c.args.bench.now) (g.B.Eeprom.chip c.write.new.self)
+first : (g : _) (c : After-write g) → LeavesOf IsBetweenVersions (g.B.Eeprom.chip c.args.bench.now) (g.B.Eeprom.chip c.write.new.self)
 first g c =
     limit-leaves (g.B.Eeprom.chip c.args.bench.now) (g.B.Eeprom.chip c.write.new.self) c.to_be_bytes.result c.to_be_bytes.ensures c.requires.room (g.met.B.Eeprom.sized c.args.bench.now) c.requires.even
     (g.met.B.Eeprom.clocked c.args.bench.now) c.write.ensures.writes

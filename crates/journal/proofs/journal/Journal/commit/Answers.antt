@@ -2,7 +2,7 @@ use Rattle.std.proofs.Common.{◌∷◌, [], refl, ◌∙◌}
 use Rattle.std.proofs.lemmas.Result.{on_ok_weaker}
 use Rattle.eeprom.specs.Chip.{Becomes, LeavesOf}
 use Rattle.eeprom.specs.StoreOf.{journal_place}
-use Rattle.journal.specs.Journal.{IsBetween}
+use Rattle.journal.specs.Journal.{IsBetweenDirectories}
 use Rattle.journal.proofs.Committing.{IsJournaled, IsOpened}
 use Rattle.journal.proofs.Finishing.{journaled-leaves, commit-first, commit-second, commit-third, commit-replayed, opened-there, opened-over}
 use Rattle.journal.proofs.journal.Journal.commit.Goals.{After-write_journal, After-write, In_ok-write}
@@ -19,7 +19,7 @@ returns-in_err-write_journal-clause-moments g c =
     commit-first c.args.cells c.args.entries.now (g.B.Eeprom.chip c.args.bench.now) (g.B.Eeprom.chip c.write_journal.new.bench)
     (journaled g (goal.at.returns-in_err-write_journal-clause-moments g c).After-write_journal)
 
-opening : (g : _) (c : After-write g) → LeavesOf (IsBetween c.args.cells c.args.entries.now) (g.B.Eeprom.chip c.args.bench.now) (g.B.Eeprom.chip c.write.new.self)
+opening : (g : _) (c : After-write g) → LeavesOf (IsBetweenDirectories c.args.cells c.args.entries.now) (g.B.Eeprom.chip c.args.bench.now) (g.B.Eeprom.chip c.write.new.self)
 opening g c =
     let j = c.in_ok-write_journal.ensures.journal in
     commit-second c.args.cells c.args.entries.now j.octets (journal_place c.args.cells) (g.B.Eeprom.chip c.args.bench.now) (g.B.Eeprom.chip c.write_journal.new.bench) (g.B.Eeprom.chip c.write.new.self) (1 ∷ []) refl

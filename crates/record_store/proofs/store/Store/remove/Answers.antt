@@ -4,7 +4,7 @@ use Rattle.cell_store.proofs.Freeing.{link-read}
 use Rattle.record_store.specs.Held.{Held}
 use Rattle.record_store.specs.Slots.{steps_without}
 use Rattle.record_store.specs.Sound.{IsSound}
-use Rattle.record_store.specs.Kept.{IsKept}
+use Rattle.record_store.specs.Kept.{IsInMemory}
 use Rattle.record_store.specs.declared.store.Store.TheInside.{Inside}
 use Rattle.record_store.proofs.ChangedSlots.{entries-emptied}
 use Rattle.record_store.proofs.Emptying.{removed-stands}
@@ -17,7 +17,7 @@ use Rattle.record_store.proofs.store.Store.remove.Goals as goal
 
 -- what holds of a store whose slot is empty
 abbrev emptied_is_kept : ℕ → ℕ → Inside → Type 0
-emptied_is_kept slot weight inside = IsKept (record { chains = inside.chains; row_limit = inside.row_limit; committed = inside.committed.items; working = set inside.working.items slot 65535; begun = inside.begun; first_octets = inside.first_octets.items }) inside.committed_weight weight inside.slots_in_use inside.touched (vec_capacity inside.entries)
+emptied_is_kept slot weight inside = IsInMemory (record { chains = inside.chains; row_limit = inside.row_limit; committed = inside.committed.items; working = set inside.working.items slot 65535; begun = inside.begun; first_octets = inside.first_octets.items }) inside.committed_weight weight inside.slots_in_use inside.touched (vec_capacity inside.entries)
 
 pub invariant_of-self : goal.invariant_of-self
 invariant_of-self c =

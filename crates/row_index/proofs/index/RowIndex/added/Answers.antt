@@ -3,7 +3,7 @@ use Rattle.std.proofs.Common.{sym, ◌∙◌, refl}
 use Rattle.std.proofs.lemmas.Bool.{both_ways}
 use Rattle.row_index.specs.Index.{Index}
 use Rattle.row_index.specs.declared.place.RowPlace.{RowPlace}
-use Rattle.row_index.proofs.Kept.{AreKept-put, IsAddable-may_add, IsOneMore-put}
+use Rattle.row_index.proofs.Kept.{ArePlaces-put, IsAddable-may_add, IsOneMore-put}
 use Rattle.row_index.proofs.index.RowIndex.added.Goals as goal
 
 pub put-requires-clause-new_stamp : goal.put-requires-clause-new_stamp
@@ -23,7 +23,7 @@ invariant_of-self c =
     rw c.put.ensures.placed record {
       same_cells = c.self.invariant.same_cells;
       kept = c.self.invariant.kept;
-      kept_working = AreKept-put c.self.inside.committed.cells place c.self.inside.working.places c.self.invariant.kept_working able.new_stamp able.new_slot able.there able.room;
+      kept_working = ArePlaces-put c.self.inside.committed.cells place c.self.inside.working.places c.self.invariant.kept_working able.new_stamp able.new_slot able.there able.room;
       leads = c.and-self-inside.ensures.both c.self.inside.committed.places c.self.inside.working.places _ c.self.invariant.leads (IsOneMore-put place c.self.inside.working.places able.new_stamp able.new_slot);
       idle = λ idle. absurd (both_ways c.self.inside.begun idle begun);
     }

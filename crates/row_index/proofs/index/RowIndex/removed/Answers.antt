@@ -1,7 +1,7 @@
 -- The row that a slot has comes out, and goes back to its place.
 use Rattle.std.proofs.Common.{sym, ap, ◌∙◌, refl}
 use Rattle.std.proofs.lemmas.Bool.{both_ways}
-use Rattle.row_index.proofs.Kept.{AreKept-filter, without-not_found}
+use Rattle.row_index.proofs.Kept.{ArePlaces-filter, without-not_found}
 use Rattle.row_index.proofs.index.RowIndex.removed.Goals as goal
 
 pub invariant_of-self : goal.invariant_of-self
@@ -12,7 +12,7 @@ invariant_of-self c =
     record {
       same_cells = ap (λ o. o.cells) c.take_out.ensures.taken ∙ c.self.invariant.same_cells;
       kept = c.self.invariant.kept;
-      kept_working = rw c.take_out.ensures.taken (AreKept-filter c.self.inside.committed.cells _ c.self.inside.working.places c.self.invariant.kept_working);
+      kept_working = rw c.take_out.ensures.taken (ArePlaces-filter c.self.inside.committed.cells _ c.self.inside.working.places c.self.invariant.kept_working);
       leads = c.and-self-inside.ensures.both c.self.inside.committed.places c.self.inside.working.places c.take_out.new.self.places c.self.invariant.leads less;
       idle = λ idle. absurd (both_ways c.self.inside.begun idle begun);
     }
