@@ -1,18 +1,21 @@
 -- What a card keeps in memory, and at which machine it is together with its EEPROM.
-use Rattle.std.specs.Prelude.{◌≡◌, ℕ, Bool, true, false, List, Option, Some, None, option_and_then, IsTrue}
+use Rattle.std.specs.Prelude.{◌≡◌, ℕ, Bool, true, false, List, Option, Some, None, option_and_then, IsTrue, IfSome}
 use Rattle.eeprom.specs.Chip.{Chip}
 use Rattle.eeprom.specs.StoreOf.{Slots}
 use Rattle.record_store.specs.Held.{Held, contents, IsOver}
 use Rattle.record_store.specs.declared.side.Side.TheVariants.{Committed}
-use Rattle.scql_model.specs.Database.{IsValid, owner}
+use Rattle.scql_model.specs.Database.{Database, IsValid, owner}
 use Rattle.scql_model.specs.Records.{counter_record, user_record}
 use Rattle.record_store.specs.FreshImage.{fresh_image}
+use Rattle.record_table.specs.Making.{IsHeld}
+use Rattle.row_index.specs.Index.{Index, Indexes}
 use Rattle.scql_model.specs.Machine.{Machine, Session}
 use Rattle.scql_model.specs.Opens.{Holds, are_tables}
 
--- its store, a session or none for each channel, and whether it answers
+-- its store, the index of its rows, a session or none for each channel, and whether it answers
 pub record Kept : Type 0 where
   pub store : Held
+  pub index : Index
   pub sessions : List (Option Session)
   pub live : Bool
 
@@ -20,11 +23,23 @@ pub record Kept : Type 0 where
 unfoldable pub committed_slots : Held → Option (List ℕ) → Option Slots
 committed_slots store image = option_and_then (contents store Committed) image
 
--- The card answers, no transaction is begun, and its store is over the EEPROM.
+-- outside of a transaction the store holds the database, one that today's card opens with
+pub record IsAtRest (store : Held) (chip : Chip) (db : Database) : Type 0 where
+  pub held : IsHeld store Committed chip db
+  pub tables : are_tables db.objects ≡ true
+
+-- where the image is told, the store holds some database so
+abbrev pub HoldsSome : Held → Chip → Type 0
+HoldsSome store chip = IfSome chip.image (λ image. (db : Database) × IsAtRest store chip db)
+
+-- The card answers, no transaction is begun, its store is over the EEPROM and holds a database, and the index stands for its rows.
 pub record IsReady (card : Kept) (chip : Chip) : Type 0 where
   pub live : IsTrue card.live
   pub idle : card.store.begun ≡ false
   pub over : IsOver card.store chip
+  pub holds : HoldsSome card.store chip
+  pub index_idle : card.index.begun ≡ false
+  pub index : Indexes card.index card.store chip
 
 -- Card and EEPROM are at this machine: the image is told, its committed records are those of the machine's database, and the sessions are the machine's.
 pub record IsAt (card : Kept) (chip : Chip) (m : Machine) : Type 0 where

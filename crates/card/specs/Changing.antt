@@ -4,7 +4,6 @@ use Rattle.std.specs.Option.{option_map_or}
 use Rattle.eeprom.specs.Chip.{Chip, Becomes, RisesAtMost}
 use Rattle.eeprom.specs.declared.EepromFault.{EepromFault}
 use Rattle.record_store.specs.Held.{Held}
-use Rattle.record_store.specs.declared.side.Side.TheVariants.{Committed}
 use Rattle.scql_base.specs.declared.operation.Operation.{Operation}
 use Rattle.scql_base.specs.declared.operation.Operation.TheVariants.{CreateUser}
 use Rattle.scql_base.specs.declared.records.User.{User}
@@ -15,9 +14,8 @@ use Rattle.scql_base.specs.Words.{done}
 use Rattle.scql_model.specs.Bound.{or_nothing}
 use Rattle.scql_model.specs.Database.{Database, user_stamped}
 use Rattle.scql_model.specs.Edits.{Edit, octets_for, with_edits}
-use Rattle.scql_model.specs.Opens.{are_tables}
 use Rattle.scql_model.specs.Refusals.{◌>>=◌}
-use Rattle.record_table.specs.Making.{IsHeld}
+use Rattle.card.specs.Card.{IsAtRest}
 use Rattle.card.specs.Answering.{LeavesOneOf}
 
 -- the operations that are built and change the database
@@ -42,11 +40,6 @@ octets_of db edited = or_nothing (edited >>= λ edits. with_edits db edits >>= �
 abbrev pub commits_of : Result Database StatusWord → List Database
 commits_of (Ok new) = new ∷ []
 commits_of (Err word) = []
-
--- outside of a transaction the store holds the database, one that today's card opens with
-pub record IsAtRest (store : Held) (chip : Chip) (db : Database) : Type 0 where
-  pub held : IsHeld store Committed chip db
-  pub tables : are_tables db.objects ≡ true
 
 -- the new database is held, and the answer is done; or it is the refusal's word, and the database is held as before
 abbrev pub Concludes : Database → Result Database StatusWord → StatusWord → Held → Chip → Type 0
