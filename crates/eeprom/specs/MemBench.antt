@@ -2,6 +2,7 @@
 use Rattle.std.specs.Prelude.{◌≡◌, ◌⊎◌, ℕ, ◌/◌, ◌<◌, ◌≤◌, ◌^◌, IsTrue, List, Option, IfSome, length, take, replicate}
 use Rattle.std.proofs.Common.{arith}
 use Rattle.eeprom.specs.Chip.{Chip, Gives}
+use Rattle.eeprom.specs.Fault.{Rose}
 use Rattle.eeprom.specs.Planned.{Plan, calls_of, is_next_failing}
 use Rattle.eeprom.specs.Told.{Told, with_write, with_output, chip_from, told_count}
 use Rattle.eeprom.specs.Recorded.{length-past_of}
@@ -29,15 +30,22 @@ sink_faults_of b = b.sink_faults
 abbrev pub octets_read_of : MemBench → Option ℕ
 octets_read_of b = told_count b.octets_read
 
+-- how often a write or a give found no room for its record, and that one did
+abbrev pub lacks_of : MemBench → ℕ
+lacks_of b = b.lacks
+
+abbrev pub LacksRoom : MemBench → MemBench → Type 0
+LacksRoom old new = Rose (lacks_of old) (lacks_of new)
+
 -- A failing write: a planned one leaves the plan's octet in its whole range; one without room for its record leaves all as it was.
 abbrev pub FailsWrite : ℕ → ℕ → MemBench → MemBench → Type 0
 FailsWrite at count old new =
-    (IsTrue (is_next_failing (plan_of old).writes) × (told_of new ≡ with_write at (replicate count (plan_of old).fill) (told_of old))) ⊎ (told_of new ≡ told_of old)
+    (IsTrue (is_next_failing (plan_of old).writes) × (told_of new ≡ with_write at (replicate count (plan_of old).fill) (told_of old))) ⊎ (LacksRoom old new × (told_of new ≡ told_of old))
 
 -- A failing give: a planned one gives the first half of its piece, rounded down; one without room for its record gives nothing.
 abbrev pub FailsGive : List ℕ → MemBench → MemBench → Type 0
 FailsGive octets old new =
-    (IsTrue (is_next_failing (plan_of old).gives) × (told_of new ≡ with_output (take (length octets / 2) octets) (told_of old))) ⊎ (told_of new ≡ told_of old)
+    (IsTrue (is_next_failing (plan_of old).gives) × (told_of new ≡ with_output (take (length octets / 2) octets) (told_of old))) ⊎ (LacksRoom old new × (told_of new ≡ told_of old))
 
 -- what giving leaves of the EEPROM
 abbrev pub Leaves : MemBench → MemBench → Type 0

@@ -45,6 +45,7 @@ fn writes_fail_as_planned(rt: HostRuntime) -> Result<(), AllocError> {
     assert_eq!(rt; bench.image(), [1, 2, 12, 9, 9, 15].as_slice());
     let within = bench.image_within(rt.alloc(), 0, 5)?.ok_or(AllocError)?;
     assert_eq!(rt; within.as_slice(), [5, 5, 12, 13, 14, 15].as_slice());
+    assert_eq!(rt; bench.ran_out(), false);
     Ok(())
 }
 

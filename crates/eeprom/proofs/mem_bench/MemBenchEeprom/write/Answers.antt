@@ -4,13 +4,18 @@ use Rattle.eeprom.specs.Recording.{told}
 use Rattle.eeprom.proofs.Telling.{writes-chip}
 use Rattle.eeprom.proofs.mem_bench.MemBenchEeprom.write.Goals as goal
 
-pub returns-then-next_fails-clause-writes : goal.returns-then-next_fails-clause-writes
-returns-then-next_fails-clause-writes c =
+pub returns-then-is_err-clause-writes : goal.returns-then-is_err-clause-writes
+returns-then-is_err-clause-writes c =
     writes-chip c.fill.result c.args.at c.args.from.now _ (told c.args.self.now.recording) (told c.fill.new.self) c.args.self.now.octets_written c.saturating_add-self.result c.args.self.now.sink_faults
     c.fill.ensures.ok c.fill.ensures.err (length-replicate _ _) c.requires c.saturating_add-self.ensures
 
-pub returns-then-is_err-clause-writes : goal.returns-then-is_err-clause-writes
-returns-then-is_err-clause-writes c =
+pub returns-else-is_err-clause-writes : goal.returns-else-is_err-clause-writes
+returns-else-is_err-clause-writes c =
+    writes-chip c.fill.result c.args.at c.args.from.now _ (told c.args.self.now.recording) (told c.fill.new.self) c.args.self.now.octets_written c.saturating_add-self.result c.args.self.now.sink_faults
+    c.fill.ensures.ok c.fill.ensures.err (length-replicate _ _) c.requires c.saturating_add-self.ensures
+
+pub returns-then-is_err-2-clause-writes : goal.returns-then-is_err-2-clause-writes
+returns-then-is_err-2-clause-writes c =
     writes-chip c.write.result c.args.at c.args.from.now _ (told c.args.self.now.recording) (told c.write.new.self) c.args.self.now.octets_written c.saturating_add-self.result c.args.self.now.sink_faults
     c.write.ensures.ok c.write.ensures.err refl c.requires c.saturating_add-self.ensures
 
