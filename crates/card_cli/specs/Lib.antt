@@ -2,7 +2,6 @@ pub mod Beginning
 pub mod Behind
 pub mod CutOff
 pub mod Ends
-pub mod FileChip
 pub mod Halting
 pub mod Keeping
 pub mod Line

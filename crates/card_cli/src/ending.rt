@@ -6,8 +6,8 @@ ghost use Rattle.card_cli.specs.StatusNumber.{exit_status_of};
 ghost use Rattle.card_cli.specs.declared.status.Status.TheVariants.{NoMemory, Usage};
 ghost use Rattle.card_cli.specs.declared.ending.Ending.TheVariants.{Run, NoFile};
 
-use crate::file_bench::FileFault;
 use crate::status::Status;
+use file_bench::FileFault;
 use std::alloc::AllocError;
 use std::io;
 

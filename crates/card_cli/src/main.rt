@@ -2,24 +2,19 @@
 #![tactic(auto)]
 
 mod answering;
-mod card_file;
 mod ending;
-mod fault_count;
-mod file_bench;
 mod input;
 mod line;
 mod migration;
 mod opening;
 mod run;
-mod standard_input;
 mod status;
 mod stop;
 mod words;
 
 use ending::Ending;
-use file_bench::FileBench;
+use file_bench::{FileBench, StdSource};
 use run::run_card;
-use standard_input::StdSource;
 use status::Status;
 use std::fs::File;
 use std::process::ExitCode;

@@ -1,6 +1,6 @@
 -- The loop that reads until the range is full or the file ends.
 use Rattle.std.proofs.Common.{length, ◌-◌, ◌≤◌}
-use Rattle.card_cli.proofs.card_file.CardFile.read.Given as goal
+use Rattle.file_bench.proofs.card_file.CardFile.read.Given as goal
 
 -- what is filled lies in the range
 abbrev pub invariant-loop-filled : goal.invariant-loop-filled

@@ -1,14 +1,14 @@
 // A real file as a card's EEPROM, and standard output as the outlet of its answers.
 ghost use Rattle.std.specs.Prelude.{◌≡◌, ◌≤◌, ◌+◌, None, IfOk, length, refl};
-ghost use Rattle.card_cli.specs.FileChip.{file_chip};
+ghost use Rattle.file_bench.specs.FileChip.{file_chip};
 ghost use Rattle.std.proofs.Common.{rules};
 
 use crate::card_file::CardFile;
 use crate::fault_count::count_fault;
+use crate::standard_output::write_out;
 use eeprom::{Bench, Eeprom, EepromFault, Outlet, SinkFault};
 use std::fs::{File, Files};
 use std::io;
-use std::io::Write;
 use thiserror::Error;
 
 /// The octets of the image, however short the file is.
@@ -94,10 +94,4 @@ impl<R: Print + Drop> Bench for FileBench<R> {
     ghost mark = { λ _. tt };
 
     ghost gives = { λ _ _ kept. (Prim.search rules, kept, refl) };
-}
-
-// Each piece is gone when the call answers.
-fn write_out<W: Write>(out: &mut W, octets: &[u8]) -> io::Result<()> {
-    out.write_all(octets)?;
-    out.flush()
 }

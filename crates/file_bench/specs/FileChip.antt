@@ -1,7 +1,7 @@
 -- What a real file tells of itself as an EEPROM.
 use Rattle.std.specs.Prelude.{ℕ, None}
 use Rattle.eeprom.specs.Chip.{Chip}
-use Rattle.card_cli.specs.declared.file_bench.TheConstants.{FILE_SIZE}
+use Rattle.file_bench.specs.declared.file_bench.TheConstants.{FILE_SIZE}
 
 -- an EEPROM of fixed size that tells no contents, beside an outlet that failed so often
 abbrev pub file_chip : ℕ → Chip

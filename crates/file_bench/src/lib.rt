@@ -1,0 +1,12 @@
+//! The real outside: a file as a card's EEPROM, and the standard streams. What they hold no contract says.
+#![tactic(auto)]
+
+mod card_file;
+mod fault_count;
+mod file_bench;
+mod standard_input;
+mod standard_output;
+
+pub use file_bench::{FILE_SIZE, FileBench, FileFault};
+pub use standard_input::StdSource;
+pub use standard_output::StdOutlet;
