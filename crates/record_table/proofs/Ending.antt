@@ -54,6 +54,16 @@ Ends-stopped T {U} db outcome (Ok x) stop old new before after gives ends = absu
 Ends-stopped T {U} db outcome (Err given) (Refused word) old new before after gives ends = subst (λ stop. Ends {T = U} db outcome (Err stop) old new before after) (sym gives) ends
 Ends-stopped T {U} db outcome (Err given) Fault old new before after gives ends = subst (λ stop. Ends {T = U} db outcome (Err stop) old new before after) (sym gives) tt
 
+-- a part of an operation stopped, and not by the EEPROM's fault, where the operation hands on its stop
+pub no_fault-on : {T U : Type 0} (result : Result T Stop) (part : Result U Stop) (stop : Stop) → IsErrAnd result (λ given. given ≡ stop) → part ≡ Err stop → (result ≡ Err Fault → ⊥) → part ≡ Err Fault → ⊥
+no_fault-on (Ok x) part stop gives was no_fault = absurd gives
+no_fault-on (Err given) part stop gives was no_fault = λ fault. no_fault (ap (λ stop. Err stop) (gives ∙ (let same : stop ≡ Fault = cc in same)))
+
+pub refused-on : {T U P : Type 0} (result : Result T Stop) (part : Result U Stop) (stop : Stop) → IsErrAnd result (λ given. given ≡ stop) → part ≡ Err stop → (result ≡ Err Fault → ⊥)
+    → ((word : StatusWord) → part ≡ Err (Refused word) → P) → P
+refused-on result part (Refused word) gives was no_fault refused = refused word was
+refused-on result part Fault gives was no_fault refused = absurd (no_fault-on result part Fault gives was no_fault was)
+
 -- what is said of the slots where they are told
 pub at-told : (store : Held) (side : Side) (chip : Chip) (slots : Slots) (P : Slots → Type 0) → slots_of store side chip ≡ Some slots → IfSome chip.image (λ image. IfSome (contents store side image) P) → P slots
 at-told store side chip slots P told all =
