@@ -1,5 +1,5 @@
 -- CREATE USER that isn't refused: its edits, and the database with them.
-use Rattle.std.proofs.Common.{◌≡◌, ℕ, Bool, false, List, Option, Some, None, Result, Ok, refl, sym, ap, subst, ◌∙◌, if◌then◌else◌}
+use Rattle.std.proofs.Common.{◌≡◌, ℕ, Bool, false, List, Some, None, Result, Ok, refl, sym, subst, ◌∙◌, if◌then◌else◌}
 use Rattle.std.proofs.lemmas.Option.{same_Some}
 use Rattle.eeprom.specs.Chip.{Chip}
 use Rattle.record_store.specs.Held.{Held}

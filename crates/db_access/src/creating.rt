@@ -1,17 +1,19 @@
 // CREATE USER.
-ghost use Rattle.std.specs.Prelude.{◌≡◌, List, None, Ok, Some, drop, IfOk, IsTrue, IsErrOf, OnOk, if◌then◌else◌};
-ghost use Rattle.eeprom.specs.Chip.{Keeps};
+ghost use Rattle.std.specs.Prelude.{◌≡◌, ◌*◌, None, Some, drop, IfOk, IfSome, IsTrue, IsErrOf, if◌then◌else◌};
+ghost use Rattle.eeprom.specs.Chip.{Becomes, Keeps, RisesAtMost};
 ghost use Rattle.eeprom.specs.Fault.{CountsFaults, each_error};
 ghost use Rattle.eeprom.specs.Frame.{Reads};
-ghost use Rattle.eeprom.specs.StoreOf.{store_of, image_size};
+ghost use Rattle.eeprom.specs.StoreOf.{store_of, image_size, cell_size};
 ghost use Rattle.record_store.specs.Held.{IsOver};
-ghost use Rattle.record_store.specs.declared.side.Side.TheVariants.{Working};
+ghost use Rattle.record_store.specs.declared.side.Side.TheVariants.{Committed, Working};
 ghost use Rattle.scql_base.specs.declared.operation.Operation.TheVariants as operation;
+ghost use Rattle.scql_base.specs.declared.words.StatusWord.{StatusWord};
 ghost use Rattle.scql_model.specs.Creating as model;
 ghost use Rattle.scql_model.specs.Creating.{IsActorOf, actor_stamp, may_create, user_added};
 ghost use Rattle.scql_model.specs.Database.{Database};
 ghost use Rattle.scql_model.specs.WellFormed.{HasForm};
-ghost use Rattle.record_table.specs.Listed.{slots_of};
+ghost use Rattle.catalog_codec.specs.Catalog.{user_kind};
+ghost use Rattle.record_table.specs.Listed.{cells_marked, slots_of};
 ghost use Rattle.record_table.specs.Making.{IsHeld, Ends, GoesOn, KeepsRows, is_stop_fault};
 
 use eeprom::{Eeprom, EepromFault};
@@ -34,7 +36,9 @@ pub fn create_user<B: Eeprom>(
     ensures ends { (db : Database) → IsHeld store.old Working (B.chip bench.old) db → IsActorOf db actor → HasForm (operation.CreateUser name profile secret.now)
         → Ends db (user_added db actor name profile secret.now) result store.old store.new (B.chip bench.old) (B.chip bench.new) }
     ensures goes_on { ¬ IsErrOf result Stop.Fault → GoesOn store.old store.new (B.chip bench.old) (B.chip bench.new) }
-    ensures rows { OnOk result (KeepsRows (slots_of store.old Working (B.chip bench.old)) (slots_of store.new Working (B.chip bench.new))) }
+    ensures rows { ¬ IsErrOf result Stop.Fault → KeepsRows (slots_of store.old Working (B.chip bench.old)) (slots_of store.new Working (B.chip bench.new)) }
+    ensures refused { (word : StatusWord) → IsErrOf result (Stop.Refused word) → slots_of store.new Working (B.chip bench.new) ≡ slots_of store.old Working (B.chip bench.old) }
+    ensures committed { ¬ IsErrOf result Stop.Fault → slots_of store.new Committed (B.chip bench.new) ≡ slots_of store.old Committed (B.chip bench.old) }
     ensures moments { Keeps store_of (B.chip bench.old) (B.chip bench.new) }
     ensures behind { Keeps (drop (image_size store.old.chains.cells)) (B.chip bench.old) (B.chip bench.new) }
     ensures cause { CountsFaults is_stop_fault (B.faults bench.old) (B.faults bench.new) result }
@@ -89,6 +93,8 @@ fn owner_for(actor: Actor, profile: Profile) -> Option<u32>
 fn is_taken<B: Eeprom>(store: &Store, bench: &mut B, name: &Name) -> Result<bool, EepromFault>
     requires over { IsOver store.now (B.chip bench.old) }
     ensures taken { (db : Database) → IsHeld store.now Working (B.chip bench.old) db → IfOk result (λ taken. taken ≡ model.is_taken db name.now) }
+    ensures octets_read { IfOk result (λ _. IfSome (slots_of store.now Working (B.chip bench.old))
+        (λ slots. Becomes (RisesAtMost (cell_size * cells_marked user_kind slots)) (B.octets_read bench.old) (B.octets_read bench.new))) }
     ensures frame { Reads each_error B.chip B.faults bench.old bench.new result }
 {
     if name.octets() == Name::PUBLIC {

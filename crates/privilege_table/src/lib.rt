@@ -1,12 +1,11 @@
 //! The grants of a card in the slots of a store.
 #![tactic(auto)]
 
-mod changing;
 mod finding;
 mod privileges;
 mod rights;
 
-pub use changing::{add, change, remove};
 pub use finding::{find_pair, find_stamp, next_after};
 pub use privileges::held;
+pub use record_table::{add, change, remove};
 pub use rights::{Privilege, actor_stamp, appears, find_seen, holds, is_owned_by};

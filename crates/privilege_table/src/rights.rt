@@ -1,15 +1,17 @@
 // Who may do what with an object: its owner all, and others what grants give them.
-ghost use Rattle.std.specs.Prelude.{◌≡◌, ◌<◌, Some, IfOk, IfSome, option_map};
+ghost use Rattle.std.specs.Prelude.{◌≡◌, ◌<◌, ◌+◌, ◌*◌, Some, IfOk, IfSome, option_map};
 ghost use Rattle.std.specs.List.{list_any};
+ghost use Rattle.eeprom.specs.Chip.{Becomes, RisesAtMost};
 ghost use Rattle.eeprom.specs.Fault.{each_error};
 ghost use Rattle.eeprom.specs.Frame.{Reads};
+ghost use Rattle.eeprom.specs.StoreOf.{cell_size};
 ghost use Rattle.record_store.specs.Held.{IsOver};
 ghost use Rattle.scql_model.specs.Database.{Database};
 ghost use Rattle.scql_model.specs.Creating as creating;
 ghost use Rattle.scql_model.specs.Rights as model;
 ghost use Rattle.scql_model.specs.Rights.{all_privileges, has_bit, seen_named};
-ghost use Rattle.catalog_codec.specs.Catalog.{object_kind};
-ghost use Rattle.record_table.specs.Listed.{at_slot, slots_of};
+ghost use Rattle.catalog_codec.specs.Catalog.{grant_kind, object_kind};
+ghost use Rattle.record_table.specs.Listed.{at_slot, cells_marked, slots_of};
 ghost use Rattle.record_table.specs.Making.{IsHeld};
 ghost use Rattle.privilege_table.specs.Rights.{privilege_bit};
 
@@ -73,6 +75,8 @@ pub fn holds<B: Eeprom>(
 ) -> Result<bool, EepromFault>
     requires over { IsOver store.now (B.chip bench.old) }
     ensures holds { (db : Database) → IsHeld store.now side (B.chip bench.old) db → IfOk result (λ answer. answer ≡ model.holds db actor object.now (privilege_bit privilege)) }
+    ensures octets_read { IfOk result (λ _. IfSome (slots_of store.now side (B.chip bench.old))
+        (λ slots. Becomes (RisesAtMost (cell_size * cells_marked grant_kind slots)) (B.octets_read bench.old) (B.octets_read bench.new))) }
     ensures frame { Reads each_error B.chip B.faults bench.old bench.new result }
 {
     if is_owned_by(actor, object.owner) {
@@ -92,6 +96,8 @@ pub fn appears<B: Eeprom>(
 ) -> Result<bool, EepromFault>
     requires over { IsOver store.now (B.chip bench.old) }
     ensures appears { (db : Database) → IsHeld store.now side (B.chip bench.old) db → IfOk result (λ answer. answer ≡ model.appears db actor object.now) }
+    ensures octets_read { IfOk result (λ _. IfSome (slots_of store.now side (B.chip bench.old))
+        (λ slots. Becomes (RisesAtMost (cell_size * cells_marked grant_kind slots)) (B.octets_read bench.old) (B.octets_read bench.new))) }
     ensures frame { Reads each_error B.chip B.faults bench.old bench.new result }
 {
     if is_owned_by(actor, object.owner) {
@@ -115,6 +121,8 @@ pub fn find_seen<B: Eeprom>(
         (λ slots. Some found.value ≡ at_slot object_kind found.slot slots))) }
     ensures seen { (db : Database) → IsHeld store.now side (B.chip bench.old) db
         → IfOk result (λ found. option_map (λ found. found.value) found ≡ seen_named db actor name) }
+    ensures octets_read { IfOk result (λ _. IfSome (slots_of store.now side (B.chip bench.old))
+        (λ slots. Becomes (RisesAtMost (cell_size * (cells_marked object_kind slots + cells_marked grant_kind slots))) (B.octets_read bench.old) (B.octets_read bench.new))) }
     ensures frame { Reads each_error B.chip B.faults bench.old bench.new result }
 {
     let Some(found) = find_name(store, bench, side, name)? else {

@@ -1,5 +1,5 @@
 -- A change of one slot, and the database that the slots hold then.
-use Rattle.std.proofs.Common.{◌≡◌, ℕ, ◌<◌, Bool, true, false, List, [], ◌∷◌, ◌++◌, length, Option, Some, None, get_or, zero, suc, refl, sym, ap, subst, ◌∙◌}
+use Rattle.std.proofs.Common.{◌≡◌, ℕ, ◌<◌, Bool, true, List, [], ◌∷◌, ◌++◌, length, Option, Some, None, get_or, zero, suc, refl, sym, ap, subst, ◌∙◌}
 use Rattle.std.proofs.Math.ListN.{set}
 use Rattle.std.specs.List.{list_all, AllByRecursion}
 use Rattle.std.proofs.lemmas.Bool.{and_parts}
@@ -10,11 +10,11 @@ use Rattle.eeprom.proofs.Kept.{kept-other, kept-changed}
 use Rattle.scql_model.specs.Records.{AnyRecord, counter_record, counter_in}
 use Rattle.scql_model.specs.Database.{Database}
 use Rattle.scql_model.specs.Edits.{edited, to_add, to_change, to_remove}
-use Rattle.catalog_codec.specs.Kinds.{Kind, IsKind, HaveOtherMarks}
+use Rattle.catalog_codec.specs.Kinds.{Kind, IsKind}
 use Rattle.catalog_codec.specs.KindLaws.{HaveOtherMarks-sym}
 use Rattle.catalog_codec.specs.Catalog.{counter_kind, user_kind, object_kind, grant_kind, row_kind}
 use Rattle.catalog_codec.specs.CatalogLaws.{IsKind-counter, IsKind-user, IsKind-object, IsKind-grant, IsKind-row, HaveOtherMarks-counter-user, HaveOtherMarks-counter-object, HaveOtherMarks-counter-grant, HaveOtherMarks-row-counter}
-use Rattle.record_table.specs.Listed.{listed, at_slot}
+use Rattle.record_table.specs.Listed.{at_slot}
 use Rattle.record_table.specs.Changed.{IsAdded, IsChanged, IsEmptied}
 use Rattle.record_table.specs.Editable.{IsEditable, LeavesOthers}
 use Rattle.record_table.specs.EditableLaws.{spelled-counter}

@@ -1,17 +1,15 @@
 -- How an operation ends where a store refuses, and where its record and the counter are written.
-use Rattle.std.proofs.Common.{◌≡◌, ℕ, ◌+◌, ◌*◌, ◌<◌, ◌≤◌, true, List, length, Option, Some, None, Result, Ok, Err, get_or, refl, sym, ap, subst, ◌∙◌, arith}
+use Rattle.std.proofs.Common.{◌≡◌, ℕ, ◌+◌, ◌<◌, ◌≤◌, true, List, Option, Some, None, Result, Ok, Err, get_or, refl, sym, ap, subst, ◌∙◌, arith}
 use Rattle.std.proofs.Math.ListN.{set}
-use Rattle.std.specs.Prelude.{IfSome, is_some}
+use Rattle.std.specs.Prelude.{IfSome}
 use Rattle.std.specs.Result.{IsErrAnd}
 use Rattle.eeprom.specs.Chip.{Chip, Becomes, RisesBy, RisesAtMost}
-use Rattle.eeprom.specs.StoreOf.{Slots, cells_for, weight_of}
-use Rattle.record_store.specs.Held.{Held, StandsFor, contents}
+use Rattle.eeprom.specs.StoreOf.{Slots, weight_of}
+use Rattle.record_store.specs.Held.{Held, contents}
 use Rattle.record_store.specs.Put.{weight_with}
 use Rattle.record_store.specs.declared.refusal.StoreRefusal.{StoreRefusal}
 use Rattle.record_store.specs.declared.refusal.StoreRefusal.TheVariants.{Full, Fault as StoreFault}
 use Rattle.record_store.specs.declared.side.Side.{Side}
-use Rattle.record_store.specs.declared.side.Side.TheVariants.{Working}
-use Rattle.record_store.proofs.Emptying.{weight-more}
 use Rattle.scql_base.specs.Words.{no_space}
 use Rattle.scql_base.specs.declared.words.StatusWord.{StatusWord}
 use Rattle.scql_model.specs.Database.{Database}
@@ -39,12 +37,32 @@ Ends-store {T} db outcome (Ok x) refusal old new before after gives full = absur
 Ends-store {T} db outcome (Err stop) Full old new before after gives full = subst (λ stop. Ends {T = T} db outcome (Err stop) old new before after) (sym (gives.0 refl)) (full refl)
 Ends-store {T} db outcome (Err stop) StoreFault old new before after gives full = subst (λ stop. Ends {T = T} db outcome (Err stop) old new before after) (sym (gives.1 refl)) tt
 
+-- a store that stopped an operation, and not by its EEPROM's fault, is full
+pub full-store : {T : Type 0} (result : Result T Stop) (refusal : StoreRefusal) → IsErrAnd result (λ stop. (refusal ≡ Full → stop ≡ Refused no_space) × (refusal ≡ StoreFault → stop ≡ Fault))
+    → (result ≡ Err Fault → ⊥) → refusal ≡ Full
+full-store (Ok x) refusal gives no_fault = absurd gives
+full-store (Err stop) Full gives no_fault = refl
+full-store (Err stop) StoreFault gives no_fault = absurd (no_fault (ap (λ stop. Err stop) (gives.1 refl)))
+
+pub not_fault : {T : Type 0} (result : Result T Stop) (word : StatusWord) → result ≡ Err (Refused word) → result ≡ Err Fault → ⊥
+not_fault result word refused fault = cc
+
 -- how an operation ends that hands on a stop of a part of it
 pub Ends-stopped : (T : Type 0) {U : Type 0} (db : Database) (outcome : Result (List Edit) StatusWord) (result : Result U Stop) (stop : Stop) (old new : Held) (before after : Chip) → IsErrAnd result (λ given. given ≡ stop)
     → Ends {T = T} db outcome (Err stop) old new before after → Ends db outcome result old new before after
 Ends-stopped T {U} db outcome (Ok x) stop old new before after gives ends = absurd gives
 Ends-stopped T {U} db outcome (Err given) (Refused word) old new before after gives ends = subst (λ stop. Ends {T = U} db outcome (Err stop) old new before after) (sym gives) ends
 Ends-stopped T {U} db outcome (Err given) Fault old new before after gives ends = subst (λ stop. Ends {T = U} db outcome (Err stop) old new before after) (sym gives) tt
+
+-- a part of an operation stopped, and not by the EEPROM's fault, where the operation hands on its stop
+pub no_fault-on : {T U : Type 0} (result : Result T Stop) (part : Result U Stop) (stop : Stop) → IsErrAnd result (λ given. given ≡ stop) → part ≡ Err stop → (result ≡ Err Fault → ⊥) → part ≡ Err Fault → ⊥
+no_fault-on (Ok x) part stop gives was no_fault = absurd gives
+no_fault-on (Err given) part stop gives was no_fault = λ fault. no_fault (ap (λ stop. Err stop) (gives ∙ (let same : stop ≡ Fault = cc in same)))
+
+pub refused-on : {T U P : Type 0} (result : Result T Stop) (part : Result U Stop) (stop : Stop) → IsErrAnd result (λ given. given ≡ stop) → part ≡ Err stop → (result ≡ Err Fault → ⊥)
+    → ((word : StatusWord) → part ≡ Err (Refused word) → P) → P
+refused-on result part (Refused word) gives was no_fault refused = refused word was
+refused-on result part Fault gives was no_fault refused = absurd (no_fault-on result part Fault gives was no_fault was)
 
 -- what is said of the slots where they are told
 pub at-told : (store : Held) (side : Side) (chip : Chip) (slots : Slots) (P : Slots → Type 0) → slots_of store side chip ≡ Some slots → IfSome chip.image (λ image. IfSome (contents store side image) P) → P slots
@@ -94,6 +112,10 @@ KeepsRows-one kind slot was step old new is apart at sets steps = λ after told.
     let here : Some was ≡ at_slot kind slot b.0 = subst (λ o. IfSome o (λ slots. Some was ≡ at_slot kind slot slots)) b.1 at in
     let entry = sets b.0 after b.2 in
     (b.0, b.1, λ place. ap (at_slot row_kind place) entry.1 ∙ at_slot-kept kind row_kind b.0 slot entry.0 place IsKind-row apart (is_of-read kind (get_or b.0 slot None) was is (sym here)) entry.2)
+
+-- and so they do where nothing was done
+pub KeepsRows-same : (old new : Option Slots) → new ≡ old → KeepsRows old new
+KeepsRows-same old new same = λ after told. (after, sym same ∙ told, λ slot. refl)
 
 -- the record and the counter are what is made
 pub IsMade-both : {X : Type 0} (kind : Kind X) (x : X) (slot counter next : ℕ) (old new : Slots) → Both (IsAdded kind x slot) (IsChanged counter_kind next counter) old new → IsMade kind x slot counter next old new

@@ -1,11 +1,11 @@
 -- A record takes the place of the one of its stamp, or is removed: the database then, and whether it has room.
-use Rattle.std.proofs.Common.{◌≡◌, ℕ, ◌+◌, ◌<◌, ◌≤◌, ◌==◌, Bool, true, false, List, [], ◌∷◌, ◌++◌, length, eqb, count_by, suc, take, drop, Option, Some, None, Err, get_or, refl, sym, ap, subst, ◌∙◌, inl, inr, arith}
+use Rattle.std.proofs.Common.{◌≡◌, ℕ, ◌<◌, ◌≤◌, Bool, true, false, List, [], ◌∷◌, ◌++◌, length, eqb, count_by, suc, take, drop, Option, Some, None, Err, get_or, refl, sym, ap, subst, ◌∙◌, inl, inr, arith}
 use Rattle.std.specs.List.{find, filter_map, cons_option, list_all}
-use Rattle.std.proofs.lemmas.Bool.{cases_Bool, and_parts, eqb-true, eq-eqb, false≢true, lt-ltb, le-ltb, ltb-false}
-use Rattle.std.proofs.lemmas.Option.{none-some, same_Some}
+use Rattle.std.proofs.lemmas.Bool.{cases_Bool, and_parts, eq-eqb, lt-ltb, le-ltb}
+use Rattle.std.proofs.lemmas.Option.{none-some}
 use Rattle.std.proofs.lemmas.List.Sums.{sum_by-set}
-use Rattle.eeprom.specs.StoreOf.{Slots, cells_for, cells_of, weight_of}
-use Rattle.eeprom.specs.Slots.{Rises, has, in_slot, replaced, without}
+use Rattle.eeprom.specs.StoreOf.{Slots, cells_for, cells_of}
+use Rattle.eeprom.specs.Slots.{Rises, has, in_slot, replaced}
 use Rattle.eeprom.proofs.InOrder.{AreApart-rising, counts, counts_not}
 use Rattle.eeprom.proofs.Kept.{kept-split}
 use Rattle.record_store.specs.Put.{weight_with}

@@ -6,6 +6,7 @@ pub mod HeldRecords
 pub mod ListedChanges
 pub mod ListedSearches
 pub mod Made
+pub mod ReadingCosts
 pub mod Rewriting
 pub mod Scan
 pub mod SlotReads

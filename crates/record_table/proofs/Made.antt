@@ -1,12 +1,10 @@
 -- A new record that takes the next stamp, and the counter that counts on: the database then, and whether it has room.
-use Rattle.std.proofs.Common.{◌≡◌, ◌≢◌, ℕ, ◌+◌, ◌*◌, ◌^◌, ◌<◌, ◌≤◌, ◌==◌, ◌||◌, ◌&&◌, Bool, true, false, List, [], ◌∷◌, ◌++◌, length, nat_lt, Option, Some, None, Err, get_or, refl, sym, ap, subst, ◌∙◌, arith}
-use Rattle.std.proofs.Math.ListN.{set}
+use Rattle.std.proofs.Common.{◌≡◌, ◌≢◌, ℕ, ◌+◌, ◌*◌, ◌^◌, ◌<◌, ◌≤◌, ◌==◌, ◌||◌, Bool, true, false, List, [], ◌∷◌, ◌++◌, length, Option, Some, None, Err, get_or, refl, sym, ap, subst, ◌∙◌, arith}
 use Rattle.std.specs.List.{list_all, AllByRecursion}
 use Rattle.std.proofs.lemmas.Bool.{and_parts, lt-ltb, le-ltb, ne_eqb}
 use Rattle.std.proofs.lemmas.Option.{none-some}
-use Rattle.std.proofs.lemmas.List.{get_or-set_other, length-set}
 use Rattle.std.proofs.lemmas.List.Folds.{list_all-append}
-use Rattle.std.proofs.lemmas.List.Sums.{sum_by-set, sum_by-cons}
+use Rattle.std.proofs.lemmas.List.Sums.{sum_by-set}
 use Rattle.eeprom.specs.StoreOf.{Slots, cells_for, cells_of, weight_of}
 use Rattle.eeprom.specs.Slots.{in_slot}
 use Rattle.record_store.specs.Put.{weight_with}
@@ -14,7 +12,7 @@ use Rattle.record_store.proofs.Emptying.{weight-more}
 use Rattle.scql_base.specs.Words.{no_space}
 use Rattle.scql_model.specs.Records.{AnyRecord, of_counter, of_user, of_object, of_grant, of_row, counter_record, counter_in}
 use Rattle.scql_model.specs.Database.{Database, IsValid, weight}
-use Rattle.scql_model.specs.Edits.{Edit, applied, cells_of_record, cells_written, edited, is_counter, is_overfull, lacks_room, making, octets_for_cells, stamps_end, to_add, with_edits}
+use Rattle.scql_model.specs.Edits.{applied, cells_of_record, cells_written, edited, is_counter, is_overfull, lacks_room, making, octets_for_cells, stamps_end, to_add, with_edits}
 use Rattle.scql_model.proofs.EditLaws.{applied-cells, own_cells, weight-making}
 use Rattle.scql_model.proofs.Room.{cells-filled}
 use Rattle.scql_model.proofs.SpellingLengths.{length-counter_in}
@@ -22,7 +20,6 @@ use Rattle.scql_model.specs.Opens.{Holds}
 use Rattle.catalog_codec.specs.Kinds.{Kind, IsKind}
 use Rattle.catalog_codec.specs.Catalog.{counter_kind}
 use Rattle.record_table.specs.Listed.{at_slot}
-use Rattle.record_table.specs.Changed.{IsAdded, IsChanged}
 use Rattle.record_table.specs.Editable.{IsEditable}
 use Rattle.record_table.specs.Making.{IsMade, IsValidWith}
 use Rattle.record_table.proofs.ListedChanges.{at_slot-other}

@@ -1,14 +1,11 @@
 -- The counter of slots that hold a database, and what is refused where it gives no stamp.
-use Rattle.std.proofs.Common.{◌≡◌, ℕ, ◌≤◌, ◌==◌, true, List, Option, Some, None, Result, Ok, Err, refl, sym, ap, subst, ◌∙◌, arith}
-use Rattle.std.specs.Prelude.{IfSome, count_by, option_map}
+use Rattle.std.proofs.Common.{◌≡◌, ℕ, ◌≤◌, ◌==◌, true, List, Option, Some, Err, refl, subst, ◌∙◌, arith}
+use Rattle.std.specs.Prelude.{IfSome, count_by}
 use Rattle.std.specs.List.{find}
-use Rattle.std.specs.Result.{result_ok}
-use Rattle.std.proofs.lemmas.Option.{none-some, same_Some}
 use Rattle.eeprom.specs.Chip.{Chip}
 use Rattle.eeprom.specs.StoreOf.{Slots}
 use Rattle.record_store.specs.Held.{Held}
 use Rattle.record_store.specs.declared.side.Side.TheVariants.{Working}
-use Rattle.record_store.specs.declared.found.Found.{Found}
 use Rattle.scql_base.specs.Words.{no_space}
 use Rattle.scql_model.specs.Database.{Database}
 use Rattle.scql_model.specs.Edits.{Edit, stamps_end, takes_stamp, with_edits}

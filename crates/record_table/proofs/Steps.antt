@@ -1,5 +1,5 @@
 -- What is told of the slots of a store after one change of the working side, and after two.
-use Rattle.std.proofs.Common.{◌≡◌, ℕ, ◌+◌, ◌≤◌, Bool, true, false, List, Option, Some, None, Result, Ok, Err, refl, sym, ap, subst, ◌∙◌, arith}
+use Rattle.std.proofs.Common.{◌≡◌, ℕ, false, List, Option, Some, None, refl, sym, ap, subst, ◌∙◌}
 use Rattle.std.specs.Prelude.{IfSome, IsSome, is_some, option_and_then}
 use Rattle.std.proofs.lemmas.Bool.{false≢true}
 use Rattle.std.proofs.lemmas.Option.{none-some, same_Some}
@@ -90,3 +90,37 @@ StepsTo-told step old new before after was told both rewrites = go after.image r
           is = step_on.2;
           committed = ap (option_and_then (contents new Committed)) is ∙ (r.2.committed ∙ ap (option_and_then (contents old Committed)) (sym r.1));
         }
+
+none-untold : {A : Type 0} (o : Option A) → is_some o ≡ false → o ≡ None
+none-untold None is = refl
+none-untold (Some x) is = absurd (false≢true (sym is))
+
+-- what is committed stays, whether or not it is told
+pub committed-stays : (step : Slots → Slots → Type 0) (old new : Held) (before after : Chip) → is_some after.image ≡ is_some before.image → Becomes (Rewrites step old new) before.image after.image
+    → slots_of new Committed after ≡ slots_of old Committed before
+committed-stays step old new before after told rewrites = go after.image refl
+  where
+    go : (o : Option (List ℕ)) → after.image ≡ o → slots_of new Committed after ≡ slots_of old Committed before
+    go None is =
+        let none = none-untold before.image (sym told ∙ ap is_some is) in
+        ap (option_and_then (contents new Committed)) is ∙ sym (ap (option_and_then (contents old Committed)) none)
+    go (Some left) is =
+        let r = rewrites left is in
+        ap (option_and_then (contents new Committed)) is ∙ (r.2.committed ∙ ap (option_and_then (contents old Committed)) (sym r.1))
+
+-- what no slots can tell is untold, before and after
+pub unless-told : (old new : Held) (side : Side) (before after : Chip) → IfSome before.image (StandsFor old) → is_some after.image ≡ is_some before.image → ((slots : Slots) → slots_of old Working before ≡ Some slots → ⊥)
+    → slots_of new side after ≡ slots_of old side before
+unless-told old new side before after stands told never = go before.image refl
+  where
+    go : (o : Option (List ℕ)) → before.image ≡ o → slots_of new side after ≡ slots_of old side before
+    go None is =
+        let none = none-untold after.image (told ∙ ap is_some is) in
+        ap (option_and_then (contents new side)) none ∙ sym (ap (option_and_then (contents old side)) is)
+    go (Some image) is =
+        let there = some-told (contents old Working image) (subst (λ o. IfSome o (StandsFor old)) is stands).working in
+        absurd (never there.0 (ap (option_and_then (contents old Working)) is ∙ there.1))
+
+-- nothing was done
+pub slots-same : (old new : Held) (side : Side) (before after : Chip) → new ≡ old → after ≡ before → slots_of new side after ≡ slots_of old side before
+slots-same old new side before after store chip = ap (λ s. slots_of s side after) store ∙ ap (slots_of old side) chip

@@ -1,5 +1,5 @@
 -- What a kind of record owes towards a database, so that an edit of one record is a change of one slot.
-use Rattle.std.specs.Prelude.{◌≡◌, ℕ, ◌+◌, ◌<◌, Bool, true, false, List, length, Option, Some}
+use Rattle.std.specs.Prelude.{◌≡◌, ℕ, ◌+◌, ◌<◌, true, false, List, length, Some}
 use Rattle.std.specs.List.{list_all, sum_by, AllByRecursion}
 use Rattle.eeprom.specs.StoreOf.{Slots, cells_for}
 use Rattle.eeprom.specs.Slots.{Rises, kept}

@@ -1,19 +1,17 @@
 -- Users, objects, grants and rows owe what a kind owes towards a database.
-use Rattle.std.proofs.Common.{◌≡◌, ◌<◌, ◌||◌, ℕ, Bool, true, false, List, [], Option, Some, is_some, refl, sym, ap, ◌∙◌, arith}
-use Rattle.std.specs.List.{AllByRecursion}
+use Rattle.std.proofs.Common.{◌≡◌, ◌||◌, ℕ, Bool, true, false, List, [], Option, Some, is_some, refl, ap, ◌∙◌, arith}
 use Rattle.scql_base.specs.declared.records.User.{User}
 use Rattle.scql_base.specs.declared.records.Object.{Object}
 use Rattle.scql_base.specs.declared.records.Grant.{Grant}
 use Rattle.scql_base.specs.declared.records.RowRecord.{RowRecord}
 use Rattle.scql_model.specs.Records.{of_user, of_object, of_grant, of_row, counter_in, user_in, object_in, grant_in, row_in}
-use Rattle.scql_model.specs.Database.{Database, IsValid, stored_user, stored_object, stored_grant, stored_row}
+use Rattle.scql_model.specs.Database.{stored_user, stored_object, stored_grant, stored_row}
 use Rattle.scql_model.specs.Edits.{edited}
 use Rattle.scql_model.proofs.EditLaws.{weight-kinds}
 use Rattle.scql_model.proofs.RecordsOf.{before_rows, before_grants, behind_grants, before_objects, behind_objects, behind_users, records_of-users, records_of-objects, records_of-grants, records_of-rows}
 use Rattle.scql_model.proofs.SpellingLengths.{length-user_in, length-object_in, length-grant_in, length-row_in}
 use Rattle.scql_model.proofs.Stored.{below-of_kind}
 use Rattle.catalog_codec.specs.Catalog.{counter_kind, user_kind, object_kind, grant_kind, row_kind}
-use Rattle.catalog_codec.specs.Kinds.{HaveOtherMarks}
 use Rattle.catalog_codec.specs.KindLaws.{HaveOtherMarks-sym}
 use Rattle.catalog_codec.specs.CatalogLaws.{IsKind-user, IsKind-object, IsKind-grant, IsKind-row, HaveOtherMarks-counter-user, HaveOtherMarks-counter-object, HaveOtherMarks-counter-grant, HaveOtherMarks-user-object, HaveOtherMarks-user-grant, HaveOtherMarks-grant-object, HaveOtherMarks-row-counter, HaveOtherMarks-row-user, HaveOtherMarks-row-object, HaveOtherMarks-row-grant}
 use Rattle.scql_model.specs.Opens.{is_spelled}

@@ -4,7 +4,8 @@ ghost use Rattle.eeprom.specs.Chip.{Chip, Keeps};
 ghost use Rattle.eeprom.specs.Fault.{CountsFaults};
 ghost use Rattle.eeprom.specs.StoreOf.{store_of, image_size};
 ghost use Rattle.record_store.specs.Held.{IsOver};
-ghost use Rattle.record_store.specs.declared.side.Side.TheVariants.{Working};
+ghost use Rattle.record_store.specs.declared.side.Side.TheVariants.{Committed, Working};
+ghost use Rattle.scql_base.specs.declared.words.StatusWord.{StatusWord};
 ghost use Rattle.scql_model.specs.Database.{Database};
 ghost use Rattle.scql_model.specs.Edits.{changing, removing};
 ghost use Rattle.catalog_codec.specs.Catalog.{row_kind};
@@ -33,6 +34,8 @@ pub fn change_in_place<R: Editable, B: Eeprom>(
     ensures goes_on { ¬ IsErrOf result Stop.Fault → GoesOn store.old store.new (B.chip bench.old) (B.chip bench.new) }
     ensures rows { (was : R) → HaveOtherMarks R.kind row_kind → IfSome (slots_of store.old Working (B.chip bench.old)) (λ slots. Some was ≡ at_slot R.kind slot slots)
         → OnOk result (KeepsRows (slots_of store.old Working (B.chip bench.old)) (slots_of store.new Working (B.chip bench.new))) }
+    ensures refused { (word : StatusWord) → IsErrOf result (Stop.Refused word) → slots_of store.new Working (B.chip bench.new) ≡ slots_of store.old Working (B.chip bench.old) }
+    ensures committed { ¬ IsErrOf result Stop.Fault → slots_of store.new Committed (B.chip bench.new) ≡ slots_of store.old Committed (B.chip bench.old) }
     ensures moments { Keeps store_of (B.chip bench.old) (B.chip bench.new) }
     ensures behind { Keeps (drop (image_size store.old.chains.cells)) (B.chip bench.old) (B.chip bench.new) }
     ensures cause { CountsFaults is_stop_fault (B.faults bench.old) (B.faults bench.new) result }
@@ -49,6 +52,7 @@ pub fn take_out<R: Editable>(store: &mut Store, slot: u16)
         → IsOver store.old chip → IsValidWith db (removing (R.any was) ∷ []) → Makes db (removing (R.any was) ∷ []) store.old store.new chip chip }
     ensures rows { (was : R) (chip : Chip) → HaveOtherMarks R.kind row_kind → IfSome (slots_of store.old Working chip) (λ slots. Some was ≡ at_slot R.kind slot slots)
         → IsOver store.old chip → KeepsRows (slots_of store.old Working chip) (slots_of store.new Working chip) }
+    ensures committed { (chip : Chip) → IsOver store.old chip → slots_of store.new Committed chip ≡ slots_of store.old Committed chip }
     ensures goes_on { (chip : Chip) → IsOver store.old chip → GoesOn store.old store.new chip chip }
 {
     remove(store, slot);

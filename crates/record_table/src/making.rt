@@ -1,16 +1,17 @@
 // A new record, which takes the next stamp.
 ghost use Rattle.std.specs.Prelude.{◌≡◌, ◌<◌, ◌≤◌, ◌+◌, ◌*◌, Some, Ok, Err, IsTrue, IfOk, IfErr, IfSome, IsErrOf, List, OnOk, drop, true};
-ghost use Rattle.eeprom.specs.Chip.{Becomes, Keeps};
+ghost use Rattle.eeprom.specs.Chip.{Becomes, RisesAtMost, Keeps};
 ghost use Rattle.eeprom.specs.Fault.{CountsFaults};
 ghost use Rattle.eeprom.specs.Frame.{Reads};
-ghost use Rattle.eeprom.specs.StoreOf.{store_of, image_size};
+ghost use Rattle.eeprom.specs.StoreOf.{store_of, image_size, cell_size};
 ghost use Rattle.record_store.specs.Held.{IsOver};
-ghost use Rattle.record_store.specs.declared.side.Side.TheVariants.{Working};
+ghost use Rattle.record_store.specs.declared.side.Side.TheVariants.{Committed, Working};
+ghost use Rattle.scql_base.specs.declared.words.StatusWord.{StatusWord};
 ghost use Rattle.scql_model.specs.Database.{Database};
 ghost use Rattle.scql_model.specs.Edits.{Edit, making, stamps_end, takes_stamp};
 ghost use Rattle.catalog_codec.specs.Kinds.{HaveOtherMarks};
 ghost use Rattle.catalog_codec.specs.Catalog.{counter_kind, row_kind};
-ghost use Rattle.record_table.specs.Listed.{at_slot, slots_of};
+ghost use Rattle.record_table.specs.Listed.{at_slot, cells_marked, slots_of};
 ghost use Rattle.record_table.specs.Making.{Ends, GoesOn, IsHeld, IsMade, IsValidWith, KeepsRows, is_stop_fault};
 
 use crate::{Any, Editable, Stop, add, change, find_by};
@@ -28,6 +29,8 @@ pub fn next_stamp<B: Eeprom>(store: &Store, bench: &mut B) -> Result<Found<Count
     ensures next { (db : Database) → IsHeld store.now Working (B.chip bench.old) db → IfOk result (λ counter. counter.value ≡ db.next) }
     ensures none { (db : Database) (edits : List Edit) → IsHeld store.now Working (B.chip bench.old) db → takes_stamp edits ≡ true
         → IfErr result (λ stop. Ends {T = Unit {0}} db (Ok edits) (Err stop) store.now store.now (B.chip bench.old) (B.chip bench.new)) }
+    ensures octets_read { IfOk result (λ _. IfSome (slots_of store.now Working (B.chip bench.old))
+        (λ slots. Becomes (RisesAtMost (cell_size * cells_marked counter_kind slots)) (B.octets_read bench.old) (B.octets_read bench.new))) }
     ensures frame { Reads is_stop_fault B.chip B.faults bench.old bench.new result }
 {
     // A card has a counter; without one there would be no stamp to take.
@@ -61,6 +64,8 @@ pub fn make<R: Editable, B: Eeprom>(
         (slots_of store.old Working (B.chip bench.old)) (slots_of store.new Working (B.chip bench.new))) }
     ensures goes_on { ¬ IsErrOf result Stop.Fault → GoesOn store.old store.new (B.chip bench.old) (B.chip bench.new) }
     ensures rows { HaveOtherMarks R.kind row_kind → OnOk result (KeepsRows (slots_of store.old Working (B.chip bench.old)) (slots_of store.new Working (B.chip bench.new))) }
+    ensures refused { (word : StatusWord) → IsErrOf result (Stop.Refused word) → slots_of store.new Working (B.chip bench.new) ≡ slots_of store.old Working (B.chip bench.old) }
+    ensures committed { ¬ IsErrOf result Stop.Fault → slots_of store.new Committed (B.chip bench.new) ≡ slots_of store.old Committed (B.chip bench.old) }
     ensures moments { Keeps store_of (B.chip bench.old) (B.chip bench.new) }
     ensures behind { Keeps (drop (image_size store.old.chains.cells)) (B.chip bench.old) (B.chip bench.new) }
     ensures cause { CountsFaults is_stop_fault (B.faults bench.old) (B.faults bench.new) result }

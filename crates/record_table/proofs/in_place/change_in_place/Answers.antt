@@ -1,17 +1,19 @@
 -- The slot is changed, and the slots hold the database with its record in the other's place.
-use Rattle.std.proofs.Common.{◌≡◌, ◌+◌, ◌*◌, ◌<◌, ◌≤◌, length, [], ◌∷◌, Some, Ok, Err, refl, sym, ap, subst, ◌∙◌, arith}
+use Rattle.std.proofs.Common.{◌≡◌, ◌<◌, ◌≤◌, [], ◌∷◌, Some, Ok, Err, refl, sym, ap, subst, ◌∙◌, arith}
 use Rattle.std.specs.Prelude.{IfSome}
-use Rattle.eeprom.specs.StoreOf.{cells_for}
 use Rattle.record_store.specs.Put.{weight_with}
-use Rattle.record_store.specs.declared.side.Side.TheVariants.{Working}
+use Rattle.record_store.specs.declared.refusal.StoreRefusal.TheVariants.{Full}
+use Rattle.record_store.specs.declared.side.Side.{Side}
+use Rattle.record_store.specs.declared.side.Side.TheVariants.{Committed, Working}
 use Rattle.scql_model.specs.Edits.{changing}
 use Rattle.scql_model.proofs.EditLaws.{applied-cells, applied-limit}
 use Rattle.record_table.specs.Changed.{IsChanged}
-use Rattle.record_table.specs.Listed.{at_slot}
-use Rattle.record_table.proofs.Ending.{Ends-store, KeepsRows-one, at-told}
+use Rattle.record_table.specs.Listed.{at_slot, slots_of}
+use Rattle.record_table.proofs.Ending.{Ends-store, KeepsRows-one, at-told, full-store, not_fault}
 use Rattle.record_table.proofs.InPlace.{IsEditedTo-changed, full-changed}
 use Rattle.record_table.proofs.Made.{cells-any}
-use Rattle.record_table.proofs.Steps.{StepsTo-told, slots-told}
+use Rattle.record_table.proofs.Steps.{StepsTo-told, committed-stays, slots-same, slots-told}
+use Rattle.record_table.proofs.in_place.change_in_place.Given.{Over}
 use Rattle.record_table.proofs.in_place.change_in_place.Goals as goal
 
 pub returns-in_err-change-clause-ends : goal.returns-in_err-change-clause-ends
@@ -28,6 +30,18 @@ returns-in_err-change-clause-ends g c = λ db was held there same with.
       unchanged.0,
       ap g.B.Eeprom.chip unchanged.1,
     )
+
+-- where the record has no room nothing is done
+unchanged : (g : Over) (c : goal.After-from_residual g) (side : Side) → c.in_err-change.field-0.0 ≡ Full → slots_of c.change.new.store side (g.B.Eeprom.chip c.change.new.bench) ≡ slots_of c.args.store.now side (g.B.Eeprom.chip c.args.bench.now)
+unchanged g c side full =
+    let same = c.change.ensures.unchanged (c.in_err-change.was ∙ ap (λ e. Err e) full) in
+    slots-same c.args.store.now c.change.new.store side (g.B.Eeprom.chip c.args.bench.now) (g.B.Eeprom.chip c.change.new.bench) same.0 (ap g.B.Eeprom.chip same.1)
+
+pub returns-in_err-change-clause-refused : goal.returns-in_err-change-clause-refused
+returns-in_err-change-clause-refused g c = λ word is. unchanged g c Working (full-store c.from_residual.result c.in_err-change.field-0.0 c.from_residual.ensures.1 (not_fault c.from_residual.result word is))
+
+pub returns-in_err-change-clause-committed : goal.returns-in_err-change-clause-committed
+returns-in_err-change-clause-committed g c = λ no_fault. unchanged g c Committed (full-store c.from_residual.result c.in_err-change.field-0.0 c.from_residual.ensures.1 no_fault)
 
 pub returns-clause-ends : goal.returns-clause-ends
 returns-clause-ends g c = λ db was held there same with.
@@ -64,3 +78,6 @@ returns-clause-rows g c = λ was apart there.
     let kind = g.R.Record.kind in
     KeepsRows-one kind c.args.slot was (IsChanged kind c.args.value.now c.args.slot) _ _ g.met.R.Record.lawful apart there (λ a b is. (Some (kind.form.spell c.args.value.now), is, g.met.R.Record.lawful.begins c.args.value.now))
     (slots-told (IsChanged kind c.args.value.now c.args.slot) c.args.store.now c.change.new.store (g.B.Eeprom.chip c.args.bench.now) (g.B.Eeprom.chip c.change.new.bench) c.requires.over.stands c.in_ok-change.ensures.changed)
+
+pub returns-clause-committed : goal.returns-clause-committed
+returns-clause-committed g c = λ no_fault. committed-stays _ c.args.store.now c.change.new.store (g.B.Eeprom.chip c.args.bench.now) (g.B.Eeprom.chip c.change.new.bench) c.in_ok-change.ensures.told c.in_ok-change.ensures.changed

@@ -1,5 +1,5 @@
 -- The slot is emptied, and the slots hold the database without its record.
-use Rattle.std.proofs.Common.{◌≡◌, [], ◌∷◌, Some, None, refl, sym, ap, subst, ◌∙◌, arith}
+use Rattle.std.proofs.Common.{◌≡◌, [], ◌∷◌, Some, None, refl, sym, subst, ◌∙◌, arith}
 use Rattle.std.specs.Prelude.{IfSome}
 use Rattle.record_store.specs.Held.{StandsFor}
 use Rattle.scql_model.specs.Edits.{removing}
@@ -8,7 +8,7 @@ use Rattle.record_table.specs.Changed.{IsEmptied}
 use Rattle.record_table.specs.Listed.{at_slot}
 use Rattle.record_table.proofs.Ending.{KeepsRows-one}
 use Rattle.record_table.proofs.InPlace.{IsEditedTo-removed}
-use Rattle.record_table.proofs.Steps.{StepsTo-told, slots-told}
+use Rattle.record_table.proofs.Steps.{StepsTo-told, committed-stays, slots-told}
 use Rattle.record_table.proofs.in_place.take_out.Goals as goal
 
 pub returns-clause-makes : goal.returns-clause-makes
@@ -39,3 +39,8 @@ returns-clause-rows g c = λ was chip apart there over.
     KeepsRows-one g.R.Record.kind c.args.slot was (IsEmptied c.args.slot) _ _ g.met.R.Record.lawful apart there (λ a b is. (None, is, refl))
     (slots-told (IsEmptied c.args.slot) c.args.store.now c.remove.new.store chip chip over.stands
     (λ image told. (image, told, c.remove.ensures.removed image (subst (λ o. IfSome o (StandsFor c.args.store.now)) told over.stands))))
+
+pub returns-clause-committed : goal.returns-clause-committed
+returns-clause-committed g c = λ chip over.
+    committed-stays (IsEmptied c.args.slot) c.args.store.now c.remove.new.store chip chip refl
+    (λ image told. (image, told, c.remove.ensures.removed image (subst (λ o. IfSome o (StandsFor c.args.store.now)) told over.stands)))

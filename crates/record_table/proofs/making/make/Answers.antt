@@ -1,14 +1,16 @@
 -- The record is added, the counter counts on, and the slots hold the database with both.
-use Rattle.std.proofs.Common.{◌≡◌, ◌+◌, ◌<◌, ◌≤◌, ◌*◌, length, Some, None, Ok, Err, refl, sym, ap, subst, ◌∙◌, arith}
-use Rattle.std.specs.Prelude.{IfSome, drop}
+use Rattle.std.proofs.Common.{◌≡◌, ◌+◌, ◌<◌, ◌≤◌, length, Some, Ok, Err, refl, sym, ap, subst, ◌∙◌, arith}
+use Rattle.std.specs.Prelude.{IfSome, drop, is_some}
 use Rattle.eeprom.specs.Chip.{Becomes}
-use Rattle.eeprom.specs.StoreOf.{store_of, image_size, cells_for, weight_of}
-use Rattle.record_store.specs.Held.{StandsFor, contents}
+use Rattle.eeprom.specs.StoreOf.{Slots, store_of, image_size, cells_for, weight_of}
+use Rattle.record_store.specs.Held.{contents}
 use Rattle.record_store.specs.Put.{weight_with}
-use Rattle.record_store.specs.declared.side.Side.TheVariants.{Working}
+use Rattle.record_store.specs.declared.refusal.StoreRefusal.TheVariants.{Full}
+use Rattle.record_store.specs.declared.side.Side.{Side}
+use Rattle.record_store.specs.declared.side.Side.TheVariants.{Committed, Working}
 use Rattle.record_store.proofs.Fronts.{Keeps-then}
 use Rattle.scql_model.specs.Records.{counter_record}
-use Rattle.scql_model.specs.Edits.{making, applied}
+use Rattle.scql_model.specs.Edits.{making}
 use Rattle.scql_model.proofs.EditLaws.{applied-cells, applied-limit}
 use Rattle.catalog_codec.specs.Catalog.{counter_kind}
 use Rattle.record_table.specs.Changed.{IsAdded, IsChanged, Rewrites}
@@ -16,9 +18,9 @@ use Rattle.record_table.specs.Listed.{at_slot, slots_of}
 use Rattle.record_table.specs.Making.{IsMade}
 use Rattle.record_table.proofs.HeldRecords.{counter-listed}
 use Rattle.record_table.proofs.ListedChanges.{alone-at}
-use Rattle.record_table.proofs.Ending.{Ends-store, KeepsRows-made, at-told, counter-fits, made-told, octets-both, IsMade-both}
+use Rattle.record_table.proofs.Ending.{Ends-store, KeepsRows-made, at-told, counter-fits, full-store, made-told, not_fault, octets-both, IsMade-both}
 use Rattle.record_table.proofs.Made.{IsMadeOf-slots, full-made, octets-made}
-use Rattle.record_table.proofs.Steps.{Both, StepsTo-told, rewrites-both, slots-told}
+use Rattle.record_table.proofs.Steps.{Both, StepsTo-told, committed-stays, rewrites-both, slots-same, slots-told, unless-told}
 use Rattle.record_table.proofs.making.make.Given.{Over}
 use Rattle.record_table.proofs.making.make.Goals as goal
 
@@ -46,21 +48,52 @@ returns-in_err-slot-clause-ends g c = λ db held key with.
     let same = c.add.ensures.unchanged is in
     (full-made kind (g.R.Editable.any) g.met.R.Record.lawful g.met.R.Editable.edits db x held.slots held.holds (omega (arith, held.cells, over)), same.0, ap g.B.Eeprom.chip same.1)
 
-pub returns-in_err-change-clause-ends : goal.returns-in_err-change-clause-ends
-returns-in_err-change-clause-ends g c = λ db held key with.
+-- the counter has room, where the slots are told
+never : (g : Over) (c : goal.After-from_residual-in_err-change g) → c.in_err-change.field-0.0 ≡ Full → (slots : Slots) → slots_of c.args.store.now Working (g.B.Eeprom.chip c.args.bench.now) ≡ Some slots → ⊥
+never g c full slots here =
     let kind = g.R.Record.kind in
     let x = c.args.value.now in
     let chip = g.B.Eeprom.chip c.args.bench.now in
     let counter = c.args.counter.now in
-    Ends-store db (Ok (making db (g.R.Editable.any x))) c.from_residual-in_err-change.result c.in_err-change.field-0.0 c.args.store.now c.change.new.store chip (g.B.Eeprom.chip c.change.new.bench) c.from_residual-in_err-change.ensures.1 λ full.
     let is = c.in_err-change.was ∙ ap (λ e. Err e) full in
-    let added = StepsTo-told (IsAdded kind x c.in_ok-slot.slot) c.args.store.now c.add.new.store chip (g.B.Eeprom.chip c.add.new.bench) held.slots held.told c.in_ok-slot.ensures.told c.in_ok-slot.ensures.added in
-    let within = at-told c.args.store.now Working chip held.slots (λ slots. weight_with c.in_ok-slot.slot (kind.form.spell x) slots ≤ c.args.store.now.chains.cells) held.told c.in_ok-slot.ensures.within in
+    let added = StepsTo-told (IsAdded kind x c.in_ok-slot.slot) c.args.store.now c.add.new.store chip (g.B.Eeprom.chip c.add.new.bench) slots here c.in_ok-slot.ensures.told c.in_ok-slot.ensures.added in
+    let within = at-told c.args.store.now Working chip slots (λ slots. weight_with c.in_ok-slot.slot (kind.form.spell x) slots ≤ c.args.store.now.chains.cells) here c.in_ok-slot.ensures.within in
     let over = at-told c.add.new.store Working (g.B.Eeprom.chip c.add.new.bench) added.now (λ slots. c.add.new.store.chains.cells < weight_with counter.slot (counter_record.spell (counter.value + 1)) slots) added.told
     (subst (λ counter. IfSome (g.B.Eeprom.chip c.add.new.bench).image (λ image. IfSome (contents c.add.new.store Working image) (λ slots. c.add.new.store.chains.cells < weight_with counter.slot (counter_record.spell (counter.value + 1)) slots)))
     c.counter.view_is (c.change.ensures.full is)) in
-    let at = subst (λ o. IfSome o (λ slots. Some counter.value ≡ at_slot counter_kind counter.slot slots)) held.told c.requires.counter in
-    absurd (counter-fits kind x c.in_ok-slot.slot counter.slot counter.value (counter.value + 1) c.args.store.now.chains.cells held.slots added.now added.is (sym at) within (omega (arith, over, c.in_ok-slot.ensures.cells)))
+    let at = subst (λ o. IfSome o (λ slots. Some counter.value ≡ at_slot counter_kind counter.slot slots)) here c.requires.counter in
+    counter-fits kind x c.in_ok-slot.slot counter.slot counter.value (counter.value + 1) c.args.store.now.chains.cells slots added.now added.is (sym at) within (omega (arith, over, c.in_ok-slot.ensures.cells))
+
+-- where the record has no room nothing is done
+unadded : (g : Over) (c : goal.After-from_residual g) (side : Side) → c.in_err-slot.field-0.0 ≡ Full → slots_of c.add.new.store side (g.B.Eeprom.chip c.add.new.bench) ≡ slots_of c.args.store.now side (g.B.Eeprom.chip c.args.bench.now)
+unadded g c side full =
+    let same = c.add.ensures.unchanged (c.in_err-slot.was ∙ ap (λ e. Err e) full) in
+    slots-same c.args.store.now c.add.new.store side (g.B.Eeprom.chip c.args.bench.now) (g.B.Eeprom.chip c.add.new.bench) same.0 (ap g.B.Eeprom.chip same.1)
+
+pub returns-in_err-slot-clause-refused : goal.returns-in_err-slot-clause-refused
+returns-in_err-slot-clause-refused g c = λ word is. unadded g c Working (full-store c.from_residual.result c.in_err-slot.field-0.0 c.from_residual.ensures.1 (not_fault c.from_residual.result word is))
+
+pub returns-in_err-slot-clause-committed : goal.returns-in_err-slot-clause-committed
+returns-in_err-slot-clause-committed g c = λ no_fault. unadded g c Committed (full-store c.from_residual.result c.in_err-slot.field-0.0 c.from_residual.ensures.1 no_fault)
+
+-- nor is anything told of what has no room behind the record
+uncounted : (g : Over) (c : goal.After-from_residual-in_err-change g) (side : Side) → c.in_err-change.field-0.0 ≡ Full → slots_of c.change.new.store side (g.B.Eeprom.chip c.change.new.bench) ≡ slots_of c.args.store.now side (g.B.Eeprom.chip c.args.bench.now)
+uncounted g c side full =
+    let same = c.change.ensures.unchanged (c.in_err-change.was ∙ ap (λ e. Err e) full) in
+    unless-told c.args.store.now c.change.new.store side (g.B.Eeprom.chip c.args.bench.now) (g.B.Eeprom.chip c.change.new.bench) c.requires.over.stands (ap (λ bench. is_some (g.B.Eeprom.chip bench).image) same.1 ∙ c.in_ok-slot.ensures.told)
+    (never g c full)
+
+pub returns-in_err-change-clause-refused : goal.returns-in_err-change-clause-refused
+returns-in_err-change-clause-refused g c = λ word is.
+    uncounted g c Working (full-store c.from_residual-in_err-change.result c.in_err-change.field-0.0 c.from_residual-in_err-change.ensures.1 (not_fault c.from_residual-in_err-change.result word is))
+
+pub returns-in_err-change-clause-committed : goal.returns-in_err-change-clause-committed
+returns-in_err-change-clause-committed g c = λ no_fault. uncounted g c Committed (full-store c.from_residual-in_err-change.result c.in_err-change.field-0.0 c.from_residual-in_err-change.ensures.1 no_fault)
+
+pub returns-in_err-change-clause-ends : goal.returns-in_err-change-clause-ends
+returns-in_err-change-clause-ends g c = λ db held key with.
+    Ends-store db (Ok (making db (g.R.Editable.any c.args.value.now))) c.from_residual-in_err-change.result c.in_err-change.field-0.0 c.args.store.now c.change.new.store (g.B.Eeprom.chip c.args.bench.now) (g.B.Eeprom.chip c.change.new.bench)
+    c.from_residual-in_err-change.ensures.1 λ full. absurd (never g c full held.slots held.told)
 
 pub returns-in_err-change-clause-moments : goal.returns-in_err-change-clause-moments
 returns-in_err-change-clause-moments g c = Keeps-then store_of _ _ _ c.add.ensures.moments c.change.ensures.moments
@@ -113,6 +146,9 @@ pub returns-clause-rows : goal.returns-clause-rows
 returns-clause-rows g c = λ apart.
     KeepsRows-made g.R.Record.kind c.args.value.now _ _ _ _ _ _ g.met.R.Record.lawful apart c.requires.counter
     (slots-told _ c.args.store.now c.change.new.store (g.B.Eeprom.chip c.args.bench.now) (g.B.Eeprom.chip c.change.new.bench) c.requires.over.stands (both g c))
+
+pub returns-clause-committed : goal.returns-clause-committed
+returns-clause-committed g c = λ no_fault. committed-stays _ c.args.store.now c.change.new.store (g.B.Eeprom.chip c.args.bench.now) (g.B.Eeprom.chip c.change.new.bench) (c.in_ok-change.ensures.told ∙ c.in_ok-slot.ensures.told) (both g c)
 
 pub returns-clause-moments : goal.returns-clause-moments
 returns-clause-moments g c = Keeps-then store_of _ _ _ c.add.ensures.moments c.change.ensures.moments

@@ -1,0 +1,9 @@
+-- For PUBLIC nothing is read.
+use Rattle.record_store.specs.declared.side.Side.TheVariants.{Working}
+use Rattle.catalog_codec.specs.Catalog.{user_kind}
+use Rattle.record_table.specs.Listed.{cells_marked, slots_of}
+use Rattle.record_table.proofs.ReadingCosts.{reads-none}
+use Rattle.db_access.proofs.creating.is_taken.Goals as goal
+
+pub returns-then-eq-clause-octets_read : goal.returns-then-eq-clause-octets_read
+returns-then-eq-clause-octets_read g c = reads-none (cells_marked user_kind) (slots_of c.args.store.now Working (g.B.Eeprom.chip c.args.bench.now)) (g.B.Eeprom.octets_read c.args.bench.now)
