@@ -1,5 +1,5 @@
 -- What it means that a table or a view is resolved.
-use Rattle.std.specs.Prelude.{◌≡◌, ℕ, Bool, List, Option, Some, map, position}
+use Rattle.std.specs.Prelude.{◌≡◌, ℕ, Bool, List, Some, map, position}
 use Rattle.std.specs.List.{AllZip}
 use Rattle.std.specs.Str.{bytes_eq}
 use Rattle.scql_base.specs.declared.condition.Condition.{Condition}

@@ -84,7 +84,7 @@ pub(crate) fn descend<B: Eeprom>(
 {
     let mut passed = ArrayVec::new();
     let mut layer = layer_of(object);
-    for _ in 0..DEEPEST {
+    for _depth in 0..DEEPEST {
         layer = pass(store, bench, side, layer, &mut passed)?;
     }
     Ok(base_of(layer, passed))

@@ -4,4 +4,4 @@
 mod layer;
 mod resolving;
 
-pub use resolving::{DEEPEST, Resolved, resolve};
+pub use resolving::{DEEPEST, Places, Resolved, places_of, resolve};

@@ -1,5 +1,5 @@
 // A table or a view, down to its table.
-ghost use Rattle.std.specs.Prelude.{◌≡◌, ◌≤◌, ◌*◌, ℕ, true, List, Some, IfOk, IfSome, IsSome, length, map, position};
+ghost use Rattle.std.specs.Prelude.{◌≡◌, ◌≤◌, ◌<◌, ◌*◌, ℕ, true, List, Some, IfOk, IfSome, IsSome, length, map, position};
 ghost use Rattle.std.specs.List.{AllZip, list_all};
 ghost use Rattle.std.specs.Str.{bytes_eq};
 ghost use Rattle.eeprom.specs.Chip.{Becomes, RisesAtMost};
@@ -7,6 +7,7 @@ ghost use Rattle.eeprom.specs.Fault.{each_error};
 ghost use Rattle.eeprom.specs.Frame.{Reads};
 ghost use Rattle.eeprom.specs.StoreOf.{cell_size};
 ghost use Rattle.record_store.specs.Held.{IsOver};
+ghost use Rattle.scql_base.specs.declared.name_list.TheConstants.NameList.{MOST};
 ghost use Rattle.scql_model.specs.Database.{Database, are_among, object_stamped};
 ghost use Rattle.scql_model.specs.Defining.{is_table_or_view};
 ghost use Rattle.scql_model.specs.Objects.{columns_of, deepest};
@@ -28,6 +29,9 @@ use search_cond::{Bound, bind};
 /// How many views may stand over one another.
 pub const DEEPEST: usize = 4;
 
+/// Places of columns.
+pub type Places = ArrayVec<u8, { NameList::MOST }>;
+
 /// A table or a view, down to its table.
 #[derive(Drop)]
 pub struct Resolved {
@@ -38,7 +42,7 @@ pub struct Resolved {
     /// The columns that are shown.
     pub columns: NameList,
     /// The place of each shown column among all.
-    pub places: ArrayVec<u8, { NameList::MOST }>,
+    pub places: Places,
     /// The conditions of each view over the table, the outermost first. They are bound to all columns.
     pub filters: ArrayVec<Bound, { DEEPEST }>,
 }
@@ -106,27 +110,26 @@ fn shown_columns(kind: &ObjectKind) -> Option<NameList>
     }
 }
 
-// The places of columns among all columns of a table.
-fn places_of(all: &NameList, columns: &NameList) -> Option<ArrayVec<u8, { NameList::MOST }>>
+/// The place of each column among all columns of a table. None where one isn't among them.
+pub fn places_of(all: &NameList, columns: &NameList) -> Option<Places>
     ensures places { IfSome result (λ places. ArePlaces places.items all.now columns.now) }
     ensures there { are_among columns.now all.now ≡ true → IsSome result }
 {
     let mut places = ArrayVec::new();
     for column in columns.as_slice() {
-        places.push(place_of(all, column)?);
+        places.push(place_of(all, column)? as u8);
     }
     Some(places)
 }
 
 // The first place of a column.
-fn place_of(all: &NameList, column: &Name) -> Option<u8>
-    ensures { result ≡ position (bytes_eq column.now) all.now }
+fn place_of(all: &NameList, column: &Name) -> Option<usize>
+    ensures place { result ≡ position (bytes_eq column.now) all.now }
+    ensures within { IfSome result (λ place. place < MOST) }
 {
-    let place = all
-        .as_slice()
+    all.as_slice()
         .iter()
-        .position(|name| column.octets() == name.octets())?;
-    Some(place as u8)
+        .position(|name| column.octets() == name.octets())
 }
 
 // The conditions of each view, bound to all columns of the table.
