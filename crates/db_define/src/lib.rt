@@ -3,10 +3,9 @@
 
 mod dropping;
 mod making;
+mod rows;
 mod sweeping;
+mod table;
 
 pub use dropping::drop_table;
-pub use making::create_table;
-
-#[cfg(test)]
-mod tests;
+pub use table::create_table;
