@@ -9,7 +9,7 @@ ghost use Rattle.record_store.specs.Held.{IsOver};
 ghost use Rattle.record_store.specs.declared.side.Side.TheVariants.{Working};
 ghost use Rattle.scql_model.specs.Database.{Database};
 ghost use Rattle.scql_model.specs.Defining as model;
-ghost use Rattle.scql_model.specs.Defining.{named_anew, new_object};
+ghost use Rattle.scql_model.specs.Defining.{named_anew, new_object, object_created};
 ghost use Rattle.scql_model.specs.Edits.{Edit};
 ghost use Rattle.catalog_codec.specs.Catalog.{object_kind};
 ghost use Rattle.catalog_codec.specs.Kinds.{FitsChain};
@@ -35,6 +35,32 @@ pub(crate) fn makes_objects(actor: Actor) -> bool
             Profile::Dbbu => false,
         },
     }
+}
+
+/// Adds an object that the actor owns, where the actor makes objects and no other object has its name.
+pub(crate) fn create_object<B: Eeprom>(
+    store: &mut Store,
+    bench: &mut B,
+    actor: Actor,
+    name: Name,
+    kind: ObjectKind,
+) -> Result<(), Stop>
+    requires begun { IsTrue store.old.begun }
+    requires over { IsOver store.old (B.chip bench.old) }
+    requires short { (stamp owner : ℕ) → FitsChain object_kind (record { stamp = stamp; name = name; owner = owner; kind = kind }) }
+    ensures ends { (db : Database) → IsHeld store.old Working (B.chip bench.old) db
+        → ((edits : List Edit) → object_created db actor name kind ≡ Ok edits → IsValidWith db edits)
+        → Ends db (object_created db actor name kind) result store.old store.new (B.chip bench.old) (B.chip bench.new) }
+    ensures goes_on { ¬ IsErrOf result Stop.Fault → GoesOn store.old store.new (B.chip bench.old) (B.chip bench.new) }
+    ensures rows { OnOk result (KeepsRows (slots_of store.old Working (B.chip bench.old)) (slots_of store.new Working (B.chip bench.new))) }
+    ensures moments { Keeps store_of (B.chip bench.old) (B.chip bench.new) }
+    ensures behind { Keeps (drop (image_size store.old.chains.cells)) (B.chip bench.old) (B.chip bench.new) }
+    ensures cause { CountsFaults is_stop_fault (B.faults bench.old) (B.faults bench.new) result }
+{
+    if !makes_objects(actor) {
+        return refused(StatusWord::SECURITY_NOT_SATISFIED);
+    }
+    add_named(store, bench, actor, name, kind)
 }
 
 /// Adds an object that the actor owns, and whose name no other object has.

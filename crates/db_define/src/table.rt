@@ -17,12 +17,12 @@ ghost use Rattle.record_table.specs.Listed.{slots_of};
 ghost use Rattle.record_table.specs.Making.{Ends, GoesOn, IsHeld, KeepsRows, is_stop_fault};
 ghost use Rattle.row_index.specs.Index.{Indexes};
 
-use crate::making::{add_named, makes_objects};
+use crate::making::create_object;
 use eeprom::Eeprom;
 use record_store::Store;
-use record_table::{Stop, refused};
+use record_table::Stop;
 use row_index::RowIndex;
-use scql_base::{Actor, Name, NameList, ObjectKind, StatusWord};
+use scql_base::{Actor, Name, NameList, ObjectKind};
 
 /// CREATE TABLE: adds a table with these columns, which the actor owns. All rows stay where they are, and so does the index.
 pub fn create_table<B: Eeprom>(
@@ -50,11 +50,8 @@ pub fn create_table<B: Eeprom>(
     ensures index_committed { index.new.committed ≡ index.old.committed }
     ensures index_begun { IsTrue index.new.begun }
 {
-    if !makes_objects(actor) {
-        return refused(StatusWord::SECURITY_NOT_SATISFIED);
-    }
     let table = table_of(&name, columns);
-    add_named(store, bench, actor, name, table)
+    create_object(store, bench, actor, name, table)
 }
 
 // A table with these columns. Its record isn't too long, whatever names it has.
