@@ -1,6 +1,5 @@
 -- Laws of an index: for which stores it stands after a change.
-use Rattle.std.proofs.Common.{◌≡◌, ℕ, suc, ◌<◌, Bool, true, false, cond, List, [], ◌∷◌, ◌++◌, length, Option, Some, None, get_or, refl, sym, ap, ◌∙◌, arith, subst}
-use Rattle.std.proofs.Math.ListN.{set}
+use Rattle.std.proofs.Common.{◌≡◌, ℕ, suc, ◌<◌, Bool, true, false, List, [], ◌∷◌, ◌++◌, length, Option, Some, None, get_or, refl, sym, ap, ◌∙◌, arith, subst}
 use Rattle.std.proofs.lemmas.List.{get_or-set_other, length-set}
 use Rattle.std.proofs.lemmas.Option.{none-some, same_Some}
 use Rattle.std.specs.Prelude.{IfSome, if◌then◌else◌, is_some, option_and_then, option_map}
@@ -19,7 +18,7 @@ use Rattle.record_table.specs.Making.{IsMade, KeepsRows}
 use Rattle.record_table.proofs.ListedChanges.{at_slot-kept, is_of, is_of-read}
 use Rattle.record_table.proofs.Made.{other_slot}
 use Rattle.row_index.specs.Index.{HasRows, Index, Indexes, is_above, may_add}
-use Rattle.row_index.specs.Places.{place_of, place_stamp, row_places}
+use Rattle.row_index.specs.Places.{place_of, place_stamp}
 use Rattle.row_index.specs.declared.place.RowPlace.{RowPlace}
 use Rattle.row_index.proofs.ChangedPlaces.{HasRows-added, may_add-told}
 use Rattle.row_index.proofs.Kept.{below-above}
