@@ -24,7 +24,7 @@ use Rattle.row_index.proofs.IndexLaws.{Indexes-kept}
 use Rattle.db_define.specs.Dependent.{is_on}
 use Rattle.db_define.specs.Swept.{without_passing}
 use Rattle.db_define.proofs.RowsLeft.{rows-kept}
-use Rattle.db_define.proofs.TableLeft.{of-told, slots_without_grants, slots_without_table}
+use Rattle.db_define.proofs.ObjectLeft.{of-told, slots_without_grants, slots_without_object}
 
 -- a store that holds a database has as many working slots as cells
 many-held : (store : Held) (chip : Chip) (db : Database) → IsHeld store Working chip db → IfSome (slots_of store Working chip) (λ slots. length slots ≡ store.chains.cells)
@@ -51,7 +51,7 @@ pub Indexes-ungranted : (index : Index) (db : Database) (o : Object) (slot : ℕ
     → Indexes index new chip
 Indexes-ungranted index db o slot old new chip held is found left cells committed =
     let slots = held.slots in
-    let first = slots_without_table slot slots in
+    let first = slots_without_object slot slots in
     let last = slots_without_grants slot o.stamp slots in
     let at = sym (of-told old chip slots (λ slots. Some o ≡ at_slot object_kind slot slots) held.told found) in
     let now = of-told old chip slots (λ slots. slots_of new Working chip ≡ Some (slots_without_grants slot o.stamp slots)) held.told left in

@@ -1,8 +1,9 @@
 pub mod IndexKept
 pub mod LeftRecords
+pub mod ObjectDropped
+pub mod ObjectLeft
 pub mod ObjectMade
 pub mod RemovedRows
 pub mod RowsLeft
 pub mod SweptSlots
-pub mod TableDropped
 pub mod TableLeft

@@ -1,2 +1,3 @@
 pub mod Dependent
+pub mod Dropped
 pub mod Swept

@@ -1,95 +1,63 @@
-// DROP TABLE.
-ghost use Rattle.std.specs.Prelude.{◌≡◌, ◌<◌, ◌≤◌, ◌+◌, ◌++◌, Some, None, Ok, Err, IsTrue, IfOk, IfErr, IfSome, IsErrOf, OnOk, count_by, drop, slice_set};
+// What the operations have in common that drop objects.
+ghost use Rattle.std.specs.Prelude.{◌≡◌, ◌<◌, ◌≤◌, ◌+◌, Some, None, Ok, Err, IsTrue, IfOk, IfErr, IfSome, OnOk, count_by, slice_set};
 ghost use Rattle.std.specs.List.{list_any};
-ghost use Rattle.eeprom.specs.Chip.{Keeps};
-ghost use Rattle.eeprom.specs.Fault.{CountsFaults, each_error};
+ghost use Rattle.eeprom.specs.Fault.{each_error};
 ghost use Rattle.eeprom.specs.Frame.{Reads};
-ghost use Rattle.eeprom.specs.StoreOf.{store_of, image_size};
 ghost use Rattle.record_store.specs.Held.{IsOver};
 ghost use Rattle.record_store.specs.Transaction.{entries};
 ghost use Rattle.record_store.specs.declared.side.Side.TheVariants.{Committed, Working};
-ghost use Rattle.scql_model.specs.Database as model;
 ghost use Rattle.scql_model.specs.Database.{Database};
-ghost use Rattle.scql_model.specs.Defining.{removing_object, removing_rows, table_dropped};
 ghost use Rattle.scql_base.specs.declared.records.Object.{Object};
 ghost use Rattle.catalog_codec.specs.Catalog.{grant_kind, object_kind};
 ghost use Rattle.record_table.specs.Listed.{at_slot, slots_of};
-ghost use Rattle.record_table.specs.Making.{Ends, GoesOn, IsHeld, is_stop_fault};
-ghost use Rattle.row_index.specs.Index.{Indexes};
+ghost use Rattle.record_table.specs.Making.{Ends, IsHeld, is_stop_fault};
 ghost use Rattle.db_define.specs.Dependent.{is_on, is_view_on};
+ghost use Rattle.db_define.specs.Dropped as specs;
+ghost use Rattle.db_define.specs.Dropped.{dropping};
 ghost use Rattle.db_define.specs.Swept.{all_without, has_passing};
 
-use crate::rows::remove_rows;
+use crate::dropped::Dropped;
 use crate::sweeping::remove_each;
 use eeprom::{Eeprom, EepromFault};
 use privilege_table::{find_seen, is_owned_by};
 use record_store::{Found, Side, Store};
 use record_table::{Stop, Wanted, find_by, refused, remove};
-use row_index::RowIndex;
 use scql_base::{Actor, Grant, Name, Object, ObjectKind, StatusWord};
 
-/// DROP TABLE: removes a table that the actor owns and on which no view rests, the grants on it and its rows, which the index names.
-pub fn drop_table<B: Eeprom>(
-    store: &mut Store,
-    bench: &mut B,
-    actor: Actor,
-    name: Name,
-    index: &mut RowIndex,
-) -> Result<(), Stop>
-    requires begun { IsTrue store.old.begun }
-    requires over { IsOver store.old (B.chip bench.old) }
-    requires index_begun { IsTrue index.old.begun }
-    requires index { Indexes index.old store.old (B.chip bench.old) }
-    ensures ends { (db : Database) → IsHeld store.old Working (B.chip bench.old) db
-        → Ends db (table_dropped db actor name) result store.old store.new (B.chip bench.old) (B.chip bench.new) }
-    ensures goes_on { ¬ IsErrOf result Stop.Fault → GoesOn store.old store.new (B.chip bench.old) (B.chip bench.new) }
-    ensures moments { Keeps store_of (B.chip bench.old) (B.chip bench.new) }
-    ensures behind { Keeps (drop (image_size store.old.chains.cells)) (B.chip bench.old) (B.chip bench.new) }
-    ensures cause { CountsFaults is_stop_fault (B.faults bench.old) (B.faults bench.new) result }
-    ensures index { (db : Database) → IsHeld store.old Working (B.chip bench.old) db → ¬ IsErrOf result Stop.Fault → Indexes index.new store.new (B.chip bench.new) }
-    ensures index_cells { index.new.cells ≡ index.old.cells }
-    ensures index_committed { index.new.committed ≡ index.old.committed }
-    ensures index_begun { IsTrue index.new.begun }
-{
-    let table = find_to_drop(store, bench, actor, name)?;
-    remove_object(store, bench, &table)?;
-    remove_rows(store, table.value.stamp, index);
-    Ok(())
-}
-
-// The table that is dropped, or the first refusal.
-fn find_to_drop<B: Eeprom>(
+/// The object of a name that is dropped so: one that the actor owns, and on which no view rests. Or the first refusal.
+pub(crate) fn find_to_drop<B: Eeprom>(
     store: &Store,
     bench: &mut B,
     actor: Actor,
     name: Name,
+    dropped: Dropped,
 ) -> Result<Found<Object>, Stop>
     requires over { IsOver store.now (B.chip bench.old) }
-    ensures there { IfOk result (λ table. table.slot < store.now.chains.cells) }
-    ensures at { IfOk result (λ table. IfSome (slots_of store.now Working (B.chip bench.old)) (λ slots. Some table.value ≡ at_slot object_kind table.slot slots)) }
+    ensures there { IfOk result (λ object. object.slot < store.now.chains.cells) }
+    ensures at { IfOk result (λ object. IfSome (slots_of store.now Working (B.chip bench.old)) (λ slots. Some object.value ≡ at_slot object_kind object.slot slots)) }
     ensures found { (db : Database) → IsHeld store.now Working (B.chip bench.old) db
-        → IfOk result (λ table. table_dropped db actor name ≡ Ok (removing_object db table.value ++ removing_rows db table.value)) }
+        → IfOk result (λ object. specs.dropped dropped db actor name ≡ Ok (dropping dropped db object.value)) }
     ensures refused { (db : Database) → IsHeld store.now Working (B.chip bench.old) db
-        → IfErr result (λ stop. Ends {T = Unit {0}} db (table_dropped db actor name) (Err stop) store.now store.now (B.chip bench.old) (B.chip bench.new)) }
+        → IfErr result (λ stop. Ends {T = Unit {0}} db (specs.dropped dropped db actor name) (Err stop) store.now store.now (B.chip bench.old) (B.chip bench.new)) }
     ensures frame { Reads is_stop_fault B.chip B.faults bench.old bench.new result }
 {
-    let Some(table) = find_seen(store, bench, Side::Working, actor, name)? else {
+    let Some(object) = find_seen(store, bench, Side::Working, actor, name)? else {
         return refused(StatusWord::NOT_FOUND);
     };
-    if !is_table(&table.value.kind) {
+    if !drops(dropped, &object.value.kind) {
         return refused(StatusWord::NOT_FOUND);
     }
-    if !is_owned_by(actor, table.value.owner) {
+    if !is_owned_by(actor, object.value.owner) {
         return refused(StatusWord::SECURITY_NOT_SATISFIED);
     }
-    if is_viewed(store, bench, table.value.stamp)? {
+    if is_viewed(store, bench, object.value.stamp)? {
         return refused(StatusWord::CONDITIONS_NOT_SATISFIED);
     }
-    Ok(table)
+    Ok(object)
 }
 
-// Removes an object and the grants on it.
-fn remove_object<B: Eeprom>(
+/// Removes an object and the grants on it.
+pub(crate) fn remove_object<B: Eeprom>(
     store: &mut Store,
     bench: &mut B,
     object: &Found<Object>,
@@ -122,10 +90,15 @@ fn is_viewed<B: Eeprom>(store: &Store, bench: &mut B, stamp: u32) -> Result<bool
     Ok(find_by(store, bench, Side::Working, &ViewOn(stamp))?.is_some())
 }
 
-fn is_table(kind: &ObjectKind) -> bool
-    ensures { result ≡ model.is_table kind.now }
+// Whether an object of a kind is dropped so.
+fn drops(dropped: Dropped, kind: &ObjectKind) -> bool
+    ensures { result ≡ specs.drops dropped kind.now }
 {
-    matches!(kind, ObjectKind::Table { .. })
+    let is_table = matches!(kind, ObjectKind::Table { .. });
+    match dropped {
+        Dropped::Table => is_table,
+        Dropped::View => !is_table,
+    }
 }
 
 // The views on the object of a stamp.

@@ -2,12 +2,14 @@
 #![tactic(auto)]
 
 mod dictionary;
+mod dropped;
 mod dropping;
 mod making;
 mod rows;
 mod sweeping;
 mod table;
+mod view;
 
 pub use dictionary::create_dictionary;
-pub use dropping::drop_table;
-pub use table::create_table;
+pub use table::{create_table, drop_table};
+pub use view::drop_view;

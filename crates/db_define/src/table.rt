@@ -1,4 +1,4 @@
-// CREATE TABLE.
+// CREATE TABLE and DROP TABLE.
 ghost use Rattle.std.specs.Prelude.{◌≡◌, ℕ, IsTrue, IsErrOf, OnOk, drop};
 ghost use Rattle.eeprom.specs.Chip.{Keeps};
 ghost use Rattle.eeprom.specs.Fault.{CountsFaults};
@@ -9,7 +9,7 @@ ghost use Rattle.scql_base.specs.declared.operation.Operation.TheVariants as ope
 ghost use Rattle.scql_base.specs.declared.records.ObjectKind.TheVariants.{Table};
 ghost use Rattle.scql_model.specs.Creating.{IsActorOf};
 ghost use Rattle.scql_model.specs.Database.{Database};
-ghost use Rattle.scql_model.specs.Defining.{object_created};
+ghost use Rattle.scql_model.specs.Defining.{object_created, table_dropped};
 ghost use Rattle.scql_model.specs.WellFormed.{HasForm};
 ghost use Rattle.catalog_codec.specs.Catalog.{object_kind};
 ghost use Rattle.catalog_codec.specs.Kinds.{FitsChain};
@@ -17,7 +17,10 @@ ghost use Rattle.record_table.specs.Listed.{slots_of};
 ghost use Rattle.record_table.specs.Making.{Ends, GoesOn, IsHeld, KeepsRows, is_stop_fault};
 ghost use Rattle.row_index.specs.Index.{Indexes};
 
+use crate::dropped::Dropped;
+use crate::dropping::{find_to_drop, remove_object};
 use crate::making::create_object;
+use crate::rows::remove_rows;
 use eeprom::Eeprom;
 use record_store::Store;
 use record_table::Stop;
@@ -52,6 +55,35 @@ pub fn create_table<B: Eeprom>(
 {
     let table = table_of(&name, columns);
     create_object(store, bench, actor, name, table)
+}
+
+/// DROP TABLE: removes a table that the actor owns and on which no view rests, the grants on it and its rows, which the index names.
+pub fn drop_table<B: Eeprom>(
+    store: &mut Store,
+    bench: &mut B,
+    actor: Actor,
+    name: Name,
+    index: &mut RowIndex,
+) -> Result<(), Stop>
+    requires begun { IsTrue store.old.begun }
+    requires over { IsOver store.old (B.chip bench.old) }
+    requires index_begun { IsTrue index.old.begun }
+    requires index { Indexes index.old store.old (B.chip bench.old) }
+    ensures ends { (db : Database) → IsHeld store.old Working (B.chip bench.old) db
+        → Ends db (table_dropped db actor name) result store.old store.new (B.chip bench.old) (B.chip bench.new) }
+    ensures goes_on { ¬ IsErrOf result Stop.Fault → GoesOn store.old store.new (B.chip bench.old) (B.chip bench.new) }
+    ensures moments { Keeps store_of (B.chip bench.old) (B.chip bench.new) }
+    ensures behind { Keeps (drop (image_size store.old.chains.cells)) (B.chip bench.old) (B.chip bench.new) }
+    ensures cause { CountsFaults is_stop_fault (B.faults bench.old) (B.faults bench.new) result }
+    ensures index { (db : Database) → IsHeld store.old Working (B.chip bench.old) db → ¬ IsErrOf result Stop.Fault → Indexes index.new store.new (B.chip bench.new) }
+    ensures index_cells { index.new.cells ≡ index.old.cells }
+    ensures index_committed { index.new.committed ≡ index.old.committed }
+    ensures index_begun { IsTrue index.new.begun }
+{
+    let table = find_to_drop(store, bench, actor, name, Dropped::Table)?;
+    remove_object(store, bench, &table)?;
+    remove_rows(store, table.value.stamp, index);
+    Ok(())
 }
 
 // A table with these columns. Its record isn't too long, whatever names it has.

@@ -1,7 +1,7 @@
 -- The object's slot is emptied, and then those of the grants on it.
 use Rattle.std.proofs.Common.{◌∙◌}
 use Rattle.db_define.proofs.SweptSlots.{emptied-told}
-use Rattle.db_define.proofs.TableLeft.{committed-told, granted-entries, granted-told}
+use Rattle.db_define.proofs.ObjectLeft.{committed-told, granted-entries, granted-told}
 use Rattle.db_define.proofs.dropping.remove_object.Goals as goal
 
 pub returns-clause-removed : goal.returns-clause-removed

@@ -1,8 +1,8 @@
 -- The table goes with the grants on it, and then its rows, which the index follows.
 use Rattle.std.proofs.Common.{◌∙◌}
 use Rattle.db_define.proofs.IndexKept.{Indexes-ungranted}
-use Rattle.db_define.proofs.TableLeft.{Makes-dropped, dropping_edits}
-use Rattle.db_define.proofs.dropping.drop_table.Goals as goal
+use Rattle.db_define.proofs.TableLeft.{Makes-table_dropped, dropping_edits}
+use Rattle.db_define.proofs.table.drop_table.Goals as goal
 
 pub returns-clause-ends : goal.returns-clause-ends
 returns-clause-ends g c = λ db held.
@@ -17,7 +17,7 @@ returns-clause-ends g c = λ db held.
     let committed = rw (object.frame.same, found) at object.committed in
     let over = rw (object.frame.same, found) at object.over in
     let stands = Indexes-ungranted c.args.index.now db o slot c.args.store.now c.remove_object.new.store chip held c.requires.index c.in_ok-table.ensures.at left object.cells committed in
-    let makes = Makes-dropped db c.args.actor c.args.name o slot c.args.store.now c.remove_object.new.store c.remove_rows.new.store chip held is c.in_ok-table.ensures.at left
+    let makes = Makes-table_dropped db c.args.actor c.args.name o slot c.args.store.now c.remove_object.new.store c.remove_rows.new.store chip held is c.in_ok-table.ensures.at left
     (rows.removed chip over stands) (rows.cells ∙ object.cells) (rows.rows ∙ object.rows) (rows.committed chip over ∙ committed) (rw found at object.entries) (rows.entries chip stands) in
     (dropping_edits db o, is, rw (object.frame.same, found) makes)
 
