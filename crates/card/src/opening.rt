@@ -3,14 +3,14 @@
 ghost use Rattle.std.specs.Prelude.{◌≡◌, ◌≢◌, ◌⊎◌, ◌↔◌, ◌+◌, ◌*◌, ◌≤◌, ◌<◌, ℕ, [], ◌∷◌, ◌++◌, Some, None, false, true, length, is_some, IsTrue, IfSome, IfOk, IfErr, OnOk, IsErrOf};
 ghost use Rattle.std.specs.List.{cons_option};
 ghost use Rattle.std.specs.Vec.{vec_capacity};
-ghost use Rattle.eeprom.specs.Chip.{Becomes, RisesAtMost};
-ghost use Rattle.eeprom.specs.StoreOf.{store_of, is_gate_open, most_cells};
+ghost use Rattle.eeprom.specs.Chip.{Becomes};
+ghost use Rattle.eeprom.specs.StoreOf.{store_of, is_gate_open};
 ghost use Rattle.eeprom.specs.Slots.{Rises, in_order, in_slot};
 ghost use Rattle.cell_store.specs.Reading.{ReadsAtMost};
 ghost use Rattle.record_store.specs.Faults.{is_open_fault};
 ghost use Rattle.record_store.specs.Held.{IsOver, stored};
 ghost use Rattle.record_store.specs.Recovery.{Recovers};
-ghost use Rattle.record_store.specs.Opening.{front_octets, journal_octets, most_octets, slot_with};
+ghost use Rattle.record_store.specs.Opening.{ReadsFront, most_octets, slot_with};
 ghost use Rattle.record_store.specs.declared.side.Side.TheVariants.{Committed};
 ghost use Rattle.scql_model.specs.Records.{counter_in};
 ghost use Rattle.scql_model.specs.Database.{Database};
@@ -67,8 +67,7 @@ pub(crate) fn open_records<B: Eeprom>(alloc: Global, bench: &mut B) -> Result<Op
         → Becomes (ReadsCard db) (B.octets_read bench.old) (B.octets_read bench.new))) }
     ensures most_read { Becomes (ReadsAtMost most_octets) (B.octets_read bench.old) (B.octets_read bench.new) }
     // No record was read by then.
-    ensures no_memory { IsErrOf result OpenRefusal.NoMemory
-        → Becomes (RisesAtMost (front_octets most_cells + journal_octets most_cells)) (B.octets_read bench.old) (B.octets_read bench.new) }
+    ensures no_memory { IsErrOf result OpenRefusal.NoMemory → (n : ℕ) × ReadsFront n (B.chip bench.old).image (B.octets_read bench.old) (B.octets_read bench.new) }
     ensures not_a_card { IsErrOf result OpenRefusal.NotACard → IfSome (B.chip bench.old).image (λ image. (db : Database) → Opens image db → ⊥) }
     ensures frame { Recovers is_open_fault B.chip B.faults bench.old bench.new result }
 {

@@ -157,3 +157,10 @@ returns-clause-octets_read g c =
     c.finish-store.ensures.opened c.finish-store.ensures.weight c.finish-store.ensures.cells c.loop-slot.invariant.opening.over.stands
     (subst (λ (n : ℕ). IfSome old.image (λ image. is_gate_open image ≡ false → Becomes (RisesBy (front_octets n)) (g.B.Eeprom.octets_read c.args.bench.now) (g.B.Eeprom.octets_read c.new.new.bench)))
     (sym c.loop-slot.invariant.opening.cells_are) c.in_ok-opening.ensures.octets_read) c.loop-slot.invariant.opening.read)
+
+-- by then no record was read
+pub returns-in_err-room-clause-no_memory : goal.returns-in_err-room-clause-no_memory
+returns-in_err-room-clause-no_memory g c = λ _. (c.in_ok-opening.opening.chains.cells, c.in_ok-opening.ensures.reads_front)
+
+pub returns-in_err-with_capacity-clause-no_memory : goal.returns-in_err-with_capacity-clause-no_memory
+returns-in_err-with_capacity-clause-no_memory g c = λ _. (c.in_ok-opening.opening.chains.cells, c.in_ok-opening.ensures.reads_front)
