@@ -14,6 +14,8 @@ ghost use Rattle.record_store.specs.declared.side.Side.TheVariants.{Committed};
 ghost use Rattle.scql_model.specs.Records.{counter_in};
 ghost use Rattle.scql_model.specs.Database.{Database};
 ghost use Rattle.scql_model.specs.Opens.{Opens};
+ghost use Rattle.row_index.specs.Index.{Indexes};
+ghost use Rattle.card.specs.Card.{HoldsSome};
 ghost use Rattle.card.specs.Opening.{IsOfStore, PassTest, ReadsCard, is_admitted, summary_in};
 ghost use Rattle.card.specs.Summary.{stamp_of};
 
@@ -22,12 +24,14 @@ use crate::summary::Summary;
 use crate::validity::are_valid;
 use eeprom::Eeprom;
 use record_store::{OpenRefusal, Opening, RecordOctets, Store};
+use row_index::RowIndex;
 use std::alloc::Global;
 
 /// A store that was opened, the stamp that its next record takes, and what is kept of its records, in rising order of their stamps.
 #[derive(Drop)]
 pub(crate) struct Opened {
     pub store: Store,
+    pub index: RowIndex,
     pub next: u32,
     pub records: Vec<Summary>,
 }
@@ -47,6 +51,9 @@ pub(crate) fn open_records<B: Eeprom>(alloc: Global, bench: &mut B) -> Result<Op
     ensures told { OnOk result (is_some (B.chip bench.new).image ≡ is_some (B.chip bench.old).image) }
     ensures stored { IfOk result (λ opened. IfSome (B.chip bench.new).image (λ image. store_of image ≡ stored opened.store Committed image)) }
     ensures idle { IfOk result (λ opened. opened.store.begun ≡ false) }
+    ensures index_idle { IfOk result (λ opened. opened.index.begun ≡ false) }
+    ensures index { IfOk result (λ opened. Indexes opened.index opened.store (B.chip bench.new)) }
+    ensures holds { IfOk result (λ opened. HoldsSome opened.store (B.chip bench.new)) }
     ensures records { IfOk result (λ opened. IfSome (B.chip bench.new).image (λ image. (was : Stored) → store_of image ≡ Some was
         → IsOfStore was opened.next opened.records.items)) }
     ensures opens { OnOk result (IfSome (B.chip bench.old).image (λ image. (db : Database) × Opens image db)) }
@@ -67,6 +74,7 @@ pub(crate) fn open_records<B: Eeprom>(alloc: Global, bench: &mut B) -> Result<Op
         counter: None,
         records: Vec::with_capacity(alloc, cells as usize)?,
     };
+    let index = RowIndex::with_room(alloc, cells)?;
     let mut octets = RecordOctets::new();
     for slot in 0..cells {
         opening = opening.claim_next(bench, &mut octets)?;
@@ -78,6 +86,7 @@ pub(crate) fn open_records<B: Eeprom>(alloc: Global, bench: &mut B) -> Result<Op
     };
     Ok(Opened {
         store,
+        index,
         next,
         records,
     })

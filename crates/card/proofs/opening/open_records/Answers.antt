@@ -85,3 +85,9 @@ returns-clause-octets_read g c =
     c.finish-store.ensures.opened c.finish-store.ensures.weight c.finish-store.ensures.cells c.loop-slot.invariant.opening.over.stands
     (subst (λ (n : ℕ). IfSome old.image (λ image. is_gate_open image ≡ false → Becomes (RisesBy (front_octets n)) (g.B.Eeprom.octets_read c.args.bench.now) (g.B.Eeprom.octets_read c.new.new.bench)))
     (sym c.loop-slot.invariant.opening.cells_are) c.in_ok-opening.ensures.octets_read) c.loop-slot.invariant.opening.read)
+
+pub returns-clause-index : goal.returns-clause-index
+returns-clause-index g c = ?
+
+pub returns-clause-holds : goal.returns-clause-holds
+returns-clause-holds g c = ?
