@@ -273,9 +273,9 @@ list_all-all p P [] says all = refl
 list_all-all p P (x ∷ xs) says all = and_from (p x) (list_all p xs) (says x all.0) (list_all-all p P xs says all.1)
 
 -- a row may be added whose stamp is above all others, to a slot that is empty
-pub may_add-told : (index : Index) (place : RowPlace) (committed working : Slots) → HasRows index.cells index.committed committed → HasRows index.cells index.working working → get_or working place.slot None ≡ None → place.slot < index.cells
+pub may_add-told : (index : Index) (place : RowPlace) (working : Slots) → HasRows index.cells index.working working → get_or working place.slot None ≡ None → place.slot < index.cells
     → AllByRecursion (λ y. place_stamp y < place.stamp) index.committed → AllByRecursion (λ y. place_stamp y < place.stamp) index.working → may_add index place ≡ true
-may_add-told index place committed working has_committed has_working none there below below_working =
+may_add-told index place working has_working none there below below_working =
     let room = room-added index.cells index.working place.slot working has_working none there in
     let a : is_above place.stamp index.committed ≡ true = list_all-all (λ y. ltb (place_stamp y) place.stamp) (λ y. place_stamp y < place.stamp) index.committed (λ y h. lt-ltb (place_stamp y) place.stamp h) below in
     let b : is_above place.stamp index.working ≡ true = list_all-all (λ y. ltb (place_stamp y) place.stamp) (λ y. place_stamp y < place.stamp) index.working (λ y h. lt-ltb (place_stamp y) place.stamp h) below_working in

@@ -18,6 +18,10 @@ pub all-list_all : {X : Type 0} (p : X → Bool) (P : X → Type 0) (xs : List X
 all-list_all p P [] says all = tt
 all-list_all p P (x ∷ xs) says all = let both = and_parts (p x) (list_all p xs) all in (says x both.0, all-list_all p P xs says both.1)
 
+-- the stamps of all places are below one that is above them
+pub below-above : (stamp : ℕ) (places : List RowPlace) → is_above stamp places ≡ true → AllByRecursion (λ place. place_stamp place < stamp) places
+below-above stamp places above = all-list_all (λ place. ltb (place_stamp place) stamp) (λ place. place_stamp place < stamp) places (λ place t. ltb-true (place_stamp place) stamp t) above
+
 pub none-list_any : {X : Type 0} (p : X → Bool) (xs : List X) → list_any p xs ≡ false → count_by p xs ≡ 0
 none-list_any p [] none = refl
 none-list_any p (x ∷ xs) none = let both = or_parts (p x) (list_any p xs) none in counts_not p x xs both.0 ∙ none-list_any p xs both.1
@@ -118,8 +122,7 @@ IsAddable-may_add index place may =
     let d = and_parts (is_above place.stamp index.committed && is_above place.stamp index.working && ltb place.slot index.cells) (not (list_any (has place_slot place.slot) index.working)) e.0 in
     let b = and_parts (is_above place.stamp index.committed && is_above place.stamp index.working) (ltb place.slot index.cells) d.0 in
     let a = and_parts (is_above place.stamp index.committed) (is_above place.stamp index.working) b.0 in
-    let below : AllByRecursion (λ y. place_stamp y < place.stamp) index.working =
-    all-list_all (λ y. ltb (place_stamp y) place.stamp) (λ y. place_stamp y < place.stamp) index.working (λ y t. ltb-true (place_stamp y) place.stamp t) a.1 in
+    let below = below-above place.stamp index.working a.1 in
     record {
       last = put_in_order-last place_stamp place index.working below;
       new_stamp = count-below place_stamp place.stamp index.working below;

@@ -6,3 +6,4 @@ pub mod Scans
 pub mod ChangedPlaces
 pub mod Gathering
 pub mod Standing
+pub mod IndexLaws

@@ -36,11 +36,11 @@ count_by-point p (x ∷ xs) (suc i) within point =
     omega arith
 
 -- where one key isn't below a number, none behind it is
-none_below : {X : Type 0} (key : X → ℕ) (k m : ℕ) (xs : List X) → k ≤ m → AllByRecursion (λ y. m < key y) xs → count_by (λ y. ltb (key y) k) xs ≡ 0
+pub none_below : {X : Type 0} (key : X → ℕ) (k m : ℕ) (xs : List X) → k ≤ m → AllByRecursion (λ y. m < key y) xs → count_by (λ y. ltb (key y) k) xs ≡ 0
 none_below key k m [] le all = refl
 none_below key k m (x ∷ xs) le all = counts_not (λ y. ltb (key y) k) x xs (le-ltb (key x) k (omega (arith, all.0))) ∙ none_below key k m xs le all.1
 
-none_up_to : {X : Type 0} (key : X → ℕ) (k m : ℕ) (xs : List X) → k ≤ m → AllByRecursion (λ y. m < key y) xs → count_by (λ y. leb (key y) k) xs ≡ 0
+pub none_up_to : {X : Type 0} (key : X → ℕ) (k m : ℕ) (xs : List X) → k ≤ m → AllByRecursion (λ y. m < key y) xs → count_by (λ y. leb (key y) k) xs ≡ 0
 none_up_to key k m [] le all = refl
 none_up_to key k m (x ∷ xs) le all = counts_not (λ y. leb (key y) k) x xs (lt-leb (key x) k (omega (arith, all.0))) ∙ none_up_to key k m xs le all.1
 

@@ -1,12 +1,12 @@
 -- Places in order of their stamps, and the same places by tables.
-use Rattle.std.proofs.Common.{◌≡◌, ℕ, suc, ◌*◌, ◌<◌, ◌≤◌, Bool, true, false, cond, ◌&&◌, ltb, leb, eqb, List, [], ◌∷◌, length, Option, Some, None, inl, inr, refl, sym, ap, ◌∙◌, arith, subst}
-use Rattle.std.specs.List.{find, filter, slice_get, count_by, list_all, AllByRecursion}
-use Rattle.std.proofs.lemmas.Bool.{cases_Bool, ltb-true, ltb-false, lt-ltb, le-ltb, eqb-true, eqb-false, eq-eqb, ne_eqb, and_left, and_right}
+use Rattle.std.proofs.Common.{◌≡◌, ℕ, suc, ◌*◌, ◌-◌, ◌<◌, ◌≤◌, Bool, true, false, cond, ◌&&◌, ltb, leb, eqb, List, [], ◌∷◌, length, Option, Some, None, take, inl, inr, refl, sym, ap, ◌∙◌, arith, subst}
+use Rattle.std.specs.List.{find, filter, slice_get, slice_range, count_by, list_all, AllByRecursion}
+use Rattle.std.proofs.lemmas.Bool.{cases_Bool, ltb-true, ltb-false, lt-ltb, le-ltb, le-leb, leb-true, leb-false, eqb-true, eqb-false, eq-eqb, ne_eqb, and_left, and_right}
 use Rattle.std.proofs.lemmas.List.Sums.{count_by-le-length}
 use Rattle.eeprom.specs.Slots.{Rises, AreApart, has, is_after, in_order, put_in_order}
-use Rattle.eeprom.proofs.InOrder.{counts, counts_not, filter-in_order, in_order-rising, Rises-in_order}
-use Rattle.row_index.proofs.Searches.{find-after}
-use Rattle.row_index.specs.Places.{place_stamp, key_of, key_in_table, is_later_in}
+use Rattle.eeprom.proofs.InOrder.{counts, counts_not, count_by-cons, filter-in_order, in_order-rising, Rises-in_order}
+use Rattle.row_index.proofs.Searches.{find-after, none_below, none_up_to}
+use Rattle.row_index.specs.Places.{place_stamp, key_of, key_in_table, is_in_table, is_later_in}
 use Rattle.row_index.specs.declared.place.RowPlace.{RowPlace}
 use Rattle.row_index.specs.declared.order.Order.TheVariants.{ByTable}
 
@@ -65,30 +65,26 @@ AreApart-tables (x ∷ xs) rises fits = λ k.
       | inr f ↦ (let rest = AreApart-tables xs rises.1 fits.1 k in let c = counts_not (has table_key k) x xs f in omega arith)
     ]
 
--- whether a place is of a row of a table
-abbrev pub is_in : ℕ → RowPlace → Bool
-is_in table place = eqb place.table table
-
 -- the places of one table rise by tables where they rise by stamps
-above_in : (table : ℕ) (x : RowPlace) (xs : List RowPlace) → x.table ≡ table → AllByRecursion (λ y. place_stamp x < place_stamp y) xs → AllByRecursion (λ y. table_key x < table_key y) (filter (is_in table) xs)
+above_in : (table : ℕ) (x : RowPlace) (xs : List RowPlace) → x.table ≡ table → AllByRecursion (λ y. place_stamp x < place_stamp y) xs → AllByRecursion (λ y. table_key x < table_key y) (filter (is_in_table table) xs)
 above_in table x [] own above = tt
 above_in table x (y ∷ ys) own above =
-    elim (cases_Bool (is_in table y)) [
+    elim (cases_Bool (is_in_table table y)) [
       | inl t ↦ (let same = eqb-true y.table table t in rw t ((omega (arith, same, own, above.0)), above_in table x ys own above.1))
       | inr f ↦ rw f (above_in table x ys own above.1)
     ]
 
-Rises-in : (table : ℕ) (xs : List RowPlace) → Rises place_stamp xs → Rises table_key (filter (is_in table) xs)
+Rises-in : (table : ℕ) (xs : List RowPlace) → Rises place_stamp xs → Rises table_key (filter (is_in_table table) xs)
 Rises-in table [] rises = tt
 Rises-in table (x ∷ xs) rises =
-    elim (cases_Bool (is_in table x)) [
+    elim (cases_Bool (is_in_table table x)) [
       | inl t ↦ rw t (above_in table x xs (eqb-true x.table table t) rises.0, Rises-in table xs rises.1)
       | inr f ↦ rw f (Rises-in table xs rises.1)
     ]
 
 -- so one table's places stand alike in both orders
-same_table : (table : ℕ) (xs : List RowPlace) → Rises place_stamp xs → Fits xs → filter (is_in table) (in_order table_key xs) ≡ filter (is_in table) xs
-same_table table xs rises fits = filter-in_order table_key (is_in table) xs (AreApart-tables xs rises fits) ∙ in_order-rising table_key (filter (is_in table) xs) (Rises-in table xs rises)
+same_table : (table : ℕ) (xs : List RowPlace) → Rises place_stamp xs → Fits xs → filter (is_in_table table) (in_order table_key xs) ≡ filter (is_in_table table) xs
+same_table table xs rises fits = filter-in_order table_key (is_in_table table) xs (AreApart-tables xs rises fits) ∙ in_order-rising table_key (filter (is_in_table table) xs) (Rises-in table xs rises)
 
 -- a search for what passes two tests is one for the second among what passes the first
 find-filter : {X : Type 0} (p q : X → Bool) (xs : List X) → find (λ x. p x && q x) xs ≡ find q (filter p xs)
@@ -101,20 +97,20 @@ find-filter p q (x ∷ xs) =
 
 pub find-by_tables : (table stamp : ℕ) (xs : List RowPlace) → Rises place_stamp xs → Fits xs → find (is_later_in table stamp) xs ≡ find (is_later_in table stamp) (in_order table_key xs)
 find-by_tables table stamp xs rises fits =
-    find-filter (is_in table) (λ place. ltb stamp place.stamp) xs
+    find-filter (is_in_table table) (λ place. ltb stamp place.stamp) xs
     ∙ ap (find (λ place. ltb stamp place.stamp)) (sym (same_table table xs rises fits))
-    ∙ sym (find-filter (is_in table) (λ place. ltb stamp place.stamp) (in_order table_key xs))
+    ∙ sym (find-filter (is_in_table table) (λ place. ltb stamp place.stamp) (in_order table_key xs))
 
 -- the place, if it is of a row of a table
 abbrev pub of_table : ℕ → Option RowPlace → Option RowPlace
 of_table table None = None
-of_table table (Some place) = cond (is_in table place) (Some place) None
+of_table table (Some place) = cond (is_in_table table place) (Some place) None
 
 -- behind a place of a later table there is none of the table
 none_later : (table stamp m : ℕ) (xs : List RowPlace) → suc table * 4294967296 ≤ m → Fits xs → AllByRecursion (λ y. m < table_key y) xs → find (is_later_in table stamp) xs ≡ None
 none_later table stamp m [] later fits above = refl
 none_later table stamp m (x ∷ xs) later fits above =
-    rw (and_left (is_in table x) (ltb stamp x.stamp) (ne_eqb x.table table (λ same. omega (arith, same, later, above.0, fits.0)))) (none_later table stamp m xs later fits.1 above.1)
+    rw (and_left (is_in_table table x) (ltb stamp x.stamp) (ne_eqb x.table table (λ same. omega (arith, same, later, above.0, fits.0)))) (none_later table stamp m xs later fits.1 above.1)
 
 -- the next row of a table is the first behind its key, or the table has none behind it
 pub find-later_in : (table stamp : ℕ) (xs : List RowPlace) → Rises table_key xs → Fits xs → find (is_later_in table stamp) xs ≡ of_table table (find (is_after table_key (key_in_table table stamp)) xs)
@@ -122,7 +118,7 @@ find-later_in table stamp [] rises fits = refl
 find-later_in table stamp (x ∷ xs) rises fits =
     elim (cases_Bool (ltb (key_in_table table stamp) (table_key x))) [
       | inl t ↦ (let more = ltb-true (key_in_table table stamp) (table_key x) t in
-          elim (cases_Bool (is_in table x)) [
+          elim (cases_Bool (is_in_table table x)) [
             | inl own ↦ (let same = eqb-true x.table table own in
                 let after : ltb stamp x.stamp ≡ true = lt-ltb stamp x.stamp (omega (arith, same, more)) in
                 rw (t, own, after) refl)
@@ -137,9 +133,9 @@ find-later_in table stamp (x ∷ xs) rises fits =
   where
     passed : (x : RowPlace) → table_key x ≤ key_in_table table stamp → is_later_in table stamp x ≡ false
     passed x most =
-        elim (cases_Bool (is_in table x)) [
-          | inl own ↦ (let same = eqb-true x.table table own in and_right (is_in table x) (ltb stamp x.stamp) (le-ltb stamp x.stamp (omega (arith, same, most))))
-          | inr other ↦ and_left (is_in table x) (ltb stamp x.stamp) other
+        elim (cases_Bool (is_in_table table x)) [
+          | inl own ↦ (let same = eqb-true x.table table own in and_right (is_in_table table x) (ltb stamp x.stamp) (le-ltb stamp x.stamp (omega (arith, same, most))))
+          | inr other ↦ and_left (is_in_table table x) (ltb stamp x.stamp) other
         ]
 
 -- the places by tables rise
@@ -156,3 +152,68 @@ later-by_tables table stamp xs ys i o rises fits tables count got =
     ∙ ap (find (is_later_in table stamp)) (sym tables)
     ∙ find-later_in table stamp ys up small
     ∙ ap (of_table table) (find-after table_key (key_in_table table stamp) ys up ∙ ap (slice_get ys) (sym count) ∙ got)
+
+-- of a test that passes where another does, so many pass at least
+count_by-mono : {X : Type 0} (p q : X → Bool) (xs : List X) → ((x : X) → p x ≡ true → q x ≡ true) → count_by p xs ≤ count_by q xs
+count_by-mono p q [] says = omega arith
+count_by-mono p q (x ∷ xs) says =
+    let rest = count_by-mono p q xs says in
+    elim (cases_Bool (p x)) [
+      | inl t ↦ (let a = counts p x xs t in let b = counts q x xs (says x t) in omega arith)
+      | inr f ↦ (let a = counts_not p x xs f in let b = count_by-cons q x xs in omega arith)
+    ]
+
+-- how many places stand before the rows of a table, and how many before those behind them
+abbrev pub count_before : ℕ → List RowPlace → ℕ
+count_before table xs = count_by (λ y. ltb (table_key y) (key_in_table table 0)) xs
+
+abbrev pub count_with : ℕ → List RowPlace → ℕ
+count_with table xs = count_by (λ y. leb (table_key y) (key_in_table table 4294967295)) xs
+
+pub before-with : (table : ℕ) (xs : List RowPlace) → count_before table xs ≤ count_with table xs
+before-with table xs = count_by-mono _ _ xs (λ y t. let less = ltb-true (table_key y) (key_in_table table 0) t in le-leb (table_key y) (key_in_table table 4294967295) (omega arith))
+
+-- behind a place of a later table there is none of the table
+none_of : (table m : ℕ) (xs : List RowPlace) → suc table * 4294967296 ≤ m → Fits xs → AllByRecursion (λ y. m < table_key y) xs → filter (is_in_table table) xs ≡ []
+none_of table m [] later fits above = refl
+none_of table m (x ∷ xs) later fits above = rw (ne_eqb x.table table (λ same. omega (arith, same, later, above.0, fits.0))) (none_of table m xs later fits.1 above.1)
+
+-- the rows of a table stand first where none of a lesser table is
+first_of : (table : ℕ) (xs : List RowPlace) → Rises table_key xs → Fits xs → AllByRecursion (λ y. key_in_table table 0 ≤ table_key y) xs → take (count_with table xs) xs ≡ filter (is_in_table table) xs
+first_of table [] rises fits from = refl
+first_of table (x ∷ xs) rises fits from =
+    elim (cases_Bool (leb (table_key x) (key_in_table table 4294967295))) [
+      | inl t ↦ (let most = leb-true (table_key x) (key_in_table table 4294967295) t in
+          let one : count_with table (x ∷ xs) ≡ suc (count_with table xs) = (let c = counts (λ y. leb (table_key y) (key_in_table table 4294967295)) x xs t in omega arith) in
+          rw (one, eq-eqb x.table table (omega (arith, most, from.0, fits.0))) (ap (λ ys. x ∷ ys) (first_of table xs rises.1 fits.1 from.1)))
+      | inr f ↦ (let more = leb-false (table_key x) (key_in_table table 4294967295) f in
+          let none = counts_not (λ y. leb (table_key y) (key_in_table table 4294967295)) x xs f ∙ none_up_to table_key (key_in_table table 4294967295) (table_key x) xs (omega arith) rises.0 in
+          rw (none, ne_eqb x.table table (λ same. omega (arith, same, more, fits.0))) (sym (none_of table (table_key x) xs (omega (arith, more)) fits.1 rises.0)))
+    ]
+
+-- the rows of a table stand one behind the other
+between : (table : ℕ) (xs : List RowPlace) → Rises table_key xs → Fits xs → slice_range xs (count_before table xs) (count_with table xs) ≡ filter (is_in_table table) xs
+between table [] rises fits = refl
+between table (x ∷ xs) rises fits =
+    elim (cases_Bool (ltb (table_key x) (key_in_table table 0))) [
+      | inl t ↦ (let less = ltb-true (table_key x) (key_in_table table 0) t in
+          let before : count_before table (x ∷ xs) ≡ suc (count_before table xs) = (let c = counts (λ y. ltb (table_key y) (key_in_table table 0)) x xs t in omega arith) in
+          let with_it : count_with table (x ∷ xs) ≡ suc (count_with table xs) = (let c = counts (λ y. leb (table_key y) (key_in_table table 4294967295)) x xs (le-leb (table_key x) (key_in_table table 4294967295) (omega arith)) in omega arith) in
+          let many : suc (count_with table xs) - suc (count_before table xs) ≡ count_with table xs - count_before table xs = omega arith in
+          rw (before, with_it, many, ne_eqb x.table table (λ same. omega (arith, same, less))) (between table xs rises.1 fits.1))
+      | inr f ↦ (let most = ltb-false (table_key x) (key_in_table table 0) f in
+          let none = counts_not (λ y. ltb (table_key y) (key_in_table table 0)) x xs f ∙ none_below table_key (key_in_table table 0) (table_key x) xs most rises.0 in
+          let many : count_with table (x ∷ xs) - 0 ≡ count_with table (x ∷ xs) = omega arith in
+          rw (none, many) (first_of table (x ∷ xs) rises fits (most, at_least (table_key x) xs most rises.0)))
+    ]
+  where
+    at_least : (m : ℕ) (ys : List RowPlace) → key_in_table table 0 ≤ m → AllByRecursion (λ y. m < table_key y) ys → AllByRecursion (λ y. key_in_table table 0 ≤ table_key y) ys
+    at_least m [] most above = tt
+    at_least m (y ∷ ys) most above = (omega (arith, above.0), at_least m ys most above.1)
+
+-- so they are what stands there among the places by tables
+pub of_table-by_tables : (table : ℕ) (xs ys : List RowPlace) → Rises place_stamp xs → Fits xs → ys ≡ in_order table_key xs → slice_range ys (count_before table ys) (count_with table ys) ≡ filter (is_in_table table) xs
+of_table-by_tables table xs ys rises fits tables =
+    let up : Rises table_key ys = rw tables (Rises-tables xs rises fits) in
+    let small : Fits ys = rw tables (all-in_order table_key (λ place. place_stamp place < 4294967296) xs fits) in
+    between table ys up small ∙ ap (filter (is_in_table table)) tables ∙ same_table table xs rises fits

@@ -25,6 +25,10 @@ abbrev pub key_of : Order → RowPlace → ℕ
 key_of ByStamp place = place.stamp
 key_of ByTable place = key_in_table place.table place.stamp
 
+-- whether it is the place of a row of a table
+abbrev pub is_in_table : ℕ → RowPlace → Bool
+is_in_table table place = place.table == table
+
 -- whether it is the place of a row of a table with a stamp above another
 abbrev pub is_later_in : ℕ → ℕ → RowPlace → Bool
 is_later_in table stamp place = place.table == table && nat_lt stamp place.stamp

@@ -1,6 +1,6 @@
 // The index: the places of the rows of both sides of a store.
-ghost use Rattle.std.specs.Prelude.{◌≡◌, ◌<◌, ◌≤◌, ◌*◌, OnOk, [], Some, false, true, IfOk, IfSome, IsTrue, if◌then◌else◌, length, option_map, ◌++◌, ◌∷◌};
-ghost use Rattle.std.specs.List.{find};
+ghost use Rattle.std.specs.Prelude.{◌≡◌, ◌<◌, ◌≤◌, ◌*◌, OnOk, [], Some, false, true, IfOk, IfSome, IsTrue, if◌then◌else◌, length, not, option_map, ◌++◌, ◌∷◌};
+ghost use Rattle.std.specs.List.{AllByRecursion, filter, find};
 ghost use Rattle.eeprom.specs.Chip.{Becomes, RisesAtMost};
 ghost use Rattle.eeprom.specs.Fault.{each_error};
 ghost use Rattle.eeprom.specs.Frame.{Reads};
@@ -13,7 +13,7 @@ ghost use Rattle.record_table.specs.Listed.{cells_marked, slots_of};
 ghost use Rattle.row_index.specs.Index.{ArePlaces, Index, LeadsTo, may_add, side_places};
 ghost use Rattle.row_index.specs.Index as specs;
 ghost use Rattle.row_index.specs.Ordered.{Ordered};
-ghost use Rattle.row_index.specs.Places.{is_later_in, place_slot, place_stamp, row_places};
+ghost use Rattle.row_index.specs.Places.{is_in_table, is_later_in, place_slot, place_stamp, row_places};
 
 use crate::RowPlace;
 use crate::build::gather;
@@ -85,6 +85,14 @@ impl RowIndex {
         Some((place.stamp, place.slot))
     }
 
+    /// The places of the rows of a table, in rising order of their stamps.
+    pub fn rows_of(&self, side: Side, table: u32) -> &[RowPlace]
+        ensures rows { result.now ≡ filter (is_in_table table) (side_places self.now side) }
+        ensures there { AllByRecursion (λ place. place.slot < self.now.cells) result.now }
+    {
+        self.side(side).of_table(table)
+    }
+
     /// Begins a transaction.
     pub fn begin(&mut self)
         requires idle { self.old.begun ≡ false }
@@ -116,6 +124,16 @@ impl RowIndex {
             self.working.take_out(slot);
             self.done = self.done.and(Done::Removed(place));
         }
+    }
+
+    /// Takes all rows of a table out of the working side.
+    pub fn table_removed(&mut self, table: u32)
+        requires begun { IsTrue self.old.begun }
+        ensures removed { self.new ≡ record { cells = self.old.cells; begun = true; committed = self.old.committed; working = filter (λ place. not (is_in_table table place)) self.old.working } }
+        ensures begun { IsTrue self.new.begun }
+    {
+        self.working.take_out_table(table);
+        self.done = Done::Much;
     }
 
     /// Ends a transaction: its rows are the committed ones.

@@ -1,10 +1,10 @@
 // The places of the rows of one side: in order of their stamps, and once more by tables. Both lists keep their memory.
-ghost use Rattle.std.specs.Prelude.{◌≡◌, ◌<◌, ◌≤◌, [], Some, IfOk, count_by, length, nat_lt};
-ghost use Rattle.std.specs.List.{find, list_all, list_any};
+ghost use Rattle.std.specs.Prelude.{◌≡◌, ◌<◌, ◌≤◌, [], Some, IfOk, count_by, length, nat_lt, not};
+ghost use Rattle.std.specs.List.{filter, find, list_all, list_any};
 ghost use Rattle.eeprom.specs.Slots.{AreApart, Rises, has, put_in_order, without};
 ghost use Rattle.row_index.specs.Index.{is_above};
 ghost use Rattle.row_index.specs.Ordered.{Ordered};
-ghost use Rattle.row_index.specs.Places.{IsOneMore, is_later_in, place_slot, place_stamp};
+ghost use Rattle.row_index.specs.Places.{IsOneMore, is_in_table, is_later_in, place_slot, place_stamp};
 
 use crate::RowPlace;
 use crate::order::{Order, count_below, count_up_to, key_in_table, put, refill};
@@ -81,6 +81,16 @@ impl OrderedPlaces {
         }
     }
 
+    // The places of the rows of a table.
+    pub(crate) fn of_table(&self, table: u32) -> &[RowPlace]
+        ensures { result.now ≡ filter (is_in_table table) self.now.places }
+    {
+        let places = self.by_table.as_slice();
+        let from = count_below(places, Order::ByTable, key_in_table(table, 0));
+        let end = count_up_to(places, Order::ByTable, key_in_table(table, u32::MAX));
+        &places[from..end]
+    }
+
     // The place of the row that a slot has.
     pub(crate) fn in_slot(&self, slot: u16) -> Option<RowPlace>
         ensures { result ≡ find (has place_slot slot) self.now.places }
@@ -123,6 +133,14 @@ impl OrderedPlaces {
     {
         self.by_stamp.retain(|place| place.slot != slot);
         self.by_table.retain(|place| place.slot != slot);
+    }
+
+    // Takes out the places of the rows of a table.
+    pub(crate) fn take_out_table(&mut self, table: u32)
+        ensures { self.new ≡ record { cells = self.old.cells; places = filter (λ place. not (is_in_table table place)) self.old.places } }
+    {
+        self.by_stamp.retain(|place| place.table != table);
+        self.by_table.retain(|place| place.table != table);
     }
 
     // Has these places in the place of its own.

@@ -16,6 +16,7 @@ use Rattle.row_index.specs.Index.{Index, Indexes, may_add}
 use Rattle.row_index.specs.Places.{place_of, place_slot, place_stamp}
 use Rattle.row_index.specs.declared.place.RowPlace.{RowPlace}
 use Rattle.row_index.proofs.ChangedPlaces.{HasRows-added, HasRows-changed, HasRows-removed, may_add-told}
+use Rattle.row_index.proofs.IndexLaws.{cells-added, with_added}
 use Rattle.row_index.proofs.Scans.{places-below}
 use Rattle.row_index.proofs.Standing.{Indexes-rewritten}
 use Rattle.row_table.specs.Found.{HasRowLike}
@@ -23,17 +24,6 @@ use Rattle.row_table.specs.Found.{HasRowLike}
 -- the stamps of all rows of some slots are below one
 abbrev pub AreBelow : ℕ → Slots → Type 0
 AreBelow stamp slots = AllByRecursion (λ (row : RowRecord). row.stamp < stamp) (listed row_kind slots)
-
--- the index with one row more, or as it was where the row can't be there
-abbrev pub with_added : Index → RowPlace → Index
-with_added index place = if may_add index place then record { cells = index.cells; begun = true; committed = index.committed; working = index.working ++ place ∷ [] } else index
-
-cells-added : (index : Index) (place : RowPlace) → (with_added index place).cells ≡ index.cells
-cells-added index place = chosen (may_add index place)
-  where
-    chosen : (may : Bool) → (if may then record { cells = index.cells; begun = true; committed = index.committed; working = index.working ++ place ∷ [] } else index).cells ≡ index.cells
-    chosen true = refl
-    chosen false = refl
 
 below-told : (stamp : ℕ) (o : Option Slots) (slots : Slots) → o ≡ Some slots → IfSome o (AreBelow stamp) → AreBelow stamp slots
 below-told stamp o slots is below = subst (λ o. IfSome o (AreBelow stamp)) is below
@@ -51,7 +41,7 @@ Indexes-added index old new before after row slot is stands cells there fits bel
     = subst (AllByRecursion (λ place. place_stamp place < row.stamp)) (sym has_committed.are) (places-below row.stamp committed (below-told row.stamp (slots_of old Committed before) committed told_committed (below Committed))) in
     let second : AllByRecursion (λ place. place_stamp place < row.stamp) index.working
     = subst (AllByRecursion (λ place. place_stamp place < row.stamp)) (sym has_working.are) (places-below row.stamp working (below-told row.stamp (slots_of old Working before) working told_working (below Working))) in
-    let may : may_add index place ≡ true = may_add-told index place committed working has_committed has_working added.empty inside first second in
+    let may : may_add index place ≡ true = may_add-told index place working has_working added.empty inside first second in
     rw may (has_committed, HasRows-added index.cells index.working row slot working next has_working added fits inside second))
 
 -- a row takes the place of another
