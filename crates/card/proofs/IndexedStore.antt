@@ -23,6 +23,7 @@ use Rattle.record_table.specs.Making.{IsHeld, Ends, GoesOn, KeepsRows}
 use Rattle.record_table.specs.declared.stop.Stop.{Stop}
 use Rattle.record_table.specs.declared.stop.Stop.TheVariants.{Refused, Fault}
 use Rattle.row_index.specs.Index.{HasRows, Index, Indexes, is_above, side_places}
+use Rattle.row_index.proofs.IndexLaws.{Indexes-kept, Indexes-untold}
 use Rattle.row_index.specs.Places.{numbered, place_in, place_stamp, row_places}
 use Rattle.row_index.specs.declared.place.RowPlace.{RowPlace}
 use Rattle.card.specs.Card.{HoldsSome, IsAtRest}
@@ -34,15 +35,6 @@ use Rattle.card.proofs.Told.{if_some-at}
 rows-told : (index : Index) (store : Held) (chip : Chip) (side : Side) → Indexes index store chip → IfSome (slots_of store side chip) (HasRows index.cells (side_places index side))
 rows-told index store chip Committed stands = stands.committed
 rows-told index store chip Working stands = stands.working
-
--- where the image isn't told, an index of as many cells stands
-pub Indexes-untold : (index : Index) (store : Held) (chip : Chip) → chip.image ≡ None → index.cells ≡ store.chains.cells → Indexes index store chip
-Indexes-untold index store chip none cells = record { cells = cells; committed = rw none tt; working = rw none tt }
-
--- an index stands still where every row stays in its slot
-pub Indexes-kept : (index : Index) (old new : Held) (before after : Chip) → Indexes index old before → new.chains.cells ≡ old.chains.cells → slots_of new Committed after ≡ slots_of old Committed before
-    → IfSome (slots_of new Working after) (λ slots. length slots ≡ new.chains.cells) → KeepsRows (slots_of old Working before) (slots_of new Working after) → Indexes index new after
-Indexes-kept index old new before after stands cells committed all keeps = ?
 
 -- without a transaction both sides have the same slots
 working-idle : (store : Held) (chip : Chip) → store.begun ≡ false → slots_of store Working chip ≡ slots_of store Committed chip
@@ -82,7 +74,7 @@ Indexes-held index store before old new holds told cells each = of old.image new
   where
     of : (was now : Option (List ℕ)) → new.image ≡ now → IfSome was (λ image. (db : Database) × IsAtRest before old db) → is_some now ≡ is_some was → Indexes index store new
     of (Some image) now is holds told = each holds.0 holds.1
-    of None None is holds told = Indexes-untold index store new is cells
+    of None None is holds told = Indexes-untold index store new cells (ap is_some is)
     of None (Some image) is holds told = absurd cc
 
 -- And so does the store hold some database again.

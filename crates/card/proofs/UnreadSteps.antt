@@ -1,5 +1,5 @@
 -- What the operations that are built do at a machine of a card, whose sessions read nothing, and which has no transaction.
-use Rattle.std.proofs.Common.{◌≡◌, ℕ, zero, suc, List, [], ◌∷◌, Option, Some, None, Result, Ok, Err, refl, sym, ap, subst, ◌∙◌, inl, inr}
+use Rattle.std.proofs.Common.{◌≡◌, ℕ, zero, suc, true, List, [], ◌∷◌, Option, Some, None, Result, Ok, Err, refl, sym, ap, subst, ◌∙◌, inl, inr}
 use Rattle.std.specs.Prelude.{◌⊎◌, IfOk, IfSome, option_map, slice_get}
 use Rattle.std.specs.Option.{option_flatten, option_map_or}
 use Rattle.scql_base.specs.declared.words.StatusWord.{StatusWord}

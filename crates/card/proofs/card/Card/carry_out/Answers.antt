@@ -19,7 +19,7 @@ returns-in-PresentUser-clause-performs g c = λ m at.
     ∙ carried_out-presents m c.args.command.now.channel c.in-PresentUser.name c.args.command.now.le at.transaction in
     subst (λ (outcome : Result Answer StatusWord). Performs m (answered m outcome) (or_nothing (octets_carried_out m c.args.command.now)) c.present_user.result c.present_user.new.self (g.B.Eeprom.chip c.args.bench.now) (g.B.Eeprom.chip c.present_user.new.bench)) (sym presents)
     (Performs-unwritten c.args.self.now c.present_user.new.self (g.B.Eeprom.chip c.args.bench.now) (g.B.Eeprom.chip c.present_user.new.bench) m _ _ c.present_user.result c.requires.ready at c.present_user.ensures.same
-    (rw c.in-PresentUser.name-is at (c.present_user.ensures.step m at)))
+    (rw c.copy.ensures at (c.present_user.ensures.step m at)))
 
 pub returns-in-PresentUser-clause-behind : goal.returns-in-PresentUser-clause-behind
 returns-in-PresentUser-clause-behind g c =
