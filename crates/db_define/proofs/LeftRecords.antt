@@ -23,7 +23,7 @@ use Rattle.db_define.specs.Swept.{all_without, has_passing, without_passing}
 
 module _ {X : Type 0} (kind : Kind X) (p : X → Bool) where
   -- what a slot says that has a record of the kind, or none
-  has-of : (entry : Option (List ℕ)) (x : Option X) → in_slot (read_as kind) entry ≡ x → has_passing kind p entry ≡ true → (y : X) × (in_slot (read_as kind) entry ≡ Some y)
+  pub has-of : (entry : Option (List ℕ)) (x : Option X) → in_slot (read_as kind) entry ≡ x → has_passing kind p entry ≡ true → (y : X) × (in_slot (read_as kind) entry ≡ Some y)
   has-of entry None is has = absurd (let wrong : false ≡ true = rw is at has in cc)
   has-of entry (Some y) is has = (y, is)
 

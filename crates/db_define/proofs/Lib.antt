@@ -1,5 +1,8 @@
+pub mod IndexKept
 pub mod LeftRecords
+pub mod ObjectMade
+pub mod RemovedRows
+pub mod RowsLeft
 pub mod SweptSlots
-pub mod TableCreated
 pub mod TableDropped
 pub mod TableLeft

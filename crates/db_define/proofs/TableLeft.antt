@@ -32,7 +32,6 @@ use Rattle.record_table.specs.EditableLaws.{IsEditable-object}
 use Rattle.record_table.specs.Listed.{at_slot, slots_of}
 use Rattle.record_table.specs.Making.{IsHeld, Makes}
 use Rattle.record_table.proofs.ChangedDatabase.{Holds-removed}
-use Rattle.privilege_table.proofs.Seen.{told-held}
 use Rattle.db_define.specs.Dependent.{is_in, is_on}
 use Rattle.db_define.specs.Swept.{all_without, has_passing, without_passing}
 use Rattle.db_define.proofs.LeftRecords.{Holds-without_grants, Holds-without_rows, count-passing}
@@ -144,39 +143,31 @@ committed-told old new chip slot stands removed = go chip.image stands
     go None stands = refl
     go (Some image) stands = (removed image stands).committed
 
--- the entries that so many records more make
-entries-with : {X : Type 0} (kind : Kind X) (p : X → Bool) (store old new : Held) (chip : Chip) (slots : Slots) → slots_of store Working chip ≡ Some slots
-    → IfSome (slots_of store Working chip) (λ slots. entries new ≤ entries old + count_by (has_passing kind p) slots) → entries new ≤ entries old + count_by (has_passing kind p) slots
-entries-with kind p store old new chip slots told few = subst (λ (o : Option Slots). IfSome o (λ slots. entries new ≤ entries old + count_by (has_passing kind p) slots)) told few
+-- what is told of slots where they are told
+pub of-told : (store : Held) (chip : Chip) (slots : Slots) (P : Slots → Type 0) → slots_of store Working chip ≡ Some slots → IfSome (slots_of store Working chip) P → P slots
+of-told store chip slots P told all = subst (λ (o : Option Slots). IfSome o P) told all
 
-step-told : (store new : Held) (chip : Chip) (f : Slots → Slots) (slots : Slots) → slots_of store Working chip ≡ Some slots → IfSome (slots_of store Working chip) (λ slots. slots_of new Working chip ≡ Some (f slots))
-    → slots_of new Working chip ≡ Some (f slots)
-step-told store new chip f slots told step = subst (λ (o : Option Slots). IfSome o (λ slots. slots_of new Working chip ≡ Some (f slots))) told step
-
--- A store from which a table was taken, then the grants on it, and then its rows, has made the edits.
-pub Makes-dropped : (db : Database) (actor : Actor) (name : List ℕ) (o : Object) (slot : ℕ) (old first second new : Held) (chip : Chip) → IsHeld old Working chip db → table_dropped db actor name ≡ Ok (dropping_edits db o)
+-- A store from which a table was taken with the grants on it, and then its rows, has made the edits.
+pub Makes-dropped : (db : Database) (actor : Actor) (name : List ℕ) (o : Object) (slot : ℕ) (old mid new : Held) (chip : Chip) → IsHeld old Working chip db → table_dropped db actor name ≡ Ok (dropping_edits db o)
     → IfSome (slots_of old Working chip) (λ slots. Some o ≡ at_slot object_kind slot slots)
-    → IfSome (slots_of old Working chip) (λ slots. slots_of first Working chip ≡ Some (slots_without_table slot slots))
-    → IfSome (slots_of first Working chip) (λ slots. slots_of second Working chip ≡ Some (all_without grant_kind (is_on o.stamp) slots))
-    → IfSome (slots_of second Working chip) (λ slots. slots_of new Working chip ≡ Some (all_without row_kind (is_in o.stamp) slots))
+    → IfSome (slots_of old Working chip) (λ slots. slots_of mid Working chip ≡ Some (slots_without_grants slot o.stamp slots))
+    → IfSome (slots_of mid Working chip) (λ slots. slots_of new Working chip ≡ Some (all_without row_kind (is_in o.stamp) slots))
     → new.chains.cells ≡ old.chains.cells → new.row_limit ≡ old.row_limit → slots_of new Committed chip ≡ slots_of old Committed chip
-    → entries first ≤ entries old + 1
-    → IfSome (slots_of first Working chip) (λ slots. entries second ≤ entries first + count_by (has_passing grant_kind (is_on o.stamp)) slots)
-    → IfSome (slots_of second Working chip) (λ slots. entries new ≤ entries second + count_by (has_passing row_kind (is_in o.stamp)) slots)
+    → IfSome (slots_of old Working chip) (λ slots. entries mid ≤ entries old + 1 + count_by (has_passing grant_kind (is_on o.stamp)) (slots_without_table slot slots))
+    → IfSome (slots_of mid Working chip) (λ slots. entries new ≤ entries mid + count_by (has_passing row_kind (is_in o.stamp)) slots)
     → Makes db (dropping_edits db o) old new chip chip
-Makes-dropped db actor name o slot old first second new chip held is found one two three cells limit committed few_1 few_2 few_3 =
+Makes-dropped db actor name o slot old mid new chip held is found one two cells limit committed few_1 few_2 =
     let slots = held.slots in
-    let at = sym (told-held old Working chip db (λ slots. Some o ≡ at_slot object_kind slot slots) held found) in
-    let told_1 = step-told old first chip (slots_without_table slot) slots held.told one in
-    let told_2 = step-told first second chip (all_without grant_kind (is_on o.stamp)) (slots_without_table slot slots) told_1 two in
-    let told_3 = step-told second new chip (all_without row_kind (is_in o.stamp)) (slots_without_grants slot o.stamp slots) told_2 three in
-    let grants = entries-with grant_kind (is_on o.stamp) first first second chip (slots_without_table slot slots) told_1 few_2 in
-    let rows = entries-with row_kind (is_in o.stamp) second second new chip (slots_without_grants slot o.stamp slots) told_2 few_3 in
+    let left = slots_without_grants slot o.stamp slots in
+    let at = sym (of-told old chip slots (λ slots. Some o ≡ at_slot object_kind slot slots) held.told found) in
+    let told = of-told old chip slots (λ slots. slots_of mid Working chip ≡ Some (slots_without_grants slot o.stamp slots)) held.told one in
+    let grants = of-told old chip slots (λ slots. entries mid ≤ entries old + 1 + count_by (has_passing grant_kind (is_on o.stamp)) (slots_without_table slot slots)) held.told few_1 in
+    let rows = of-told mid chip left (λ slots. entries new ≤ entries mid + count_by (has_passing row_kind (is_in o.stamp)) slots) told few_2 in
     record {
       room = room-left db o slot slots held.holds held.valid at;
       held = record {
         slots = slots_left slot o.stamp slots;
-        told = told_3;
+        told = of-told mid chip left (λ slots. slots_of new Working chip ≡ Some (all_without row_kind (is_in o.stamp) slots)) told two;
         cells = applied-cells db (dropping_edits db o) ∙ held.cells ∙ sym cells;
         limit = applied-limit db (dropping_edits db o) ∙ held.limit ∙ sym limit;
         holds = Holds-left db o slot slots held.holds held.valid at;
@@ -184,5 +175,27 @@ Makes-dropped db actor name o slot old first second new chip held is found one t
       };
       committed = committed;
       octets = λ after told. (after, told, omega arith);
-      entries = omega (arith, few_1, grants, rows, count-grants db o slot slots held.holds held.valid at, count-rows db o slot slots held.holds held.valid at, count-touched db o);
+      entries = omega (arith, grants, rows, count-grants db o slot slots held.holds held.valid at, count-rows db o slot slots held.holds held.valid at, count-touched db o);
     }
+
+-- the table's slot is emptied, and then those of its grants
+pub granted-told : (old first mid : Held) (before after : Chip) (slot stamp : ℕ) → IfSome (slots_of old Working before) (λ slots. slots_of first Working before ≡ Some (slots_without_table slot slots))
+    → IfSome (slots_of first Working before) (λ slots. slots_of mid Working after ≡ Some (all_without grant_kind (is_on stamp) slots))
+    → IfSome (slots_of old Working before) (λ slots. slots_of mid Working after ≡ Some (slots_without_grants slot stamp slots))
+granted-told old first mid before after slot stamp one two = go (slots_of old Working before) one
+  where
+    go : (o : Option Slots) → IfSome o (λ slots. slots_of first Working before ≡ Some (slots_without_table slot slots)) → IfSome o (λ slots. slots_of mid Working after ≡ Some (slots_without_grants slot stamp slots))
+    go None one = tt
+    go (Some slots) one = subst (λ (o : Option Slots). IfSome o (λ slots. slots_of mid Working after ≡ Some (all_without grant_kind (is_on stamp) slots))) one two
+
+pub granted-entries : (old first mid : Held) (chip : Chip) (slot stamp : ℕ) → IfSome (slots_of old Working chip) (λ slots. slots_of first Working chip ≡ Some (slots_without_table slot slots))
+    → entries first ≤ entries old + 1 → IfSome (slots_of first Working chip) (λ slots. entries mid ≤ entries first + count_by (has_passing grant_kind (is_on stamp)) slots)
+    → IfSome (slots_of old Working chip) (λ slots. entries mid ≤ entries old + 1 + count_by (has_passing grant_kind (is_on stamp)) (slots_without_table slot slots))
+granted-entries old first mid chip slot stamp one few_1 few_2 = go (slots_of old Working chip) one
+  where
+    go : (o : Option Slots) → IfSome o (λ slots. slots_of first Working chip ≡ Some (slots_without_table slot slots))
+        → IfSome o (λ slots. entries mid ≤ entries old + 1 + count_by (has_passing grant_kind (is_on stamp)) (slots_without_table slot slots))
+    go None one = tt
+    go (Some slots) one =
+        let more = subst (λ (o : Option Slots). IfSome o (λ slots. entries mid ≤ entries first + count_by (has_passing grant_kind (is_on stamp)) slots)) one few_2 in
+        omega (arith, few_1, more)

@@ -1,48 +1,59 @@
 // DROP TABLE.
-ghost use Rattle.std.specs.Prelude.{◌≡◌, ◌<◌, ◌++◌, Some, Ok, Err, IsTrue, IfOk, IfErr, IfSome, IsErrOf, drop};
+ghost use Rattle.std.specs.Prelude.{◌≡◌, ◌<◌, ◌≤◌, ◌+◌, ◌++◌, Some, None, Ok, Err, IsTrue, IfOk, IfErr, IfSome, IsErrOf, OnOk, count_by, drop, slice_set};
 ghost use Rattle.std.specs.List.{list_any};
 ghost use Rattle.eeprom.specs.Chip.{Keeps};
 ghost use Rattle.eeprom.specs.Fault.{CountsFaults, each_error};
 ghost use Rattle.eeprom.specs.Frame.{Reads};
 ghost use Rattle.eeprom.specs.StoreOf.{store_of, image_size};
 ghost use Rattle.record_store.specs.Held.{IsOver};
-ghost use Rattle.record_store.specs.declared.side.Side.TheVariants.{Working};
+ghost use Rattle.record_store.specs.Transaction.{entries};
+ghost use Rattle.record_store.specs.declared.side.Side.TheVariants.{Committed, Working};
 ghost use Rattle.scql_model.specs.Database as model;
 ghost use Rattle.scql_model.specs.Database.{Database};
 ghost use Rattle.scql_model.specs.Defining.{removing_object, removing_rows, table_dropped};
 ghost use Rattle.scql_base.specs.declared.records.Object.{Object};
-ghost use Rattle.catalog_codec.specs.Catalog.{object_kind};
+ghost use Rattle.catalog_codec.specs.Catalog.{grant_kind, object_kind};
 ghost use Rattle.record_table.specs.Listed.{at_slot, slots_of};
 ghost use Rattle.record_table.specs.Making.{Ends, GoesOn, IsHeld, is_stop_fault};
-ghost use Rattle.db_define.specs.Dependent.{is_in, is_on, is_view_on};
+ghost use Rattle.row_index.specs.Index.{Indexes};
+ghost use Rattle.db_define.specs.Dependent.{is_on, is_view_on};
+ghost use Rattle.db_define.specs.Swept.{all_without, has_passing};
 
+use crate::rows::remove_rows;
 use crate::sweeping::remove_each;
 use eeprom::{Eeprom, EepromFault};
 use privilege_table::{find_seen, is_owned_by};
 use record_store::{Found, Side, Store};
 use record_table::{Stop, Wanted, find_by, refused, remove};
-use scql_base::{Actor, Grant, Name, Object, ObjectKind, RowRecord, StatusWord};
+use row_index::RowIndex;
+use scql_base::{Actor, Grant, Name, Object, ObjectKind, StatusWord};
 
-/// DROP TABLE: removes a table that the actor owns and on which no view rests, its rows and the grants on it.
+/// DROP TABLE: removes a table that the actor owns and on which no view rests, the grants on it and its rows, which the index names.
 pub fn drop_table<B: Eeprom>(
     store: &mut Store,
     bench: &mut B,
     actor: Actor,
     name: Name,
+    index: &mut RowIndex,
 ) -> Result<(), Stop>
     requires begun { IsTrue store.old.begun }
     requires over { IsOver store.old (B.chip bench.old) }
+    requires index_begun { IsTrue index.old.begun }
+    requires index { Indexes index.old store.old (B.chip bench.old) }
     ensures ends { (db : Database) → IsHeld store.old Working (B.chip bench.old) db
         → Ends db (table_dropped db actor name) result store.old store.new (B.chip bench.old) (B.chip bench.new) }
     ensures goes_on { ¬ IsErrOf result Stop.Fault → GoesOn store.old store.new (B.chip bench.old) (B.chip bench.new) }
     ensures moments { Keeps store_of (B.chip bench.old) (B.chip bench.new) }
     ensures behind { Keeps (drop (image_size store.old.chains.cells)) (B.chip bench.old) (B.chip bench.new) }
     ensures cause { CountsFaults is_stop_fault (B.faults bench.old) (B.faults bench.new) result }
+    ensures index { (db : Database) → IsHeld store.old Working (B.chip bench.old) db → ¬ IsErrOf result Stop.Fault → Indexes index.new store.new (B.chip bench.new) }
+    ensures index_cells { index.new.cells ≡ index.old.cells }
+    ensures index_committed { index.new.committed ≡ index.old.committed }
+    ensures index_begun { IsTrue index.new.begun }
 {
     let table = find_to_drop(store, bench, actor, name)?;
-    remove(store, table.slot);
-    remove_each(store, bench, &OnObject(table.value.stamp))?;
-    remove_each(store, bench, &InTable(table.value.stamp))?;
+    remove_object(store, bench, &table)?;
+    remove_rows(store, table.value.stamp, index);
     Ok(())
 }
 
@@ -75,6 +86,31 @@ fn find_to_drop<B: Eeprom>(
         return refused(StatusWord::CONDITIONS_NOT_SATISFIED);
     }
     Ok(table)
+}
+
+// Removes an object and the grants on it.
+fn remove_object<B: Eeprom>(
+    store: &mut Store,
+    bench: &mut B,
+    object: &Found<Object>,
+) -> Result<(), EepromFault>
+    requires begun { IsTrue store.old.begun }
+    requires over { IsOver store.old (B.chip bench.old) }
+    requires there { object.now.slot < store.old.chains.cells }
+    ensures removed { OnOk result (IfSome (slots_of store.old Working (B.chip bench.old))
+        (λ slots. slots_of store.new Working (B.chip bench.new) ≡ Some (all_without grant_kind (is_on object.now.value.stamp) (slice_set slots object.now.slot None)))) }
+    ensures committed { OnOk result (slots_of store.new Committed (B.chip bench.new) ≡ slots_of store.old Committed (B.chip bench.old)) }
+    ensures over { OnOk result (IsOver store.new (B.chip bench.new)) }
+    ensures begun { OnOk result (store.new.begun ≡ store.old.begun) }
+    ensures cells { OnOk result (store.new.chains.cells ≡ store.old.chains.cells) }
+    ensures rows { OnOk result (store.new.row_limit ≡ store.old.row_limit) }
+    ensures entries { OnOk result (IfSome (slots_of store.old Working (B.chip bench.old))
+        (λ slots. entries store.new ≤ entries store.old + 1 + count_by (has_passing grant_kind (is_on object.now.value.stamp)) (slice_set slots object.now.slot None))) }
+    ensures frame { Reads each_error B.chip B.faults bench.old bench.new result }
+{
+    remove(store, object.slot);
+    remove_each(store, bench, &OnObject(object.value.stamp))?;
+    Ok(())
 }
 
 // Whether a view rests on the object of a stamp.
@@ -116,17 +152,5 @@ impl Wanted<Grant> for OnObject {
 
     fn is(&self, entry: &Grant) -> bool {
         entry.object == self.0
-    }
-}
-
-// The rows of the table of a stamp.
-#[derive(Clone, Copy)]
-struct InTable(u32);
-
-impl Wanted<RowRecord> for InTable {
-    ghost wants = { λ wanted row. is_in wanted.0 row };
-
-    fn is(&self, entry: &RowRecord) -> bool {
-        entry.table == self.0
     }
 }
