@@ -102,17 +102,26 @@ pub form_of-nowhere : (octets : List ℕ) (channels : List Bool) (chain : ℕ �
     → form_of built_operations octets channels chain limit ≡ refused word
 form_of-nowhere octets channels chain limit word enough is = rw (form_of-header octets channels chain limit enough, ← is) refl
 
+-- what is formed where the channel is known, by what is asked on it
+module _ (asked : ℕ → Result Asked StatusWord) (done : Asked → Result Form StatusWord) (found : Result ℕ StatusWord) (channel : ℕ) (is : Ok channel ≡ found) where
+  refused-formed : (word : StatusWord) → Err word ≡ asked channel → formed found (λ channel. asked channel >>= done) ≡ refused_on channel word
+  refused-formed word here = rw (← is, ← here) refl
+
+  asked-formed : (a : Asked) → Ok a ≡ asked channel → formed found (λ channel. asked channel >>= done) ≡ formed_on channel (done a)
+  asked-formed a here = rw (← is, ← here) refl
+
 pub form_of-refused : (octets : List ℕ) (channels : List Bool) (chain : ℕ → Option Chain) (limit channel : ℕ) (word : StatusWord) → 4 ≤ length octets → Ok channel ≡ asked_of octets channels
     → Err word ≡ apdu_seen octets channel → form_of built_operations octets channels chain limit ≡ refused_on channel word
 form_of-refused octets channels chain limit channel word enough is at =
-    let here : Err word ≡ apdu_of octets channel = at ∙ apdu-seen octets channel in
-    rw (form_of-header octets channels chain limit enough, ← is, ← here) refl
+    form_of-header octets channels chain limit enough
+    ∙ refused-formed (apdu_of octets) (λ (a : Asked). with_parts a (parts_of a.kind (chain a.channel)) limit) (asked_of octets channels) channel is word (at ∙ apdu-seen octets channel)
 
 pub form_of-apdu : (octets : List ℕ) (channels : List Bool) (chain : ℕ → Option Chain) (limit channel : ℕ) (a : Asked) → 4 ≤ length octets → Ok channel ≡ asked_of octets channels
     → Ok a ≡ apdu_seen octets channel → a.channel ≡ channel → form_of built_operations octets channels chain limit ≡ formed_on a.channel (with_parts a (parts_of a.kind (chain a.channel)) limit)
 form_of-apdu octets channels chain limit channel a enough is at same =
-    let here : Ok a ≡ apdu_of octets channel = at ∙ apdu-seen octets channel in
-    rw (form_of-header octets channels chain limit enough, ← is, ← here) (ap (λ (n : ℕ). formed_on n (with_parts a (parts_of a.kind (chain a.channel)) limit)) (sym same))
+    form_of-header octets channels chain limit enough
+    ∙ (asked-formed (apdu_of octets) (λ (a : Asked). with_parts a (parts_of a.kind (chain a.channel)) limit) (asked_of octets channels) channel is a (at ∙ apdu-seen octets channel)
+    ∙ ap (λ (n : ℕ). formed_on n (with_parts a (parts_of a.kind (chain a.channel)) limit)) (sym same))
 
 -- A command is on the channel of its APDU.
 pub command_of-open : (a : Apdu) (limit : ℕ) (body : List ℕ) (channels : List Bool) → slice_get channels a.channel ≡ Some true → IfOk (command_of a limit body) (λ c. slice_get channels c.channel ≡ Some true)

@@ -23,10 +23,10 @@ macro_rules! operation {
 
 // All operations. The number of a channel to open or to close is P2.
 static OPERATIONS: [Line; 31] = [
-    operation!(planned 0x10 0x00 0x80 CreateTable, DataField),
+    operation!(built 0x10 0x00 0x80 CreateTable, DataField),
     operation!(planned 0x10 0x00 0x81 CreateView, DataField),
     operation!(planned 0x10 0x00 0x82 CreateDictionary, DataField),
-    operation!(planned 0x10 0x00 0x83 DropTable, DataField),
+    operation!(built 0x10 0x00 0x83 DropTable, DataField),
     operation!(planned 0x10 0x00 0x84 DropView, DataField),
     operation!(planned 0x10 0x00 0x85 Grant, DataField),
     operation!(planned 0x10 0x00 0x86 Revoke, DataField),
@@ -35,7 +35,7 @@ static OPERATIONS: [Line; 31] = [
     operation!(planned 0x10 0x00 0x89 Next, Nothing),
     operation!(planned 0x10 0x00 0x8A Fetch, LeAlone),
     operation!(planned 0x10 0x00 0x8B FetchNext, LeAlone),
-    operation!(planned 0x10 0x00 0x8C Insert, DataField),
+    operation!(built 0x10 0x00 0x8C Insert, DataField),
     operation!(planned 0x10 0x00 0x8D Update, DataField),
     operation!(planned 0x10 0x00 0x8E Delete, Nothing),
     operation!(planned 0x12 0x00 0x80 Begin, Nothing),

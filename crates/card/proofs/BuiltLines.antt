@@ -1,28 +1,52 @@
--- The operations that are built.
-use Rattle.std.proofs.Common.{◌≡◌, ◌<◌, ℕ, zero, suc, List, [], ◌∷◌, get_or, refl, sym, inl, inr, arith}
-use Rattle.std.specs.Prelude.{◌⊎◌}
+-- What is asked of each operation that is built is asked once of the table of operations, and computed.
+use Rattle.std.proofs.Common.{◌≡◌, ◌<◌, ◌&&◌, ◌||◌, ℕ, zero, suc, Bool, true, false, not, List, [], ◌∷◌, length, get_or, map, refl, subst, arith}
+use Rattle.std.specs.List.{Contains, list_all, list_any}
+use Rattle.std.proofs.lemmas.Bool.{and_parts, and_from, not-true}
+use Rattle.scql_base.specs.declared.operation.Line.{Line}
 use Rattle.scql_base.specs.declared.operation.Operation.{Operation}
 use Rattle.scql_base.specs.declared.operation.Operation.TheVariants as asks
 use Rattle.scql_base.specs.declared.operation.OperationKind.{OperationKind}
-use Rattle.scql_base.specs.declared.operation.OperationKind.TheVariants.{PresentUser, CreateUser}
-use Rattle.scql_model.specs.Operations.{IsBuilt, kind_of}
-use Rattle.card.specs.Changing.{IsChange}
+use Rattle.scql_base.specs.declared.operation.OperationKind.TheVariants.{PresentUser}
+use Rattle.scql_model.specs.Operations.{IsBuilt, built_operations, kind_of}
+use Rattle.scql_model.specs.Spelling.{is_same}
+use Rattle.card.specs.Changing.{IsChange, is_changing}
+use Rattle.card.proofs.TableEdits.{makes_view}
 
--- an operation that is built is PRESENT USER or CREATE USER
-pub IsBuilt-one : (kind : OperationKind) → IsBuilt kind → (kind ≡ PresentUser) ⊎ (kind ≡ CreateUser)
-IsBuilt-one kind is = go is.0 is.1 is.2
+-- what all of a list pass, each that it contains passes
+all-Contains : {X : Type 0} (p : X → Bool) (xs : List X) (x : X) → list_all p xs ≡ true → Contains xs x → p x ≡ true
+all-Contains p xs x all has = at xs has.0 all has.1 has.2
   where
-    go : (k : ℕ) → k < 2 → get_or (PresentUser ∷ CreateUser ∷ []) k kind ≡ kind → (kind ≡ PresentUser) ⊎ (kind ≡ CreateUser)
-    go zero lt is = inl (sym is)
-    go (suc zero) lt is = inr (sym is)
-    go (suc (suc k)) lt is = absurd (omega (arith, lt))
+    at : (xs : List _) (k : ℕ) → list_all p xs ≡ true → k < length xs → get_or xs k x ≡ x → p x ≡ true
+    at [] k all lt is = absurd (omega (arith, lt))
+    at (y ∷ ys) zero all lt is = subst (λ z. p z ≡ true) is (and_parts (p y) (list_all p ys) all).0
+    at (y ∷ ys) (suc k) all lt is = at ys k (and_parts (p y) (list_all p ys) all).1 (omega (arith, lt)) is
 
--- it changes the database, or is PRESENT USER
+-- the operations that are built
+abbrev kinds_built : List OperationKind
+kinds_built = map (λ (l : Line). l.kind) built_operations
+
+abbrev is_built : OperationKind → Bool
+is_built kind = list_any (λ other. is_same other kind) kinds_built
+
+-- a change that is built
+abbrev pub is_change : OperationKind → Bool
+is_change kind = is_built kind && is_changing kind
+
+pub is_change-IsChange : (operation : Operation) → IsChange operation → is_change (kind_of operation) ≡ true
+is_change-IsChange operation change = and_from (is_built (kind_of operation)) (is_changing (kind_of operation)) (all-Contains is_built kinds_built (kind_of operation) refl change.0) change.1
+
+-- an operation that is built changes the database, or is PRESENT USER
+abbrev is_presenting : OperationKind → Bool
+is_presenting PresentUser = true
+is_presenting kind = false
+
 pub IsChange-built : (operation : Operation) → IsBuilt (kind_of operation) → ((name : List ℕ) → operation ≡ asks.PresentUser name → ⊥) → IsChange operation
-IsChange-built (asks.PresentUser name) built not_presents = absurd (not_presents name refl)
-IsChange-built (asks.CreateUser name profile secret) built not_presents = tt
-IsChange-built operation built not_presents = absurd (other (IsBuilt-one (kind_of operation) built))
+IsChange-built operation built not_presents = (built, of operation not_presents (all-Contains (λ kind. is_changing kind || is_presenting kind) kinds_built (kind_of operation) refl built))
   where
-    other : (kind_of operation ≡ PresentUser) ⊎ (kind_of operation ≡ CreateUser) → ⊥
-    other (inl is) = absurd cc
-    other (inr is) = absurd cc
+    of : (operation : Operation) → ((name : List ℕ) → operation ≡ asks.PresentUser name → ⊥) → (is_changing (kind_of operation) || is_presenting (kind_of operation)) ≡ true → is_changing (kind_of operation) ≡ true
+    of (asks.PresentUser name) not_presents is = absurd (not_presents name refl)
+    of operation not_presents is = is
+
+-- and makes no view or dictionary yet
+pub makes_view-built : (operation : Operation) → IsBuilt (kind_of operation) → makes_view (kind_of operation) ≡ false
+makes_view-built operation built = not-true (makes_view (kind_of operation)) (all-Contains (λ kind. not (makes_view kind)) kinds_built (kind_of operation) refl built)

@@ -1,8 +1,8 @@
 -- What a change leaves on a store and its EEPROM, by the ways in which it ends.
 use Rattle.std.proofs.Common.{◌≡◌, ℕ, ◌+◌, ◌*◌, Bool, true, false, List, [], ◌∷◌, drop, Option, Some, None, is_some, Result, Ok, Err, refl, sym, ap, subst, ◌∙◌, inl, inr, arith}
-use Rattle.std.specs.Prelude.{IfSome, IfOk}
+use Rattle.std.specs.Prelude.{IfSome, IfOk, IsSome, option_and_then}
 use Rattle.std.proofs.lemmas.Bool.{false≢true}
-use Rattle.std.proofs.lemmas.Option.{none-some}
+use Rattle.std.proofs.lemmas.Option.{none-some, same_Some}
 use Rattle.eeprom.specs.Chip.{Chip, Becomes, Keeps, RisesAtMost, RisesBy}
 use Rattle.eeprom.specs.Frame.{HasRoom}
 use Rattle.eeprom.specs.StoreOf.{Slots, image_size, store_of}
@@ -22,7 +22,8 @@ use Rattle.scql_model.specs.Opens.{Opens, are_tables}
 use Rattle.record_table.specs.Listed.{slots_of}
 use Rattle.record_table.specs.Making.{IsHeld, Makes}
 use Rattle.card.specs.Answering.{LeavesOneOf}
-use Rattle.card.specs.Changing.{IsAtRest, Concludes, Changes, new_of, octets_of, commits_of}
+use Rattle.card.specs.Card.{IsAtRest}
+use Rattle.card.specs.Changing.{Concludes, Changes, new_of, octets_of, commits_of}
 use Rattle.card.proofs.Leaving.{Keeps-none, rises-none}
 use Rattle.card.proofs.Starting.{opens-same}
 
@@ -63,6 +64,14 @@ held-begun store begun old chip db held same is starts =
     held-same store begun Committed Working old chip db held
     (same-slots begun store Working Committed chip starts ∙ ap (λ (c : Chip). slots_of store Committed c) same)
     (ap (λ (h : Held). h.chains.cells) is) (ap (λ (h : Held). h.row_limit) is)
+
+-- and has them from there
+pub held-before : (store begun : Held) (old chip : Chip) (db : Database) → IsHeld begun Working chip db → chip ≡ old → begun ≡ begun_from store
+    → ((image : List ℕ) → contents begun Working image ≡ contents store Committed image) → IsHeld store Committed old db
+held-before store begun old chip db held same is starts =
+    held-same begun store Working Committed chip old db held
+    (sym (same-slots begun store Working Committed chip starts ∙ ap (λ (c : Chip). slots_of store Committed c) same))
+    (ap (λ (h : Held). h.chains.cells) (sym is)) (ap (λ (h : Held). h.row_limit) (sym is))
 
 pub over-begun : (store begun : Held) (old chip : Chip) → IsOver store old → chip ≡ old → begun ≡ begun_from store → ((image : List ℕ) → StandsFor store image → StandsFor begun image) → IsOver begun chip
 over-begun store begun old chip over same is stands = subst (IsOver begun) (sym same) (record {
@@ -114,21 +123,32 @@ leaves-committed mid old between new db next opens keeps committed tables workin
       ],
     )))
 
--- what a commit makes of what the working side holds
-held-committed : (mid new : Held) (before after : Chip) (db : Database) → IsHeld mid Working before db → Becomes (IsCommitted mid new) before.image after.image → is_some after.image ≡ is_some before.image
-    → new.chains.cells ≡ mid.chains.cells → new.row_limit ≡ mid.row_limit → IsHeld new Committed after db
-held-committed mid new before after db held committed told cells rows =
-    let was = told-image mid Working before held.slots held.told in
-    held-same mid new Working Committed before after db held (of after.image refl was ∙ sym held.told) cells rows
+some_of : {X : Type 0} (o : Option X) → IsSome o → (x : X) × (o ≡ Some x)
+some_of None some = absurd cc
+some_of (Some x) some = (x, refl)
+
+-- what a commit makes of the slots of the working side
+pub slots-committed : (mid new : Held) (before after : Chip) → IsOver mid before → Becomes (IsCommitted mid new) before.image after.image → is_some after.image ≡ is_some before.image
+    → slots_of new Committed after ≡ slots_of mid Working before
+slots-committed mid new before after over committed told = of before.image after.image over.stands committed told
   where
-    of : (o : Option (List ℕ)) → after.image ≡ o → ((image : List ℕ) × (before.image ≡ Some image) × (contents mid Working image ≡ Some held.slots)) → slots_of new Committed after ≡ Some held.slots
-    of None is was = absurd (false≢true (ap is_some (sym is) ∙ (told ∙ ap is_some was.1)))
-    of (Some now) is was =
-        let done_now = committed now is in
-        let there : contents mid Working done_now.0 ≡ Some held.slots = contents-told mid Working before held.slots held.told done_now.0 done_now.1 in
-        let same : with_limit new.row_limit (contents new Committed now) ≡ Some (record { row_limit = mid.row_limit; slots = held.slots })
-        = sym (store_of-stands new now done_now.2.stands) ∙ (done_now.2.store ∙ ap (with_limit mid.row_limit) there) in
-        rw is (limited new.row_limit (contents new Committed now) (record { row_limit = mid.row_limit; slots = held.slots }) same).0
+    of : (was now : Option (List ℕ)) → IfSome was (StandsFor mid) → Becomes (IsCommitted mid new) was now → is_some now ≡ is_some was
+        → option_and_then (contents new Committed) now ≡ option_and_then (contents mid Working) was
+    of None None stands committed told = refl
+    of None (Some now) stands committed told = absurd cc
+    of (Some was) None stands committed told = absurd cc
+    of (Some was) (Some now) stands committed told =
+        let done_now = committed now refl in
+        let same : with_limit new.row_limit (contents new Committed now) ≡ with_limit mid.row_limit (contents mid Working was)
+        = sym (store_of-stands new now done_now.2.stands) ∙ (done_now.2.store ∙ ap (λ (image : List ℕ). with_limit mid.row_limit (contents mid Working image)) (sym (same_Some was done_now.0 done_now.1))) in
+        let there = some_of (contents mid Working was) stands.working in
+        (limited new.row_limit (contents new Committed now) (record { row_limit = mid.row_limit; slots = there.0 }) (same ∙ ap (with_limit mid.row_limit) there.1)).0 ∙ sym there.1
+
+-- and of what it holds
+held-committed : (mid new : Held) (before after : Chip) (db : Database) → IsOver mid before → IsHeld mid Working before db → Becomes (IsCommitted mid new) before.image after.image → is_some after.image ≡ is_some before.image
+    → new.chains.cells ≡ mid.chains.cells → new.row_limit ≡ mid.row_limit → IsHeld new Committed after db
+held-committed mid new before after db over held committed told cells rows =
+    held-same mid new Working Committed before after db held (slots-committed mid new before after over committed told) cells rows
 
 -- The ways in which a change ends, where the store held the database.
 module _ (db : Database) (edited : Result (List Edit) StatusWord) (old : Chip) (opens : (was : List ℕ) → old.image ≡ Some was → Opens was db) where
@@ -181,11 +201,11 @@ module _ (db : Database) (edited : Result (List Edit) StatusWord) (old : Chip) (
         is_some_there [] = false
         is_some_there (next ∷ dbs) = true
 
-    pub Changes-committed : (store : Held) (new : Chip) → Keeps store_of old between → IsHeld mid Committed between db → are_tables db.objects ≡ true → Commits mid between new
+    pub Changes-committed : (store : Held) (new : Chip) → IsOver mid between → Keeps store_of old between → IsHeld mid Committed between db → are_tables db.objects ≡ true → Commits mid between new
         → Becomes (IsCommitted mid store) between.image new.image → is_some new.image ≡ is_some between.image → store.chains.cells ≡ mid.chains.cells → store.row_limit ≡ mid.row_limit
         → start.written ≡ old.written → entries begun ≡ 0 → Becomes (RisesBy (4 + 6 * entries mid)) between.written new.written → Changes db edited (Ok done) store old new
-    Changes-committed store new keeps committed db_tables commits done_now told cells rows same_written none rises = record {
-      step = subst (λ (o : Result Database StatusWord). Concludes db o done store new) (sym new_is) (refl, record { held = held-committed mid store between new (applied db edits) makes.held done_now told cells rows; tables = tables });
+    Changes-committed store new over keeps committed db_tables commits done_now told cells rows same_written none rises = record {
+      step = subst (λ (o : Result Database StatusWord). Concludes db o done store new) (sym new_is) (refl, record { held = held-committed mid store between new (applied db edits) over makes.held done_now told cells rows; tables = tables });
       moments = committing new keeps committed db_tables commits;
       unwritten = λ idle. absurd (some_committed idle);
       octets = subst (λ (most : ℕ). Becomes (RisesAtMost most) old.written new.written) (sym octets_are) (λ after told.
@@ -213,12 +233,16 @@ committed-begun store begun mid old c1 c2 db held same is starts committed cells
     (cells ∙ ap (λ (h : Held). h.chains.cells) is) (rows ∙ ap (λ (h : Held). h.row_limit) is)
 
 -- and where one was refused, and rolled back
+pub slots-rolled_back : (store begun mid back : Held) (old c1 c2 : Chip) → c1 ≡ old → ((image : List ℕ) → contents begun Committed image ≡ contents store Committed image) → mid ≡ begun → c2 ≡ c1
+    → ((image : List ℕ) → contents back Committed image ≡ contents mid Committed image) → slots_of back Committed c2 ≡ slots_of store Committed old
+slots-rolled_back store begun mid back old c1 c2 same starts stays still ended =
+    same-slots back mid Committed Committed c2 ended ∙ (ap (λ (h : Held). slots_of h Committed c2) stays ∙ (same-slots begun store Committed Committed c2 starts ∙ ap (λ (c : Chip). slots_of store Committed c) (still ∙ same)))
+
 pub rest-rolled_back : (store begun mid back : Held) (old c1 c2 : Chip) (db : Database) → IsAtRest store old db → c1 ≡ old → begun ≡ begun_from store
     → ((image : List ℕ) → contents begun Committed image ≡ contents store Committed image) → mid ≡ begun → c2 ≡ c1
     → ((image : List ℕ) → contents back Committed image ≡ contents mid Committed image) → back.chains.cells ≡ mid.chains.cells → back.row_limit ≡ mid.row_limit → IsAtRest back c2 db
 rest-rolled_back store begun mid back old c1 c2 db rest same is starts stays still ended cells rows = record {
-  held = committed-begun store begun back old c1 c2 db rest.held same is starts
-      (same-slots back mid Committed Committed c2 ended ∙ (ap (λ (h : Held). slots_of h Committed c2) stays ∙ ap (λ (c : Chip). slots_of begun Committed c) still))
-      (cells ∙ ap (λ (h : Held). h.chains.cells) stays) (rows ∙ ap (λ (h : Held). h.row_limit) stays);
+  held = held-same store back Committed Committed old c2 db rest.held (slots-rolled_back store begun mid back old c1 c2 same starts stays still ended)
+      (cells ∙ (ap (λ (h : Held). h.chains.cells) stays ∙ ap (λ (h : Held). h.chains.cells) is)) (rows ∙ (ap (λ (h : Held). h.row_limit) stays ∙ ap (λ (h : Held). h.row_limit) is));
   tables = rest.tables;
 }

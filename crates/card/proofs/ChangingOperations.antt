@@ -1,4 +1,4 @@
--- The operations that change the database, and who changes it.
+-- Who changes the database.
 use Rattle.std.proofs.Common.{◌≡◌, ℕ, true, not, List, Option, Some, None, Ok, sym, ap, subst, ◌∙◌}
 use Rattle.std.specs.Prelude.{IfSome}
 use Rattle.std.specs.Option.{option_map_or}
@@ -6,43 +6,17 @@ use Rattle.eeprom.specs.Chip.{Chip}
 use Rattle.eeprom.specs.Slots.{Rises}
 use Rattle.record_store.specs.Held.{Held}
 use Rattle.record_store.specs.declared.side.Side.{Side}
-use Rattle.scql_base.specs.declared.cursor.Cursor.{Cursor}
-use Rattle.scql_base.specs.declared.operation.Operation.{Operation}
-use Rattle.scql_base.specs.declared.operation.Operation.TheVariants.{CreateUser}
 use Rattle.scql_base.specs.declared.records.User.{User}
 use Rattle.scql_base.specs.declared.words.Actor.{Actor}
 use Rattle.scql_base.specs.declared.words.Actor.TheVariants.{Public, User as a_user}
-use Rattle.scql_base.specs.declared.words.Profile.{Profile}
-use Rattle.scql_base.specs.Words.{already_exists, security_not_satisfied}
-use Rattle.scql_model.specs.Changing.{edits_of}
-use Rattle.scql_model.specs.Creating.{IsActorOf, may_create, is_taken, new_user, user_added}
+use Rattle.scql_model.specs.Creating.{IsActorOf}
 use Rattle.scql_model.specs.Database.{Database, user_stamped}
-use Rattle.scql_model.specs.Edits.{Edit, applied, making, of_user}
-use Rattle.scql_model.specs.Opens.{are_tables}
-use Rattle.scql_model.specs.Refusals.{provided}
 use Rattle.scql_model.proofs.Acting.{IsActorOf-stamped}
-use Rattle.scql_model.proofs.RightEdits.{Gives, bound-gives, done-gives}
 use Rattle.catalog_codec.specs.Catalog.{user_kind}
 use Rattle.record_table.specs.Listed.{listed, slots_of}
 use Rattle.record_table.specs.Making.{IsHeld}
-use Rattle.card.specs.Changing.{IsChange, acting}
+use Rattle.card.specs.Changing.{acting}
 use Rattle.card.proofs.Told.{if_some-at}
-
--- where all objects are tables, they are so after each of these operations
-abbrev KeepTables : Database → List Edit → Type 0
-KeepTables db edits = are_tables db.objects ≡ true → are_tables (applied db edits).objects ≡ true
-
-tables-CreateUser : (db : Database) (actor : Actor) (name : List ℕ) (profile : Profile) (secret : List ℕ) → Gives (KeepTables db) (user_added db actor name profile secret)
-tables-CreateUser db actor name profile secret =
-    bound-gives (KeepTables db) (provided (may_create actor profile) security_not_satisfied) _ λ _ _.
-    bound-gives (KeepTables db) (provided (not (is_taken db name)) already_exists) _ λ _ _.
-    done-gives (KeepTables db) (making db (of_user (new_user db actor name profile secret))) (λ tables. tables)
-
-pub are_tables-changed : (db : Database) (actor : Actor) (cursor : Option Cursor) (operation : Operation) (edits : List Edit) → IsChange operation → edits_of db actor cursor operation ≡ Ok edits
-    → are_tables db.objects ≡ true → are_tables (applied db edits).objects ≡ true
-unfolding edits_of
-are_tables-changed db actor cursor (CreateUser name profile secret) edits changes is = (tables-CreateUser db actor name profile secret).each edits is
-are_tables-changed db actor cursor operation edits changes is = absurd changes
 
 -- who acts is PUBLIC or a user of the database
 pub IsActorOf-acting : (db : Database) (user : Option ℕ) → IsActorOf db (acting db user)

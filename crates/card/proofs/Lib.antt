@@ -5,6 +5,7 @@ mod GatheredSlots
 mod Grouped
 mod HeldInOrder
 mod HeldKinds
+mod IndexedStore
 mod Labels
 pub mod Leaving
 mod ListsInOrder
@@ -22,6 +23,7 @@ mod Sorting
 pub mod Stamped
 pub mod Starting
 mod TakenForms
+mod TableEdits
 pub mod Tested
 pub mod Told
 mod UnreadSteps

@@ -24,8 +24,9 @@ use Rattle.scql_model.proofs.ChangingSessions.{changing_session-set}
 use Rattle.db_access.specs.Presenting.{session_presented}
 use Rattle.db_access.specs.declared.presenting.Presented.{Presented as Found}
 use Rattle.card.specs.Answering.{Answers, LeavesOneOf, Performs, committed_at_once, with_session_for}
-use Rattle.card.specs.Card.{Kept, IsReady, IsAt, committed_slots}
-use Rattle.card.specs.Changing.{IsAtRest, Concludes, Changes, acting, new_of, commits_of}
+use Rattle.row_index.specs.Index.{Index}
+use Rattle.card.specs.Card.{Kept, IsReady, IsAt, committed_slots, IsAtRest}
+use Rattle.card.specs.Changing.{Concludes, Changes, acting, new_of, commits_of}
 use Rattle.card.specs.Sessions.{AreUnread, proved_stamp, proved_user}
 use Rattle.card.proofs.Leaving.{rises-none, unwritten_leaves}
 use Rattle.card.proofs.SlotCount.{length-committed_slots}
@@ -72,9 +73,9 @@ IsAtRest-at card chip m ready at =
     }
 
 -- and one that holds it is at the machine.
-IsAt-rest : (card : Kept) (store : Held) (chip : Chip) (m : Machine) (db : Database) → m.transaction ≡ None → m.sessions ≡ card.sessions → IsAtRest store chip db → IsAt (record card { store = store }) chip (record m { committed = db })
+IsAt-rest : (card : Kept) (store : Held) (index : Index) (chip : Chip) (m : Machine) (db : Database) → m.transaction ≡ None → m.sessions ≡ card.sessions → IsAtRest store chip db → IsAt (record card { store = store; index = index }) chip (record m { committed = db })
 unfolding committed_slots
-IsAt-rest card store chip m db none sessions rest = record {
+IsAt-rest card store index chip m db none sessions rest = record {
   slots = rest.held.slots;
   committed = rest.held.told;
   limit = rest.held.limit;
@@ -103,16 +104,16 @@ actor-at card chip m channel user at is =
     ∙ ap (acting m.committed) (ap proved_user session ∙ sym is))
 
 -- What a change does to the store, it does to the machine.
-pub Performs-changed : (card : Kept) (store : Held) (old new : Chip) (m : Machine) (channel : ℕ) (operation : Operation) (user : Option ℕ) (result : Result StatusWord EepromFault) → IsAt card old m → AreUnread card.sessions
+pub Performs-changed : (card : Kept) (store : Held) (index : Index) (old new : Chip) (m : Machine) (channel : ℕ) (operation : Operation) (user : Option ℕ) (result : Result StatusWord EepromFault) → IsAt card old m → AreUnread card.sessions
     → user ≡ proved_user (option_flatten (slice_get card.sessions channel)) → Changes m.committed (edits_of m.committed (acting m.committed user) (cursor_of m channel) operation) result store old new
-    → Performs m (answered m (changed m channel operation)) (or_nothing (octets_changed m channel operation)) result (record card { store = store }) old new
-Performs-changed card store old new m channel operation user result at unread is changes =
+    → Performs m (answered m (changed m channel operation)) (or_nothing (octets_changed m channel operation)) result (record card { store = store; index = index }) old new
+Performs-changed card store index old new m channel operation user result at unread is changes =
     let edited = edits_of m.committed (actor m channel) (cursor_of m channel) operation in
     let by : Changes m.committed edited result store old new
     = subst (λ (who : Actor). Changes m.committed (edits_of m.committed who (cursor_of m channel) operation) result store old new) (sym (actor-at card old m channel user at is)) changes in
-    subst (λ (o : Result Answer StatusWord). Performs m (answered m o) (or_nothing (octets_changed m channel operation)) result (record card { store = store }) old new)
+    subst (λ (o : Result Answer StatusWord). Performs m (answered m o) (or_nothing (octets_changed m channel operation)) result (record card { store = store; index = index }) old new)
     (sym (changed-outcome m channel operation at.transaction (subst AreUnread (sym at.sessions) unread)))
-    (subst (λ (most : ℕ). Performs m (answered m (committed_at_once m (new_of m.committed edited))) most result (record card { store = store }) old new)
+    (subst (λ (most : ℕ). Performs m (answered m (committed_at_once m (new_of m.committed edited))) most result (record card { store = store; index = index }) old new)
     (sym (octets-changed m channel operation at.transaction)) (record {
       step = each result (concluded (new_of m.committed edited)) by.step;
       moments = subst (λ (dbs : List Database). LeavesOneOf (m.committed ∷ dbs) old new) (sym (committed (new_of m.committed edited))) by.moments;
@@ -125,9 +126,9 @@ Performs-changed card store old new m channel operation user result at unread is
     each (Err fault) then' holds = tt
 
     concluded : (outcome : Result Database StatusWord) (word : StatusWord) → Concludes m.committed outcome word store new
-        → Answers (answered m (committed_at_once m outcome)) (said word) (record card { store = store }) new
-    concluded (Ok db) word concludes = record { reply = ap said concludes.0; at = IsAt-rest card store new m db at.transaction at.sessions concludes.1 }
-    concluded (Err refused) word concludes = record { reply = ap said concludes.0; at = IsAt-rest card store new m m.committed at.transaction at.sessions concludes.1 }
+        → Answers (answered m (committed_at_once m outcome)) (said word) (record card { store = store; index = index }) new
+    concluded (Ok db) word concludes = record { reply = ap said concludes.0; at = IsAt-rest card store index new m db at.transaction at.sessions concludes.1 }
+    concluded (Err refused) word concludes = record { reply = ap said concludes.0; at = IsAt-rest card store index new m m.committed at.transaction at.sessions concludes.1 }
 
     committed : (outcome : Result Database StatusWord) → (answered m (committed_at_once m outcome)).commits ≡ commits_of outcome
     committed (Ok db) = refl

@@ -8,6 +8,7 @@ use Rattle.record_store.specs.Held.{Held}
 use Rattle.apdu_chain.specs.Chaining.{chain_on}
 use Rattle.scql_model.specs.Machine as machine
 use Rattle.scql_model.specs.Machine.{Chain}
+use Rattle.row_index.specs.Index.{Index}
 use Rattle.card.specs.Card.{Kept}
 use Rattle.card.specs.Sessions.{session_seen, sessions_of, AreUnread, proved_stamp, proved_user}
 use Rattle.card.specs.Answering.{with_session_for}
@@ -50,7 +51,7 @@ user-seen (Some session ∷ sessions) (chain ∷ chains) zero same = refl
 user-seen (session ∷ sessions) (chain ∷ chains) (suc channel) same = user-seen sessions chains channel cc
 
 -- the same of a card
-module _ (store : Held) (live : Bool) (sessions : List (Option Session)) (chains : List (Option Chain)) (card : Kept) (is : record { store = store; sessions = sessions_of sessions chains; live = live } ≡ card) where
+module _ (store : Held) (index : Index) (live : Bool) (sessions : List (Option Session)) (chains : List (Option Chain)) (card : Kept) (is : record { store = store; index = index; sessions = sessions_of sessions chains; live = live } ≡ card) where
   pub open-card : length sessions ≡ length chains → map (λ (s : Option Session). is_some s) sessions ≡ map (λ (s : Option machine.Session). is_some s) card.sessions
   open-card same = open-sessions sessions chains same ∙ ap (λ (kept : Kept). map (λ (s : Option machine.Session). is_some s) kept.sessions) is
 
@@ -97,11 +98,11 @@ sessions_of-new (session ∷ sessions) (chain ∷ chains) zero user = refl
 sessions_of-new (session ∷ sessions) (chain ∷ chains) (suc channel) user =
     ap (λ rest. option_map (session_seen chain) session ∷ rest) (sessions_of-new sessions chains channel user)
 
-pub sessions_of-set : (store : Held) (live : Bool) (sessions : List (Option Session)) (chains left : List (Option Chain)) (channel : ℕ) (user : Option PresentedUser) → (card : Kept)
-    → record { store = store; sessions = sessions_of sessions chains; live = live } ≡ card → left ≡ slice_set chains channel None
-    → record { store = store; sessions = sessions_of (slice_set sessions channel (Some (record { user = user }))) left; live = live } ≡ with_session_for card channel user
-sessions_of-set store live sessions chains left channel user card is ended =
-    let seen = λ (changed : List (Option machine.Session)). let kept : Kept = record { store = store; sessions = changed; live = live } in kept in
+pub sessions_of-set : (store : Held) (index : Index) (live : Bool) (sessions : List (Option Session)) (chains left : List (Option Chain)) (channel : ℕ) (user : Option PresentedUser) → (card : Kept)
+    → record { store = store; index = index; sessions = sessions_of sessions chains; live = live } ≡ card → left ≡ slice_set chains channel None
+    → record { store = store; index = index; sessions = sessions_of (slice_set sessions channel (Some (record { user = user }))) left; live = live } ≡ with_session_for card channel user
+sessions_of-set store index live sessions chains left channel user card is ended =
+    let seen = λ (changed : List (Option machine.Session)). let kept : Kept = record { store = store; index = index; sessions = changed; live = live } in kept in
     ap (λ (left : List (Option Chain)). seen (sessions_of (slice_set sessions channel (Some (record { user = user }))) left)) ended
     ∙ (ap seen (sessions_of-new sessions chains channel user)
     ∙ ap (λ (kept : Kept). with_session_for kept channel user) is)

@@ -15,16 +15,17 @@ use Rattle.record_store.specs.FreshImage.{LeavesFormatted}
 use Rattle.eeprom.proofs.Moments.{throughout-weaker}
 use Rattle.std.proofs.lemmas.Option.{none-some}
 use Rattle.card.specs.Making.{LeavesMade}
+use Rattle.row_index.specs.Index.{Index}
 use Rattle.card.specs.Card.{Kept, IsAt, committed_slots}
 
-abbrev pub opened : Held → List (Option Session) → Kept
-opened store sessions = record { store = store; sessions = sessions; live = true }
+abbrev pub opened : Held → Index → List (Option Session) → Kept
+opened store index sessions = record { store = store; index = index; sessions = sessions; live = true }
 
-pub starts_at : (store : Held) (sessions : List (Option Session)) (chip : Chip) (image : Option (List ℕ)) → ((db : Database) → sessions ≡ (start db).sessions) → image ≡ chip.image
-    → IfSome image (λ image. store_of image ≡ stored store Committed image) → IfSome image (λ image. (db : Database) → Opens image db → IsAt (opened store sessions) chip (start db))
+pub starts_at : (store : Held) (index : Index) (sessions : List (Option Session)) (chip : Chip) (image : Option (List ℕ)) → ((db : Database) → sessions ≡ (start db).sessions) → image ≡ chip.image
+    → IfSome image (λ image. store_of image ≡ stored store Committed image) → IfSome image (λ image. (db : Database) → Opens image db → IsAt (opened store index sessions) chip (start db))
 unfolding committed_slots
-starts_at store sessions chip None first same has = tt
-starts_at store sessions chip (Some image) first same has = λ db opens.
+starts_at store index sessions chip None first same has = tt
+starts_at store index sessions chip (Some image) first same has = λ db opens.
     let of = limited store.row_limit (contents store Committed image) opens.store (sym has ∙ opens.stored) in record {
       slots = opens.store.slots;
       committed = subst (λ (i : Option (List ℕ)). committed_slots store i ≡ Some opens.store.slots) same of.0;

@@ -25,6 +25,7 @@ use Rattle.scql_model.specs.WellFormed.{FitsCard}
 use Rattle.apdu_chain.specs.declared.chains.Taken.TheVariants as taken
 use Rattle.apdu_chain.specs.Chaining.{chain_on, chains_after, taken_of}
 use Rattle.record_store.specs.Held.{Held}
+use Rattle.row_index.specs.Index.{Index}
 use Rattle.card.specs.Card.{Kept, IsAt}
 use Rattle.card.specs.Sessions.{sessions_of, AreUnread}
 use Rattle.card.specs.Answering.{IsDoneOrStays}
@@ -83,10 +84,10 @@ taken-sessions sessions chains m form is = by_form form
         seen (with_part kind octets) next channel (sessions_of-chain (with_part kind octets) next (λ chain s. refl) sessions chains channel)
 
 -- a card at a machine is at the next one once octets were taken
-pub IsAt-taken : (store : Held) (live : Bool) (sessions : List (Option Session)) (chains after : List (Option Chain)) (card : Kept) (chip : Chip) (m : Machine) (form : Form) → IsAt card chip m
-    → record { store = store; sessions = sessions_of sessions chains; live = live } ≡ card → after ≡ chains_after chains form
-    → IsAt (record { store = store; sessions = sessions_of sessions after; live = live }) chip (taken_at m form)
-IsAt-taken store live sessions chains after card chip m form at seen is =
+pub IsAt-taken : (store : Held) (index : Index) (live : Bool) (sessions : List (Option Session)) (chains after : List (Option Chain)) (card : Kept) (chip : Chip) (m : Machine) (form : Form) → IsAt card chip m
+    → record { store = store; index = index; sessions = sessions_of sessions chains; live = live } ≡ card → after ≡ chains_after chains form
+    → IsAt (record { store = store; index = index; sessions = sessions_of sessions after; live = live }) chip (taken_at m form)
+IsAt-taken store index live sessions chains after card chip m form at seen is =
     let was = subst (λ (kept : Kept). IsAt kept chip m) (sym seen) at in
     record {
       slots = was.slots;

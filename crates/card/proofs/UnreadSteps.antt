@@ -1,13 +1,12 @@
 -- What the operations that are built do at a machine of a card, whose sessions read nothing, and which has no transaction.
-use Rattle.std.proofs.Common.{◌≡◌, ℕ, zero, suc, List, [], ◌∷◌, Option, Some, None, Result, Ok, Err, refl, sym, ap, subst, ◌∙◌, inl, inr}
+use Rattle.std.proofs.Common.{◌≡◌, ℕ, zero, suc, true, List, [], ◌∷◌, Option, Some, None, Result, Ok, Err, refl, sym, ap, subst, ◌∙◌, inl, inr}
 use Rattle.std.specs.Prelude.{◌⊎◌, IfOk, IfSome, option_map, slice_get}
-use Rattle.std.specs.Option.{option_flatten}
+use Rattle.std.specs.Option.{option_flatten, option_map_or}
 use Rattle.scql_base.specs.declared.words.StatusWord.{StatusWord}
 use Rattle.scql_base.specs.declared.words.Actor.{Actor}
 use Rattle.scql_base.specs.declared.operation.Command.{Command}
 use Rattle.scql_base.specs.declared.operation.Operation.{Operation}
-use Rattle.scql_base.specs.declared.operation.Operation.TheVariants.{PresentUser, CreateUser}
-use Rattle.scql_base.specs.declared.operation.OperationKind.TheVariants as kind
+use Rattle.scql_base.specs.declared.operation.Operation.TheVariants as asks
 use Rattle.scql_base.specs.Words.{done}
 use Rattle.scql_model.specs.Refusals.{◌>>=◌}
 use Rattle.scql_model.specs.Database.{Database}
@@ -16,15 +15,16 @@ use Rattle.scql_model.specs.Sessions.{reading_so, without_pending, cursor_of}
 use Rattle.scql_model.specs.Transactions.{own_transaction}
 use Rattle.scql_model.specs.Operations.{IsBuilt, kind_of}
 use Rattle.scql_model.specs.Edits.{Edit}
-use Rattle.scql_model.specs.Bound.{octets_for_change, octets_changed, octets_carried_out, or_nothing}
+use Rattle.scql_model.specs.Bound.{octets_for_change, octets_changed, octets_operated, octets_carried_out, or_nothing}
 use Rattle.scql_model.specs.Changing.{edits_of, with_edits}
+use Rattle.scql_model.specs.ReadingCommands.{reading_command}
 use Rattle.scql_model.specs.Replies.{said}
-use Rattle.scql_model.specs.Step.{Answer, answered, done_with, changed_to, changed, session_named, user_presented, carried_out}
+use Rattle.scql_model.specs.Step.{Answer, answered, done_with, changed_to, changed, session_named, user_presented, reading_done, operated, carried_out}
 use Rattle.scql_model.proofs.ChangingSessions.{changing_session-same}
 use Rattle.scql_model.proofs.LastCommits.{of_outcome}
-use Rattle.card.proofs.BuiltLines.{IsBuilt-one}
+use Rattle.card.proofs.BuiltLines.{IsChange-built}
 use Rattle.card.specs.Answering.{committed_at_once}
-use Rattle.card.specs.Changing.{IsChange, new_of, octets_of}
+use Rattle.card.specs.Changing.{is_changing, new_of, octets_of}
 use Rattle.card.specs.Sessions.{IsUnread, AreUnread}
 
 -- the session of a channel reads nothing
@@ -48,19 +48,46 @@ pub committed-base : (m : Machine) (channel : ℕ) → m.transaction ≡ None �
 committed-base m channel none = rw none refl
 
 pub carried_out-presents : (m : Machine) (channel : ℕ) (name : List ℕ) (le : Option ℕ) → m.transaction ≡ None
-    → carried_out m (record { channel = channel; operation = PresentUser name; le = le }) ≡ user_presented m channel name
+    → carried_out m (record { channel = channel; operation = asks.PresentUser name; le = le }) ≡ user_presented m channel name
 carried_out-presents m channel name le none = rw none refl
 
--- a change is carried out as one, and nothing else is written for it
-pub carried_out-changes : (m : Machine) (channel : ℕ) (operation : Operation) (le : Option ℕ) → IsChange operation → m.transaction ≡ None
-    → carried_out m (record { channel = channel; operation = operation; le = le }) ≡ changed m channel operation
-carried_out-changes m channel (CreateUser name profile secret) le changes none = rw none refl
-carried_out-changes m channel operation le changes none = absurd changes
+-- Outside of a transaction a command does what its operation does, unless it reads.
+carried_out-none : (m : Machine) (channel : ℕ) (operation : Operation) (le : Option ℕ) → m.transaction ≡ None → carried_out m (record { channel = channel; operation = operation; le = le })
+    ≡ option_map_or (λ command. Ok (reading_done m channel command)) (reading_command operation le) (operated m channel operation)
+carried_out-none m channel operation le none = rw none refl
 
-pub octets-carried_out : (m : Machine) (channel : ℕ) (operation : Operation) (le : Option ℕ) → IsChange operation → m.transaction ≡ None
+octets-carried_out_none : (m : Machine) (channel : ℕ) (operation : Operation) (le : Option ℕ) → m.transaction ≡ None
+    → octets_carried_out m (record { channel = channel; operation = operation; le = le }) ≡ octets_operated m channel operation
+octets-carried_out_none m channel operation le none = rw none refl
+
+-- A change is carried out as one, and nothing else is written for it.
+pub carried_out-changes : (m : Machine) (channel : ℕ) (operation : Operation) (le : Option ℕ) → is_changing (kind_of operation) ≡ true → m.transaction ≡ None
+    → carried_out m (record { channel = channel; operation = operation; le = le }) ≡ changed m channel operation
+carried_out-changes m channel operation le changes none = carried_out-none m channel operation le none ∙ of operation changes
+  where
+    of : (operation : Operation) → is_changing (kind_of operation) ≡ true
+        → option_map_or (λ command. Ok (reading_done m channel command)) (reading_command operation le) (operated m channel operation) ≡ changed m channel operation
+    of (asks.CreateTable name columns) is = refl
+    of (asks.CreateView name base columns conditions) is = refl
+    of (asks.CreateDictionary name subject) is = refl
+    of (asks.DropTable name) is = refl
+    of (asks.DropView name) is = refl
+    of (asks.Grant privileges object grantee) is = refl
+    of (asks.Revoke privileges object grantee) is = refl
+    of (asks.Insert table row) is = refl
+    of (asks.Update assignments) is = refl
+    of asks.Delete is = refl
+    of (asks.CreateUser name profile secret) is = refl
+    of operation is = absurd cc
+
+pub octets-carried_out : (m : Machine) (channel : ℕ) (operation : Operation) (le : Option ℕ) → is_changing (kind_of operation) ≡ true → m.transaction ≡ None
     → octets_carried_out m (record { channel = channel; operation = operation; le = le }) ≡ octets_changed m channel operation
-octets-carried_out m channel (CreateUser name profile secret) le changes none = rw none refl
-octets-carried_out m channel operation le changes none = absurd changes
+octets-carried_out m channel operation le changes none = octets-carried_out_none m channel operation le none ∙ of operation changes
+  where
+    of : (operation : Operation) → is_changing (kind_of operation) ≡ true → octets_operated m channel operation ≡ octets_changed m channel operation
+    of asks.Commit is = absurd cc
+    of (asks.Verify secret) is = absurd cc
+    of operation is = refl
 
 -- what becomes of the machine by a change that is committed at once
 pub changed-outcome : (m : Machine) (channel : ℕ) (operation : Operation) → m.transaction ≡ None → AreUnread m.sessions
@@ -116,15 +143,10 @@ done-changed m channel operation =
 
 done-carried_out : (m : Machine) (channel : ℕ) (operation : Operation) (le : Option ℕ) → m.transaction ≡ None → IsBuilt (kind_of operation)
     → IfOk (carried_out m (record { channel = channel; operation = operation; le = le })) SaysDone
-done-carried_out m channel (PresentUser name) le none built =
+done-carried_out m channel (asks.PresentUser name) le none built =
     subst (λ (o : Result Answer StatusWord). IfOk o SaysDone) (sym (carried_out-presents m channel name le none)) (of_outcome SaysDone (session_named (base m channel) name) _ (λ session. refl))
-done-carried_out m channel (CreateUser name profile secret) le none built =
-    subst (λ (o : Result Answer StatusWord). IfOk o SaysDone) (sym (carried_out-changes m channel (CreateUser name profile secret) le tt none)) (done-changed m channel (CreateUser name profile secret))
-done-carried_out m channel operation le none built = absurd (not_other (IsBuilt-one (kind_of operation) built))
-  where
-    not_other : (kind_of operation ≡ kind.PresentUser) ⊎ (kind_of operation ≡ kind.CreateUser) → ⊥
-    not_other (inl is) = absurd cc
-    not_other (inr is) = absurd cc
+done-carried_out m channel operation le none built =
+    subst (λ (o : Result Answer StatusWord). IfOk o SaysDone) (sym (carried_out-changes m channel operation le (IsChange-built operation built (λ name is. cc)).1 none)) (done-changed m channel operation)
 
 pub carried_out-done : (m : Machine) (c : Command) → m.transaction ≡ None → IsBuilt (kind_of c.operation) → DoneOrStays m (answered m (carried_out m c))
 carried_out-done m c none built = done-answered m (carried_out m c) (done-carried_out m c.channel c.operation c.le none built)

@@ -1,11 +1,12 @@
 -- A change of the database of a card: which operations make one, for whom, and what it comes to.
-use Rattle.std.specs.Prelude.{◌≡◌, ℕ, List, [], ◌∷◌, Option, Some, None, Result, Ok, Err, IfOk, OnOk, true}
+use Rattle.std.specs.Prelude.{◌≡◌, ℕ, Bool, true, false, List, [], ◌∷◌, Option, Some, None, Result, Ok, Err, IfOk, OnOk}
 use Rattle.std.specs.Option.{option_map_or}
 use Rattle.eeprom.specs.Chip.{Chip, Becomes, RisesAtMost}
 use Rattle.eeprom.specs.declared.EepromFault.{EepromFault}
 use Rattle.record_store.specs.Held.{Held}
 use Rattle.scql_base.specs.declared.operation.Operation.{Operation}
-use Rattle.scql_base.specs.declared.operation.Operation.TheVariants.{CreateUser}
+use Rattle.scql_base.specs.declared.operation.OperationKind.{OperationKind}
+use Rattle.scql_base.specs.declared.operation.OperationKind.TheVariants.{CreateTable, CreateView, CreateDictionary, DropTable, DropView, Grant, Revoke, Insert, Update, Delete, CreateUser}
 use Rattle.scql_base.specs.declared.records.User.{User}
 use Rattle.scql_base.specs.declared.words.Actor.{Actor}
 use Rattle.scql_base.specs.declared.words.Actor.TheVariants.{Public, User as a_user}
@@ -14,14 +15,29 @@ use Rattle.scql_base.specs.Words.{done}
 use Rattle.scql_model.specs.Bound.{or_nothing}
 use Rattle.scql_model.specs.Database.{Database, user_stamped}
 use Rattle.scql_model.specs.Edits.{Edit, octets_for, with_edits}
+use Rattle.scql_model.specs.Operations.{IsBuilt, kind_of}
 use Rattle.scql_model.specs.Refusals.{◌>>=◌}
 use Rattle.card.specs.Card.{IsAtRest}
 use Rattle.card.specs.Answering.{LeavesOneOf}
 
--- the operations that are built and change the database
+-- the operations that change the database, and nothing else of the machine
+abbrev pub is_changing : OperationKind → Bool
+is_changing CreateTable = true
+is_changing CreateView = true
+is_changing CreateDictionary = true
+is_changing DropTable = true
+is_changing DropView = true
+is_changing Grant = true
+is_changing Revoke = true
+is_changing Insert = true
+is_changing Update = true
+is_changing Delete = true
+is_changing CreateUser = true
+is_changing kind = false
+
+-- one of them, which is built
 abbrev pub IsChange : Operation → Type 0
-IsChange (CreateUser name profile secret) = Unit {0}
-IsChange operation = ⊥
+IsChange operation = IsBuilt (kind_of operation) × (is_changing (kind_of operation) ≡ true)
 
 -- for whom a channel acts whose proved user has this stamp, or that has none
 abbrev pub acting : Database → Option ℕ → Actor

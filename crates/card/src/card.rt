@@ -39,6 +39,7 @@ use catalog_codec::{Counter, Record};
 use db_access::present;
 use eeprom::{Eeprom, EepromFault};
 use record_store::{FormatRefusal, OpenRefusal, RecordOctets, Store};
+use row_index::RowIndex;
 use scql_base::{Command, Name, Octets, Operation, PresentedUser, Profile, StatusWord, User};
 use std::alloc::Global;
 use std::marker::Model;
@@ -47,6 +48,7 @@ use std::marker::Model;
 #[derive(Drop)]
 pub struct Card {
     store: Store,
+    index: RowIndex,
     sessions: [Option<Session>; 4],
     chains: Chains,
     live: bool,
@@ -59,7 +61,7 @@ impl Model for Card {
 
     ghost Value = { Kept };
 
-    ghost view = { λ card. record { store = card.store; sessions = sessions_of card.sessions card.chains; live = card.live } };
+    ghost view = { λ card. record { store = card.store; index = card.index; sessions = sessions_of card.sessions card.chains; live = card.live } };
 
     ghost invariant = { λ card. (length card.sessions ≡ 4) × (length card.chains ≡ 4) };
 }
@@ -113,6 +115,7 @@ impl Card {
         let opened = open_records(alloc, bench)?;
         Ok(Card {
             store: opened.store,
+            index: opened.index,
             sessions: first_sessions(),
             chains: Chains::new(),
             live: true,
@@ -198,29 +201,29 @@ impl Card {
         match self.chains.take(command, channels, self.store.row_limit()) {
             Taken::Refused { word } => Ok(word),
             Taken::Kept => Ok(StatusWord::DONE),
-            Taken::Whole { command } => self.carry_out(bench, command),
+            Taken::Whole { command } => self.carry_out(bench, &command),
         }
     }
 
     fn carry_out<B: Eeprom>(
         &mut self,
         bench: &mut B,
-        command: Command,
+        command: &Command,
     ) -> Result<StatusWord, EepromFault>
         requires ready { IsReady self.old (B.chip bench.old) }
-        requires formed { IsWellFormed command }
-        requires built { IsBuilt (kind_of command.operation) }
-        requires fits { FitsCard self.old.store.row_limit command.operation }
+        requires formed { IsWellFormed command.now }
+        requires built { IsBuilt (kind_of command.now.operation) }
+        requires fits { FitsCard self.old.store.row_limit command.now.operation }
         ensures performs { (m : machine.Machine) → IsAt self.old (B.chip bench.old) m
-            → Performs m (stepping.answered m (stepping.carried_out m command)) (or_nothing (octets_carried_out m command)) result self.new (B.chip bench.old) (B.chip bench.new) }
+            → Performs m (stepping.answered m (stepping.carried_out m command.now)) (or_nothing (octets_carried_out m command.now)) result self.new (B.chip bench.old) (B.chip bench.new) }
         ensures ready { OnOk result (IsReady self.new (B.chip bench.new)) }
         ensures cause { Counts (B.faults bench.old) (B.faults bench.new) result }
         ensures cells { OnOk result (self.new.store.chains.cells ≡ self.old.store.chains.cells) }
         ensures behind { Keeps (drop (image_size self.old.store.chains.cells)) (B.chip bench.old) (B.chip bench.new) }
     {
         let channel = command.channel;
-        match command.operation {
-            Operation::PresentUser { name } => self.present_user(bench, channel, name),
+        match &command.operation {
+            Operation::PresentUser { name } => self.present_user(bench, channel, name.copy()),
             operation => self.change(bench, channel, operation),
         }
     }
@@ -266,22 +269,22 @@ impl Card {
         &mut self,
         bench: &mut B,
         channel: u8,
-        operation: Operation,
+        operation: &Operation,
     ) -> Result<StatusWord, EepromFault>
         requires ready { IsReady self.old (B.chip bench.old) }
         requires channel { channel < 4 }
-        requires changes { IsChange operation }
-        requires formed { HasForm operation }
-        requires fits { FitsCard self.old.store.row_limit operation }
+        requires changes { IsChange operation.now }
+        requires formed { HasForm operation.now }
+        requires fits { FitsCard self.old.store.row_limit operation.now }
         ensures performs { (m : machine.Machine) → IsAt self.old (B.chip bench.old) m
-            → Performs m (stepping.answered m (stepping.changed m channel operation)) (or_nothing (octets_changed m channel operation)) result self.new (B.chip bench.old) (B.chip bench.new) }
+            → Performs m (stepping.answered m (stepping.changed m channel operation.now)) (or_nothing (octets_changed m channel operation.now)) result self.new (B.chip bench.old) (B.chip bench.new) }
         ensures ready { OnOk result (IsReady self.new (B.chip bench.new)) }
         ensures cause { Counts (B.faults bench.old) (B.faults bench.new) result }
         ensures cells { OnOk result (self.new.store.chains.cells ≡ self.old.store.chains.cells) }
         ensures behind { Keeps (drop (image_size self.old.store.chains.cells)) (B.chip bench.old) (B.chip bench.new) }
     {
         let user = self.proved_user(channel);
-        change(&mut self.store, bench, user, operation)
+        change(&mut self.store, bench, &mut self.index, user, operation)
     }
 
     // The stamp of a channel's user, where that one is proved.

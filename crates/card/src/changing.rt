@@ -1,5 +1,5 @@
 // Changes of the database, each for who acts, in a transaction of its own.
-ghost use Rattle.std.specs.Prelude.{◌≡◌, ℕ, Option, drop, false, is_some, IfOk, IfSome, IsTrue, IsErrOf, OnOk};
+ghost use Rattle.std.specs.Prelude.{◌≡◌, ℕ, Option, drop, false, true, is_some, IfOk, IfSome, IsTrue, IsErrOf, OnOk};
 ghost use Rattle.eeprom.specs.Chip.{Keeps};
 ghost use Rattle.eeprom.specs.Fault.{Counts, CountsFaults, each_error};
 ghost use Rattle.eeprom.specs.Frame.{Reads};
@@ -12,12 +12,15 @@ ghost use Rattle.scql_model.specs.Creating.{IsActorOf};
 ghost use Rattle.scql_model.specs.Database.{Database};
 ghost use Rattle.scql_model.specs.WellFormed.{HasForm, FitsCard};
 ghost use Rattle.record_table.specs.Making.{IsHeld, Ends, GoesOn, is_stop_fault};
-ghost use Rattle.card.specs.Changing.{IsChange, IsAtRest, Changes, acting};
+ghost use Rattle.row_index.specs.Index.{Indexes, is_above};
+ghost use Rattle.card.specs.Card.{HoldsSome, IsAtRest};
+ghost use Rattle.card.specs.Changing.{IsChange, Changes, acting};
 
 use db_access::create_user;
 use eeprom::{Eeprom, EepromFault};
 use record_store::{Side, Store};
 use record_table::Stop;
+use row_index::RowIndex;
 use scql_base::{Actor, Operation, StatusWord};
 use user_table::find_stamp;
 
@@ -26,31 +29,41 @@ use user_table::find_stamp;
 pub(crate) fn change<B: Eeprom>(
     store: &mut Store,
     bench: &mut B,
+    index: &mut RowIndex,
     user: Option<u32>,
-    operation: Operation,
+    operation: &Operation,
 ) -> Result<StatusWord, EepromFault>
     requires idle { store.old.begun ≡ false }
     requires over { IsOver store.old (B.chip bench.old) }
-    requires changes { IsChange operation }
-    requires formed { HasForm operation }
-    requires fits { FitsCard store.old.row_limit operation }
+    requires holds { HoldsSome store.old (B.chip bench.old) }
+    requires index_idle { index.old.begun ≡ false }
+    requires index { Indexes index.old store.old (B.chip bench.old) }
+    requires changes { IsChange operation.now }
+    requires formed { HasForm operation.now }
+    requires fits { FitsCard store.old.row_limit operation.now }
     ensures changes { (db : Database) (cursor : Option Cursor) → IsAtRest store.old (B.chip bench.old) db
-        → Changes db (edits_of db (acting db user) cursor operation) result store.new (B.chip bench.old) (B.chip bench.new) }
+        → Changes db (edits_of db (acting db user) cursor operation.now) result store.new (B.chip bench.old) (B.chip bench.new) }
     ensures over { OnOk result (IsOver store.new (B.chip bench.new)) }
     ensures idle { OnOk result (store.new.begun ≡ false) }
+    ensures holds { OnOk result (HoldsSome store.new (B.chip bench.new)) }
+    ensures index_idle { OnOk result (index.new.begun ≡ false) }
+    ensures index { OnOk result (Indexes index.new store.new (B.chip bench.new)) }
     ensures cells { OnOk result (store.new.chains.cells ≡ store.old.chains.cells) }
     ensures behind { Keeps (drop (image_size store.old.chains.cells)) (B.chip bench.old) (B.chip bench.new) }
     ensures cause { Counts (B.faults bench.old) (B.faults bench.new) result }
 {
     let actor = actor_of(store, bench, Side::Committed, user)?;
     store.begin();
-    match make(store, bench, actor, operation) {
+    index.begin();
+    match make(store, bench, index, actor, operation) {
         Ok(()) => {
             store.commit(bench)?;
+            index.commit();
             Ok(StatusWord::DONE)
         }
         Err(Stop::Refused { word }) => {
             store.rollback();
+            index.rollback();
             Ok(word)
         }
         Err(Stop::Fault) => Err(EepromFault),
@@ -61,15 +74,24 @@ pub(crate) fn change<B: Eeprom>(
 fn make<B: Eeprom>(
     store: &mut Store,
     bench: &mut B,
+    index: &mut RowIndex,
     actor: Actor,
-    operation: Operation,
+    operation: &Operation,
 ) -> Result<(), Stop>
     requires begun { IsTrue store.old.begun }
     requires over { IsOver store.old (B.chip bench.old) }
-    requires changes { IsChange operation }
-    ensures ends { (db : Database) (cursor : Option Cursor) → IsHeld store.old Working (B.chip bench.old) db → IsActorOf db actor → HasForm operation → FitsCard db.limit operation
-        → Ends db (edits_of db actor cursor operation) result store.old store.new (B.chip bench.old) (B.chip bench.new) }
+    requires index_begun { IsTrue index.old.begun }
+    requires index { Indexes index.old store.old (B.chip bench.old) }
+    requires last { (db : Database) → IsHeld store.old Working (B.chip bench.old) db → is_above db.next index.old.committed ≡ true }
+    requires changes { IsChange operation.now }
+    ensures ends { (db : Database) (cursor : Option Cursor) → IsHeld store.old Working (B.chip bench.old) db → IsActorOf db actor → HasForm operation.now → FitsCard db.limit operation.now
+        → Ends db (edits_of db actor cursor operation.now) result store.old store.new (B.chip bench.old) (B.chip bench.new) }
     ensures goes_on { ¬ IsErrOf result Stop.Fault → GoesOn store.old store.new (B.chip bench.old) (B.chip bench.new) }
+    ensures index { (db : Database) → IsHeld store.old Working (B.chip bench.old) db → IsActorOf db actor → HasForm operation.now → FitsCard db.limit operation.now
+        → ¬ IsErrOf result Stop.Fault → Indexes index.new store.new (B.chip bench.new) }
+    ensures index_cells { index.new.cells ≡ index.old.cells }
+    ensures index_committed { index.new.committed ≡ index.old.committed }
+    ensures index_begun { IsTrue index.new.begun }
     ensures moments { Keeps store_of (B.chip bench.old) (B.chip bench.new) }
     ensures behind { Keeps (drop (image_size store.old.chains.cells)) (B.chip bench.old) (B.chip bench.new) }
     ensures cause { CountsFaults is_stop_fault (B.faults bench.old) (B.faults bench.new) result }
@@ -79,7 +101,7 @@ fn make<B: Eeprom>(
             name,
             profile,
             secret,
-        } => create_user(store, bench, actor, name, profile, &secret),
+        } => create_user(store, bench, actor, name.copy(), *profile, secret),
         _ => unreachable!(),
     }
 }

@@ -39,7 +39,7 @@ lines_found : map (λ (l : Line). line_of operations l.ins l.p1 l.p2) operations
 lines_found = refl
 
 -- what is built today
-kinds_built : map (λ (l : Line). l.kind) built_operations ≡ kind.PresentUser ∷ kind.CreateUser ∷ []
+kinds_built : map (λ (l : Line). l.kind) built_operations ≡ kind.CreateTable ∷ kind.DropTable ∷ kind.Insert ∷ kind.PresentUser ∷ kind.CreateUser ∷ []
 kinds_built = refl
 
 -- each refusal in its order

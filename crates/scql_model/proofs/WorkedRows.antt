@@ -8,6 +8,9 @@ use Rattle.scql_model.specs.Machine.{Machine, start}
 use Rattle.scql_model.specs.Form.{form_of}
 use Rattle.scql_model.specs.Step.{step, step_by}
 use Rattle.scql_model.specs.Changing.{edits_of}
+use Rattle.scql_model.specs.Defining.{object_created, table_dropped}
+use Rattle.scql_model.specs.Rights.{appears, holds}
+use Rattle.scql_model.specs.Writing.{row_inserted}
 use Rattle.scql_model.specs.Lines.{lines, line_text, line_step, run_text, machine_after}
 
 abbrev card : Machine
@@ -55,9 +58,24 @@ unfolding line_text line_step step step_by form_of edits_of params_of pieces_of 
 refusals = refl
 
 -- operations that aren't built yet
-not_built : run_text card (lines (codes "00100088\n0020000004 30303030\n00C0000000\n00140082020154\n") true) ≡ codes "6D00\n6D00\n6D00\n6A86\n"
+not_built : run_text card (lines (codes "00100088\n0020000004 30303030\n00C0000000\n00140082020154\n0010008F\n00120080\n") true) ≡ codes "6A86\n6D00\n6D00\n6A86\n6A86\n6D00\n"
 unfolding line_text line_step step step_by form_of edits_of params_of pieces_of hex_on_literals
 not_built = refl
+
+-- a table is made once, and dropped once; nothing is dropped without a data field
+table_made : run_text card (lines (codes "0014008006054F574E4552\n00100080040154 0141\n00100080040154 0141\n00100083\n00100083020154\n00100083020154\n") true) ≡ codes "9000\n9000\n6A89\n6700\n9000\n6A88\n"
+unfolding line_text line_step step step_by form_of edits_of object_created table_dropped appears holds params_of pieces_of hex_on_literals
+table_made = refl
+
+-- a row has as many values as its table has columns
+row_inserted_once : run_text card (lines (codes "0014008006054F574E4552\n00100080040154 0141\n0010008C0401540178\n0010008C06015401780179\n0010008C0401550178\n") true) ≡ codes "9000\n9000\n9000\n6A80\n6A88\n"
+unfolding line_text line_step step step_by form_of edits_of object_created row_inserted appears holds params_of pieces_of hex_on_literals
+row_inserted_once = refl
+
+-- and may come in parts
+parts_taken : run_text card (lines (codes "0014008006054F574E4552\n0010008006015401410142\n1010008C03015401\n0010008C0378017A\n") true) ≡ codes "9000\n9000\n9000\n9000\n"
+unfolding line_text line_step step step_by form_of edits_of object_created row_inserted appears holds params_of pieces_of hex_on_literals
+parts_taken = refl
 
 -- what isn't hexadecimal, a reset, blanks, notes and empty lines
 odd_lines : run_text card (lines (codes "zz\n0\nreset\n\n# note\n 00 10 00 \n") true) ≡ codes "not hexadecimal\nnot hexadecimal\nreset\n6700\n"

@@ -1,24 +1,32 @@
 -- Each way in which a change ends.
-use Rattle.std.proofs.Common.{ℕ, Option, sym, ap, subst, ◌∙◌, rules}
+use Rattle.std.proofs.Common.{◌≡◌, ℕ, true, false, Option, None, is_some, refl, sym, ap, subst, ◌∙◌, rules}
 use Rattle.eeprom.specs.Chip.{Chip, Keeps}
 use Rattle.eeprom.specs.StoreOf.{store_of}
-use Rattle.record_store.specs.declared.side.Side.TheVariants.{Committed}
+use Rattle.record_store.specs.Held.{Held}
+use Rattle.record_store.specs.declared.side.Side.TheVariants.{Committed, Working}
 use Rattle.scql_base.specs.declared.cursor.Cursor.{Cursor}
 use Rattle.scql_model.specs.Changing.{edits_of}
 use Rattle.scql_model.specs.Creating.{IsActorOf}
 use Rattle.scql_model.specs.Database.{Database}
 use Rattle.scql_model.specs.WellFormed.{FitsCard}
 use Rattle.record_table.specs.Making.{IsHeld, Ends}
-use Rattle.card.specs.Changing.{IsAtRest, acting}
-use Rattle.card.proofs.ChangedStore.{held-begun, over-begun, opens-rest, committed-begun, behind-changed, rest-rolled_back, Changes-failed, Changes-refused, Changes-half_committed, Changes-committed}
-use Rattle.card.proofs.ChangingOperations.{IsActorOf-acting, are_tables-changed}
+use Rattle.record_table.specs.declared.stop.Stop.TheVariants.{Fault}
+use Rattle.std.specs.Prelude.{IsErrOf}
+use Rattle.card.specs.Card.{IsAtRest}
+use Rattle.card.specs.Changing.{acting}
+use Rattle.row_index.specs.Index.{Index, Indexes, is_above}
+use Rattle.card.proofs.IndexedStore.{HoldsSome-changed, Indexes-begun, Indexes-ended, Indexes-held, last-held, rest-concluded}
+use Rattle.card.proofs.ChangedStore.{held-begun, held-before, slots-committed, slots-rolled_back, over-begun, opens-rest, committed-begun, behind-changed, rest-rolled_back, Changes-failed, Changes-refused, Changes-half_committed, Changes-committed}
+use Rattle.card.proofs.BuiltLines.{makes_view-built}
+use Rattle.card.proofs.ChangingOperations.{IsActorOf-acting}
+use Rattle.card.proofs.TableEdits.{are_tables-edited}
 use Rattle.card.proofs.Leaving.{Keeps-none}
 use Rattle.card.proofs.changing.change.Goals.{After-make, After-commit}
 use Rattle.card.proofs.changing.change.Goals as goal
 
 pub returns-in_err-actor-clause-changes : goal.returns-in_err-actor-clause-changes
 returns-in_err-actor-clause-changes g c = λ db cursor rest.
-    Changes-failed db (edits_of db (acting db c.args.user) cursor c.args.operation) (g.B.Eeprom.chip c.args.bench.now) (opens-rest c.args.store.now (g.B.Eeprom.chip c.args.bench.now) db c.requires.over rest)
+    Changes-failed db (edits_of db (acting db c.args.user) cursor c.args.operation.now) (g.B.Eeprom.chip c.args.bench.now) (opens-rest c.args.store.now (g.B.Eeprom.chip c.args.bench.now) db c.requires.over rest)
     c.from_residual.result c.args.store.now (g.B.Eeprom.chip c.actor_of.new.bench) (search rules)
     (Keeps-none store_of (g.B.Eeprom.chip c.args.bench.now) (g.B.Eeprom.chip c.actor_of.new.bench) c.in_err-actor.ensures.frame.same)
 
@@ -27,13 +35,26 @@ make-requires-clause-over g c = over-begun c.args.store.now c.begin.new.self (g.
 
 -- how the operation ended that was made
 ended : (g : _) (c : After-make g) (db : Database) (cursor : Option Cursor) → IsAtRest c.args.store.now (g.B.Eeprom.chip c.args.bench.now) db
-    → Ends db (edits_of db (acting db c.args.user) cursor c.args.operation) c.make.result c.begin.new.self c.make.new.store (g.B.Eeprom.chip c.actor_of.new.bench) (g.B.Eeprom.chip c.make.new.bench)
+    → Ends db (edits_of db (acting db c.args.user) cursor c.args.operation.now) c.make.result c.begin.new.self c.make.new.store (g.B.Eeprom.chip c.actor_of.new.bench) (g.B.Eeprom.chip c.make.new.bench)
 ended g c db cursor rest =
     let held = held-begun c.args.store.now c.begin.new.self (g.B.Eeprom.chip c.args.bench.now) (g.B.Eeprom.chip c.actor_of.new.bench) db rest.held c.in_ok-actor.ensures.frame.same c.begin.ensures.begun c.begin.ensures.starts in
     let before : IsHeld c.args.store.now Committed (g.B.Eeprom.chip c.args.bench.now) db = rest.held in
     let who = c.in_ok-actor.ensures.actor db before in
-    subst (λ actor. Ends db (edits_of db actor cursor c.args.operation) c.make.result c.begin.new.self c.make.new.store (g.B.Eeprom.chip c.actor_of.new.bench) (g.B.Eeprom.chip c.make.new.bench)) who
-    (c.make.ensures.ends db cursor held (subst (IsActorOf db) (sym who) (IsActorOf-acting db c.args.user)) c.requires.formed (subst (λ (limit : ℕ). FitsCard limit c.args.operation) (sym rest.held.limit) c.requires.fits))
+    subst (λ actor. Ends db (edits_of db actor cursor c.args.operation.now) c.make.result c.begin.new.self c.make.new.store (g.B.Eeprom.chip c.actor_of.new.bench) (g.B.Eeprom.chip c.make.new.bench)) who
+    (c.make.ensures.ends db cursor held (subst (IsActorOf db) (sym who) (IsActorOf-acting db c.args.user)) c.requires.formed (subst (λ (limit : ℕ). FitsCard limit c.args.operation.now) (sym rest.held.limit) c.requires.fits))
+
+-- The index stands for what was made, where nothing failed.
+followed : (g : _) (c : After-make g) → ¬ IsErrOf c.make.result Fault → Indexes c.make.new.index c.make.new.store (g.B.Eeprom.chip c.make.new.bench)
+followed g c whole =
+    let old = g.B.Eeprom.chip c.args.bench.now in
+    let goes_on = c.make.ensures.goes_on whole in
+    Indexes-held c.make.new.index c.make.new.store c.args.store.now old (g.B.Eeprom.chip c.make.new.bench) c.requires.holds
+    (goes_on.told ∙ ap (λ (chip : Chip). is_some chip.image) c.in_ok-actor.ensures.frame.same)
+    (c.make.ensures.index_cells ∙ (ap (λ (i : Index). i.cells) c.begin-2.ensures.begun ∙ (c.requires.index.cells ∙ sym (goes_on.cells ∙ ap (λ (h : Held). h.chains.cells) c.begin.ensures.begun)))) (λ db rest.
+    let before : IsHeld c.args.store.now Committed old db = rest.held in
+    let acts = subst (IsActorOf db) (sym (c.in_ok-actor.ensures.actor db before)) (IsActorOf-acting db c.args.user) in
+    c.make.ensures.index db (held-begun c.args.store.now c.begin.new.self old (g.B.Eeprom.chip c.actor_of.new.bench) db rest.held c.in_ok-actor.ensures.frame.same c.begin.ensures.begun c.begin.ensures.starts)
+    acts c.requires.formed (subst (λ (limit : ℕ). FitsCard limit c.args.operation.now) (sym rest.held.limit) c.requires.fits) whole)
 
 -- the store of the image stayed so far
 kept : (g : _) (c : After-make g) → Keeps store_of (g.B.Eeprom.chip c.args.bench.now) (g.B.Eeprom.chip c.make.new.bench)
@@ -44,7 +65,7 @@ returns-in-Err-Refused-clause-changes g c = λ db cursor rest.
     let w = (goal.at.returns-in-Err-Refused-clause-changes g c).After-make in
     let old = g.B.Eeprom.chip c.args.bench.now in
     let refused = rw (c.in-Err-Refused.is, c.in-Err-Refused.field-0-is) at (ended g w db cursor rest) in
-    Changes-refused db (edits_of db (acting db c.args.user) cursor c.args.operation) old (opens-rest c.args.store.now old db c.requires.over rest) c.in-Err-Refused.word c.rollback.new.self (g.B.Eeprom.chip c.make.new.bench)
+    Changes-refused db (edits_of db (acting db c.args.user) cursor c.args.operation.now) old (opens-rest c.args.store.now old db c.requires.over rest) c.in-Err-Refused.word c.rollback.new.self (g.B.Eeprom.chip c.make.new.bench)
     (refused.2 ∙ c.in_ok-actor.ensures.frame.same) refused.0
     (rest-rolled_back c.args.store.now c.begin.new.self c.make.new.store c.rollback.new.self old (g.B.Eeprom.chip c.actor_of.new.bench) (g.B.Eeprom.chip c.make.new.bench) db rest
     c.in_ok-actor.ensures.frame.same c.begin.ensures.begun c.begin.ensures.committed refused.1 refused.2 c.rollback.ensures.committed c.rollback.ensures.cells c.rollback.ensures.rows)
@@ -53,11 +74,11 @@ pub returns-in_err-commit-in-Ok-clause-changes : goal.returns-in_err-commit-in-O
 returns-in_err-commit-in-Ok-clause-changes g c = λ db cursor rest.
     let w = (goal.at.returns-in_err-commit-in-Ok-clause-changes g c).After-make in
     let old = g.B.Eeprom.chip c.args.bench.now in
-    let edited = edits_of db (acting db c.args.user) cursor c.args.operation in
+    let edited = edits_of db (acting db c.args.user) cursor c.args.operation.now in
     let made = rw c.in-Ok.is at (ended g w db cursor rest) in
     let goes_on = c.in-Ok.ensures.goes_on (λ wrong. cc) in
     Changes-half_committed db edited old (opens-rest c.args.store.now old db c.requires.over rest) made.0 made.1 c.begin.new.self c.make.new.store (g.B.Eeprom.chip c.actor_of.new.bench) (g.B.Eeprom.chip c.make.new.bench) made.2
-    (are_tables-changed db (acting db c.args.user) cursor c.args.operation made.0 c.requires.changes made.1 rest.tables)
+    (are_tables-edited db (acting db c.args.user) cursor c.args.operation.now made.0 (makes_view-built c.args.operation.now c.requires.changes.0) made.1 rest.tables)
     c.from_residual-in_err-commit-in-Ok.result c.commit.new.self (g.B.Eeprom.chip c.commit.new.bench) (search rules) (kept g w)
     (committed-begun c.args.store.now c.begin.new.self c.make.new.store old (g.B.Eeprom.chip c.actor_of.new.bench) (g.B.Eeprom.chip c.make.new.bench) db rest.held c.in_ok-actor.ensures.frame.same c.begin.ensures.begun c.begin.ensures.committed made.2.committed goes_on.cells goes_on.rows)
     rest.tables c.commit.ensures.moments
@@ -66,12 +87,12 @@ pub returns-in_ok-commit-in-Ok-clause-changes : goal.returns-in_ok-commit-in-Ok-
 returns-in_ok-commit-in-Ok-clause-changes g c = λ db cursor rest.
     let w = (goal.at.returns-in_ok-commit-in-Ok-clause-changes g c).After-make in
     let old = g.B.Eeprom.chip c.args.bench.now in
-    let edited = edits_of db (acting db c.args.user) cursor c.args.operation in
+    let edited = edits_of db (acting db c.args.user) cursor c.args.operation.now in
     let made = rw c.in-Ok.is at (ended g w db cursor rest) in
     let goes_on = c.in-Ok.ensures.goes_on (λ wrong. cc) in
     Changes-committed db edited old (opens-rest c.args.store.now old db c.requires.over rest) made.0 made.1 c.begin.new.self c.make.new.store (g.B.Eeprom.chip c.actor_of.new.bench) (g.B.Eeprom.chip c.make.new.bench) made.2
-    (are_tables-changed db (acting db c.args.user) cursor c.args.operation made.0 c.requires.changes made.1 rest.tables)
-    c.commit.new.self (g.B.Eeprom.chip c.commit.new.bench) (kept g w)
+    (are_tables-edited db (acting db c.args.user) cursor c.args.operation.now made.0 (makes_view-built c.args.operation.now c.requires.changes.0) made.1 rest.tables)
+    c.commit.new.self (g.B.Eeprom.chip c.commit.new.bench) goes_on.over (kept g w)
     (committed-begun c.args.store.now c.begin.new.self c.make.new.store old (g.B.Eeprom.chip c.actor_of.new.bench) (g.B.Eeprom.chip c.make.new.bench) db rest.held c.in_ok-actor.ensures.frame.same c.begin.ensures.begun c.begin.ensures.committed made.2.committed goes_on.cells goes_on.rows)
     rest.tables c.commit.ensures.moments c.in_ok-commit-in-Ok.ensures.done c.in_ok-commit-in-Ok.ensures.told c.in_ok-commit-in-Ok.ensures.cells c.in_ok-commit-in-Ok.ensures.rows
     (ap (λ (chip : Chip). chip.written) c.in_ok-actor.ensures.frame.same) c.begin.ensures.no_entries c.in_ok-commit-in-Ok.ensures.octets_written
@@ -89,5 +110,51 @@ returns-in_ok-commit-in-Ok-clause-behind g c =
 pub returns-in-Err-Fault-clause-changes : goal.returns-in-Err-Fault-clause-changes
 returns-in-Err-Fault-clause-changes g c = λ db cursor rest.
     let old = g.B.Eeprom.chip c.args.bench.now in
-    Changes-failed db (edits_of db (acting db c.args.user) cursor c.args.operation) old (opens-rest c.args.store.now old db c.requires.over rest) _ c.make.new.store (g.B.Eeprom.chip c.make.new.bench) tt
+    Changes-failed db (edits_of db (acting db c.args.user) cursor c.args.operation.now) old (opens-rest c.args.store.now old db c.requires.over rest) _ c.make.new.store (g.B.Eeprom.chip c.make.new.bench) tt
     (kept g (goal.at.returns-in-Err-Fault-clause-changes g c).After-make)
+
+pub make-requires-clause-index : goal.make-requires-clause-index
+make-requires-clause-index g c =
+    Indexes-begun c.args.index.now c.begin-2.new.self c.args.store.now c.begin.new.self (g.B.Eeprom.chip c.args.bench.now) (g.B.Eeprom.chip c.actor_of.new.bench) c.requires.index c.in_ok-actor.ensures.frame.same
+    c.begin-2.ensures.begun c.begin.ensures.begun c.begin.ensures.starts c.begin.ensures.committed
+
+pub make-requires-clause-last : goal.make-requires-clause-last
+make-requires-clause-last g c = λ db held.
+    let begun : IsHeld c.args.store.now Committed (g.B.Eeprom.chip c.args.bench.now) db = held-before c.args.store.now c.begin.new.self (g.B.Eeprom.chip c.args.bench.now) (g.B.Eeprom.chip c.actor_of.new.bench) db held
+    c.in_ok-actor.ensures.frame.same c.begin.ensures.begun c.begin.ensures.starts in
+    subst (λ (index : Index). is_above db.next index.committed ≡ true) (sym c.begin-2.ensures.begun) (last-held c.args.index.now c.args.store.now (g.B.Eeprom.chip c.args.bench.now) db c.requires.index begun)
+
+pub returns-in_ok-commit-in-Ok-clause-holds : goal.returns-in_ok-commit-in-Ok-clause-holds
+returns-in_ok-commit-in-Ok-clause-holds g c =
+    HoldsSome-changed c.commit.new.self c.args.store.now (g.B.Eeprom.chip c.args.bench.now) (g.B.Eeprom.chip c.commit.new.bench) c.requires.holds
+    (c.in_ok-commit-in-Ok.ensures.told ∙ ((c.in-Ok.ensures.goes_on (λ wrong. cc)).told ∙ ap (λ (chip : Chip). is_some chip.image) c.in_ok-actor.ensures.frame.same))
+    (λ db rest. rest-concluded db _ _ _ _ (returns-in_ok-commit-in-Ok-clause-changes g c db None rest).step)
+
+pub returns-in_ok-commit-in-Ok-clause-index : goal.returns-in_ok-commit-in-Ok-clause-index
+returns-in_ok-commit-in-Ok-clause-index g c =
+    let goes_on = c.in-Ok.ensures.goes_on (λ wrong. cc) in
+    Indexes-ended c.make.new.index c.commit-in-Ok.new.self Working c.make.new.store c.commit.new.self (g.B.Eeprom.chip c.make.new.bench) (g.B.Eeprom.chip c.commit.new.bench)
+    (followed g (goal.at.returns-in_ok-commit-in-Ok-clause-index g c).After-make (λ wrong. cc)) c.commit-in-Ok.ensures.committed c.in_ok-commit-in-Ok.ensures.ended c.in_ok-commit-in-Ok.ensures.cells
+    (slots-committed c.make.new.store c.commit.new.self (g.B.Eeprom.chip c.make.new.bench) (g.B.Eeprom.chip c.commit.new.bench) goes_on.over c.in_ok-commit-in-Ok.ensures.done c.in_ok-commit-in-Ok.ensures.told)
+
+pub returns-in-Err-Refused-clause-holds : goal.returns-in-Err-Refused-clause-holds
+returns-in-Err-Refused-clause-holds g c =
+    HoldsSome-changed c.rollback.new.self c.args.store.now (g.B.Eeprom.chip c.args.bench.now) (g.B.Eeprom.chip c.make.new.bench) c.requires.holds
+    ((c.in-Err-Refused.ensures.goes_on (λ wrong. cc)).told ∙ ap (λ (chip : Chip). is_some chip.image) c.in_ok-actor.ensures.frame.same)
+    (λ db rest. rest-concluded db _ _ _ _ (returns-in-Err-Refused-clause-changes g c db None rest).step)
+
+pub returns-in-Err-Refused-clause-index : goal.returns-in-Err-Refused-clause-index
+returns-in-Err-Refused-clause-index g c =
+    let goes_on = c.in-Err-Refused.ensures.goes_on (λ wrong. cc) in
+    let old = g.B.Eeprom.chip c.args.bench.now in
+    let w = (goal.at.returns-in-Err-Refused-clause-index g c).After-make in
+    let cells : c.rollback.new.self.chains.cells ≡ c.args.store.now.chains.cells = c.rollback.ensures.cells ∙ (goes_on.cells ∙ ap (λ (h : Held). h.chains.cells) c.begin.ensures.begun) in
+    let is : c.rollback-in-Err-Refused.new.self ≡ record { cells = c.args.index.now.cells; begun = false; committed = c.args.index.now.committed; working = c.args.index.now.committed }
+    = c.rollback-in-Err-Refused.ensures.rolled_back ∙ rw (c.make.ensures.index_cells, c.make.ensures.index_committed, c.begin-2.ensures.begun) refl in
+    Indexes-held c.rollback-in-Err-Refused.new.self c.rollback.new.self c.args.store.now old (g.B.Eeprom.chip c.make.new.bench) c.requires.holds
+    (goes_on.told ∙ ap (λ (chip : Chip). is_some chip.image) c.in_ok-actor.ensures.frame.same)
+    (ap (λ (i : Index). i.cells) is ∙ (c.requires.index.cells ∙ sym cells)) (λ db rest.
+    let refused = rw (c.in-Err-Refused.is, c.in-Err-Refused.field-0-is) at (ended g w db None rest) in
+    Indexes-ended c.args.index.now c.rollback-in-Err-Refused.new.self Committed c.args.store.now c.rollback.new.self old (g.B.Eeprom.chip c.make.new.bench) c.requires.index is c.rollback.ensures.ended cells
+    (slots-rolled_back c.args.store.now c.begin.new.self c.make.new.store c.rollback.new.self old (g.B.Eeprom.chip c.actor_of.new.bench) (g.B.Eeprom.chip c.make.new.bench) c.in_ok-actor.ensures.frame.same
+    c.begin.ensures.committed refused.1 refused.2 c.rollback.ensures.committed))

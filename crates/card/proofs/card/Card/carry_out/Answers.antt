@@ -14,12 +14,12 @@ use Rattle.card.proofs.card.Card.carry_out.Goals as goal
 
 pub returns-in-PresentUser-clause-performs : goal.returns-in-PresentUser-clause-performs
 returns-in-PresentUser-clause-performs g c = λ m at.
-    let presents : carried_out m c.args.command ≡ user_presented m c.args.command.channel c.in-PresentUser.name =
-    ap (λ (operation : Operation). carried_out m (record { channel = c.args.command.channel; operation = operation; le = c.args.command.le })) c.in-PresentUser.is
-    ∙ carried_out-presents m c.args.command.channel c.in-PresentUser.name c.args.command.le at.transaction in
-    subst (λ (outcome : Result Answer StatusWord). Performs m (answered m outcome) (or_nothing (octets_carried_out m c.args.command)) c.present_user.result c.present_user.new.self (g.B.Eeprom.chip c.args.bench.now) (g.B.Eeprom.chip c.present_user.new.bench)) (sym presents)
+    let presents : carried_out m c.args.command.now ≡ user_presented m c.args.command.now.channel c.in-PresentUser.name =
+    ap (λ (operation : Operation). carried_out m (record { channel = c.args.command.now.channel; operation = operation; le = c.args.command.now.le })) c.in-PresentUser.is
+    ∙ carried_out-presents m c.args.command.now.channel c.in-PresentUser.name c.args.command.now.le at.transaction in
+    subst (λ (outcome : Result Answer StatusWord). Performs m (answered m outcome) (or_nothing (octets_carried_out m c.args.command.now)) c.present_user.result c.present_user.new.self (g.B.Eeprom.chip c.args.bench.now) (g.B.Eeprom.chip c.present_user.new.bench)) (sym presents)
     (Performs-unwritten c.args.self.now c.present_user.new.self (g.B.Eeprom.chip c.args.bench.now) (g.B.Eeprom.chip c.present_user.new.bench) m _ _ c.present_user.result c.requires.ready at c.present_user.ensures.same
-    (rw c.in-PresentUser.name-is at (c.present_user.ensures.step m at)))
+    (rw c.copy.ensures at (c.present_user.ensures.step m at)))
 
 pub returns-in-PresentUser-clause-behind : goal.returns-in-PresentUser-clause-behind
 returns-in-PresentUser-clause-behind g c =
@@ -29,19 +29,19 @@ pub change-requires : goal.change-requires
 change-requires g c = record {
   ready = c.requires.ready;
   channel = omega (arith, c.requires.formed.channel);
-  changes = IsChange-built c.args.command.operation c.requires.built c.in_default.not-PresentUser;
+  changes = IsChange-built c.args.command.now.operation c.requires.built c.in_default.not-PresentUser;
   formed = c.requires.formed.form;
   fits = c.requires.fits;
 }
 
 pub returns-in_default-clause-performs : goal.returns-in_default-clause-performs
 returns-in_default-clause-performs g c = λ m at.
-    let channel = c.args.command.channel in
-    let operation = c.args.command.operation in
+    let channel = c.args.command.now.channel in
+    let operation = c.args.command.now.operation in
     let changes = IsChange-built operation c.requires.built c.in_default.not-PresentUser in
     let old = g.B.Eeprom.chip c.args.bench.now in
     let new = g.B.Eeprom.chip c.change.new.bench in
-    subst (λ (outcome : Result Answer StatusWord). Performs m (answered m outcome) (or_nothing (octets_carried_out m c.args.command)) c.change.result c.change.new.self old new)
-    (sym (carried_out-changes m channel operation c.args.command.le changes at.transaction))
+    subst (λ (outcome : Result Answer StatusWord). Performs m (answered m outcome) (or_nothing (octets_carried_out m c.args.command.now)) c.change.result c.change.new.self old new)
+    (sym (carried_out-changes m channel operation c.args.command.now.le changes.1 at.transaction))
     (subst (λ (most : Result ℕ StatusWord). Performs m (answered m (changed m channel operation)) (or_nothing most) c.change.result c.change.new.self old new)
-    (sym (octets-carried_out m channel operation c.args.command.le changes at.transaction)) (c.change.ensures.performs m at))
+    (sym (octets-carried_out m channel operation c.args.command.now.le changes.1 at.transaction)) (c.change.ensures.performs m at))

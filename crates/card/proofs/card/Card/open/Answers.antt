@@ -14,10 +14,10 @@ pub returns-clause-starts : goal.returns-clause-starts
 returns-clause-starts g c =
     let old = g.B.Eeprom.chip c.args.bench.now in
     let new = g.B.Eeprom.chip c.open_records.new.bench in
-    kept-image (λ image. (db : Database) → Opens image db → IsAt (opened c.in_ok-opened.opened.store (sessions_of c.first_sessions.result c.new.result)) new (start db))
-    (λ image. (db : Database) → Opens image db → IsAt (opened c.in_ok-opened.opened.store (sessions_of c.first_sessions.result c.new.result)) new (start db)) old new c.in_ok-opened.ensures.frame.store.keeps c.in_ok-opened.ensures.told
+    kept-image (λ image. (db : Database) → Opens image db → IsAt (opened c.in_ok-opened.opened.store c.in_ok-opened.opened.index (sessions_of c.first_sessions.result c.new.result)) new (start db))
+    (λ image. (db : Database) → Opens image db → IsAt (opened c.in_ok-opened.opened.store c.in_ok-opened.opened.index (sessions_of c.first_sessions.result c.new.result)) new (start db)) old new c.in_ok-opened.ensures.frame.store.keeps c.in_ok-opened.ensures.told
     (λ left was same starts db opens. starts db (opens-same was left (sym same) db opens))
-    (starts_at c.in_ok-opened.opened.store (sessions_of c.first_sessions.result c.new.result) new new.image (λ db. ap (sessions_of c.first_sessions.result) c.new.ensures ∙ c.first_sessions.ensures db) refl c.in_ok-opened.ensures.stored)
+    (starts_at c.in_ok-opened.opened.store c.in_ok-opened.opened.index (sessions_of c.first_sessions.result c.new.result) new new.image (λ db. ap (sessions_of c.first_sessions.result) c.new.ensures ∙ c.first_sessions.ensures db) refl c.in_ok-opened.ensures.stored)
 
 pub returns-in_err-opened-clause-behind : goal.returns-in_err-opened-clause-behind
 returns-in_err-opened-clause-behind g c = behind-opened (g.B.Eeprom.chip c.args.bench.now) (g.B.Eeprom.chip c.open_records.new.bench) c.in_err-opened.ensures.frame.store

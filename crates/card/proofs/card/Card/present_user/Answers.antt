@@ -2,8 +2,7 @@
 use Rattle.std.proofs.Common.{ap, subst, sym, refl}
 use Rattle.scql_base.specs.Words.{not_found}
 use Rattle.db_access.specs.Presenting.{session_presented}
-use Rattle.card.specs.Card.{Kept}
-use Rattle.card.specs.Changing.{IsAtRest}
+use Rattle.card.specs.Card.{Kept, IsAtRest}
 use Rattle.card.proofs.Performing.{IsAtRest-at, Answers-unknown, Answers-presented}
 use Rattle.card.proofs.card.Card.present_user.Goals.{After-branch-present, in-Public, in-User}
 use Rattle.card.proofs.card.Card.present_user.Goals as goal

@@ -29,7 +29,7 @@ rows limit own most is = omega (arith, most, is)
 
 -- the card once octets were taken
 abbrev after_take : (g : _) → After-take g → Kept
-after_take g c = record { store = c.self.inside.store; sessions = sessions_of c.self.inside.sessions c.take.new.self; live = c.self.inside.live }
+after_take g c = record { store = c.self.inside.store; index = c.self.inside.index; sessions = sessions_of c.self.inside.sessions c.take.new.self; live = c.self.inside.live }
 
 -- what they are
 abbrev form : (g : _) → After-take g → Form
@@ -48,7 +48,7 @@ bounds g c m at =
 
 at-taken : (g : _) (c : After-take g) (m : Machine) → IsAt c.args.self.now (g.B.Eeprom.chip c.args.bench.now) m → IsAt (after_take g c) (g.B.Eeprom.chip c.args.bench.now) (taken_at m (form g c))
 at-taken g c m at =
-    IsAt-taken c.self.inside.store c.self.inside.live c.self.inside.sessions c.self.inside.chains c.take.new.self c.args.self.now (g.B.Eeprom.chip c.args.bench.now) m (form g c) at c.self.view_is c.take.ensures.chains
+    IsAt-taken c.self.inside.store c.self.inside.index c.self.inside.live c.self.inside.sessions c.self.inside.chains c.take.new.self c.args.self.now (g.B.Eeprom.chip c.args.bench.now) m (form g c) at c.self.view_is c.take.ensures.chains
 
 -- nothing is written for what is no command
 unwritten : (g : _) (c : After-take g) (m : Machine) (answer : Answer) (word : StatusWord) → IsAt c.args.self.now (g.B.Eeprom.chip c.args.bench.now) m
