@@ -1,1 +1,2 @@
+pub mod IndexFollows
 pub mod RowInserted

@@ -16,35 +16,47 @@ ghost use Rattle.scql_model.specs.WellFormed.{FitsCard, HasForm};
 ghost use Rattle.scql_model.specs.Writing.{row_inserted};
 ghost use Rattle.catalog_codec.specs.Catalog.{row_kind};
 ghost use Rattle.catalog_codec.specs.Kinds.{FitsChain};
+ghost use Rattle.row_index.specs.Index.{Indexes, is_above};
 ghost use Rattle.record_table.specs.Making.{Ends, GoesOn, IsHeld, is_stop_fault};
 
 use eeprom::Eeprom;
 use privilege_table::{Privilege, find_seen, holds};
 use record_store::{Side, Store};
 use record_table::{Stop, make, next_stamp, refused};
+use row_index::RowIndex;
 use scql_base::{Actor, Name, ObjectKind, Row, RowRecord, StatusWord};
 
-/// INSERT: adds a row behind all others of a table.
+/// INSERT: adds a row behind all others of a table. The index follows.
 pub fn insert<B: Eeprom>(
     store: &mut Store,
     bench: &mut B,
     actor: Actor,
     table: Name,
-    row: Row,
+    row: &Row,
+    index: &mut RowIndex,
 ) -> Result<(), Stop>
     requires begun { IsTrue store.old.begun }
     requires over { IsOver store.old (B.chip bench.old) }
-    ensures ends { (db : Database) → IsHeld store.old Working (B.chip bench.old) db → HasForm (operation.Insert table row) → FitsCard db.limit (operation.Insert table row)
-        → Ends db (row_inserted db actor table row) result store.old store.new (B.chip bench.old) (B.chip bench.new) }
+    requires index_begun { IsTrue index.old.begun }
+    requires index { Indexes index.old store.old (B.chip bench.old) }
+    requires last { (db : Database) → IsHeld store.old Working (B.chip bench.old) db → is_above db.next index.old.committed ≡ true }
+    ensures ends { (db : Database) → IsHeld store.old Working (B.chip bench.old) db → HasForm (operation.Insert table row.now) → FitsCard db.limit (operation.Insert table row.now)
+        → Ends db (row_inserted db actor table row.now) result store.old store.new (B.chip bench.old) (B.chip bench.new) }
     ensures goes_on { ¬ IsErrOf result Stop.Fault → GoesOn store.old store.new (B.chip bench.old) (B.chip bench.new) }
     ensures moments { Keeps store_of (B.chip bench.old) (B.chip bench.new) }
     ensures behind { Keeps (drop (image_size store.old.chains.cells)) (B.chip bench.old) (B.chip bench.new) }
     ensures cause { CountsFaults is_stop_fault (B.faults bench.old) (B.faults bench.new) result }
+    ensures index { (db : Database) → IsHeld store.old Working (B.chip bench.old) db → HasForm (operation.Insert table row.now) → FitsCard db.limit (operation.Insert table row.now)
+        → ¬ IsErrOf result Stop.Fault → Indexes index.new store.new (B.chip bench.new) }
+    ensures index_cells { index.new.cells ≡ index.old.cells }
+    ensures index_committed { index.new.committed ≡ index.old.committed }
+    ensures index_begun { IsTrue index.new.begun }
 {
-    let table = find_table(store, bench, actor, table, &row)?;
+    let table = find_table(store, bench, actor, table, row)?;
     let counter = next_stamp(store, bench)?;
     let record = new_record(counter.value.next, table, row);
-    make(store, bench, &counter, &record)?;
+    let slot = make(store, bench, &counter, &record)?;
+    index.added(record.table, record.stamp, slot);
     Ok(())
 }
 
@@ -103,10 +115,14 @@ fn column_count(kind: &ObjectKind) -> usize
 }
 
 // A row of a table, whose record a store can have.
-fn new_record(stamp: u32, table: u32, row: Row) -> RowRecord
-    ensures record { result ≡ record { stamp = stamp; table = table; row = row } }
+fn new_record(stamp: u32, table: u32, row: &Row) -> RowRecord
+    ensures record { result ≡ record { stamp = stamp; table = table; row = row.now } }
     ensures short { FitsChain row_kind result }
 {
     prove!(row.len() <= Row::MOST);
-    RowRecord { stamp, table, row }
+    RowRecord {
+        stamp,
+        table,
+        row: row.copy(),
+    }
 }

@@ -1,9 +1,10 @@
 -- What becomes of places in order, and of those by tables, when one is put among them, taken out, or all are others.
 use Rattle.std.proofs.Common.{◌≡◌, ℕ, suc, ◌+◌, ◌<◌, ◌≤◌, Bool, true, false, cond, ltb, leb, eqb, List, [], ◌∷◌, ◌++◌, length, Some, take, drop, get_or, inl, inr, refl, sym, ap, ◌∙◌, arith, subst}
+use Rattle.std.proofs.Math.ListN.{set}
 use Rattle.std.specs.List.{find, filter, count_by, sum_by, AllByRecursion}
 use Rattle.std.specs.List.Sorted.{IsPermutation, IsNonDecreasingBy}
 use Rattle.std.proofs.lemmas.Bool.{cases_Bool, ltb-true, ltb-false, le-ltb, eqb-true, eqb-false, eq-eqb, ne_eqb}
-use Rattle.std.proofs.lemmas.List.{take-append-drop}
+use Rattle.std.proofs.lemmas.List.{length-set, take-append-drop}
 use Rattle.std.proofs.lemmas.List.Sums.{sum_by-cons, sum_by-append, count_by-le-length, length-filter}
 use Rattle.std.proofs.lemmas.List.Sorted.{sum_by-IsPermutation}
 use Rattle.std.proofs.lemmas.Option.{none-some, same_Some}
@@ -13,6 +14,7 @@ use Rattle.row_index.specs.Places.{place_stamp, place_slot, IsOneMore}
 use Rattle.row_index.specs.Ordered.{IsOrdered}
 use Rattle.row_index.specs.declared.place.RowPlace.{RowPlace}
 use Rattle.row_index.proofs.Searches.{put_in_order-insert}
+use Rattle.row_index.proofs.TakenSlots.{AreTaken, AreTaken-put}
 use Rattle.row_index.proofs.Tables.{table_key, Fits, AreApart-tables, all-put_in_order}
 
 -- one more
@@ -59,13 +61,16 @@ in_order-put key other x xs rises none =
     ∙ in_order-middle other x (take at xs) (drop at xs) before
     ∙ ap (λ ys. put_in_order other x (in_order other ys)) (take-append-drop at xs)
 
-pub IsOrdered-put : (place : RowPlace) (cells : ℕ) (xs ys : List RowPlace) (room other_room : ℕ) → IsOrdered cells xs ys room other_room → place_stamp place < 4294967296 → count_by (has place_stamp (place_stamp place)) xs ≡ 0
-    → length xs < cells → IsOrdered cells (put_in_order place_stamp place xs) (put_in_order table_key place ys) room other_room
-IsOrdered-put place cells xs ys room other_room is small none few = record {
+pub IsOrdered-put : (place : RowPlace) (cells : ℕ) (xs ys : List RowPlace) (taken : List Bool) (room other_room : ℕ) → IsOrdered cells xs ys taken room other_room → place_stamp place < 4294967296
+    → count_by (has place_stamp (place_stamp place)) xs ≡ 0 → length xs < cells → place_slot place < cells
+    → IsOrdered cells (put_in_order place_stamp place xs) (put_in_order table_key place ys) (set taken (place_slot place) true) room other_room
+IsOrdered-put place cells xs ys taken room other_room is small none few there = record {
   rises = Rises-put place_stamp place xs is.rises none;
   fits = all-put_in_order place_stamp (λ place. place_stamp place < 4294967296) place xs small is.fits;
   tables = ap (put_in_order table_key place) is.tables ∙ sym (in_order-put place_stamp table_key place xs is.rises (no_table_key place xs small is.fits none));
   few = omega (arith, length-put_in_order place_stamp place xs);
+  marked = AreTaken-put place taken xs is.rises is.marked (omega (arith, there, is.marks));
+  marks = length-set taken (place_slot place) true ∙ is.marks;
   stamp_room = is.stamp_room;
   table_room = is.table_room;
 }
@@ -78,12 +83,15 @@ Rises-filter key p (x ∷ xs) rises =
       | inr f ↦ rw f (Rises-filter key p xs rises.1)
     ]
 
-pub IsOrdered-filter : (p : RowPlace → Bool) (cells : ℕ) (xs ys : List RowPlace) (room other_room : ℕ) → IsOrdered cells xs ys room other_room → IsOrdered cells (filter p xs) (filter p ys) room other_room
-IsOrdered-filter p cells xs ys room other_room is = record {
+pub IsOrdered-filter : (p : RowPlace → Bool) (cells : ℕ) (xs ys : List RowPlace) (taken now : List Bool) (room other_room : ℕ) → IsOrdered cells xs ys taken room other_room → AreTaken now (filter p xs) → length now ≡ length taken
+    → IsOrdered cells (filter p xs) (filter p ys) now room other_room
+IsOrdered-filter p cells xs ys taken now room other_room is are many = record {
   rises = Rises-filter place_stamp p xs is.rises;
   fits = all-filter (λ place. place_stamp place < 4294967296) p xs is.fits;
   tables = ap (filter p) is.tables ∙ filter-in_order table_key p xs (AreApart-tables xs is.rises is.fits);
   few = omega (arith, length-filter p xs, count_by-le-length p xs, is.few);
+  marked = are;
+  marks = many ∙ is.marks;
   stamp_room = is.stamp_room;
   table_room = is.table_room;
 }
@@ -112,7 +120,7 @@ put_back key other k x (y ∷ ys) rises apart found =
           rw (f, le-ltb (key x) (key y) (omega arith)) (ap (λ rest. y ∷ rest) (put_back key other k x ys rises.1 tail found_later)))
     ]
 
-found_has : {X : Type 0} (key : X → ℕ) (k : ℕ) (x : X) (xs : List X) → find (has key k) xs ≡ Some x → key x ≡ k
+pub found_has : {X : Type 0} (key : X → ℕ) (k : ℕ) (x : X) (xs : List X) → find (has key k) xs ≡ Some x → key x ≡ k
 found_has key k x [] found = absurd (none-some x found)
 found_has key k x (y ∷ ys) found =
     elim (cases_Bool (eqb (key y) k)) [

@@ -1,6 +1,5 @@
 -- Laws of an index: for which stores it stands after a change.
-use Rattle.std.proofs.Common.{◌≡◌, ℕ, suc, ◌<◌, Bool, true, false, cond, List, [], ◌∷◌, ◌++◌, length, Option, Some, None, get_or, refl, sym, ap, ◌∙◌, arith, subst}
-use Rattle.std.proofs.Math.ListN.{set}
+use Rattle.std.proofs.Common.{◌≡◌, ℕ, suc, ◌<◌, Bool, true, false, List, [], ◌∷◌, ◌++◌, length, Option, Some, None, get_or, refl, sym, ap, ◌∙◌, arith, subst}
 use Rattle.std.proofs.lemmas.List.{get_or-set_other, length-set}
 use Rattle.std.proofs.lemmas.Option.{none-some, same_Some}
 use Rattle.std.specs.Prelude.{IfSome, if◌then◌else◌, is_some, option_and_then, option_map}
@@ -18,11 +17,10 @@ use Rattle.record_table.specs.Listed.{at_slot, slots_of}
 use Rattle.record_table.specs.Making.{IsMade, KeepsRows}
 use Rattle.record_table.proofs.ListedChanges.{at_slot-kept, is_of, is_of-read}
 use Rattle.record_table.proofs.Made.{other_slot}
-use Rattle.row_index.specs.Index.{HasRows, Index, Indexes, is_above, may_add}
-use Rattle.row_index.specs.Places.{place_of, place_stamp, row_places}
+use Rattle.row_index.specs.Index.{HasRows, Index, Indexes, may_add}
+use Rattle.row_index.specs.Places.{place_of, place_stamp}
 use Rattle.row_index.specs.declared.place.RowPlace.{RowPlace}
 use Rattle.row_index.proofs.ChangedPlaces.{HasRows-added, may_add-told}
-use Rattle.row_index.proofs.Kept.{below-above}
 use Rattle.row_index.proofs.Scans.{places_from, row_in}
 
 -- slots that have the same rows have the same places of rows
@@ -79,7 +77,7 @@ cells-added index place = chosen (may_add index place)
     chosen true = refl
     chosen false = refl
 
-committed-added : (index : Index) (place : RowPlace) → (with_added index place).committed ≡ index.committed
+pub committed-added : (index : Index) (place : RowPlace) → (with_added index place).committed ≡ index.committed
 committed-added index place = chosen (may_add index place)
   where
     chosen : (may : Bool) → (if may then record { cells = index.cells; begun = true; committed = index.committed; working = index.working ++ place ∷ [] } else index).committed ≡ index.committed
@@ -102,23 +100,21 @@ HasRows-made cells places row slot counter was next old new has_rows made at fit
     ∙ at_slot-kept counter_kind row_kind made.between counter entry place IsKind-row (HaveOtherMarks-sym row_kind counter_kind HaveOtherMarks-row-counter) own (IsKind-counter.begins next))
 
 made_rows : (index : Index) (row : RowRecord) (slot counter was next : ℕ) (old new : Option Slots) → IfSome old (HasRows index.cells index.working) → Becomes (IsMade row_kind row slot counter next) old new
-    → IfSome old (λ slots. Some was ≡ at_slot counter_kind counter slots) → row_kind.form.fits row ≡ true → slot < index.cells → is_above row.stamp index.committed ≡ true → is_above row.stamp index.working ≡ true
+    → IfSome old (λ slots. Some was ≡ at_slot counter_kind counter slots) → row_kind.form.fits row ≡ true → slot < index.cells → AllByRecursion (λ place. place_stamp place < row.stamp) index.committed → AllByRecursion (λ place. place_stamp place < row.stamp) index.working
     → IfSome new (HasRows (with_added index (place_of slot row)).cells (with_added index (place_of slot row)).working)
-made_rows index row slot counter was next old None has_rows becomes at fits there above above_working = tt
-made_rows index row slot counter was next None (Some after) has_rows becomes at fits there above above_working = absurd (none-some (becomes after refl).0 (becomes after refl).1)
-made_rows index row slot counter was next (Some before) (Some after) has_rows becomes at fits there above above_working =
+made_rows index row slot counter was next old None has_rows becomes at fits there below below_working = tt
+made_rows index row slot counter was next None (Some after) has_rows becomes at fits there below below_working = absurd (none-some (becomes after refl).0 (becomes after refl).1)
+made_rows index row slot counter was next (Some before) (Some after) has_rows becomes at fits there below below_working =
     let b = becomes after refl in
     let made = subst (λ slots. IsMade row_kind row slot counter next slots after) (sym (same_Some before b.0 b.1)) b.2 in
-    let first = below-above row.stamp index.committed above in
-    let second = below-above row.stamp index.working above_working in
-    let may : may_add index (place_of slot row) ≡ true = may_add-told index (place_of slot row) before has_rows made.added.empty there first second in
-    rw may (HasRows-made index.cells index.working row slot counter was next before after has_rows made at fits there second)
+    let may : may_add index (place_of slot row) ≡ true = may_add-told index (place_of slot row) before has_rows made.added.empty there below below_working in
+    rw may (HasRows-made index.cells index.working row slot counter was next before after has_rows made at fits there below_working)
 
 -- An index follows where a row is made whose stamp is above all others, and the counter counts on.
 pub Indexes-made : (index : Index) (old new : Held) (before after : Chip) (row : RowRecord) (slot counter was next : ℕ) → Indexes index old before → new.chains.cells ≡ old.chains.cells → slots_of new Committed after ≡ slots_of old Committed before
-    → slot < old.chains.cells → row_kind.form.fits row ≡ true → is_above row.stamp index.committed ≡ true → is_above row.stamp index.working ≡ true → IfSome (slots_of old Working before) (λ slots. Some was ≡ at_slot counter_kind counter slots)
+    → slot < old.chains.cells → row_kind.form.fits row ≡ true → AllByRecursion (λ place. place_stamp place < row.stamp) index.committed → AllByRecursion (λ place. place_stamp place < row.stamp) index.working → IfSome (slots_of old Working before) (λ slots. Some was ≡ at_slot counter_kind counter slots)
     → Becomes (IsMade row_kind row slot counter next) (slots_of old Working before) (slots_of new Working after) → Indexes (with_added index (place_of slot row)) new after
-Indexes-made index old new before after row slot counter was next is cells committed there fits above above_working at becomes =
+Indexes-made index old new before after row slot counter was next is cells committed there fits below below_working at becomes =
     let place : RowPlace = place_of slot row in
     let inside : slot < index.cells = omega (arith, there, is.cells) in
     record {
@@ -126,5 +122,5 @@ Indexes-made index old new before after row slot counter was next is cells commi
       committed = subst (λ o. IfSome o (HasRows (with_added index place).cells (with_added index place).committed)) (sym committed)
           (subst (λ (n : ℕ). IfSome (slots_of old Committed before) (HasRows n (with_added index place).committed)) (sym (cells-added index place))
           (subst (λ places. IfSome (slots_of old Committed before) (HasRows index.cells places)) (sym (committed-added index place)) is.committed));
-      working = made_rows index row slot counter was next (slots_of old Working before) (slots_of new Working after) is.working becomes at fits inside above above_working;
+      working = made_rows index row slot counter was next (slots_of old Working before) (slots_of new Working after) is.working becomes at fits inside below below_working;
     }

@@ -1,5 +1,6 @@
 pub mod Searches
 pub mod Tables
+pub mod TakenSlots
 pub mod Changes
 pub mod Kept
 pub mod Scans

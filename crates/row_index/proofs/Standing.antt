@@ -1,7 +1,7 @@
 -- When an index stands for a store.
 use Rattle.std.proofs.Common.{◌≡◌, ℕ, List, Bool, false, Option, Some, None, length, refl, sym, ap, ◌∙◌, subst}
 use Rattle.std.proofs.lemmas.Option.{none-some, same_Some}
-use Rattle.std.specs.Prelude.{IfSome, IsSome, option_and_then, if◌then◌else◌}
+use Rattle.std.specs.Prelude.{IfSome, IsSome, MatchOption, option_and_then, if◌then◌else◌}
 use Rattle.cell_store.proofs.Chains.{length-slots_at}
 use Rattle.eeprom.proofs.Places.{length-numbers_at}
 use Rattle.eeprom.specs.Chip.{Becomes, Chip}
@@ -12,7 +12,7 @@ use Rattle.record_store.specs.declared.side.Side.{Side}
 use Rattle.record_store.specs.declared.side.Side.TheVariants.{Committed, Working}
 use Rattle.record_table.specs.Changed.{Rewrites}
 use Rattle.record_table.specs.Listed.{slots_of}
-use Rattle.row_index.specs.Index.{HasRows, Index, Indexes, side_places}
+use Rattle.row_index.specs.Index.{HasRows, Index, Indexes, IndexesIfApart, side_places}
 use Rattle.row_index.specs.Places.{place_stamp, row_places}
 use Rattle.row_index.specs.declared.place.RowPlace.{RowPlace}
 
@@ -48,6 +48,15 @@ stands-read index store chip stands idle cells both apart are =
       committed = rows;
       working = subst (λ o. IfSome o (HasRows index.cells index.working)) (sym (working_idle store chip.image idle)) (subst (λ places. IfSome (slots_of store Committed chip) (HasRows index.cells places)) (sym both) rows);
     }
+
+-- and so where they have no stamp twice, as far as that is told
+pub stands-if_apart : (index : Index) (store : Held) (chip : Chip) → (IfSome (slots_of store Committed chip) (λ slots. AreApart place_stamp (row_places slots)) → Indexes index store chip) → IndexesIfApart index store chip
+stands-if_apart index store chip stands = told (slots_of store Committed chip) stands
+  where
+    told : (slots : Option Slots) → (IfSome slots (λ slots. AreApart place_stamp (row_places slots)) → Indexes index store chip)
+        → MatchOption slots (Indexes index store chip) (λ slots. AreApart place_stamp (row_places slots) → Indexes index store chip)
+    told None stands = stands tt
+    told (Some slots) stands = stands
 
 -- the rows of a side are those of its slots
 pub rows-told : (index : Index) (store : Held) (chip : Chip) (side : Side) → Indexes index store chip → IfSome (slots_of store side chip) (HasRows index.cells (side_places index side))

@@ -42,6 +42,15 @@ all-put_in_order key P x (y ∷ ys) here all =
       | inr f ↦ rw f (all.0, all-put_in_order key P x ys here all.1)
     ]
 
+-- and of the one that was put
+pub put_in_order-all : {X : Type 0} (key : X → ℕ) (P : X → Type 0) (x : X) (xs : List X) → AllByRecursion P (put_in_order key x xs) → P x
+put_in_order-all key P x [] all = all.0
+put_in_order-all key P x (y ∷ ys) all =
+    elim (cases_Bool (ltb (key x) (key y))) [
+      | inl t ↦ (rw t at all).0
+      | inr f ↦ put_in_order-all key P x ys (rw f at all).1
+    ]
+
 pub all-in_order : {X : Type 0} (key : X → ℕ) (P : X → Type 0) (xs : List X) → AllByRecursion P xs → AllByRecursion P (in_order key xs)
 all-in_order key P [] all = tt
 all-in_order key P (x ∷ xs) all = all-put_in_order key P x (in_order key xs) all.0 (all-in_order key P xs all.1)

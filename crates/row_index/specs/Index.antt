@@ -1,5 +1,5 @@
 -- An index of rows: where the rows of both sides of a store stand.
-use Rattle.std.specs.Prelude.{◌≡◌, ℕ, ◌≤◌, ◌<◌, ◌&&◌, not, nat_lt, Bool, true, false, List, IfSome, length}
+use Rattle.std.specs.Prelude.{◌≡◌, ℕ, ◌≤◌, ◌<◌, ◌&&◌, not, nat_lt, Bool, true, false, List, IfSome, MatchOption, length}
 use Rattle.std.specs.List.{AllByRecursion, list_all, list_any}
 use Rattle.eeprom.specs.Chip.{Chip}
 use Rattle.eeprom.specs.Slots.{AreApart, Rises, has}
@@ -70,6 +70,10 @@ pub record Indexes (index : Index) (store : Held) (chip : Chip) : Type 0 where
   pub cells : index.cells ≡ store.chains.cells
   pub committed : IfSome (slots_of store Committed chip) (HasRows index.cells index.committed)
   pub working : IfSome (slots_of store Working chip) (HasRows index.cells index.working)
+
+-- It stands for a store if no two of its rows have one stamp; where nothing is told it stands in any case.
+abbrev pub IndexesIfApart : Index → Held → Chip → Type 0
+IndexesIfApart index store chip = MatchOption (slots_of store Committed chip) (Indexes index store chip) (λ slots. AreApart place_stamp (row_places slots) → Indexes index store chip)
 
 -- only one refusal comes from the EEPROM
 abbrev pub is_build_fault : BuildRefusal → Bool

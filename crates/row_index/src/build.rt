@@ -9,7 +9,7 @@ ghost use Rattle.record_store.specs.Held.{IsOver};
 ghost use Rattle.record_store.specs.declared.side.Side.TheVariants.{Committed};
 ghost use Rattle.catalog_codec.specs.Catalog.{row_kind};
 ghost use Rattle.record_table.specs.Listed.{cells_marked, slots_of};
-ghost use Rattle.row_index.specs.Index.{ArePlaces, Indexes, is_build_fault};
+ghost use Rattle.row_index.specs.Index.{ArePlaces, IndexesIfApart, is_build_fault};
 ghost use Rattle.row_index.specs.Places.{place_stamp, row_places};
 
 use crate::ordered::OrderedPlaces;
@@ -30,7 +30,7 @@ impl RowIndex {
         requires over { IsOver store.now (B.chip bench.old) }
         requires idle { store.now.begun ≡ false }
         ensures idle { IfOk result (λ index. index.begun ≡ false) }
-        ensures stands { IfOk result (λ index. IfSome (slots_of store.now Committed (B.chip bench.old)) (λ slots. AreApart place_stamp (row_places slots)) → Indexes index store.now (B.chip bench.old)) }
+        ensures stands { IfOk result (λ index. IndexesIfApart index store.now (B.chip bench.old)) }
         ensures octets_read { IfOk result (λ _. IfSome (slots_of store.now Committed (B.chip bench.old))
             (λ slots. Becomes (RisesAtMost (cell_size * cells_marked row_kind slots)) (B.octets_read bench.old) (B.octets_read bench.new))) }
         ensures no_memory { IsErrOf result BuildRefusal.NoMemory → bench.new ≡ bench.old }

@@ -44,8 +44,8 @@ impl Model for RowIndex {
 }
 
 impl RowIndex {
-    /// An index of no rows, with room for those of a store of so many cells: for each cell 12 octets on each side, and as many by tables.
-    /// That is 98,304 octets for 2,048 cells.
+    /// An index of no rows, with room for those of a store of so many cells: for each cell 12 octets on each side, as many by tables, and one
+    /// that says whether the slot has a row. That is 102,400 octets for 2,048 cells.
     pub fn with_room(alloc: Global, cells: u16) -> Result<RowIndex, AllocError>
         ensures none { IfOk result (λ index. index ≡ record { cells = cells; begun = false; committed = []; working = [] }) }
     {
@@ -207,6 +207,8 @@ fn follow(places: &mut OrderedPlaces, others: &OrderedPlaces, done: Done)
     requires cells { others.now.cells ≡ places.old.cells }
     requires few { length others.now.places ≤ others.now.cells }
     requires leads { LeadsTo done places.old.places others.now.places }
+    requires within { AllByRecursion (λ place. place_slot place < places.old.cells) places.old.places }
+    requires others_within { AllByRecursion (λ place. place_slot place < places.old.cells) others.now.places }
     ensures same { places.new ≡ others.now }
 {
     match done {

@@ -1,7 +1,8 @@
-// The places of the rows of one side: in order of their stamps, and once more by tables. Both lists keep their memory.
-ghost use Rattle.std.specs.Prelude.{◌≡◌, ◌<◌, ◌≤◌, [], Some, IfOk, count_by, length, nat_lt, not};
-ghost use Rattle.std.specs.List.{filter, find, list_all, list_any};
+// The places of the rows of one side: in order of their stamps, and once more by tables; and which slots have them. All keep their memory.
+ghost use Rattle.std.specs.Prelude.{◌≡◌, ℕ, ◌<◌, ◌≤◌, [], Some, IfOk, count_by, if◌then◌else◌, length, nat_lt, not};
+ghost use Rattle.std.specs.List.{AllByRecursion, filter, find, list_all, list_any};
 ghost use Rattle.eeprom.specs.Slots.{AreApart, Rises, has, put_in_order, without};
+ghost use Rattle.cell_store.specs.Marks.{is_marked};
 ghost use Rattle.row_index.specs.Index.{is_above};
 ghost use Rattle.row_index.specs.Ordered.{Ordered};
 ghost use Rattle.row_index.specs.Places.{IsOneMore, is_in_table, is_later_in, place_slot, place_stamp};
@@ -16,6 +17,8 @@ pub(crate) struct OrderedPlaces {
     cells: u16,
     by_stamp: Vec<RowPlace>,
     by_table: Vec<RowPlace>,
+    /// Of each slot of the store whether it has a row.
+    taken: Vec<bool>,
 }
 
 impl Model for OrderedPlaces {
@@ -26,7 +29,7 @@ impl Model for OrderedPlaces {
 
     ghost view = { λ ordered. record { cells = ordered.cells; places = ordered.by_stamp.items } };
 
-    ghost invariant = { λ ordered. IsOrdered ordered.cells ordered.by_stamp.items ordered.by_table.items (vec_capacity ordered.by_stamp) (vec_capacity ordered.by_table) };
+    ghost invariant = { λ ordered. IsOrdered ordered.cells ordered.by_stamp.items ordered.by_table.items ordered.taken.items (vec_capacity ordered.by_stamp) (vec_capacity ordered.by_table) };
 }
 
 impl OrderedPlaces {
@@ -38,6 +41,7 @@ impl OrderedPlaces {
             cells,
             by_stamp: Vec::with_capacity(alloc, usize::from(cells))?,
             by_table: Vec::with_capacity(alloc, usize::from(cells))?,
+            taken: vec![in alloc; false; usize::from(cells)]?,
         })
     }
 
@@ -103,9 +107,10 @@ impl OrderedPlaces {
 
     // Whether a slot has a row.
     pub(crate) fn has_slot(&self, slot: u16) -> bool
+        requires there { slot < self.now.cells }
         ensures { result ≡ list_any (has place_slot slot) self.now.places }
     {
-        self.by_stamp.iter().any(|place| place.slot == slot)
+        self.taken[usize::from(slot)]
     }
 
     // Whether all stamps are below one.
@@ -120,39 +125,48 @@ impl OrderedPlaces {
     pub(crate) fn put(&mut self, place: RowPlace)
         requires room { length self.old.places < self.old.cells }
         requires new_stamp { count_by (has place_stamp place.stamp) self.old.places ≡ 0 }
+        requires there { place_slot place < self.old.cells }
         ensures placed { self.new ≡ record { cells = self.old.cells; places = put_in_order place_stamp place self.old.places } }
     {
         put(&mut self.by_stamp, Order::ByStamp, place);
         put(&mut self.by_table, Order::ByTable, place);
+        self.taken[usize::from(place.slot)] = true;
     }
 
     // Takes out the place of the row that a slot has.
     pub(crate) fn take_out(&mut self, slot: u16)
+        requires there { slot < self.old.cells }
         ensures taken { self.new ≡ record { cells = self.old.cells; places = without place_slot slot self.old.places } }
         ensures one_less { (place : RowPlace) → AreApart place_slot self.old.places → find (has place_slot slot) self.old.places ≡ Some place → IsOneMore place self.new.places self.old.places }
     {
         self.by_stamp.retain(|place| place.slot != slot);
         self.by_table.retain(|place| place.slot != slot);
+        self.taken[usize::from(slot)] = false;
     }
 
     // Takes out the places of the rows of a table.
     pub(crate) fn take_out_table(&mut self, table: u32)
         ensures { self.new ≡ record { cells = self.old.cells; places = filter (λ place. not (is_in_table table place)) self.old.places } }
     {
+        mark(&mut self.taken, self.by_stamp.as_slice(), false);
         self.by_stamp.retain(|place| place.table != table);
         self.by_table.retain(|place| place.table != table);
+        mark(&mut self.taken, self.by_stamp.as_slice(), true);
     }
 
     // Has these places in the place of its own.
     pub(crate) fn fill(&mut self, places: &[RowPlace])
         requires rises { Rises place_stamp places.now }
         requires room { length places.now ≤ self.old.cells }
+        requires within { AllByRecursion (λ place. place_slot place < self.old.cells) places.now }
         ensures filled { self.new ≡ record { cells = self.old.cells; places = places.now } }
     {
+        mark(&mut self.taken, self.by_stamp.as_slice(), false);
         refill(&mut self.by_stamp, places);
         refill(&mut self.by_table, places);
         self.by_table
             .sort_unstable_by_key(|place| Order::ByTable.key(place));
+        mark(&mut self.taken, self.by_stamp.as_slice(), true);
     }
 
     // Has the same places as another.
@@ -160,7 +174,20 @@ impl OrderedPlaces {
         requires cells { other.now.cells ≡ self.old.cells }
         ensures same { self.new ≡ other.now }
     {
+        mark(&mut self.taken, self.by_stamp.as_slice(), false);
         refill(&mut self.by_stamp, other.by_stamp.as_slice());
         refill(&mut self.by_table, other.by_table.as_slice());
+        mark(&mut self.taken, self.by_stamp.as_slice(), true);
+    }
+}
+
+// Marks the slots of some places, or marks them no more.
+fn mark(taken: &mut Vec<bool>, places: &[RowPlace], has_row: bool)
+    requires within { AllByRecursion (λ place. place_slot place < length taken.old.items) places.now }
+    ensures marked { (slot : ℕ) → is_marked taken.new.items slot ≡ (if list_any (has place_slot slot) places.now then has_row else is_marked taken.old.items slot) }
+    ensures many { length taken.new.items ≡ length taken.old.items }
+{
+    for place in places {
+        taken[usize::from(place.slot)] = has_row;
     }
 }

@@ -17,5 +17,6 @@ pub invariant_of-self : goal.invariant_of-self
 invariant_of-self c =
     let few = rw (← c.self.view_is) at c.requires.room in
     let none = rw (← c.self.view_is) at c.requires.new_stamp in
-    rw (c.put.ensures.placed, c.put-2.ensures.placed, c.put.ensures.room, c.put-2.ensures.room)
-    (IsOrdered-put c.args.place c.self.inside.cells c.self.inside.by_stamp.items c.self.inside.by_table.items _ _ c.self.invariant c.put.ensures.fits none few)
+    let there = rw (← c.self.view_is) at c.requires.there in
+    rw (c.put.ensures.placed, c.put-2.ensures.placed, c.put.ensures.room, c.put-2.ensures.room, c.from.ensures)
+    (IsOrdered-put c.args.place c.self.inside.cells c.self.inside.by_stamp.items c.self.inside.by_table.items c.self.inside.taken.items _ _ c.self.invariant c.put.ensures.fits none few there)

@@ -1,0 +1,5 @@
+pub mod Bindings
+pub mod KnownNames
+pub mod Passing
+pub mod Searching
+pub mod Stamped
