@@ -17,6 +17,8 @@ ghost use Rattle.card.specs.Card.{HoldsSome, IsAtRest};
 ghost use Rattle.card.specs.Changing.{IsChange, Changes, acting};
 
 use db_access::create_user;
+use db_define::{create_table, drop_table};
+use db_write::insert;
 use eeprom::{Eeprom, EepromFault};
 use record_store::{Side, Store};
 use record_table::Stop;
@@ -97,6 +99,11 @@ fn make<B: Eeprom>(
     ensures cause { CountsFaults is_stop_fault (B.faults bench.old) (B.faults bench.new) result }
 {
     match operation {
+        Operation::CreateTable { name, columns } => {
+            create_table(store, bench, actor, name.copy(), columns, index)
+        }
+        Operation::DropTable { name } => drop_table(store, bench, actor, name.copy(), index),
+        Operation::Insert { table, row } => insert(store, bench, actor, table.copy(), row, index),
         Operation::CreateUser {
             name,
             profile,

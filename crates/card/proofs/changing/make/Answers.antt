@@ -1,16 +1,60 @@
--- An operation ends as its edits say, and the index goes on with it.
-use Rattle.std.proofs.Common.{ap}
+-- Each operation ends as its edits say, and the index goes on with it.
+use Rattle.std.proofs.Common.{◌≡◌, ℕ, true, List, refl}
+use Rattle.scql_base.specs.declared.operation.Operation.{Operation}
+use Rattle.scql_base.specs.declared.operation.Operation.TheVariants.{CreateTable, DropTable, Insert, CreateUser}
+use Rattle.scql_base.specs.declared.words.Profile.{Profile}
 use Rattle.scql_model.specs.Changing.{edits_of}
+use Rattle.scql_model.specs.Operations.{kind_of}
+use Rattle.card.proofs.BuiltLines.{is_change, is_change-IsChange}
 use Rattle.card.proofs.IndexedStore.{Indexes-ends}
 use Rattle.card.proofs.changing.make.Goals as goal
 
-pub returns-clause-ends : goal.returns-clause-ends
-unfolding edits_of
-returns-clause-ends g c = λ db cursor held acts form fits.
-    rw c.in-CreateUser.is ((rw c.copy.ensures at c.create_user.ensures.ends) db held acts (rw c.in-CreateUser.is at form))
+-- each change that is built has an arm
+no-other : (operation : Operation) → is_change (kind_of operation) ≡ true → ((name : List ℕ) (columns : List (List ℕ)) → operation ≡ CreateTable name columns → ⊥) → ((name : List ℕ) → operation ≡ DropTable name → ⊥)
+    → ((table : List ℕ) (row : List (List ℕ)) → operation ≡ Insert table row → ⊥) → ((name : List ℕ) (profile : Profile) (secret : List ℕ) → operation ≡ CreateUser name profile secret → ⊥) → ⊥
+no-other (CreateTable name columns) change table drop row user = table name columns refl
+no-other (DropTable name) change table drop row user = drop name refl
+no-other (Insert name values) change table drop row user = row name values refl
+no-other (CreateUser name profile secret) change table drop row user = user name profile secret refl
+no-other operation change table drop row user = cc
 
-pub returns-clause-index : goal.returns-clause-index
-returns-clause-index g c = λ db held acts form fits ended.
-    let made = (rw c.copy.ensures at c.create_user.ensures.ends) db held acts (rw c.in-CreateUser.is at form) in
+pub unreachable-requires : goal.unreachable-requires
+unreachable-requires g c =
+    no-other c.args.operation.now (is_change-IsChange c.args.operation.now c.requires.changes) c.in_default.not-CreateTable c.in_default.not-DropTable c.in_default.not-Insert c.in_default.not-CreateUser
+
+pub returns-in-CreateTable-clause-ends : goal.returns-in-CreateTable-clause-ends
+unfolding edits_of
+returns-in-CreateTable-clause-ends g c = λ db cursor held acts form fits.
+    rw c.in-CreateTable.is ((rw c.copy.ensures at c.create_table.ensures.ends) db held acts (rw c.in-CreateTable.is at form))
+
+pub returns-in-CreateTable-clause-index : goal.returns-in-CreateTable-clause-index
+returns-in-CreateTable-clause-index g c = λ db held acts form fits.
+    (rw c.copy.ensures at c.create_table.ensures.index) db held acts (rw c.in-CreateTable.is at form)
+
+pub returns-in-DropTable-clause-ends : goal.returns-in-DropTable-clause-ends
+unfolding edits_of
+returns-in-DropTable-clause-ends g c = λ db cursor held acts form fits.
+    rw c.in-DropTable.is ((rw c.copy-in-DropTable.ensures at c.drop_table.ensures.ends) db held)
+
+pub returns-in-DropTable-clause-index : goal.returns-in-DropTable-clause-index
+returns-in-DropTable-clause-index g c = λ db held acts form fits. c.drop_table.ensures.index db held
+
+pub returns-in-Insert-clause-ends : goal.returns-in-Insert-clause-ends
+unfolding edits_of
+returns-in-Insert-clause-ends g c = λ db cursor held acts form fits.
+    rw c.in-Insert.is ((rw c.copy-in-Insert.ensures at c.insert.ensures.ends) db held (rw c.in-Insert.is at form) (rw c.in-Insert.is at fits))
+
+pub returns-in-Insert-clause-index : goal.returns-in-Insert-clause-index
+returns-in-Insert-clause-index g c = λ db held acts form fits.
+    (rw c.copy-in-Insert.ensures at c.insert.ensures.index) db held (rw c.in-Insert.is at form) (rw c.in-Insert.is at fits)
+
+pub returns-in-CreateUser-clause-ends : goal.returns-in-CreateUser-clause-ends
+unfolding edits_of
+returns-in-CreateUser-clause-ends g c = λ db cursor held acts form fits.
+    rw c.in-CreateUser.is ((rw c.copy-in-CreateUser.ensures at c.create_user.ensures.ends) db held acts (rw c.in-CreateUser.is at form))
+
+pub returns-in-CreateUser-clause-index : goal.returns-in-CreateUser-clause-index
+returns-in-CreateUser-clause-index g c = λ db held acts form fits ended.
+    let made = (rw c.copy-in-CreateUser.ensures at c.create_user.ensures.ends) db held acts (rw c.in-CreateUser.is at form) in
     Indexes-ends db _ c.create_user.result c.args.index.now c.args.store.now c.create_user.new.store (g.B.Eeprom.chip c.args.bench.now) (g.B.Eeprom.chip c.create_user.new.bench)
     c.requires.index made c.create_user.ensures.goes_on c.create_user.ensures.rows ended
