@@ -95,8 +95,8 @@ closed-told header image begins closed = sym begins.gate ∙ closed
 
 -- no record is read with the front and a journal
 pub reads-front : (header : Header) (size : ℕ) (image : Option (List ℕ)) (a b c d : Option ℕ) → IsHeader size header → IfSome image (λ image. IsHeaderOf image header) → Becomes (RisesAtMost 11) a b → Becomes (RisesAtMost (journal_octets header.cells)) b c
-    → Becomes (RisesAtMost (2 * header.cells)) c d → ReadsFront header.cells image a d
-reads-front header size image a b c d range begins first second third = record {
+    → (header.is_open ≡ false → c ≡ b) → Becomes (RisesAtMost (2 * header.cells)) c d → ReadsFront header.cells image a d
+reads-front header size image a b c d range begins first second none third = record {
   few = range.many;
   told = told image begins;
   read = λ after is.
@@ -104,11 +104,19 @@ reads-front header size image a b c d range begins first second third = record {
       let middle = second last.0 last.1 in
       let start = first middle.0 middle.1 in
       (start.0, start.1, omega (arith, start.2, middle.2, last.2));
+  closed = shut image begins;
 }
   where
     told : (image : Option (List ℕ)) → IfSome image (λ image. IsHeaderOf image header) → IfSome image (λ image. number_at image 6 ≡ header.cells)
     told None begins = tt
     told (Some image) begins = begins.cells
+
+    shut : (image : Option (List ℕ)) → IfSome image (λ image. IsHeaderOf image header) → IfSome image (λ image. is_gate_open image ≡ false → Becomes (RisesAtMost (front_octets header.cells)) a d)
+    shut None begins = tt
+    shut (Some image) begins = λ closed after is.
+        let last = third after is in
+        let start = first last.0 (sym (none (closed-told header image begins closed)) ∙ last.1) in
+        (start.0, start.1, omega (arith, start.2, last.2))
 
 -- nothing is read
 pub reads-nothing : (most : ℕ) (count : Option ℕ) → Becomes (RisesAtMost most) count count

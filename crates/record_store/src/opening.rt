@@ -174,7 +174,7 @@ fn close_gate<B: Eeprom>(bench: &mut B, header: Header) -> Result<(), OpenRefusa
     requires header { IfSome (B.chip bench.old).image (λ image. IsHeaderOf image header) }
     ensures header { OnOk result (IfSome (B.chip bench.new).image (λ image. IsHeaderOf image (record header { is_open = false }))) }
     ensures told { OnOk result (is_some (B.chip bench.new).image ≡ is_some (B.chip bench.old).image) }
-    ensures octets_read { OnOk result (header.is_open ≡ false → B.octets_read bench.new ≡ B.octets_read bench.old) }
+    ensures octets_read { header.is_open ≡ false → B.octets_read bench.new ≡ B.octets_read bench.old }
     ensures most_read { Becomes (RisesAtMost (journal_octets header.cells)) (B.octets_read bench.old) (B.octets_read bench.new) }
     ensures not_a_card { IsErrOf result OpenRefusal.NotACard → IfSome (B.chip bench.old).image (λ image. store_of image ≡ None) }
     ensures frame { Recovers is_open_fault B.chip B.faults bench.old bench.new result }

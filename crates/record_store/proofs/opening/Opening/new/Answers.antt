@@ -43,13 +43,13 @@ returns-clause-octets_read g c =
 front : (g : _) (c : After-read_directory g) → ReadsFront c.in_ok-header.header.cells (g.B.Eeprom.chip c.args.bench.now).image (g.B.Eeprom.octets_read c.args.bench.now) (g.B.Eeprom.octets_read c.read_directory.new.bench)
 front g c =
     reads-front c.in_ok-header.header _ (g.B.Eeprom.chip c.args.bench.now).image (g.B.Eeprom.octets_read c.args.bench.now) (g.B.Eeprom.octets_read c.read_header.new.bench) (g.B.Eeprom.octets_read c.close_gate.new.bench)
-    (g.B.Eeprom.octets_read c.read_directory.new.bench) c.in_ok-header.ensures.range c.in_ok-header.ensures.header c.read_header.ensures.most_read c.close_gate.ensures.most_read c.read_directory.ensures.most_read
+    (g.B.Eeprom.octets_read c.read_directory.new.bench) c.in_ok-header.ensures.range c.in_ok-header.ensures.header c.read_header.ensures.most_read c.close_gate.ensures.most_read c.close_gate.ensures.octets_read c.read_directory.ensures.most_read
 
 pub returns-in_err-close_gate-clause-no_memory : goal.returns-in_err-close_gate-clause-no_memory
 returns-in_err-close_gate-clause-no_memory g c = λ _. (
   c.in_ok-header.header.cells,
   reads-front c.in_ok-header.header _ (g.B.Eeprom.chip c.args.bench.now).image (g.B.Eeprom.octets_read c.args.bench.now) (g.B.Eeprom.octets_read c.read_header.new.bench) (g.B.Eeprom.octets_read c.close_gate.new.bench)
-      (g.B.Eeprom.octets_read c.close_gate.new.bench) c.in_ok-header.ensures.range c.in_ok-header.ensures.header c.read_header.ensures.most_read c.close_gate.ensures.most_read (reads-nothing _ _),
+      (g.B.Eeprom.octets_read c.close_gate.new.bench) c.in_ok-header.ensures.range c.in_ok-header.ensures.header c.read_header.ensures.most_read c.close_gate.ensures.most_read c.close_gate.ensures.octets_read (reads-nothing _ _),
 )
 
 pub returns-clause-reads_front : goal.returns-clause-reads_front

@@ -1,0 +1,58 @@
+-- The nearest of all grants is that of one so far and those of the slots that are left.
+use Rattle.std.proofs.Common.{◌≡◌, ◌≤◌, List, Option, Some, None, refl, sym, ◌∙◌, subst, filter, arith}
+use Rattle.std.specs.Prelude.{IfSome}
+use Rattle.eeprom.specs.Chip.{Chip}
+use Rattle.eeprom.specs.Slots.{nearest_from}
+use Rattle.eeprom.specs.StoreOf.{Slots}
+use Rattle.scql_base.specs.declared.records.Grant.{Grant}
+use Rattle.catalog_codec.specs.Catalog.{grant_kind}
+use Rattle.record_table.specs.Listed.{at_slot, in_slots, slots_of}
+use Rattle.record_table.specs.Making.{IsHeld}
+use Rattle.record_table.proofs.Scan.{AreEmptyFrom, empty-told, left-behind, left-empty}
+use Rattle.dictionaries.specs.Told.{tells_of_grant}
+use Rattle.dictionaries.proofs.Nearest.{nearest-held, reads-end, reads-next, reads-start}
+use Rattle.dictionaries.proofs.grants.find_next.Goals as goal
+
+pub loop-slot-init : goal.loop-slot-init
+loop-slot-init g c =
+    let slots : Option Slots = slots_of c.args.store.now c.args.side (g.B.Eeprom.chip c.args.bench.now) in
+    record {
+      same = refl;
+      faults = refl;
+      bound = c.slots_in_use-slot-end.ensures.most;
+      empty = empty-told c.args.store.now c.args.side c.slots_in_use-slot-end.result (g.B.Eeprom.chip c.args.bench.now).image c.requires.over.stands c.slots_in_use-slot-end.ensures.empty;
+      nearest = λ db held. refl;
+      read = reads-start slots (g.B.Eeprom.octets_read c.args.bench.now);
+    }
+
+pub loop-slot-preserved : goal.loop-slot-preserved
+loop-slot-preserved g c =
+    let slots : Option Slots = slots_of c.args.store.now c.args.side (g.B.Eeprom.chip c.args.bench.now) in
+    let key = grant_kind.key in
+    record {
+      same = c.in_ok-nearest.ensures.frame.same ∙ (c.in_ok-grant.ensures.frame.same ∙ c.loop-slot.invariant.same);
+      faults = c.in_ok-nearest.ensures.frame.counts.1 ∙ (c.in_ok-grant.ensures.frame.counts.1 ∙ c.loop-slot.invariant.faults);
+      bound = c.loop-slot.invariant.bound;
+      empty = c.loop-slot.invariant.empty;
+      nearest = λ db held.
+          let p = tells_of_grant db c.args.owner in
+          left-behind grant_kind (λ (slots : Slots). nearest_from key c.args.stamp None (filter p (in_slots grant_kind slots))) (λ (rest : List Grant). nearest_from key c.args.stamp c.loop-slot.nearest (filter p rest))
+          (λ (rest : List Grant). nearest_from key c.args.stamp c.in_ok-nearest.nearest (filter p rest)) (Some held.slots) c.loop-slot.slot c.in_ok-grant.grant
+          (subst (λ (o : Option Slots). IfSome o (λ slots. c.in_ok-grant.grant ≡ at_slot grant_kind c.loop-slot.slot slots)) held.told (rw c.loop-slot.invariant.same at c.in_ok-grant.ensures.value))
+          (c.in_ok-nearest.ensures.nearest db (subst (λ (chip : Chip). IsHeld c.args.store.now c.args.side chip db) (sym (c.in_ok-grant.ensures.frame.same ∙ c.loop-slot.invariant.same)) held)) (c.loop-slot.invariant.nearest db held);
+      read = reads-next slots c.loop-slot.slot _ _ _ _ c.loop-slot.invariant.read (rw c.loop-slot.invariant.same at c.in_ok-grant.ensures.octets_read)
+          (rw (c.in_ok-grant.ensures.frame.same, c.loop-slot.invariant.same) at c.in_ok-nearest.ensures.octets_read);
+    }
+
+pub returns-clause-next : goal.returns-clause-next
+returns-clause-next g c = λ db held.
+    let p = tells_of_grant db c.args.owner in
+    let key = grant_kind.key in
+    nearest-held c.args.store.now c.args.side (g.B.Eeprom.chip c.args.bench.now) db c.args.owner c.args.stamp c.loop-slot.nearest held
+    (left-empty grant_kind (λ (slots : Slots). nearest_from key c.args.stamp None (filter p (in_slots grant_kind slots))) (λ (rest : List Grant). nearest_from key c.args.stamp c.loop-slot.nearest (filter p rest)) (Some held.slots) c.slots_in_use-slot-end.result c.loop-slot.slot
+    c.loop-slot-test.false (subst (λ (o : Option Slots). IfSome o (AreEmptyFrom c.slots_in_use-slot-end.result)) held.told c.loop-slot.invariant.empty) (c.loop-slot.invariant.nearest db held))
+
+pub returns-clause-octets_read : goal.returns-clause-octets_read
+returns-clause-octets_read g c =
+    let within : c.loop-slot.slot ≤ c.args.store.now.chains.cells = omega (arith, c.loop-slot.auto.slot-end, c.loop-slot.invariant.bound) in
+    reads-end (slots_of c.args.store.now c.args.side (g.B.Eeprom.chip c.args.bench.now)) c.loop-slot.slot c.args.store.now.chains.cells _ _ within c.loop-slot.invariant.read

@@ -1,0 +1,9 @@
+-- The owner of a grant is that of its object.
+use Rattle.std.proofs.Common.{ap, ◌∙◌}
+use Rattle.scql_model.specs.Dictionaries.{tells_of}
+use Rattle.dictionaries.proofs.ToldRows.{object-owned}
+use Rattle.dictionaries.proofs.grants.is_told.Goals as goal
+
+pub returns-clause-told : goal.returns-clause-told
+returns-clause-told g c = λ db held.
+    c.of.ensures ∙ ap (tells_of c.args.owner) (c.owner_of.ensures ∙ object-owned c.args.store.now c.args.side (g.B.Eeprom.chip c.args.bench.now) db c.args.grant.now.object _ held c.in_ok-object.ensures.found)

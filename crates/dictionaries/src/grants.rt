@@ -1,0 +1,173 @@
+// The next row of a dictionary of grants. The owner of a grant is that of its object.
+ghost use Rattle.std.specs.Prelude.{◌≡◌, ◌+◌, ◌*◌, List, IfOk, IfSome, filter, option_map};
+ghost use Rattle.std.specs.List.{cons_option, find};
+ghost use Rattle.std.specs.Option.{option_map_or};
+ghost use Rattle.eeprom.specs.Chip.{Becomes, RisesAtMost};
+ghost use Rattle.eeprom.specs.Fault.{each_error};
+ghost use Rattle.eeprom.specs.Frame.{Reads};
+ghost use Rattle.eeprom.specs.Slots.{above, is_after, nearer, nearest_from};
+ghost use Rattle.eeprom.specs.StoreOf.{cell_size};
+ghost use Rattle.record_store.specs.Held.{IsOver};
+ghost use Rattle.scql_base.specs.declared.records.Grant as base;
+ghost use Rattle.scql_base.specs.declared.words.Subject.TheVariants.{Grants};
+ghost use Rattle.scql_model.specs.Database.{Database};
+ghost use Rattle.scql_model.specs.Dictionaries as model;
+ghost use Rattle.scql_model.specs.Dictionaries.{rows_told};
+ghost use Rattle.catalog_codec.specs.Catalog.{grant_kind, object_kind, user_kind};
+ghost use Rattle.record_table.specs.Listed.{cells_marked, slots_of};
+ghost use Rattle.record_table.specs.Making.{IsHeld};
+ghost use Rattle.dictionaries.specs.Told.{IsNext, most_cells_read, name_or_none, tells_of_grant};
+
+use crate::names::{object_name, user_name};
+use crate::rows::grant_row;
+use crate::telling::TellsOf;
+use eeprom::{Eeprom, EepromFault};
+use record_store::{Found, RecordOctets, Side, Store};
+use record_table::read_entry;
+use scql_base::{Grant, Name, Object, Row};
+
+/// The grant of the least stamp above a stamp of which a dictionary tells: its stamp, and its row.
+pub(crate) fn next_grant<B: Eeprom>(
+    store: &Store,
+    bench: &mut B,
+    side: Side,
+    owner: u32,
+    stamp: u32,
+    out: &mut Row,
+) -> Result<Option<u32>, EepromFault>
+    requires over { IsOver store.now (B.chip bench.old) }
+    ensures next { (db : Database) → IsHeld store.now side (B.chip bench.old) db → IfOk result (λ next. IsNext (rows_told db owner Grants) stamp next out.new) }
+    ensures octets_read { IfOk result (λ _. IfSome (slots_of store.now side (B.chip bench.old))
+        (λ slots. Becomes (RisesAtMost (cell_size * most_cells_read store.now.chains.cells Grants slots)) (B.octets_read bench.old) (B.octets_read bench.new))) }
+    ensures frame { Reads each_error B.chip B.faults bench.old bench.new result }
+{
+    let Some(grant) = find_next(store, bench, side, owner, stamp)? else {
+        return Ok(None);
+    };
+    let object = object_name(store, bench, side, grant.object)?;
+    let grantee = grantee_name(store, bench, side, grant.grantee)?;
+    *out = grant_row(&grant, &object, &grantee);
+    Ok(Some(grant.stamp))
+}
+
+// The name of a user, or PUBLIC.
+fn grantee_name<B: Eeprom>(
+    store: &Store,
+    bench: &mut B,
+    side: Side,
+    grantee: u32,
+) -> Result<Option<Name>, EepromFault>
+    requires over { IsOver store.now (B.chip bench.old) }
+    ensures name { (db : Database) → IsHeld store.now side (B.chip bench.old) db → IfOk result (λ name. name_or_none name ≡ model.grantee_name db grantee) }
+    ensures octets_read { IfOk result (λ _. IfSome (slots_of store.now side (B.chip bench.old))
+        (λ slots. Becomes (RisesAtMost (cell_size * cells_marked user_kind slots)) (B.octets_read bench.old) (B.octets_read bench.new))) }
+    ensures frame { Reads each_error B.chip B.faults bench.old bench.new result }
+{
+    if grantee == 0 {
+        return Ok(Name::read(Name::PUBLIC));
+    }
+    user_name(store, bench, side, grantee)
+}
+
+// The grant of the least stamp above a stamp of which a dictionary tells.
+fn find_next<B: Eeprom>(
+    store: &Store,
+    bench: &mut B,
+    side: Side,
+    owner: u32,
+    stamp: u32,
+) -> Result<Option<Grant>, EepromFault>
+    requires over { IsOver store.now (B.chip bench.old) }
+    ensures next { (db : Database) → IsHeld store.now side (B.chip bench.old) db
+        → IfOk result (λ next. next ≡ find (is_after grant_kind.key stamp) (filter (tells_of_grant db owner) db.grants)) }
+    ensures octets_read { IfOk result (λ _. IfSome (slots_of store.now side (B.chip bench.old))
+        (λ slots. Becomes (RisesAtMost (cell_size * (cells_marked grant_kind slots + store.now.chains.cells * cells_marked object_kind slots))) (B.octets_read bench.old) (B.octets_read bench.new))) }
+    ensures frame { Reads each_error B.chip B.faults bench.old bench.new result }
+{
+    let mut octets = RecordOctets::new();
+    let mut nearest: Option<Grant> = None;
+    for slot in 0..store.slots_in_use() {
+        let grant = read_entry::<Grant, B>(store, bench, side, slot, &mut octets)?;
+        nearest = nearest_told(store, bench, side, owner, stamp, nearest, grant)?;
+    }
+    Ok(nearest)
+}
+
+// Of the nearest grant so far and one more, if there is one, that of the least stamp above a stamp, where a dictionary tells of it.
+fn nearest_told<B: Eeprom>(
+    store: &Store,
+    bench: &mut B,
+    side: Side,
+    owner: u32,
+    stamp: u32,
+    nearest: Option<Grant>,
+    grant: Option<Grant>,
+) -> Result<Option<Grant>, EepromFault>
+    requires over { IsOver store.now (B.chip bench.old) }
+    ensures nearest { (db : Database) → IsHeld store.now side (B.chip bench.old) db
+        → IfOk result (λ next. (rest : List base.Grant) → nearest_from grant_kind.key stamp nearest (filter (tells_of_grant db owner) (cons_option grant rest))
+        ≡ nearest_from grant_kind.key stamp next (filter (tells_of_grant db owner) rest)) }
+    ensures octets_read { IfOk result (λ _. IfSome (slots_of store.now side (B.chip bench.old))
+        (λ slots. Becomes (RisesAtMost (cell_size * cells_marked object_kind slots)) (B.octets_read bench.old) (B.octets_read bench.new))) }
+    ensures frame { Reads each_error B.chip B.faults bench.old bench.new result }
+{
+    let Some(grant) = grant else {
+        return Ok(nearest);
+    };
+    if is_told(store, bench, side, owner, &grant)? {
+        Ok(nearer_of(nearest, grant, stamp))
+    } else {
+        Ok(nearest)
+    }
+}
+
+// Whether a dictionary of this owner tells of a grant.
+fn is_told<B: Eeprom>(
+    store: &Store,
+    bench: &mut B,
+    side: Side,
+    owner: u32,
+    grant: &Grant,
+) -> Result<bool, EepromFault>
+    requires over { IsOver store.now (B.chip bench.old) }
+    ensures told { (db : Database) → IsHeld store.now side (B.chip bench.old) db → IfOk result (λ told. told ≡ tells_of_grant db owner grant.now) }
+    ensures octets_read { IfOk result (λ _. IfSome (slots_of store.now side (B.chip bench.old))
+        (λ slots. Becomes (RisesAtMost (cell_size * cells_marked object_kind slots)) (B.octets_read bench.old) (B.octets_read bench.new))) }
+    ensures frame { Reads each_error B.chip B.faults bench.old bench.new result }
+{
+    let telling = TellsOf(owner);
+    if telling.all() {
+        return Ok(true);
+    }
+    let object = object_table::find_stamp(store, bench, side, grant.object)?;
+    Ok(telling.of(owner_of(&object)))
+}
+
+// The owner of an object that was found.
+fn owner_of(found: &Option<Found<Object>>) -> u32
+    ensures { result ≡ option_map_or (λ object. object.owner) (option_map (λ found. found.value) found.now) 0 }
+{
+    match found {
+        Some(found) => found.value.owner,
+        None => 0,
+    }
+}
+
+// Of the nearest grant so far and one more, the one of the least stamp above a stamp.
+fn nearer_of(nearest: Option<Grant>, grant: Grant, stamp: u32) -> Option<Grant>
+    ensures { result ≡ nearer grant_kind.key nearest (above grant_kind.key stamp grant) }
+{
+    if grant.stamp <= stamp {
+        return nearest;
+    }
+    match nearest {
+        Some(near) => {
+            if grant.stamp < near.stamp {
+                Some(grant)
+            } else {
+                Some(near)
+            }
+        }
+        None => Some(grant),
+    }
+}

@@ -1,0 +1,13 @@
+//! Dictionaries: the objects, users and grants of a card as rows.
+#![tactic(auto)]
+
+mod grants;
+mod names;
+mod next;
+mod objects;
+mod rows;
+mod telling;
+mod texts;
+mod users;
+
+pub use next::next_after;
