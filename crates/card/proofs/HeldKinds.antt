@@ -104,7 +104,7 @@ admitted-parts db admitted =
     )
 
 -- What is kept of a slot's octets is, of each kind, what its reader gives.
-abbrev parts : ℕ → Option User → Option Object → Option Grant → Option RowRecord → Option Summary
+abbrev pub parts : ℕ → Option User → Option Object → Option Grant → Option RowRecord → Option Summary
 parts slot u o g r = option_or (option_map kept_as.User u) (option_or (option_map object_summary o) (option_or (option_map kept_as.Grant g) (option_map (λ r. kept_as.Row (row_summary slot r)) r)))
 
 user-parts : (slot : ℕ) (u : Option User) (o : Option Object) (g : Option Grant) (r : Option RowRecord) → option_and_then as_user (parts slot u o g r) ≡ u
@@ -131,7 +131,7 @@ grant-parts slot None None (Some g) r one = refl
 grant-parts slot None None None (Some r) one = refl
 grant-parts slot None None None None one = refl
 
-row-parts : (slot : ℕ) (u : Option User) (o : Option Object) (g : Option Grant) (r : Option RowRecord) → given u + (given o + (given g + given r)) ≤ 1 → option_and_then as_row (parts slot u o g r) ≡ option_map (row_summary slot) r
+pub row-parts : (slot : ℕ) (u : Option User) (o : Option Object) (g : Option Grant) (r : Option RowRecord) → given u + (given o + (given g + given r)) ≤ 1 → option_and_then as_row (parts slot u o g r) ≡ option_map (row_summary slot) r
 row-parts slot (Some u) o g (Some r) one = absurd (omega (arith, one))
 row-parts slot (Some u) o g None one = refl
 row-parts slot None (Some o) g (Some r) one = absurd (omega (arith, one))
@@ -141,7 +141,7 @@ row-parts slot None None (Some g) None one = refl
 row-parts slot None None None (Some r) one = refl
 row-parts slot None None None None one = refl
 
-others : (octets : List ℕ) → given (user_in octets) + (given (object_in octets) + (given (grant_in octets) + given (row_in octets))) ≤ 1
+pub others : (octets : List ℕ) → given (user_in octets) + (given (object_in octets) + (given (grant_in octets) + given (row_in octets))) ≤ 1
 others octets = omega (arith, one_kind octets)
 
 -- so of all slots

@@ -15,6 +15,7 @@ mod OpenedDatabase
 mod OwnerSearch
 mod Passing
 mod Performing
+mod PlacedRows
 mod SeenSessions
 mod SlotCount
 mod SortedTest

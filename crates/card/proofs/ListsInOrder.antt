@@ -7,7 +7,7 @@ use Rattle.eeprom.specs.Slots.{AreApart, Rises, has, in_order, put_in_order}
 use Rattle.scql_model.proofs.ChangedLists.{each-weaker}
 use Rattle.eeprom.proofs.InOrder.{count_by-cons, put_in_order-first, Rises-in_order}
 
-all-filter_map : {X Y : Type 0} (P : X → Type 0) (Q : Y → Type 0) (h : X → Option Y) (xs : List X) → ((x : X) (y : Y) → h x ≡ Some y → P x → Q y) → AllByRecursion P xs → AllByRecursion Q (filter_map h xs)
+pub all-filter_map : {X Y : Type 0} (P : X → Type 0) (Q : Y → Type 0) (h : X → Option Y) (xs : List X) → ((x : X) (y : Y) → h x ≡ Some y → P x → Q y) → AllByRecursion P xs → AllByRecursion Q (filter_map h xs)
 all-filter_map P Q h [] f all = tt
 all-filter_map {X} {Y} P Q h (x ∷ xs) f all = go (h x) refl (all-filter_map P Q h xs f all.1)
   where

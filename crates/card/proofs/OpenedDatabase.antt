@@ -17,7 +17,7 @@ use Rattle.scql_model.specs.Database.{Database, weight}
 use Rattle.scql_model.specs.Opens.{Holds, Opens, counter_stamp, is_spelled}
 use Rattle.scql_model.proofs.LongerLists.{all-weaker}
 use Rattle.scql_model.proofs.Room.{cells-filled}
-use Rattle.card.specs.Opening.{IsOfStore, PassTest, ReadsCard, gathered, is_admitted}
+use Rattle.card.specs.Opening.{PassTest, ReadsCard, gathered, is_admitted}
 use Rattle.card.specs.Summary.{stamp_of}
 use Rattle.card.specs.declared.summary.Summary.{Summary}
 use Rattle.card.proofs.GatheredSlots.{Gathers, GathersSoFar, HoldsNone}
@@ -36,15 +36,6 @@ gathered-all held (Some image) count counter records store opened same stands g 
     let all = subst (λ (o : Option Slots). IfSome o (λ slots. Gathers held.row_limit count slots counter records))
     (sym (same image stands) ∙ (limited store.row_limit (contents store Committed image) was (sym (opened image stands) ∙ is)).0) g in
     subst (λ (limit : ℕ). Gathers limit count was.slots counter records) limit all
-
--- the records of a store, in their order
-pub of-store : (was : Stored) (count next : ℕ) (records sorted : List Summary) → Gathers was.row_limit count was.slots (Some next) records → sorted ≡ in_order stamp_of records → PassTest next records → IsOfStore was next sorted
-of-store was count next records sorted g is passed = record {
-  admitted = g.admitted;
-  counters = g.counters;
-  apart = rw g.records_are passed.apart;
-  records_are = ap (in_order stamp_of) g.records_are ∙ sym is;
-}
 
 -- the database that slots hold
 abbrev database_of : Stored → ℕ → Database
@@ -135,11 +126,6 @@ opens-finished held (Some image) count next records store same opened weight sta
         let there = opened image stands ∙ ap (with_limit store.row_limit) all in
         let limit = (limited held.row_limit (slots_at image held.chains.cells held.firsts) _ (sym (store-begins held.chains.cells held.row_limit held.firsts image stands.begins) ∙ there)).1 in
         opens-whole held image count next records slots stands (subst (λ (limit : ℕ). store_of image ≡ Some (record { row_limit = limit; slots = slots })) (sym limit) there) (weight image slots stands all) few cells least most g passed
-
-pub of-store_told : (image : Option (List ℕ)) (count next : ℕ) (records sorted : List Summary) → IfSome image (λ image. (was : Stored) → store_of image ≡ Some was → Gathers was.row_limit count was.slots (Some next) records)
-    → sorted ≡ in_order stamp_of records → PassTest next records → IfSome image (λ image. (was : Stored) → store_of image ≡ Some was → IsOfStore was next sorted)
-of-store_told None count next records sorted g is passed = tt
-of-store_told (Some image) count next records sorted g is passed = λ was there. of-store was count next records sorted (g was there) is passed
 
 pub none-tested_told : (image : Option (List ℕ)) (count : ℕ) (counter : Option ℕ) (records : List Summary) → IfSome image (λ image. (was : Stored) → store_of image ≡ Some was → Gathers was.row_limit count was.slots counter records)
     → ((next : ℕ) → counter ≡ Some next → PassTest next records → ⊥) → IfSome image (λ image. (was : Stored) → store_of image ≡ Some was → HoldsNone was)

@@ -1,9 +1,9 @@
 -- What the slots of a card hold, as far as they were read.
 use Rattle.std.specs.Prelude.{◌≡◌, ℕ, suc, ◌+◌, ◌*◌, ◌&&◌, Bool, true, List, [], ◌∷◌, Option, Some, None, option_map}
 use Rattle.std.specs.Option.{option_or, option_map_or}
-use Rattle.std.specs.List.{list_all, filter_map, cons_option}
+use Rattle.std.specs.List.{cons_option}
 use Rattle.eeprom.specs.Chip.{RisesBy}
-use Rattle.eeprom.specs.StoreOf.{Slots, Stored}
+use Rattle.eeprom.specs.StoreOf.{Slots}
 use Rattle.eeprom.specs.Slots.{AreApart, in_order, in_slot}
 use Rattle.record_store.specs.Opening.{front_octets}
 use Rattle.scql_base.specs.declared.records.Object.{Object}
@@ -71,13 +71,6 @@ summary_of (found_as.Kept summary) = Some summary
 pub record PassTest (next : ℕ) (records : List Summary) : Type 0 where
   pub apart : AreApart stamp_of records
   pub valid : is_valid_database next (users_in (in_order stamp_of records)) (tables_in (in_order stamp_of records)) (grants_in (in_order stamp_of records)) (rows_in (in_order stamp_of records)) ≡ true
-
--- A store's counter, and what is kept of its other records, in rising order of their stamps.
-pub record IsOfStore (was : Stored) (next : ℕ) (records : List Summary) : Type 0 where
-  pub admitted : list_all (is_admitted was.row_limit) was.slots ≡ true
-  pub counters : filter_map (in_slot counter_in) was.slots ≡ next ∷ []
-  pub apart : AreApart stamp_of (gathered 0 was.slots)
-  pub records_are : in_order stamp_of (gathered 0 was.slots) ≡ records
 
 -- So many octets are read where a card is opened at this database: those that begin its image, and as many as the cells of its records have.
 abbrev pub ReadsCard : Database → ℕ → ℕ → Type 0

@@ -1,5 +1,5 @@
 -- What is kept of the records of a database while it is tested.
-use Rattle.std.specs.Prelude.{◌≡◌, ℕ, true, List, length, map, Option, Some, None}
+use Rattle.std.specs.Prelude.{◌≡◌, ℕ, true, List, length, map, Option, Some, None, option_map}
 use Rattle.std.specs.List.{filter_map, list_all}
 use Rattle.scql_base.specs.declared.records.User.{User}
 use Rattle.scql_base.specs.declared.records.Object.{Object}
@@ -9,6 +9,7 @@ use Rattle.eeprom.specs.Slots.{Rises}
 use Rattle.scql_model.specs.Objects.{columns_of}
 use Rattle.scql_model.specs.Rules.{is_table}
 use Rattle.scql_model.specs.Database.{Database}
+use Rattle.row_index.specs.declared.place.RowPlace.{RowPlace}
 use Rattle.card.specs.declared.summary.Summary.{Summary}
 use Rattle.card.specs.declared.summary.Summary.TheVariants as kept_as
 use Rattle.card.specs.declared.summary.TableSummary.{TableSummary}
@@ -50,6 +51,16 @@ grants_in records = filter_map as_grant records
 
 abbrev pub rows_in : List Summary → List RowSummary
 rows_in records = filter_map as_row records
+
+-- where a row stands, and where the rows among records do, in their order
+abbrev pub row_place : RowSummary → RowPlace
+row_place r = record { stamp = r.stamp; table = r.table; slot = r.slot }
+
+abbrev pub as_place : Summary → Option RowPlace
+as_place s = option_map row_place (as_row s)
+
+abbrev pub places_in : List Summary → List RowPlace
+places_in records = filter_map as_place records
 
 -- what is kept of a table with these columns, and of a row whose record is in a slot
 abbrev pub table_summary : Object → List (List ℕ) → TableSummary

@@ -6,7 +6,7 @@ ghost use Rattle.eeprom.specs.StoreOf.{fewest_cells, image_size, is_gate_open, m
 ghost use Rattle.cell_store.specs.Reading.{ReadsAtMost};
 ghost use Rattle.record_store.specs.Held.{StandsFor};
 ghost use Rattle.record_store.specs.Faults.{is_open_fault};
-ghost use Rattle.record_store.specs.Opening.{front_octets, journal_octets, most_octets};
+ghost use Rattle.record_store.specs.Opening.{ReadsFront, most_octets};
 ghost use Rattle.record_store.specs.Recovery.{Recovers};
 ghost use Rattle.scql_model.specs.Replies as model;
 ghost use Rattle.scql_model.specs.Machine as machine;
@@ -103,8 +103,7 @@ impl Card {
             → Becomes (ReadsCard db) (B.octets_read bench.old) (B.octets_read bench.new))) }
         ensures most_read { Becomes (ReadsAtMost most_octets) (B.octets_read bench.old) (B.octets_read bench.new) }
         // Memory is wanting only before the first record is read.
-        ensures no_memory { IsErrOf result OpenRefusal.NoMemory
-            → Becomes (RisesAtMost (front_octets most_cells + journal_octets most_cells)) (B.octets_read bench.old) (B.octets_read bench.new) }
+        ensures no_memory { IsErrOf result OpenRefusal.NoMemory → (n : ℕ) × ReadsFront n (B.chip bench.old).image (B.octets_read bench.old) (B.octets_read bench.new) }
         ensures not_a_card { IsErrOf result OpenRefusal.NotACard → IfSome (B.chip bench.old).image (λ image. (db : Database) → Opens image db → ⊥) }
         // A power loss leaves an image that opens as before, also where it is refused; and where the gate is closed nothing is written.
         ensures recovers { Recovers is_open_fault B.chip B.faults bench.old bench.new result }

@@ -2,6 +2,7 @@
 ghost use Rattle.std.specs.Prelude.{◌≡◌, option_copied};
 ghost use Rattle.card.specs.Summary as kinds;
 
+use row_index::RowPlace;
 use scql_base::{Grant, Name, User};
 
 /// What is kept of a record while a card is opened: all that the rules of a database ask of it. It takes 64 octets.
@@ -73,6 +74,20 @@ impl Summary {
     {
         match self {
             Summary::Grant(grant) => Some(grant),
+            _ => None,
+        }
+    }
+
+    /// Where the row stands, where it is one.
+    pub(crate) fn as_place(&self) -> Option<RowPlace>
+        ensures { result ≡ kinds.as_place self.now }
+    {
+        match self {
+            Summary::Row(row) => Some(RowPlace {
+                stamp: row.stamp,
+                table: row.table,
+                slot: row.slot,
+            }),
             _ => None,
         }
     }

@@ -1,13 +1,13 @@
 -- A journal is replayed: the image has the store that it had.
 use Rattle.std.proofs.Common.{◌≡◌, is_some, true≢false, arith, ℕ, ◌*◌, ◌≤◌, true, false, List, Option, Some, None, option_map, option_and_then, IfSome, sym, refl, ap, ◌∙◌, subst}
 use Rattle.std.proofs.lemmas.Option.{same_Some}
-use Rattle.eeprom.specs.Chip.{Chip, Becomes, Keeps, LeavesOf, RisesBy}
+use Rattle.eeprom.specs.Chip.{Chip, Becomes, Keeps, LeavesOf, RisesAtMost, RisesBy}
 use Rattle.eeprom.specs.StoreOf.{front_size, starts_with_magic, has_header, number_at, row_limit, slots_at, is_gate_open, directory, store_of}
 use Rattle.eeprom.proofs.Regions.{SameFront, same-magic, same-cells, same-header, same-limit}
 use Rattle.eeprom.proofs.SameFrom.{slots-from}
 use Rattle.journal.specs.Journal.{KeepsRest, KeepsDirectory, IsReplayed}
-use Rattle.record_store.specs.Header.{IsHeaderOf}
-use Rattle.record_store.specs.Opening.{front_octets}
+use Rattle.record_store.specs.Header.{IsHeader, IsHeaderOf}
+use Rattle.record_store.specs.Opening.{ReadsFront, front_octets, journal_octets}
 use Rattle.record_store.specs.declared.header.Header.{Header}
 use Rattle.record_store.proofs.Keeping.{keeps-leaves}
 
@@ -92,6 +92,35 @@ kept-image P Q old new keeps told from holds = cases old.image new.image refl re
 -- the gate that the header tells is that of the image
 pub closed-told : (header : Header) (image : List ℕ) → IsHeaderOf image header → is_gate_open image ≡ false → header.is_open ≡ false
 closed-told header image begins closed = sym begins.gate ∙ closed
+
+-- no record is read with the front and a journal
+pub reads-front : (header : Header) (size : ℕ) (image : Option (List ℕ)) (a b c d : Option ℕ) → IsHeader size header → IfSome image (λ image. IsHeaderOf image header) → Becomes (RisesAtMost 11) a b → Becomes (RisesAtMost (journal_octets header.cells)) b c
+    → (header.is_open ≡ false → c ≡ b) → Becomes (RisesAtMost (2 * header.cells)) c d → ReadsFront header.cells image a d
+reads-front header size image a b c d range begins first second none third = record {
+  few = range.many;
+  told = told image begins;
+  read = λ after is.
+      let last = third after is in
+      let middle = second last.0 last.1 in
+      let start = first middle.0 middle.1 in
+      (start.0, start.1, omega (arith, start.2, middle.2, last.2));
+  closed = shut image begins;
+}
+  where
+    told : (image : Option (List ℕ)) → IfSome image (λ image. IsHeaderOf image header) → IfSome image (λ image. number_at image 6 ≡ header.cells)
+    told None begins = tt
+    told (Some image) begins = begins.cells
+
+    shut : (image : Option (List ℕ)) → IfSome image (λ image. IsHeaderOf image header) → IfSome image (λ image. is_gate_open image ≡ false → Becomes (RisesAtMost (front_octets header.cells)) a d)
+    shut None begins = tt
+    shut (Some image) begins = λ closed after is.
+        let last = third after is in
+        let start = first last.0 (sym (none (closed-told header image begins closed)) ∙ last.1) in
+        (start.0, start.1, omega (arith, start.2, last.2))
+
+-- nothing is read
+pub reads-nothing : (most : ℕ) (count : Option ℕ) → Becomes (RisesAtMost most) count count
+reads-nothing most count = λ after is. (after, is, omega arith)
 
 -- the octets that are read before the first slot
 pub front-read : (header : Header) (n : ℕ) (image : Option (List ℕ)) (a b c d : Option ℕ) → n ≡ header.cells → IfSome image (λ image. IsHeaderOf image header) → Becomes (RisesBy 11) a b → (header.is_open ≡ false → c ≡ b) → Becomes (RisesBy (2 * header.cells)) c d

@@ -1,8 +1,8 @@
 -- A store that is being opened: its slots are claimed one after another.
-use Rattle.std.specs.Prelude.{◌≡◌, ℕ, ◌+◌, ◌*◌, ◌≤◌, true, List, [], ◌∷◌, length, take, slice_set, Option, Some, None, IsSome, IfSome}
-use Rattle.eeprom.specs.Chip.{Chip, RisesBy}
+use Rattle.std.specs.Prelude.{◌≡◌, ℕ, ◌+◌, ◌*◌, ◌≤◌, true, false, List, [], ◌∷◌, length, take, slice_set, Option, Some, None, IsSome, IfSome}
+use Rattle.eeprom.specs.Chip.{Chip, Becomes, RisesAtMost, RisesBy}
 use Rattle.eeprom.specs.Frame.{HasRoom}
-use Rattle.eeprom.specs.StoreOf.{Slots, slots_at, chain_of, is_record, slot_of, weight_of, cell_size, longest_chain, most_cells}
+use Rattle.eeprom.specs.StoreOf.{Slots, is_gate_open, number_at, slots_at, chain_of, is_record, slot_of, weight_of, cell_size, longest_chain, most_cells}
 use Rattle.cell_store.specs.Cells.{Cells, IsInRange, AreLinkedIn}
 use Rattle.cell_store.specs.Claims.{TakesChain}
 use Rattle.record_store.specs.Held.{BeginsAs, IsRowLimit, AreKept}
@@ -76,6 +76,14 @@ front_octets n = 11 + 2 * n
 -- so many more are read at the most where the gate is open: its octet, and a journal
 abbrev pub journal_octets : ℕ → ℕ
 journal_octets n = 3 + 4 * n
+
+-- No record was read yet: at most so many octets as come before the records of a store of n cells, which is the number in the image's header, where told.
+-- Those of a journal are among them only behind an open gate.
+pub record ReadsFront (n : ℕ) (image : Option (List ℕ)) (old new : Option ℕ) : Type 0 where
+  pub few : n ≤ most_cells
+  pub told : IfSome image (λ image. number_at image 6 ≡ n)
+  pub read : Becomes (RisesAtMost (front_octets n + journal_octets n)) old new
+  pub closed : IfSome image (λ image. is_gate_open image ≡ false → Becomes (RisesAtMost (front_octets n)) old new)
 
 -- these are read where a store with a closed gate is opened, and as many as the cells of its records have
 abbrev pub ReadsStore : ℕ → Slots → ℕ → ℕ → Type 0

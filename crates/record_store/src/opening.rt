@@ -1,6 +1,6 @@
 // A store that is being opened: its slots are claimed one after another, so that it is opened only where each has the chain of a
 // record or none, and no cell is in two chains.
-ghost use Rattle.std.specs.Prelude.{◌≡◌, ◌≢◌, ◌+◌, ◌*◌, ◌≤◌, ◌<◌, ◌++◌, false, [], ◌∷◌, None, length, is_some, option_map, IfSome, IfOk, IsErrOf, OnOk};
+ghost use Rattle.std.specs.Prelude.{◌≡◌, ◌≢◌, ◌+◌, ◌*◌, ◌≤◌, ◌<◌, ◌++◌, false, [], ◌∷◌, ℕ, None, length, is_some, option_map, IfSome, IfOk, IsErrOf, OnOk};
 ghost use Rattle.eeprom.specs.Chip.{Becomes, RisesBy, RisesAtMost};
 ghost use Rattle.eeprom.specs.Frame.{HasRoom, Reads};
 ghost use Rattle.eeprom.specs.StoreOf.{fewest_cells, no_cell, store_of, is_gate_open, cells_of, cell_size, longest_chain, most_cells};
@@ -8,7 +8,7 @@ ghost use Rattle.cell_store.specs.Reading.{ReadsCells};
 ghost use Rattle.cell_store.specs.Claims.{HasNoRecord};
 ghost use Rattle.cell_store.specs.Cells.{AreLinkedIn};
 ghost use Rattle.cell_store.specs.Faults.{is_claim_fault};
-ghost use Rattle.record_store.specs.Opening.{IsOverSoFar, TakesSlot, front_octets, journal_octets, slots_so_far, slot_with};
+ghost use Rattle.record_store.specs.Opening.{IsOverSoFar, ReadsFront, TakesSlot, front_octets, journal_octets, slots_so_far, slot_with};
 ghost use Rattle.record_store.specs.Faults.{is_open_fault};
 ghost use Rattle.record_store.specs.Header.{IsHeader, IsHeaderOf};
 ghost use Rattle.record_store.specs.Recovery.{Recovers};
@@ -63,7 +63,9 @@ impl Opening {
         ensures told { OnOk result (is_some (B.chip bench.new).image ≡ is_some (B.chip bench.old).image) }
         ensures octets_read { IfOk result (λ opening. IfSome (B.chip bench.old).image (λ image. is_gate_open image ≡ false
             → Becomes (RisesBy (front_octets opening.chains.cells)) (B.octets_read bench.old) (B.octets_read bench.new))) }
+        ensures reads_front { IfOk result (λ opening. ReadsFront opening.chains.cells (B.chip bench.old).image (B.octets_read bench.old) (B.octets_read bench.new)) }
         ensures most_read { Becomes (RisesAtMost (front_octets most_cells + journal_octets most_cells)) (B.octets_read bench.old) (B.octets_read bench.new) }
+        ensures no_memory { IsErrOf result OpenRefusal.NoMemory → (n : ℕ) × ReadsFront n (B.chip bench.old).image (B.octets_read bench.old) (B.octets_read bench.new) }
         ensures not_a_card { IsErrOf result OpenRefusal.NotACard → IfSome (B.chip bench.old).image (λ image. store_of image ≡ None) }
         ensures frame { Recovers is_open_fault B.chip B.faults bench.old bench.new result }
     {
@@ -172,7 +174,7 @@ fn close_gate<B: Eeprom>(bench: &mut B, header: Header) -> Result<(), OpenRefusa
     requires header { IfSome (B.chip bench.old).image (λ image. IsHeaderOf image header) }
     ensures header { OnOk result (IfSome (B.chip bench.new).image (λ image. IsHeaderOf image (record header { is_open = false }))) }
     ensures told { OnOk result (is_some (B.chip bench.new).image ≡ is_some (B.chip bench.old).image) }
-    ensures octets_read { OnOk result (header.is_open ≡ false → B.octets_read bench.new ≡ B.octets_read bench.old) }
+    ensures octets_read { header.is_open ≡ false → B.octets_read bench.new ≡ B.octets_read bench.old }
     ensures most_read { Becomes (RisesAtMost (journal_octets header.cells)) (B.octets_read bench.old) (B.octets_read bench.new) }
     ensures not_a_card { IsErrOf result OpenRefusal.NotACard → IfSome (B.chip bench.old).image (λ image. store_of image ≡ None) }
     ensures frame { Recovers is_open_fault B.chip B.faults bench.old bench.new result }

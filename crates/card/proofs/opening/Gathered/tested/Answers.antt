@@ -30,6 +30,9 @@ returns-clause-records c =
     in_order-permuted stamp_of c.args.self.records.items c.sort_unstable_by_key.new.self.items c.sort_unstable_by_key.ensures.permutation (rises (goal.at.returns-clause-records c).Else-not-stamps_rise)
 
 pub returns-clause-passed : goal.returns-clause-passed
-returns-clause-passed c =
-    passed-sorted c.in_ok-next.next c.args.self.records.items c.sort_unstable_by_key.new.self.items c.sort_unstable_by_key.ensures.permutation (rises (goal.at.returns-clause-passed c).Else-not-stamps_rise)
-    (subst (λ (records : List Summary). is_valid_list c.in_ok-next.next records ≡ true) c.as_slice-2.ensures.value (sym c.are_valid.ensures ∙ c.if-not-are_valid.false))
+returns-clause-passed c = (
+  c.in_ok-next.next,
+  search rules,
+  passed-sorted c.in_ok-next.next c.args.self.records.items c.sort_unstable_by_key.new.self.items c.sort_unstable_by_key.ensures.permutation (rises (goal.at.returns-clause-passed c).Else-not-stamps_rise)
+      (subst (λ (records : List Summary). is_valid_list c.in_ok-next.next records ≡ true) c.as_slice-2.ensures.value (sym c.are_valid.ensures ∙ c.if-not-are_valid.false)),
+)

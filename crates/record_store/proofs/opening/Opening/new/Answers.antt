@@ -1,11 +1,12 @@
 -- Before the first slot nothing is claimed, and the image begins as a store's.
-use Rattle.std.proofs.Common.{◌≡◌, ℕ, ◌*◌, length, replicate, ap, sym, ◌∙◌, arith, rules}
+use Rattle.std.proofs.Common.{◌≡◌, ℕ, ◌*◌, length, replicate, ap, sym, subst, ◌∙◌, arith, rules}
 use Rattle.std.proofs.lemmas.List.{length-replicate}
 use Rattle.cell_store.specs.Cells.{Cells}
+use Rattle.record_store.specs.Opening.{ReadsFront}
 use Rattle.record_store.specs.Touched.{none_touched}
 use Rattle.record_store.proofs.OpeningSlots.{sound-begun, stands-begun}
-use Rattle.record_store.proofs.Replaying.{front-read}
-use Rattle.record_store.proofs.opening.Opening.new.Goals.{In_ok-chains}
+use Rattle.record_store.proofs.Replaying.{front-read, reads-front, reads-nothing}
+use Rattle.record_store.proofs.opening.Opening.new.Goals.{After-close_gate, After-read_directory, In_ok-chains}
 use Rattle.record_store.proofs.opening.Opening.new.Goals as goal
 
 pub invariant_of-result : goal.invariant_of-result
@@ -37,3 +38,39 @@ returns-clause-octets_read g c =
     front-read c.in_ok-header.header c.in_ok-chains.chains.cells (g.B.Eeprom.chip c.args.bench.now).image (g.B.Eeprom.octets_read c.args.bench.now) (g.B.Eeprom.octets_read c.read_header.new.bench)
     (g.B.Eeprom.octets_read c.close_gate.new.bench) (g.B.Eeprom.octets_read c.read_directory.new.bench) (cells g c) c.in_ok-header.ensures.header c.in_ok-header.ensures.octets_read c.in_ok-close_gate.ensures.octets_read
     c.in_ok-committed.ensures.octets_read
+
+-- by then no record was read
+front : (g : _) (c : After-read_directory g) → ReadsFront c.in_ok-header.header.cells (g.B.Eeprom.chip c.args.bench.now).image (g.B.Eeprom.octets_read c.args.bench.now) (g.B.Eeprom.octets_read c.read_directory.new.bench)
+front g c =
+    reads-front c.in_ok-header.header _ (g.B.Eeprom.chip c.args.bench.now).image (g.B.Eeprom.octets_read c.args.bench.now) (g.B.Eeprom.octets_read c.read_header.new.bench) (g.B.Eeprom.octets_read c.close_gate.new.bench)
+    (g.B.Eeprom.octets_read c.read_directory.new.bench) c.in_ok-header.ensures.range c.in_ok-header.ensures.header c.read_header.ensures.most_read c.close_gate.ensures.most_read c.close_gate.ensures.octets_read c.read_directory.ensures.most_read
+
+pub returns-in_err-close_gate-clause-no_memory : goal.returns-in_err-close_gate-clause-no_memory
+returns-in_err-close_gate-clause-no_memory g c = λ _. (
+  c.in_ok-header.header.cells,
+  reads-front c.in_ok-header.header _ (g.B.Eeprom.chip c.args.bench.now).image (g.B.Eeprom.octets_read c.args.bench.now) (g.B.Eeprom.octets_read c.read_header.new.bench) (g.B.Eeprom.octets_read c.close_gate.new.bench)
+      (g.B.Eeprom.octets_read c.close_gate.new.bench) c.in_ok-header.ensures.range c.in_ok-header.ensures.header c.read_header.ensures.most_read c.close_gate.ensures.most_read c.close_gate.ensures.octets_read (reads-nothing _ _),
+)
+
+pub returns-clause-reads_front : goal.returns-clause-reads_front
+returns-clause-reads_front g c =
+    subst (λ (n : ℕ). ReadsFront n (g.B.Eeprom.chip c.args.bench.now).image (g.B.Eeprom.octets_read c.args.bench.now) (g.B.Eeprom.octets_read c.read_directory.new.bench)) (sym (cells g (goal.at.returns-clause-reads_front g c).In_ok-chains))
+    (front g (goal.at.returns-clause-reads_front g c).After-read_directory)
+
+pub returns-in_err-committed-clause-no_memory : goal.returns-in_err-committed-clause-no_memory
+returns-in_err-committed-clause-no_memory g c = λ _. (c.in_ok-header.header.cells, front g (goal.at.returns-in_err-committed-clause-no_memory g c).After-read_directory)
+
+pub returns-in_err-working-clause-no_memory : goal.returns-in_err-working-clause-no_memory
+returns-in_err-working-clause-no_memory g c = λ _. (c.in_ok-header.header.cells, front g (goal.at.returns-in_err-working-clause-no_memory g c).After-read_directory)
+
+pub returns-in_err-first_octets-clause-no_memory : goal.returns-in_err-first_octets-clause-no_memory
+returns-in_err-first_octets-clause-no_memory g c = λ _. (c.in_ok-header.header.cells, front g (goal.at.returns-in_err-first_octets-clause-no_memory g c).After-read_directory)
+
+pub returns-in_err-touched-clause-no_memory : goal.returns-in_err-touched-clause-no_memory
+returns-in_err-touched-clause-no_memory g c = λ _. (c.in_ok-header.header.cells, front g (goal.at.returns-in_err-touched-clause-no_memory g c).After-read_directory)
+
+pub returns-in_err-entries-clause-no_memory : goal.returns-in_err-entries-clause-no_memory
+returns-in_err-entries-clause-no_memory g c = λ _. (c.in_ok-header.header.cells, front g (goal.at.returns-in_err-entries-clause-no_memory g c).After-read_directory)
+
+pub returns-in_err-chains-clause-no_memory : goal.returns-in_err-chains-clause-no_memory
+returns-in_err-chains-clause-no_memory g c = λ _. (c.in_ok-header.header.cells, front g (goal.at.returns-in_err-chains-clause-no_memory g c).After-read_directory)

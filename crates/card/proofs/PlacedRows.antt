@@ -1,0 +1,219 @@
+-- Where the rows stand that were gathered: they are the row places of the slots, and an index can hold them.
+use Rattle.std.proofs.Common.{◌≡◌, ℕ, suc, ◌+◌, ◌<◌, ◌≤◌, Bool, false, cond, eqb, List, [], ◌∷◌, ◌++◌, length, Option, Some, None, option_map, inl, inr, refl, sym, ap, subst, ◌∙◌, arith}
+use Rattle.std.specs.Prelude.{IfSome, if◌then◌else◌}
+use Rattle.std.specs.Option.{option_and_then}
+use Rattle.std.specs.List.{filter_map, cons_option, count_by, AllByRecursion}
+use Rattle.std.proofs.lemmas.Bool.{cases_Bool, eqb-true}
+use Rattle.std.proofs.lemmas.List.{append-nil}
+use Rattle.std.proofs.lemmas.List.Elements.{filter_map-append}
+use Rattle.std.proofs.lemmas.List.Sums.{sum_by-append}
+use Rattle.std.proofs.lemmas.Option.{none-some, same_Some}
+use Rattle.eeprom.specs.Chip.{Chip, Becomes, RisesAtMost}
+use Rattle.eeprom.specs.Slots.{AreApart, Rises, has, in_order, in_slot}
+use Rattle.eeprom.specs.StoreOf.{Slots, Stored, slots_at, store_of}
+use Rattle.eeprom.proofs.InOrder.{count-below, count_by-in_order, counts, counts_not, Rises-in_order}
+use Rattle.record_store.specs.declared.side.Side.TheVariants.{Committed, Working}
+use Rattle.record_store.specs.Held.{Held, contents, stored, with_limit}
+use Rattle.record_store.specs.Opening.{HeldSoFar, front_octets, journal_octets, most_octets}
+use Rattle.record_store.proofs.OpeningSlots.{ReadsSoFar}
+use Rattle.record_store.proofs.Weights.{limited}
+use Rattle.cell_store.specs.Reading.{ReadsCells}
+use Rattle.scql_base.specs.declared.records.RowRecord.{RowRecord}
+use Rattle.scql_model.specs.Records.{row_in, user_in, object_in, grant_in}
+use Rattle.scql_model.specs.Database.{Database}
+use Rattle.scql_model.specs.Opens.{Opens}
+use Rattle.row_index.specs.Index.{ArePlaces, HasRows, Index, Indexes}
+use Rattle.row_index.specs.Places.{numbered, place_in, place_of, place_slot, place_stamp, row_places}
+use Rattle.row_index.specs.declared.place.RowPlace.{RowPlace}
+use Rattle.row_index.proofs.Changes.{all-push, length-in_order}
+use Rattle.row_index.proofs.Tables.{all-in_order}
+use Rattle.card.specs.Card.{HoldsSome, IsAtRest}
+use Rattle.card.specs.Opening.{gathered, summary_in}
+use Rattle.card.specs.Summary.{as_place, as_row, places_in, row_place, row_summary, stamp_of}
+use Rattle.card.specs.declared.summary.Summary.{Summary}
+use Rattle.card.specs.declared.summary.RowSummary.{RowSummary}
+use Rattle.card.proofs.GatheredSlots.{Gathers}
+use Rattle.card.proofs.HeldKinds.{others, row-parts}
+use Rattle.card.proofs.ListsInOrder.{all-filter_map, filter_map-cons_option, filter_map-in_order}
+use Rattle.card.proofs.OfKinds.{row-stamp}
+
+-- what is kept of a slot's row stands where the slot's row does
+place-gathered : (slot : ℕ) (v : Option (List ℕ)) → option_and_then as_place (in_slot (summary_in slot) v) ≡ place_in (slot, v)
+place-gathered slot None = refl
+place-gathered slot (Some octets) = inside (summary_in slot octets) ∙ ap (option_map row_place) (row-parts slot (user_in octets) (object_in octets) (grant_in octets) (row_in octets) (others octets)) ∙ placed (row_in octets)
+  where
+    inside : (o : Option Summary) → option_and_then as_place o ≡ option_map row_place (option_and_then as_row o)
+    inside None = refl
+    inside (Some s) = refl
+
+    placed : (o : Option RowRecord) → option_map row_place (option_map (row_summary slot) o) ≡ option_map (place_of slot) o
+    placed None = refl
+    placed (Some r) = refl
+
+places-gathered : (slot : ℕ) (slots : Slots) → places_in (gathered slot slots) ≡ filter_map place_in (numbered slot slots)
+places-gathered slot [] = refl
+places-gathered slot (v ∷ slots) =
+    filter_map-cons_option as_place (in_slot (summary_in slot) v) (gathered (suc slot) slots)
+    ∙ (rw (place-gathered slot v) (ap (cons_option (place_in (slot, v))) (places-gathered (suc slot) slots)))
+
+place-stamp : (s : Summary) (place : RowPlace) → as_place s ≡ Some place → place_stamp place ≡ stamp_of s
+place-stamp s place is = go (as_row s) refl is
+  where
+    go : (o : Option RowSummary) → as_row s ≡ o → option_map row_place o ≡ Some place → place_stamp place ≡ stamp_of s
+    go None row is = absurd (none-some place is)
+    go (Some r) row is = sym (ap place_stamp (same_Some (row_place r) place is)) ∙ row-stamp s r row
+
+-- The rows among the records of slots, in rising order of their stamps, stand where those of the slots do.
+pub row_places-gathered : (slots : Slots) → AreApart stamp_of (gathered 0 slots) → row_places slots ≡ places_in (in_order stamp_of (gathered 0 slots))
+row_places-gathered slots apart = ap (in_order place_stamp) (sym (places-gathered 0 slots)) ∙ sym (filter_map-in_order stamp_of place_stamp as_place (gathered 0 slots) place-stamp apart)
+
+-- The rows among these records stand each in a slot of its own before this one.
+pub record StandBefore (slot : ℕ) (records : List Summary) : Type 0 where
+  pub before : AllByRecursion (λ place. place_slot place < slot) (places_in records)
+  pub apart : AreApart place_slot (places_in records)
+
+pub stand-none : (records : List Summary) → records ≡ [] → StandBefore 0 records
+stand-none records empty = rw empty (record { before = tt; apart = λ k. omega arith })
+
+later : (slot : ℕ) (places : List RowPlace) → AllByRecursion (λ place. place_slot place < slot) places → AllByRecursion (λ place. place_slot place < slot + 1) places
+later slot [] all = tt
+later slot (x ∷ xs) all = (omega (arith, all.0), later slot xs all.1)
+
+-- one slot more
+pub stand-next : (slot : ℕ) (v : Option (List ℕ)) (records next : List Summary) → next ≡ records ++ cons_option (in_slot (summary_in slot) v) [] → StandBefore slot records → StandBefore (slot + 1) next
+stand-next slot v records next is so_far = record { before = subst (AllByRecursion (λ place. place_slot place < slot + 1)) (sym whole) both.0; apart = subst (AreApart place_slot) (sym whole) both.1 }
+  where
+    whole : places_in next ≡ places_in records ++ cons_option (place_in (slot, v)) []
+    whole = ap places_in is ∙ filter_map-append as_place records (cons_option (in_slot (summary_in slot) v) [])
+        ∙ ap (λ ys. places_in records ++ ys) (filter_map-cons_option as_place (in_slot (summary_in slot) v) [] ∙ ap (λ o. cons_option o []) (place-gathered slot v))
+
+    go : (o : Option RowRecord) → AllByRecursion (λ place. place_slot place < slot + 1) (places_in records ++ cons_option (option_map (place_of slot) o) []) × AreApart place_slot (places_in records ++ cons_option (option_map (place_of slot) o) [])
+    go None = rw (append-nil (places_in records)) (later slot (places_in records) so_far.before, so_far.apart)
+    go (Some row) = (
+      all-push (λ place. place_slot place < slot + 1) (places_in records) (place_of slot row) (later slot (places_in records) so_far.before) (omega arith),
+      λ k.
+          let test = has place_slot k in
+          let split = sum_by-append (λ y. cond (test y) 1 0) (places_in records) (place_of slot row ∷ []) in
+          (elim (cases_Bool (eqb slot k)) [
+            | inl t ↦ (let same = eqb-true slot k t in
+                let none = subst (λ k. count_by (has place_slot k) (places_in records) ≡ 0) same (count-below place_slot slot (places_in records) so_far.before) in
+                let one = counts test (place_of slot row) [] t in
+                omega arith)
+            | inr f ↦ (let a = so_far.apart k in let one = counts_not test (place_of slot row) [] f in omega arith)
+          ]),
+    )
+
+    both : AllByRecursion (λ place. place_slot place < slot + 1) (places_in records ++ cons_option (place_in (slot, v)) []) × AreApart place_slot (places_in records ++ cons_option (place_in (slot, v)) [])
+    both = go _
+
+rises-places : (records : List Summary) → Rises stamp_of records → Rises place_stamp (places_in records)
+rises-places [] rises = tt
+rises-places (s ∷ records) rises = go (as_place s) refl (rises-places records rises.1)
+  where
+    go : (o : Option RowPlace) → as_place s ≡ o → Rises place_stamp (places_in records) → Rises place_stamp (cons_option o (places_in records))
+    go None is rest = rest
+    go (Some place) is rest = (
+      all-filter_map (λ r. stamp_of s < stamp_of r) (λ next. place_stamp place < place_stamp next) as_place records
+          (λ r next at above. let a = place-stamp s place is in let b = place-stamp r next at in omega arith) rises.0,
+      rest,
+    )
+
+few-places : (records : List Summary) → length (places_in records) ≤ length records
+few-places [] = omega arith
+few-places (s ∷ records) = go (as_place s) (few-places records)
+  where
+    go : (o : Option RowPlace) → length (places_in records) ≤ length records → length (cons_option o (places_in records)) ≤ suc (length records)
+    go None few = omega arith
+    go (Some place) few = omega arith
+
+-- An index can hold the places of records that stand in its slots, in rising order of their stamps.
+pub ArePlaces-gathered : (cells count : ℕ) (records sorted : List Summary) → StandBefore count records → AreApart stamp_of records → sorted ≡ in_order stamp_of records → length records ≤ count → count ≤ cells
+    → ArePlaces cells (places_in sorted)
+ArePlaces-gathered cells count records sorted stand apart is few within = subst (λ (records : List Summary). ArePlaces cells (places_in records)) (sym is) (record {
+  rises = rises-places (in_order stamp_of records) (Rises-in_order stamp_of records apart);
+  apart = λ k. subst (λ (n : ℕ). n ≤ 1) (sym (ap (count_by (has place_slot k)) same ∙ count_by-in_order place_stamp (has place_slot k) (places_in records))) (stand.apart k);
+  within = subst (AllByRecursion (λ place. place_slot place < cells)) (sym same) (all-in_order place_stamp (λ place. place_slot place < cells) (places_in records) (all (places_in records) stand.before));
+  few = omega (arith, few-places (in_order stamp_of records), length-in_order stamp_of records, few, within);
+})
+  where
+    same : places_in (in_order stamp_of records) ≡ in_order place_stamp (places_in records)
+    same = filter_map-in_order stamp_of place_stamp as_place records place-stamp apart
+
+    all : (places : List RowPlace) → AllByRecursion (λ place. place_slot place < count) places → AllByRecursion (λ place. place_slot place < cells) places
+    all [] before = tt
+    all (x ∷ xs) before = (omega (arith, before.0, within), all xs before.1)
+
+-- Where the committed slots have these records, their rows stand in these places.
+rows_told : (store : Held) (image : Option (List ℕ)) (count next : ℕ) (records sorted : List Summary) → IfSome image (λ image. store_of image ≡ stored store Committed image)
+    → IfSome image (λ image. (was : Stored) → store_of image ≡ Some was → Gathers was.row_limit count was.slots (Some next) records) → AreApart stamp_of records → sorted ≡ in_order stamp_of records
+    → IfSome (option_and_then (contents store Committed) image) (HasRows count (places_in sorted))
+rows_told store None count next records sorted opened gathers apart sort = tt
+rows_told store (Some image) count next records sorted opened gathers apart sort = go (contents store Committed image) refl
+  where
+    go : (o : Option Slots) → contents store Committed image ≡ o → IfSome o (HasRows count (places_in sorted))
+    go None is = tt
+    go (Some slots) is =
+        let g = gathers (record { row_limit = store.row_limit; slots = slots }) (opened ∙ ap (with_limit store.row_limit) is) in
+        record {
+          all = g.count_is;
+          are = ap places_in sort ∙ ap (λ (records : List Summary). places_in (in_order stamp_of records)) (sym g.records_are)
+              ∙ sym (row_places-gathered slots (subst (AreApart stamp_of) (sym g.records_are) apart));
+        }
+
+-- without a transaction both sides have the same slots
+idle_sides : (store : Held) (image : Option (List ℕ)) → store.begun ≡ false → option_and_then (contents store Committed) image ≡ option_and_then (contents store Working) image
+idle_sides store None idle = refl
+idle_sides store (Some image) idle = sym (ap (λ (begun : Bool). slots_at image store.chains.cells (if begun then store.working else store.committed)) idle)
+
+-- So an index of them stands for the store.
+pub indexed : (index : Index) (store : Held) (chip : Chip) (cells count next : ℕ) (records sorted : List Summary) → index ≡ record { cells = cells; begun = false; committed = places_in sorted; working = places_in sorted } → cells ≡ count
+    → store.begun ≡ false → count ≡ store.chains.cells → IfSome chip.image (λ image. store_of image ≡ stored store Committed image)
+    → IfSome chip.image (λ image. (was : Stored) → store_of image ≡ Some was → Gathers was.row_limit count was.slots (Some next) records) → AreApart stamp_of records → sorted ≡ in_order stamp_of records
+    → Indexes index store chip
+indexed index store chip cells count next records sorted is all idle claimed opened gathers apart sort =
+    let rows = subst (λ (n : ℕ). IfSome (option_and_then (contents store Committed) chip.image) (HasRows n (places_in sorted))) (sym all) (rows_told store chip.image count next records sorted opened gathers apart sort) in
+    subst (λ (index : Index). Indexes index store chip) (sym is) (record {
+      cells = all ∙ claimed;
+      committed = rows;
+      working = subst (λ (o : Option Slots). IfSome o (HasRows cells (places_in sorted))) (idle_sides store chip.image idle) rows;
+    })
+
+-- The store holds the database that its image opens to.
+pub holds-opened : (store : Held) (chip : Chip) (count next : ℕ) (records : List Summary) → count ≡ store.chains.cells → IfSome chip.image (λ image. store_of image ≡ stored store Committed image)
+    → IfSome chip.image (λ image. (was : Stored) → store_of image ≡ Some was → Gathers was.row_limit count was.slots (Some next) records) → IfSome chip.image (λ image. (db : Database) × Opens image db) → HoldsSome store chip
+holds-opened store chip count next records cells opened gathers opens = go chip.image refl opened gathers opens
+  where
+    go : (image : Option (List ℕ)) → chip.image ≡ image → IfSome image (λ image. store_of image ≡ stored store Committed image)
+        → IfSome image (λ image. (was : Stored) → store_of image ≡ Some was → Gathers was.row_limit count was.slots (Some next) records) → IfSome image (λ image. (db : Database) × Opens image db)
+        → IfSome image (λ image. (db : Database) × IsAtRest store chip db)
+    go None told opened gathers opens = tt
+    go (Some image) told opened gathers opens =
+        let o = opens.1 in
+        let there = limited store.row_limit (contents store Committed image) o.store (sym opened ∙ o.stored) in (
+          opens.0,
+          record {
+            held = record {
+              slots = o.store.slots;
+              told = ap (option_and_then (contents store Committed)) told ∙ there.0;
+              cells = sym o.holds.cells ∙ (gathers o.store o.stored).count_is ∙ cells;
+              limit = o.limit ∙ sym there.1;
+              holds = o.holds;
+              valid = o.valid;
+            };
+            tables = o.tables;
+          },
+        )
+
+-- how many octets were read once so many cells were claimed
+pub most-read : (held : HeldSoFar) (a b c : Option ℕ) → held.weight ≤ held.chains.cells → held.chains.cells ≤ 2048 → Becomes (RisesAtMost (front_octets 2048 + journal_octets 2048)) a b → Becomes (ReadsSoFar held) b c
+    → Becomes (RisesAtMost most_octets) a c
+most-read held a b c few many first second = λ after is.
+    let last = second after is in
+    let start = first last.0 last.1 in
+    (start.0, start.1, omega (arith, few, many, start.2, last.2))
+
+pub read-next : (held next : HeldSoFar) (count : ℕ) (a b c : Option ℕ) → next.weight ≡ held.weight + count → Becomes (ReadsSoFar held) a b → Becomes (ReadsCells count) b c → Becomes (ReadsSoFar next) a c
+read-next held next count a b c more first second = λ after is.
+    let last = second after is in
+    let start = first last.0 last.1 in
+    (start.0, start.1, omega (arith, more, start.2, last.2))
