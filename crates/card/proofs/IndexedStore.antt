@@ -94,12 +94,12 @@ rest-concluded db (Err refused) word store chip concludes = (db, concludes.1)
 
 -- An operation that leaves every row in its slot leaves the index standing.
 pub Indexes-ends : {T : Type 0} (db : Database) (outcome : Result (List Edit) StatusWord) (result : Result T Stop) (index : Index) (old new : Held) (before after : Chip) → Indexes index old before
-    → Ends db outcome result old new before after → (¬ IsErrOf result Fault → GoesOn old new before after) → OnOk result (KeepsRows (slots_of old Working before) (slots_of new Working after))
+    → Ends db outcome result old new before after → (¬ IsErrOf result Fault → GoesOn old new before after) → (¬ IsErrOf result Fault → KeepsRows (slots_of old Working before) (slots_of new Working after))
     → ¬ IsErrOf result Fault → Indexes index new after
 Indexes-ends {T} db outcome (Ok x) index old new before after stands ends goes_on keeps ended =
     let held = ends.2.held in
     Indexes-kept index old new before after stands (goes_on ended).cells ends.2.committed
-    (subst (λ o. IfSome o (λ (slots : Slots). length slots ≡ new.chains.cells)) (sym held.told) (held.holds.cells ∙ held.cells)) keeps
+    (subst (λ o. IfSome o (λ (slots : Slots). length slots ≡ new.chains.cells)) (sym held.told) (held.holds.cells ∙ held.cells)) (keeps ended)
 Indexes-ends {T} db outcome (Err (Refused word)) index old new before after stands ends goes_on keeps ended =
     subst (λ (store : Held). Indexes index store after) (sym ends.1) (subst (λ (chip : Chip). Indexes index old chip) (sym ends.2) stands)
 Indexes-ends {T} db outcome (Err Fault) index old new before after stands ends goes_on keeps ended = absurd (ended refl)
