@@ -20,7 +20,7 @@ use record_store::{Side, Store};
 use record_table::{Stop, refused};
 use scql_base::{Actor, Name, NameList, Object, ObjectKind, StatusWord};
 
-/// A view that rests on another has at most so many layers under it down to a table.
+/// How deep a base may stand over its table, so that a view on it isn't too deep.
 const DEEPEST_BASE: usize = 3;
 
 /// A table or a view, with what is under it.
@@ -71,7 +71,7 @@ pub(crate) fn is_shallow<B: Eeprom>(
     layer: Layer,
 ) -> Result<bool, EepromFault>
     requires over { IsOver store.now (B.chip bench.old) }
-    ensures shallow { (db : Database) → IsHeld store.now Working (B.chip bench.old) db → IfOk result (λ shallow. shallow ≡ reaches_table 3 db.objects layer) }
+    ensures shallow { (db : Database) → IsHeld store.now Working (B.chip bench.old) db → IfOk result (λ shallow. shallow ≡ reaches_table DEEPEST_BASE db.objects layer) }
     ensures frame { Reads each_error B.chip B.faults bench.old bench.new result }
 {
     let mut reached = layer;
