@@ -1,4 +1,5 @@
 pub mod IndexKept
+pub mod Layers
 pub mod LeftRecords
 pub mod ObjectDropped
 pub mod ObjectLeft
@@ -7,3 +8,4 @@ pub mod RemovedRows
 pub mod RowsLeft
 pub mod SweptSlots
 pub mod TableLeft
+pub mod ViewMade

@@ -1,3 +1,4 @@
 pub mod Dependent
 pub mod Dropped
+pub mod Layers
 pub mod Swept

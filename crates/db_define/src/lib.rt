@@ -1,6 +1,7 @@
 //! Operations that make and drop objects.
 #![tactic(auto)]
 
+mod base;
 mod dictionary;
 mod dropped;
 mod dropping;
@@ -12,4 +13,4 @@ mod view;
 
 pub use dictionary::create_dictionary;
 pub use table::{create_table, drop_table};
-pub use view::drop_view;
+pub use view::{create_view, drop_view};

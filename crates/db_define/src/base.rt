@@ -1,0 +1,134 @@
+// On what a view rests.
+ghost use Rattle.std.specs.Prelude.{◌≡◌, ◌↔◌, Err, IfOk, IfSome, IsErrOf, IsSome, IsTrue};
+ghost use Rattle.eeprom.specs.Fault.{each_error};
+ghost use Rattle.eeprom.specs.Frame.{Reads};
+ghost use Rattle.record_store.specs.Held.{IsOver};
+ghost use Rattle.record_store.specs.declared.side.Side.TheVariants.{Working};
+ghost use Rattle.scql_base.specs.declared.words.StatusWord.{StatusWord};
+ghost use Rattle.scql_model.specs.Database.{Database, object_stamped};
+ghost use Rattle.scql_model.specs.Defining.{is_table_or_view, of_kind, owned_by};
+ghost use Rattle.scql_model.specs.Objects.{columns_of};
+ghost use Rattle.scql_model.specs.Rights.{seen_named};
+ghost use Rattle.record_table.specs.Making.{IsHeld, is_stop_fault};
+ghost use Rattle.db_define.specs.Layers as specs;
+ghost use Rattle.db_define.specs.Layers.{IsBase, layer_found, layer_under, reaches_table};
+
+use eeprom::{Eeprom, EepromFault};
+use object_table::find_stamp;
+use privilege_table::{find_seen, is_owned_by};
+use record_store::{Side, Store};
+use record_table::{Stop, refused};
+use scql_base::{Actor, Name, NameList, Object, ObjectKind, StatusWord};
+
+/// How deep a base may stand over its table, so that a view on it isn't too deep.
+const DEEPEST_BASE: usize = 3;
+
+/// A table or a view, with what is under it.
+#[derive(Drop)]
+pub(crate) struct Base {
+    pub(crate) stamp: u32,
+    pub(crate) columns: NameList,
+    pub(crate) layer: Layer,
+}
+
+/// A table, a view on the object of a stamp, or what is neither.
+#[derive(Clone, Copy)]
+pub(crate) enum Layer {
+    Table,
+    View { base: u32 },
+    Other,
+}
+
+/// The table or the view of a name that the actor sees and owns, or the first refusal.
+pub(crate) fn find_base<B: Eeprom>(
+    store: &Store,
+    bench: &mut B,
+    actor: Actor,
+    name: Name,
+) -> Result<Base, Stop>
+    requires over { IsOver store.now (B.chip bench.old) }
+    ensures found { (db : Database) → IsHeld store.now Working (B.chip bench.old) db → IfOk result (IsBase db actor name) }
+    ensures refused { (db : Database) (word : StatusWord) → IsHeld store.now Working (B.chip bench.old) db → IsErrOf result (Stop.Refused word)
+        → owned_by actor (of_kind is_table_or_view (seen_named db actor name)) ≡ Err word }
+    ensures frame { Reads is_stop_fault B.chip B.faults bench.old bench.new result }
+{
+    let Some(found) = find_seen(store, bench, Side::Working, actor, name)? else {
+        return refused(StatusWord::NOT_FOUND);
+    };
+    let Some(base) = base_of(&found.value) else {
+        return refused(StatusWord::NOT_FOUND);
+    };
+    if !is_owned_by(actor, found.value.owner) {
+        return refused(StatusWord::SECURITY_NOT_SATISFIED);
+    }
+    Ok(base)
+}
+
+/// Whether a view may rest on a layer: a table isn't too deep under it.
+pub(crate) fn is_shallow<B: Eeprom>(
+    store: &Store,
+    bench: &mut B,
+    layer: Layer,
+) -> Result<bool, EepromFault>
+    requires over { IsOver store.now (B.chip bench.old) }
+    ensures shallow { (db : Database) → IsHeld store.now Working (B.chip bench.old) db → IfOk result (λ shallow. shallow ≡ reaches_table DEEPEST_BASE db.objects layer) }
+    ensures frame { Reads each_error B.chip B.faults bench.old bench.new result }
+{
+    let mut reached = layer;
+    for _depth in 0..DEEPEST_BASE {
+        reached = find_under(store, bench, reached)?;
+    }
+    Ok(matches!(reached, Layer::Table))
+}
+
+// The layer under a view. All others stay.
+fn find_under<B: Eeprom>(store: &Store, bench: &mut B, layer: Layer) -> Result<Layer, EepromFault>
+    requires over { IsOver store.now (B.chip bench.old) }
+    ensures under { (db : Database) → IsHeld store.now Working (B.chip bench.old) db → IfOk result (λ under. under ≡ layer_under db.objects layer) }
+    ensures frame { Reads each_error B.chip B.faults bench.old bench.new result }
+{
+    match layer {
+        Layer::View { base } => find_layer(store, bench, base),
+        Layer::Table => Ok(Layer::Table),
+        Layer::Other => Ok(Layer::Other),
+    }
+}
+
+// The object of a stamp, if there is one.
+fn find_layer<B: Eeprom>(store: &Store, bench: &mut B, stamp: u32) -> Result<Layer, EepromFault>
+    requires over { IsOver store.now (B.chip bench.old) }
+    ensures found { (db : Database) → IsHeld store.now Working (B.chip bench.old) db → IfOk result (λ layer. layer ≡ layer_found (object_stamped db.objects stamp)) }
+    ensures frame { Reads each_error B.chip B.faults bench.old bench.new result }
+{
+    match find_stamp(store, bench, Side::Working, stamp)? {
+        Some(found) => Ok(layer_of(&found.value.kind)),
+        None => Ok(Layer::Other),
+    }
+}
+
+fn layer_of(kind: &ObjectKind) -> Layer
+    ensures { result ≡ specs.layer_of kind.now }
+{
+    match kind {
+        ObjectKind::Table { .. } => Layer::Table,
+        ObjectKind::View { base, .. } => Layer::View { base: *base },
+        ObjectKind::Dictionary { .. } => Layer::Other,
+    }
+}
+
+// The object, if a view may rest on one of its kind.
+fn base_of(object: &Object) -> Option<Base>
+    ensures some { IsSome result ↔ IsTrue (is_table_or_view object.now.kind) }
+    ensures stamp { IfSome result (λ base. base.stamp ≡ object.now.stamp) }
+    ensures columns { IfSome result (λ base. base.columns ≡ columns_of object.now.kind) }
+    ensures layer { IfSome result (λ base. base.layer ≡ specs.layer_of object.now.kind) }
+{
+    match &object.kind {
+        ObjectKind::Table { columns } | ObjectKind::View { columns, .. } => Some(Base {
+            stamp: object.stamp,
+            columns: columns.copy(),
+            layer: layer_of(&object.kind),
+        }),
+        ObjectKind::Dictionary { .. } => None,
+    }
+}
