@@ -1,2 +1,5 @@
+pub mod Apart
 pub mod Asking
 pub mod NamedUser
+pub mod PairsFound
+pub mod PrivilegesChanged

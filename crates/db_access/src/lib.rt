@@ -1,11 +1,16 @@
-//! Who acts on a card: users are presented and made.
+//! Who acts on a card, and what users may do: users are presented, made and deleted, and privileges are given and taken.
 #![tactic(auto)]
 
 mod creating;
+mod granting;
+mod pairs;
 mod presenting;
+mod revoking;
 
 pub use creating::create_user;
+pub use granting::grant;
 pub use presenting::{Presented, present};
+pub use revoking::revoke;
 
 #[cfg(test)]
 mod tests;

@@ -1,7 +1,7 @@
 -- How an operation ends where a store refuses, and where its record and the counter are written.
 use Rattle.std.proofs.Common.{◌≡◌, ℕ, ◌+◌, ◌<◌, ◌≤◌, true, List, Option, Some, None, Result, Ok, Err, get_or, refl, sym, ap, subst, ◌∙◌, arith}
 use Rattle.std.proofs.Math.ListN.{set}
-use Rattle.std.specs.Prelude.{IfSome}
+use Rattle.std.specs.Prelude.{IfSome, OnOk}
 use Rattle.std.specs.Result.{IsErrAnd}
 use Rattle.eeprom.specs.Chip.{Chip, Becomes, RisesBy, RisesAtMost}
 use Rattle.eeprom.specs.StoreOf.{Slots, weight_of}
@@ -116,6 +116,13 @@ KeepsRows-one kind slot was step old new is apart at sets steps = λ after told.
 -- and so they do where nothing was done
 pub KeepsRows-same : (old new : Option Slots) → new ≡ old → KeepsRows old new
 KeepsRows-same old new same = λ after told. (after, sym same ∙ told, λ slot. refl)
+
+-- where a part of an operation answers a word, all rows stay if they do where it is done, and if nothing is where it is refused
+pub KeepsRows-ended : {T : Type 0} (result : Result T Stop) (old new : Option Slots) → OnOk result (KeepsRows old new) → ((word : StatusWord) → result ≡ Err (Refused word) → new ≡ old) → (result ≡ Err Fault → ⊥)
+    → KeepsRows old new
+KeepsRows-ended (Ok x) old new done refused no_fault = done
+KeepsRows-ended (Err (Refused word)) old new done refused no_fault = KeepsRows-same old new (refused word refl)
+KeepsRows-ended (Err Fault) old new done refused no_fault = absurd (no_fault refl)
 
 -- the record and the counter are what is made
 pub IsMade-both : {X : Type 0} (kind : Kind X) (x : X) (slot counter next : ℕ) (old new : Slots) → Both (IsAdded kind x slot) (IsChanged counter_kind next counter) old new → IsMade kind x slot counter next old new

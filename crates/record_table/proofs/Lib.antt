@@ -3,6 +3,7 @@ pub mod ChangedDatabase
 pub mod Ending
 pub mod InPlace
 pub mod HeldRecords
+pub mod LeftRecords
 pub mod ListedChanges
 pub mod ListedSearches
 pub mod Made
@@ -12,3 +13,4 @@ pub mod Scan
 pub mod SlotReads
 pub mod Stamping
 pub mod Steps
+pub mod SweptSlots

@@ -3,3 +3,4 @@ pub mod Editable
 pub mod EditableLaws
 pub mod Listed
 pub mod Making
+pub mod Swept

@@ -9,6 +9,7 @@ mod in_place;
 mod making;
 mod next;
 mod stop;
+mod sweeping;
 mod wanted;
 
 pub use changing::{add, change, remove};
@@ -19,6 +20,7 @@ pub use in_place::{change_in_place, take_out};
 pub use making::{make, next_stamp};
 pub use next::{next_after, next_by};
 pub use stop::{Stop, refused};
+pub use sweeping::remove_each;
 pub use wanted::{Any, Stamped, Wanted};
 
 #[cfg(test)]

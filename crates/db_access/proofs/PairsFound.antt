@@ -1,0 +1,61 @@
+-- The pair of GRANT and REVOKE, and the one grant of it.
+use Rattle.std.proofs.Common.{◌≡◌, ℕ, ◌≤◌, ◌==◌, true, false, List, count_by, Option, Some, None, Result, Ok, Err, refl, sym, subst, ◌∙◌}
+use Rattle.std.specs.Prelude.{IfSome}
+use Rattle.std.specs.List.{find}
+use Rattle.std.specs.Result.{IsErrAnd}
+use Rattle.std.specs.Str.{bytes_eq}
+use Rattle.std.proofs.lemmas.Bool.{and_parts, and_from, eqb-true, eq-eqb}
+use Rattle.eeprom.specs.Chip.{Chip}
+use Rattle.record_store.specs.Held.{Held}
+use Rattle.record_store.specs.declared.side.Side.{Side}
+use Rattle.scql_base.specs.Words.{not_found}
+use Rattle.scql_base.specs.declared.records.Grant.{Grant}
+use Rattle.scql_base.specs.declared.records.User.{User}
+use Rattle.scql_base.specs.declared.words.StatusWord.{StatusWord}
+use Rattle.scql_model.specs.Database.{Database, public_name, user_named}
+use Rattle.scql_model.specs.Granting.{grantee_named}
+use Rattle.scql_model.specs.Refusals.{or_refused}
+use Rattle.scql_model.specs.Rules.{is_of_pair}
+use Rattle.catalog_codec.specs.Catalog.{grant_kind}
+use Rattle.privilege_table.specs.Granted.{is_pair}
+use Rattle.privilege_table.proofs.Seen.{told-held}
+use Rattle.record_table.specs.Listed.{listed, slots_of}
+use Rattle.record_table.specs.Making.{IsHeld}
+use Rattle.record_table.specs.declared.stop.Stop.{Stop}
+use Rattle.record_table.specs.declared.stop.Stop.TheVariants.{Refused, Fault}
+use Rattle.db_access.specs.Asked.{Answers}
+use Rattle.db_access.proofs.Apart.{one-apart}
+
+-- what is answered of a whole, a part of which is refused
+pub Answers-stopped : {S T U V : Type 0} (part : T → S) (whole : V → U) (of_part : Result S StatusWord) (of_whole : Result U StatusWord) (result : Result V Stop) (stop : Stop) → IsErrAnd result (λ given. given ≡ stop)
+    → Answers part of_part (Err stop) → ((word : StatusWord) → of_part ≡ Err word → of_whole ≡ Err word) → Answers whole of_whole result
+Answers-stopped part whole of_part of_whole (Ok x) stop gives answers refuses = absurd gives
+Answers-stopped part whole of_part of_whole (Err given) (Refused word) gives answers refuses = subst (λ stop. Answers whole of_whole (Err stop)) (sym gives) (refuses word answers)
+Answers-stopped part whole of_part of_whole (Err given) Fault gives answers refuses = subst (λ stop. Answers whole of_whole (Err stop)) (sym gives) tt
+
+-- a grantee is a user, if it isn't PUBLIC
+pub grantee-found : (db : Database) (name : List ℕ) (u : User) → bytes_eq name public_name ≡ false → user_named db.users name ≡ Some u → or_refused (grantee_named db name) not_found ≡ Ok u.stamp
+grantee-found db name u other found = rw (other, found) refl
+
+pub grantee-none : (db : Database) (name : List ℕ) → bytes_eq name public_name ≡ false → user_named db.users name ≡ None → or_refused (grantee_named db name) not_found ≡ Err not_found
+grantee-none db name other none = rw (other, none) refl
+
+-- two grants of one pair are grants of the same pair
+same-pair : (object grantee : ℕ) (g h : Grant) → is_pair object grantee g ≡ true → is_pair object grantee h ≡ true → is_of_pair g h ≡ true
+same-pair object grantee g h one other =
+    let a = and_parts (g.object == object) (g.grantee == grantee) one in
+    let b = and_parts (h.object == object) (h.grantee == grantee) other in
+    and_from (g.object == h.object) (g.grantee == h.grantee)
+    (eq-eqb g.object h.object (eqb-true g.object object a.0 ∙ sym (eqb-true h.object object b.0)))
+    (eq-eqb g.grantee h.grantee (eqb-true g.grantee grantee a.1 ∙ sym (eqb-true h.grantee grantee b.1)))
+
+-- what a search for the grant of a pair says
+abbrev pub IsOfPair : ℕ → ℕ → Option Grant → List Grant → Type 0
+IsOfPair object grantee found grants = count_by (is_pair object grantee) grants ≤ 1 → found ≡ find (is_pair object grantee) grants
+
+-- the grant of a pair that is found is the database's
+pub pair-held : (store : Held) (side : Side) (chip : Chip) (db : Database) (object grantee : ℕ) (found : Option Grant) → IsHeld store side chip db
+    → IfSome (slots_of store side chip) (λ slots. IsOfPair object grantee found (listed grant_kind slots)) → found ≡ find (is_pair object grantee) db.grants
+pair-held store side chip db object grantee found held said =
+    let here = told-held store side chip db (λ slots. IsOfPair object grantee found (listed grant_kind slots)) held said in
+    subst (IsOfPair object grantee found) held.holds.grants here (one-apart is_of_pair (is_pair object grantee) (same-pair object grantee) db.grants held.valid.grants.pairs)
