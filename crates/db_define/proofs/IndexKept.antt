@@ -22,7 +22,7 @@ use Rattle.record_table.proofs.ListedChanges.{at_slot-kept, is_of-read}
 use Rattle.row_index.specs.Index.{Index, Indexes}
 use Rattle.row_index.proofs.IndexLaws.{Indexes-kept}
 use Rattle.db_define.specs.Dependent.{is_on}
-use Rattle.db_define.specs.Swept.{without_passing}
+use Rattle.record_table.specs.Swept.{without_passing}
 use Rattle.db_define.proofs.RowsLeft.{rows-kept}
 use Rattle.db_define.proofs.ObjectLeft.{of-told, slots_without_grants, slots_without_object}
 

@@ -1,11 +1,9 @@
 pub mod IndexKept
 pub mod Layers
-pub mod LeftRecords
 pub mod ObjectDropped
 pub mod ObjectLeft
 pub mod ObjectMade
 pub mod RemovedRows
 pub mod RowsLeft
-pub mod SweptSlots
 pub mod TableLeft
 pub mod ViewMade

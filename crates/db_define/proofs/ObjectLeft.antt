@@ -35,8 +35,8 @@ use Rattle.record_table.specs.Listed.{at_slot, slots_of}
 use Rattle.record_table.specs.Making.{IsHeld, Makes}
 use Rattle.record_table.proofs.ChangedDatabase.{Holds-removed}
 use Rattle.db_define.specs.Dependent.{is_on}
-use Rattle.db_define.specs.Swept.{all_without, has_passing, without_passing}
-use Rattle.db_define.proofs.LeftRecords.{Holds-without_grants, count-passing}
+use Rattle.record_table.specs.Swept.{all_without, has_passing, without_passing}
+use Rattle.record_table.proofs.LeftRecords.{Holds-without_grants, count-passing}
 
 -- the slots without an object, and without the grants on it
 abbrev pub slots_without_object : ℕ → Slots → Slots

@@ -16,7 +16,7 @@ use Rattle.row_index.specs.Index.{HasRows, Index, Indexes}
 use Rattle.row_index.specs.Places.{is_in_table}
 use Rattle.row_index.specs.declared.place.RowPlace.{RowPlace}
 use Rattle.db_define.specs.Dependent.{is_in}
-use Rattle.db_define.specs.Swept.{all_without, has_passing}
+use Rattle.record_table.specs.Swept.{all_without, has_passing}
 use Rattle.db_define.proofs.RowsLeft.{HasRows-without_table, length-places, slots-without_table, without_places, without_places-more}
 
 -- one more is

@@ -22,8 +22,8 @@ use Rattle.row_index.specs.declared.place.RowPlace.{RowPlace}
 use Rattle.row_index.proofs.ChangedPlaces.{filter-in_order_all}
 use Rattle.row_index.proofs.Scans.{lower_part, places_from, row_in, slots_from}
 use Rattle.db_define.specs.Dependent.{is_in}
-use Rattle.db_define.specs.Swept.{all_without, has_passing, without_passing}
-use Rattle.db_define.proofs.LeftRecords.{has-of}
+use Rattle.record_table.specs.Swept.{all_without, has_passing, without_passing}
+use Rattle.record_table.proofs.LeftRecords.{has-of}
 
 -- the slots of some places are emptied
 abbrev pub without_places : List RowPlace → Slots → Slots

@@ -23,8 +23,8 @@ use Rattle.catalog_codec.specs.Catalog.{object_kind, grant_kind, row_kind}
 use Rattle.record_table.specs.Listed.{at_slot, slots_of}
 use Rattle.record_table.specs.Making.{IsHeld, Makes}
 use Rattle.db_define.specs.Dependent.{is_in, is_on}
-use Rattle.db_define.specs.Swept.{all_without, has_passing}
-use Rattle.db_define.proofs.LeftRecords.{Holds-without_rows, count-passing}
+use Rattle.record_table.specs.Swept.{all_without, has_passing}
+use Rattle.record_table.proofs.LeftRecords.{Holds-without_rows, count-passing}
 use Rattle.db_define.proofs.ObjectLeft.{Holds-granted, Makes-left, count-grants, less-granted, less-without, of-told, slots_without_grants, slots_without_object}
 
 -- the edits of a table that is dropped

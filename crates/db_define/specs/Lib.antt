@@ -1,4 +1,3 @@
 pub mod Dependent
 pub mod Dropped
 pub mod Layers
-pub mod Swept

@@ -14,14 +14,13 @@ ghost use Rattle.record_table.specs.Making.{Ends, IsHeld, is_stop_fault};
 ghost use Rattle.db_define.specs.Dependent.{is_on, is_view_on};
 ghost use Rattle.db_define.specs.Dropped as specs;
 ghost use Rattle.db_define.specs.Dropped.{dropping};
-ghost use Rattle.db_define.specs.Swept.{all_without, has_passing};
+ghost use Rattle.record_table.specs.Swept.{all_without, has_passing};
 
 use crate::dropped::Dropped;
-use crate::sweeping::remove_each;
 use eeprom::{Eeprom, EepromFault};
 use privilege_table::{find_seen, is_owned_by};
 use record_store::{Found, Side, Store};
-use record_table::{Stop, Wanted, find_by, refused, remove};
+use record_table::{Stop, Wanted, find_by, refused, remove, remove_each};
 use scql_base::{Actor, Grant, Name, Object, ObjectKind, StatusWord};
 
 /// The object of a name that is dropped so: one that the actor owns, and on which no view rests. Or the first refusal.

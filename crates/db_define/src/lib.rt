@@ -7,7 +7,6 @@ mod dropped;
 mod dropping;
 mod making;
 mod rows;
-mod sweeping;
 mod table;
 mod view;
 

@@ -10,7 +10,7 @@ ghost use Rattle.record_table.specs.Listed.{slots_of};
 ghost use Rattle.row_index.specs.Index.{Indexes};
 ghost use Rattle.row_index.specs.Places.{is_in_table};
 ghost use Rattle.db_define.specs.Dependent.{is_in};
-ghost use Rattle.db_define.specs.Swept.{all_without, has_passing};
+ghost use Rattle.record_table.specs.Swept.{all_without, has_passing};
 
 use record_store::{Side, Store};
 use record_table::remove;

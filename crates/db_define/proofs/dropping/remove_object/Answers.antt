@@ -1,6 +1,6 @@
 -- The object's slot is emptied, and then those of the grants on it.
 use Rattle.std.proofs.Common.{◌∙◌}
-use Rattle.db_define.proofs.SweptSlots.{emptied-told}
+use Rattle.record_table.proofs.SweptSlots.{emptied-told}
 use Rattle.db_define.proofs.ObjectLeft.{committed-told, granted-entries, granted-told}
 use Rattle.db_define.proofs.dropping.remove_object.Goals as goal
 

@@ -4,7 +4,7 @@ use Rattle.record_store.specs.declared.side.Side.TheVariants.{Working}
 use Rattle.record_table.specs.Listed.{slots_of}
 use Rattle.row_index.specs.Index.{Indexes}
 use Rattle.db_define.proofs.RemovedRows.{Indexes-without_table, entries-rows, removed-row, removed-rows}
-use Rattle.db_define.proofs.SweptSlots.{emptied-told}
+use Rattle.record_table.proofs.SweptSlots.{emptied-told}
 use Rattle.db_define.proofs.ObjectLeft.{committed-told}
 use Rattle.db_define.proofs.rows.remove_rows.Goals as goal
 
