@@ -11,3 +11,6 @@ mod texts;
 mod users;
 
 pub use next::next_after;
+
+#[cfg(test)]
+mod tests;
