@@ -16,7 +16,7 @@ ghost use Rattle.row_index.specs.Index.{Indexes, is_above};
 ghost use Rattle.card.specs.Card.{HoldsSome, IsAtRest};
 ghost use Rattle.card.specs.Changing.{IsChange, Changes, acting};
 
-use db_access::create_user;
+use db_access::{create_user, grant, revoke};
 use db_define::{create_table, drop_table};
 use db_write::insert;
 use eeprom::{Eeprom, EepromFault};
@@ -103,6 +103,30 @@ fn make<B: Eeprom>(
             create_table(store, bench, actor, name.copy(), columns, index)
         }
         Operation::DropTable { name } => drop_table(store, bench, actor, name.copy(), index),
+        Operation::Grant {
+            privileges,
+            object,
+            grantee,
+        } => grant(
+            store,
+            bench,
+            actor,
+            *privileges,
+            object.copy(),
+            grantee.copy(),
+        ),
+        Operation::Revoke {
+            privileges,
+            object,
+            grantee,
+        } => revoke(
+            store,
+            bench,
+            actor,
+            *privileges,
+            object.copy(),
+            grantee.copy(),
+        ),
         Operation::Insert { table, row } => insert(store, bench, actor, table.copy(), row, index),
         Operation::CreateUser {
             name,

@@ -38,10 +38,6 @@ on channel operation le = a_command (record { channel = channel; operation = ope
 lines_found : map (λ (l : Line). line_of operations l.ins l.p1 l.p2) operations ≡ map Some operations
 lines_found = refl
 
--- what is built today
-kinds_built : map (λ (l : Line). l.kind) built_operations ≡ kind.CreateTable ∷ kind.DropTable ∷ kind.Insert ∷ kind.PresentUser ∷ kind.CreateUser ∷ []
-kinds_built = refl
-
 -- each refusal in its order
 too_short : reading (codes "001000") ≡ refused wrong_length
 unfolding form_of hex_on_literals

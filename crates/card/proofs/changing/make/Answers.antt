@@ -1,7 +1,7 @@
 -- Each operation ends as its edits say, and the index goes on with it.
 use Rattle.std.proofs.Common.{◌≡◌, ℕ, true, List, refl}
 use Rattle.scql_base.specs.declared.operation.Operation.{Operation}
-use Rattle.scql_base.specs.declared.operation.Operation.TheVariants.{CreateTable, DropTable, Insert, CreateUser}
+use Rattle.scql_base.specs.declared.operation.Operation.TheVariants.{CreateTable, DropTable, Grant, Revoke, Insert, CreateUser}
 use Rattle.scql_base.specs.declared.words.Profile.{Profile}
 use Rattle.scql_model.specs.Changing.{edits_of}
 use Rattle.scql_model.specs.Operations.{kind_of}
@@ -11,16 +11,20 @@ use Rattle.card.proofs.changing.make.Goals as goal
 
 -- each change that is built has an arm
 no-other : (operation : Operation) → is_change (kind_of operation) ≡ true → ((name : List ℕ) (columns : List (List ℕ)) → operation ≡ CreateTable name columns → ⊥) → ((name : List ℕ) → operation ≡ DropTable name → ⊥)
+    → ((privileges : ℕ) (object grantee : List ℕ) → operation ≡ Grant privileges object grantee → ⊥) → ((privileges : ℕ) (object grantee : List ℕ) → operation ≡ Revoke privileges object grantee → ⊥)
     → ((table : List ℕ) (row : List (List ℕ)) → operation ≡ Insert table row → ⊥) → ((name : List ℕ) (profile : Profile) (secret : List ℕ) → operation ≡ CreateUser name profile secret → ⊥) → ⊥
-no-other (CreateTable name columns) change table drop row user = table name columns refl
-no-other (DropTable name) change table drop row user = drop name refl
-no-other (Insert name values) change table drop row user = row name values refl
-no-other (CreateUser name profile secret) change table drop row user = user name profile secret refl
-no-other operation change table drop row user = cc
+no-other (CreateTable name columns) change table drop grant revoke row user = table name columns refl
+no-other (DropTable name) change table drop grant revoke row user = drop name refl
+no-other (Grant privileges object grantee) change table drop grant revoke row user = grant privileges object grantee refl
+no-other (Revoke privileges object grantee) change table drop grant revoke row user = revoke privileges object grantee refl
+no-other (Insert name values) change table drop grant revoke row user = row name values refl
+no-other (CreateUser name profile secret) change table drop grant revoke row user = user name profile secret refl
+no-other operation change table drop grant revoke row user = cc
 
 pub unreachable-requires : goal.unreachable-requires
 unreachable-requires g c =
-    no-other c.args.operation.now (is_change-IsChange c.args.operation.now c.requires.changes) c.in_default.not-CreateTable c.in_default.not-DropTable c.in_default.not-Insert c.in_default.not-CreateUser
+    no-other c.args.operation.now (is_change-IsChange c.args.operation.now c.requires.changes) c.in_default.not-CreateTable c.in_default.not-DropTable c.in_default.not-Grant c.in_default.not-Revoke
+    c.in_default.not-Insert c.in_default.not-CreateUser
 
 pub returns-in-CreateTable-clause-ends : goal.returns-in-CreateTable-clause-ends
 unfolding edits_of
@@ -58,3 +62,25 @@ returns-in-CreateUser-clause-index g c = λ db held acts form fits ended.
     let made = (rw c.copy-in-CreateUser.ensures at c.create_user.ensures.ends) db held acts (rw c.in-CreateUser.is at form) in
     Indexes-ends db _ c.create_user.result c.args.index.now c.args.store.now c.create_user.new.store (g.B.Eeprom.chip c.args.bench.now) (g.B.Eeprom.chip c.create_user.new.bench)
     c.requires.index made c.create_user.ensures.goes_on c.create_user.ensures.rows ended
+
+pub returns-in-Grant-clause-ends : goal.returns-in-Grant-clause-ends
+unfolding edits_of
+returns-in-Grant-clause-ends g c = λ db cursor held acts form fits.
+    rw c.in-Grant.is ((rw (c.copy-in-Grant.ensures, c.copy-in-Grant-2.ensures) at c.grant.ensures.ends) db held (rw c.in-Grant.is at form))
+
+pub returns-in-Grant-clause-index : goal.returns-in-Grant-clause-index
+returns-in-Grant-clause-index g c = λ db held acts form fits ended.
+    let made = (rw (c.copy-in-Grant.ensures, c.copy-in-Grant-2.ensures) at c.grant.ensures.ends) db held (rw c.in-Grant.is at form) in
+    Indexes-ends db _ c.grant.result c.args.index.now c.args.store.now c.grant.new.store (g.B.Eeprom.chip c.args.bench.now) (g.B.Eeprom.chip c.grant.new.bench)
+    c.requires.index made c.grant.ensures.goes_on c.grant.ensures.rows ended
+
+pub returns-in-Revoke-clause-ends : goal.returns-in-Revoke-clause-ends
+unfolding edits_of
+returns-in-Revoke-clause-ends g c = λ db cursor held acts form fits.
+    rw c.in-Revoke.is ((rw (c.copy-in-Revoke.ensures, c.copy-in-Revoke-2.ensures) at c.revoke.ensures.ends) db held)
+
+pub returns-in-Revoke-clause-index : goal.returns-in-Revoke-clause-index
+returns-in-Revoke-clause-index g c = λ db held acts form fits ended.
+    let made = (rw (c.copy-in-Revoke.ensures, c.copy-in-Revoke-2.ensures) at c.revoke.ensures.ends) db held in
+    Indexes-ends db _ c.revoke.result c.args.index.now c.args.store.now c.revoke.new.store (g.B.Eeprom.chip c.args.bench.now) (g.B.Eeprom.chip c.revoke.new.bench)
+    c.requires.index made c.revoke.ensures.goes_on c.revoke.ensures.rows ended
