@@ -45,7 +45,7 @@ map-in_order : {X Y : Type 0} (f : X → Y) (key : Y → ℕ) (xs : List X) → 
 map-in_order f key [] = refl
 map-in_order f key (x ∷ xs) = ap (put_in_order key (f x)) (map-in_order f key xs) ∙ map-put_in_order f key x (in_order (λ x. key (f x)) xs)
 
-find-map : {X Y : Type 0} (f : X → Y) (p : Y → Bool) (xs : List X) → find p (map f xs) ≡ option_map f (find (λ x. p (f x)) xs)
+pub find-map : {X Y : Type 0} (f : X → Y) (p : Y → Bool) (xs : List X) → find p (map f xs) ≡ option_map f (find (λ x. p (f x)) xs)
 find-map f p [] = refl
 find-map f p (x ∷ xs) =
     elim (cases_Bool (p (f x))) [
@@ -99,7 +99,7 @@ are_there first (entry ∷ slots) =
     one None is rest = rest
     one (Some row) is rest = ((0, omega arith, omega arith, is), rest)
 
-find-agree : {X : Type 0} (p q : X → Bool) (xs : List X) → ((x : X) → p x ≡ q x) → find p xs ≡ find q xs
+pub find-agree : {X : Type 0} (p q : X → Bool) (xs : List X) → ((x : X) → p x ≡ q x) → find p xs ≡ find q xs
 find-agree p q [] same = refl
 find-agree p q (x ∷ xs) same = rw (same x) (ap (λ rest. cond (q x) (Some x) rest) (find-agree p q xs same))
 

@@ -96,7 +96,7 @@ same_table : (table : ℕ) (xs : List RowPlace) → Rises place_stamp xs → Fit
 same_table table xs rises fits = filter-in_order table_key (is_in_table table) xs (AreApart-tables xs rises fits) ∙ in_order-rising table_key (filter (is_in_table table) xs) (Rises-in table xs rises)
 
 -- a search for what passes two tests is one for the second among what passes the first
-find-filter : {X : Type 0} (p q : X → Bool) (xs : List X) → find (λ x. p x && q x) xs ≡ find q (filter p xs)
+pub find-filter : {X : Type 0} (p q : X → Bool) (xs : List X) → find (λ x. p x && q x) xs ≡ find q (filter p xs)
 find-filter p q [] = refl
 find-filter p q (x ∷ xs) =
     elim (cases_Bool (p x)) [

@@ -82,3 +82,21 @@ fn an_index_follows_transactions(rt: HostRuntime) -> Result<(), Fail> {
     assert!(rt; index.find(Side::Working, 6) == Some((2, 9)));
     Ok(())
 }
+
+#[test]
+fn a_table_is_removed(rt: HostRuntime) -> Result<(), Fail> {
+    let mut index = RowIndex::with_room(rt.alloc(), 16)?;
+    index.begin();
+    index.added(2, 6, 9);
+    index.added(3, 7, 1);
+    index.added(2, 8, 4);
+    assert!(rt; index.rows_of(Side::Working, 2).len() == 2);
+    index.table_removed(2);
+    assert!(rt; index.rows_of(Side::Working, 2).is_empty());
+    assert!(rt; index.find(Side::Working, 7) == Some((3, 1)));
+    // The slot of a row that went is free again.
+    index.added(2, 9, 9);
+    index.commit();
+    assert!(rt; index.find(Side::Committed, 9) == Some((2, 9)));
+    Ok(())
+}

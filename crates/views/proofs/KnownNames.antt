@@ -31,7 +31,7 @@ any-within name (c ∷ columns) all within among =
       | inr f ↦ any-within name columns all parts.1 (rw f at among)
     ]
 
-among-within : (names columns all : Columns) → are_among columns all ≡ true → are_among names columns ≡ true → are_among names all ≡ true
+pub among-within : (names columns all : Columns) → are_among columns all ≡ true → are_among names columns ≡ true → are_among names all ≡ true
 among-within names columns all within among = all-weaker (λ (n : List ℕ). list_any (bytes_eq n) columns) (λ (n : List ℕ). list_any (bytes_eq n) all) names (λ n is. any-within n columns all within is) among
 
 among-self : (columns : Columns) → are_among columns columns ≡ true
@@ -90,7 +90,7 @@ founded-names objects o (View base columns conditions) founded =
     on_base (Some b) rests = (and_parts (nat_lt b.stamp o.stamp && (b.owner == o.owner) && may_have_view objects b) (are_named_among (columns_of b.kind) columns conditions) rests).1
 founded-names objects o (Dictionary subject) founded = refl
 
-names-valid : (db : Database) → IsValid db → list_all (names_its_base db.objects) db.objects ≡ true
+pub names-valid : (db : Database) → IsValid db → list_all (names_its_base db.objects) db.objects ≡ true
 names-valid db valid = all-weaker (is_founded db.objects) (names_its_base db.objects) db.objects (λ o founded. founded-names db.objects o o.kind founded) valid.objects.founded
 
 -- what is resolved in a valid database is known

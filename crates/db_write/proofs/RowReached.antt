@@ -1,0 +1,163 @@
+-- The row that a cursor reaches: that of its stamp in the table, if it meets the cursor's conditions and those of each view.
+use Rattle.std.proofs.Common.{◌≡◌, ◌==◌, ◌&&◌, ℕ, Bool, true, false, List, [], ◌∷◌, map, Option, Some, None, inl, inr, refl, sym, ap, ◌∙◌, subst}
+use Rattle.std.specs.Prelude.{IfSome, option_and_then, option_map}
+use Rattle.std.specs.List.{filter, find, list_all}
+use Rattle.std.proofs.lemmas.Bool.{and_parts, cases_Bool, eqb-true}
+use Rattle.std.proofs.lemmas.Map.Entries.{option_filter}
+use Rattle.std.proofs.lemmas.Option.{none-some, same_Some}
+use Rattle.eeprom.specs.Chip.{Chip}
+use Rattle.eeprom.specs.Slots.{Rises, has}
+use Rattle.eeprom.specs.StoreOf.{Slots}
+use Rattle.eeprom.proofs.InOrder.{AreApart-rising}
+use Rattle.record_store.specs.Held.{Held}
+use Rattle.record_store.specs.declared.side.Side.TheVariants.{Working}
+use Rattle.scql_base.specs.declared.condition.Condition.{Condition}
+use Rattle.scql_base.specs.declared.cursor.Cursor.{Cursor}
+use Rattle.scql_base.specs.declared.cursor.Place.{Place}
+use Rattle.scql_base.specs.declared.cursor.Place.TheVariants.{NotOpen, At, End}
+use Rattle.scql_base.specs.declared.records.Object.{Object}
+use Rattle.scql_base.specs.declared.records.RowRecord.{RowRecord}
+use Rattle.scql_model.specs.Contents.{contents_of, cut_to, of_table}
+use Rattle.scql_model.specs.Database.{Database, IsValid, are_among, are_named_among, object_stamped}
+use Rattle.scql_model.specs.Matching.{Columns, Values, matches}
+use Rattle.scql_model.specs.Moves.{row_at}
+use Rattle.scql_model.specs.Objects.{StampedRow, columns_of}
+use Rattle.scql_model.specs.Resolving as model
+use Rattle.scql_model.specs.Resolving.{passes_filters}
+use Rattle.scql_model.specs.Writing.{record_at_cursor, row_at_place}
+use Rattle.scql_model.proofs.Keeping.{key-found}
+use Rattle.scql_model.proofs.LongerLists.{find-passes}
+use Rattle.scql_model.proofs.SeenThrough.{IsSeenThrough-resolved_of}
+use Rattle.catalog_codec.specs.Catalog.{row_kind}
+use Rattle.privilege_table.proofs.Seen.{find-both}
+use Rattle.record_table.specs.Listed.{listed, slots_of}
+use Rattle.record_table.specs.Making.{IsHeld}
+use Rattle.row_index.proofs.Scans.{find-agree, find-map}
+use Rattle.row_index.proofs.Tables.{find-filter}
+use Rattle.search_cond.specs.Bound.{Binds, passes}
+use Rattle.search_cond.specs.declared.placed.Placed.{Placed}
+use Rattle.views.specs.Resolved.{AreBound, AreKnown, Resolves, StandsFor}
+use Rattle.views.specs.declared.resolving.Resolved.{Resolved}
+use Rattle.views.proofs.KnownNames.{IsKnown, IsKnown-resolved_of, among-within, names-valid}
+use Rattle.db_write.specs.Reached.{IsCursorOf, is_reached, stamp_at}
+
+swap : (a b c : Bool) → (a && (b && c)) ≡ (c && (a && b))
+swap true true true = refl
+swap true true false = refl
+swap true false true = refl
+swap true false false = refl
+swap false true true = refl
+swap false true false = refl
+swap false false true = refl
+swap false false false = refl
+
+-- what is found of a table's rows that pass a test and are cut is the table's row of that stamp, if it passes
+found-cut : (rows : List RowRecord) (stamp table : ℕ) (p : Values → Bool) (f : Values → Values) → Rises (λ (r : RowRecord). r.stamp) rows
+    → option_and_then (λ (x : StampedRow). find (λ (s : RowRecord). s.stamp == x.stamp) rows)
+    (row_at stamp (map (λ (x : StampedRow). record x { values = f x.values }) (filter (λ (x : StampedRow). p x.values) (map of_table (filter (λ (r : RowRecord). r.table == table) rows)))))
+    ≡ option_filter (λ (s : RowRecord). s.table == table && p s.row) (find (λ (s : RowRecord). s.stamp == stamp) rows)
+found-cut rows stamp table p f rises =
+    let of_stamp : RowRecord → Bool = (λ r. r.stamp == stamp) in
+    let in_table : RowRecord → Bool = (λ r. r.table == table) in
+    let test : RowRecord → Bool = (λ s. s.table == table && p s.row) in
+    let cut : StampedRow → StampedRow = (λ x. record x { values = f x.values }) in
+    let passing : StampedRow → Bool = (λ x. p x.values) in
+    let here : StampedRow → Bool = (λ x. x.stamp == stamp) in
+    let own = filter in_table rows in
+    let again : RowRecord → Option RowRecord = (λ s. find (λ (t : RowRecord). t.stamp == s.stamp) rows) in
+    ap (option_and_then (λ (x : StampedRow). find (λ (s : RowRecord). s.stamp == x.stamp) rows))
+    (find-map cut here (filter passing (map of_table own))
+    ∙ ap (option_map cut) (sym (find-filter passing here (map of_table own))
+    ∙ find-map of_table (λ x. passing x && here x) own
+    ∙ ap (option_map of_table) (sym (find-filter in_table (λ r. p r.row && of_stamp r) rows)
+    ∙ find-agree (λ r. in_table r && (p r.row && of_stamp r)) (λ r. of_stamp r && test r) rows (λ r. swap (in_table r) (p r.row) (of_stamp r))
+    ∙ find-both of_stamp test rows (AreApart-rising (λ (r : RowRecord). r.stamp) rows rises stamp))))
+    ∙ last (find of_stamp rows) refl
+  where
+    last : (o : Option RowRecord) → find (λ (s : RowRecord). s.stamp == stamp) rows ≡ o
+        → option_and_then (λ (x : StampedRow). find (λ (s : RowRecord). s.stamp == x.stamp) rows) (option_map (λ (x : StampedRow). record x { values = f x.values }) (option_map of_table (option_filter (λ (s : RowRecord). s.table == table && p s.row) o)))
+        ≡ option_filter (λ (s : RowRecord). s.table == table && p s.row) o
+    last None is = refl
+    last (Some s) is =
+        elim (cases_Bool (s.table == table && p s.row)) [
+          | inl t ↦ rw t (key-found (λ (r : RowRecord). r.stamp) (λ (r : RowRecord). r.stamp == stamp) rows s rises is)
+          | inr n ↦ rw n refl
+        ]
+
+agree : {X : Type 0} (p q : X → Bool) (o : Option X) → ((x : X) → p x ≡ q x) → option_filter p o ≡ option_filter q o
+agree p q None same = refl
+agree p q (Some x) same = rw (same x) refl
+
+-- conditions that are bound tell what those of the views tell
+each-filter : (values : Values) (filters : List (List Placed)) (all : Columns) (lists : List (List Condition)) → AreBound filters all lists → list_all (passes values) filters ≡ list_all (λ (conditions : List Condition). matches all conditions values) lists
+each-filter values [] all [] are = refl
+each-filter values [] all (cs ∷ lists) are = absurd are
+each-filter values (b ∷ filters) all [] are = absurd are
+each-filter values (b ∷ filters) all (cs ∷ lists) are = rw (are.0 values, each-filter values filters all lists are.1) refl
+
+same-test : (answer : Resolved) (r : model.Resolved) (bound : List Placed) (conditions : List Condition) (s : RowRecord) → StandsFor answer r → Binds bound answer.all conditions
+    → is_reached answer bound s ≡ (s.table == r.table && (matches r.all conditions s.row && passes_filters r s.row))
+same-test answer r bound conditions s stands binds =
+    let own : passes s.row bound ≡ matches r.all conditions s.row = binds s.row ∙ ap (λ (all : Columns). matches all conditions s.row) stands.all in
+    rw (stands.table, own, each-filter s.row answer.filters.items r.all r.filters stands.filters) refl
+
+at-place : (place : Place) (stamp : ℕ) → stamp_at place ≡ Some stamp → place ≡ At stamp
+at-place NotOpen stamp is = absurd (none-some stamp is)
+at-place (At other) stamp is = ap At (same_Some other stamp is)
+at-place End stamp is = absurd (none-some stamp is)
+
+-- a cursor that stands at no row reaches none
+pub reaches-none : (db : Database) (c : Cursor) → None ≡ stamp_at c.place → None ≡ record_at_cursor db c
+reaches-none db c is = go c.place is
+  where
+    go : (place : Place) → None ≡ stamp_at place → None ≡ option_and_then (λ (r : StampedRow). find (λ (s : RowRecord). s.stamp == r.stamp) db.rows) (row_at_place (contents_of db c.object) c place)
+    go NotOpen is = refl
+    go (At stamp) is = absurd (none-some stamp is)
+    go End is = refl
+
+-- the columns and the conditions of a cursor are among those that are shown of its object
+named-shown : (db : Database) (c : Cursor) (r : model.Resolved) → IsCursorOf db c → IsKnown db.objects c.object r → are_named_among r.columns c.columns c.conditions ≡ true
+named-shown db c r of known =
+    let named = subst (λ (o : Option Object). IfSome o (λ (o : Object). are_named_among (columns_of o.kind) c.columns c.conditions ≡ true)) known.found of in
+    subst (λ (columns : Columns). are_named_among columns c.columns c.conditions ≡ true) known.columns named
+
+-- so its conditions can be bound
+pub conditions-known : (db : Database) (c : Cursor) (answer : Resolved) → IsValid db → IsCursorOf db c → Resolves db.objects c.object answer → AreKnown answer.all c.conditions ≡ true
+conditions-known db c answer valid of resolves =
+    let r = resolves.is in
+    let known = IsKnown-resolved_of db c.object r valid resolves.resolved in
+    let parts = and_parts (are_among c.columns r.columns) (AreKnown r.columns c.conditions) (named-shown db c r of known) in
+    subst (λ (all : Columns). AreKnown all c.conditions ≡ true) (sym resolves.stands.all) (among-within (map (λ (x : Condition). x.column) c.conditions) r.columns r.all known.within parts.1)
+
+-- The row that a cursor reaches.
+pub reaches : (db : Database) (c : Cursor) (answer : Resolved) (bound : List Placed) (stamp : ℕ) → IsValid db → IsCursorOf db c → Resolves db.objects c.object answer → Binds bound answer.all c.conditions → stamp_at c.place ≡ Some stamp
+    → option_filter (is_reached answer bound) (find (has row_kind.key stamp) db.rows) ≡ record_at_cursor db c
+reaches db c answer bound stamp valid of resolves binds at =
+    let r = resolves.is in
+    let known = IsKnown-resolved_of db c.object r valid resolves.resolved in
+    let through = IsSeenThrough-resolved_of db c.object r (names-valid db valid) resolves.resolved in
+    let again : StampedRow → Option RowRecord = (λ x. find (λ (s : RowRecord). s.stamp == x.stamp) db.rows) in
+    agree (is_reached answer bound) (λ s. s.table == r.table && (matches r.all c.conditions s.row && passes_filters r s.row)) (find (has row_kind.key stamp) db.rows) (λ s. same-test answer r bound c.conditions s resolves.stands binds)
+    ∙ sym (found-cut db.rows stamp r.table (λ values. matches r.all c.conditions values && passes_filters r values) (cut_to r.all c.columns) valid.rows.rises)
+    ∙ sym (ap (λ place. option_and_then again (row_at_place (contents_of db c.object) c place)) (at-place c.place stamp at)
+    ∙ ap (λ rows. option_and_then again (row_at stamp rows)) (through.rows c.columns c.conditions (named-shown db c r of known)))
+
+-- the object of a stamp has that stamp
+pub stamp-found : (objects : List Object) (stamp : ℕ) (o : Object) → object_stamped objects stamp ≡ Some o → o.stamp ≡ stamp
+stamp-found objects stamp o is = eqb-true o.stamp stamp (find-passes (λ (x : Object). x.stamp == stamp) objects o is)
+
+-- the row of a stamp that the slots list is the database's
+pub row-held : (store : Held) (chip : Chip) (db : Database) (stamp : ℕ) (found : Option RowRecord) → IsHeld store Working chip db
+    → IfSome (slots_of store Working chip) (λ slots. found ≡ find (has row_kind.key stamp) (listed row_kind slots)) → found ≡ find (has row_kind.key stamp) db.rows
+row-held store chip db stamp found held said =
+    let here : found ≡ find (has row_kind.key stamp) (listed row_kind held.slots) = subst (λ (o : Option Slots). IfSome o (λ slots. found ≡ find (has row_kind.key stamp) (listed row_kind slots))) held.told said in
+    here ∙ ap (find (has row_kind.key stamp)) held.holds.rows
+
+-- what is found is left where it passes
+pub left-none : {X : Type 0} (p : X → Bool) (o : Option X) (x : X) → Some x ≡ o → p x ≡ false → None ≡ option_filter p o
+left-none p None x is fails = absurd (none-some x (sym is))
+left-none p (Some y) x is fails = let same : x ≡ y = same_Some x y is in let f = subst (λ z. p z ≡ false) same fails in rw f refl
+
+pub left-some : {X : Type 0} (p : X → Bool) (o : Option X) (x : X) → Some x ≡ o → p x ≡ true → Some x ≡ option_filter p o
+left-some p None x is passes = absurd (none-some x (sym is))
+left-some p (Some y) x is passes = let same : x ≡ y = same_Some x y is in let t = subst (λ z. p z ≡ true) same passes in rw t is

@@ -1,0 +1,55 @@
+// DELETE.
+ghost use Rattle.std.specs.Prelude.{◌≡◌, IsTrue, IfSome, IsErrOf, drop};
+ghost use Rattle.eeprom.specs.Chip.{Keeps};
+ghost use Rattle.eeprom.specs.Fault.{CountsFaults};
+ghost use Rattle.eeprom.specs.StoreOf.{store_of, image_size};
+ghost use Rattle.record_store.specs.Held.{IsOver};
+ghost use Rattle.record_store.specs.declared.side.Side.TheVariants.{Working};
+ghost use Rattle.scql_model.specs.Database.{Database};
+ghost use Rattle.scql_model.specs.Writing.{row_deleted};
+ghost use Rattle.record_table.specs.Making.{Ends, GoesOn, IsHeld, is_stop_fault};
+ghost use Rattle.row_index.specs.Index.{Indexes};
+ghost use Rattle.db_write.specs.Reached.{IsCursorOf};
+
+use crate::reaching::{find_row, find_written, opened};
+use eeprom::Eeprom;
+use privilege_table::Privilege;
+use record_store::Store;
+use record_table::{Stop, refused, remove};
+use row_index::RowIndex;
+use scql_base::{Actor, Cursor, StatusWord};
+
+/// DELETE: takes out the row of a table at which a cursor stands. The index follows.
+pub fn delete<B: Eeprom>(
+    store: &mut Store,
+    bench: &mut B,
+    actor: Actor,
+    cursor: &Option<Cursor>,
+    index: &mut RowIndex,
+) -> Result<(), Stop>
+    requires begun { IsTrue store.old.begun }
+    requires over { IsOver store.old (B.chip bench.old) }
+    requires index_begun { IsTrue index.old.begun }
+    requires index { Indexes index.old store.old (B.chip bench.old) }
+    ensures ends { (db : Database) → IsHeld store.old Working (B.chip bench.old) db → IfSome cursor.now (IsCursorOf db)
+        → Ends db (row_deleted db actor cursor.now) result store.old store.new (B.chip bench.old) (B.chip bench.new) }
+    ensures goes_on { ¬ IsErrOf result Stop.Fault → GoesOn store.old store.new (B.chip bench.old) (B.chip bench.new) }
+    ensures moments { Keeps store_of (B.chip bench.old) (B.chip bench.new) }
+    ensures behind { Keeps (drop (image_size store.old.chains.cells)) (B.chip bench.old) (B.chip bench.new) }
+    ensures cause { CountsFaults is_stop_fault (B.faults bench.old) (B.faults bench.new) result }
+    ensures index { Indexes index.new store.new (B.chip bench.new) }
+    ensures index_cells { index.new.cells ≡ index.old.cells }
+    ensures index_committed { index.new.committed ≡ index.old.committed }
+    ensures index_begun { IsTrue index.new.begun }
+{
+    let Some(cursor) = opened(cursor) else {
+        return refused(StatusWord::CONDITIONS_NOT_SATISFIED);
+    };
+    let object = find_written(store, bench, actor, cursor, Privilege::Delete)?;
+    let Some(found) = find_row(store, bench, cursor, &object, index)? else {
+        return refused(StatusWord::RECORD_NOT_FOUND);
+    };
+    remove(store, found.slot);
+    index.removed(found.slot);
+    Ok(())
+}

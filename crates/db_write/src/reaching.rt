@@ -1,0 +1,149 @@
+// The row that a cursor reaches.
+ghost use Rattle.std.specs.Prelude.{◌≡◌, ◌<◌, Ok, Err, Some, IfErr, IfOk, IfSome, MatchOption, option_map, true};
+ghost use Rattle.std.specs.List.{list_all};
+ghost use Rattle.eeprom.specs.Fault.{each_error};
+ghost use Rattle.eeprom.specs.Frame.{Reads};
+ghost use Rattle.record_store.specs.Held.{IsOver};
+ghost use Rattle.record_store.specs.declared.side.Side.TheVariants.{Working};
+ghost use Rattle.scql_base.specs.Words.{conditions_not_satisfied};
+ghost use Rattle.scql_model.specs.Database.{Database, object_stamped};
+ghost use Rattle.scql_model.specs.Defining as defining;
+ghost use Rattle.scql_model.specs.Moves as moves;
+ghost use Rattle.scql_model.specs.Writing.{record_at_cursor, written_through};
+ghost use Rattle.catalog_codec.specs.Catalog.{row_kind};
+ghost use Rattle.privilege_table.specs.Rights.{privilege_bit};
+ghost use Rattle.record_table.specs.Listed.{at_slot, slots_of};
+ghost use Rattle.record_table.specs.Making.{IsHeld, is_stop_fault};
+ghost use Rattle.row_index.specs.Index.{Indexes};
+ghost use Rattle.search_cond.specs.Bound.{passes};
+ghost use Rattle.db_write.specs.Reached.{IsCursorOf, IsStopOf, is_reached};
+ghost use Rattle.db_write.specs.Reached as reached;
+
+use eeprom::{Eeprom, EepromFault};
+use object_table::find_stamp;
+use privilege_table::{Privilege, appears, holds};
+use record_store::{Found, Side, Store};
+use record_table::{Stop, refused};
+use row_index::RowIndex;
+use scql_base::{Actor, Cursor, Object, ObjectKind, Place, Row, RowRecord, StatusWord};
+use search_cond::{Bound, bind};
+use views::{Resolved, resolve};
+
+/// The cursor, if it was opened.
+pub(crate) fn opened(cursor: &Option<Cursor>) -> Option<&Cursor>
+    ensures { MatchOption result (moves.opened cursor.now ≡ Err conditions_not_satisfied) (λ held. moves.opened cursor.now ≡ Ok held.now) }
+{
+    let held = cursor.as_ref()?;
+    if is_opened(held.place) {
+        Some(held)
+    } else {
+        None
+    }
+}
+
+fn is_opened(place: Place) -> bool
+    ensures { result ≡ moves.is_opened place }
+{
+    match place {
+        Place::NotOpen => false,
+        Place::At { .. } | Place::End => true,
+    }
+}
+
+/// The table or view whose rows the actor may change through a cursor, or the first refusal.
+pub(crate) fn find_written<B: Eeprom>(
+    store: &Store,
+    bench: &mut B,
+    actor: Actor,
+    cursor: &Cursor,
+    privilege: Privilege,
+) -> Result<Object, Stop>
+    requires over { IsOver store.now (B.chip bench.old) }
+    ensures written { (db : Database) → IsHeld store.now Working (B.chip bench.old) db → IfOk result (λ object. written_through db actor (privilege_bit privilege) cursor.now ≡ Ok object) }
+    ensures there { (db : Database) → IsHeld store.now Working (B.chip bench.old) db
+        → IfOk result (λ object. (object_stamped db.objects cursor.now.object ≡ Some object) × (defining.is_table_or_view object.kind ≡ true)) }
+    ensures refused { (db : Database) → IsHeld store.now Working (B.chip bench.old) db → IfErr result (IsStopOf (written_through db actor (privilege_bit privilege) cursor.now)) }
+    ensures frame { Reads is_stop_fault B.chip B.faults bench.old bench.new result }
+{
+    let Some(found) = find_stamp(store, bench, Side::Working, cursor.object)? else {
+        return refused(StatusWord::NOT_FOUND);
+    };
+    let object = found.value;
+    if !appears(store, bench, Side::Working, actor, &object)? {
+        return refused(StatusWord::NOT_FOUND);
+    }
+    if !is_table_or_view(&object.kind) {
+        return refused(StatusWord::CONDITIONS_NOT_SATISFIED);
+    }
+    if !holds(store, bench, Side::Working, actor, &object, privilege)? {
+        return refused(StatusWord::SECURITY_NOT_SATISFIED);
+    }
+    Ok(object)
+}
+
+fn is_table_or_view(kind: &ObjectKind) -> bool
+    ensures { result ≡ defining.is_table_or_view kind.now }
+{
+    match kind {
+        ObjectKind::Table { .. } | ObjectKind::View { .. } => true,
+        ObjectKind::Dictionary { .. } => false,
+    }
+}
+
+/// The row of a table at which a cursor on this object stands, where it is among the cursor's rows.
+pub(crate) fn find_row<B: Eeprom>(
+    store: &Store,
+    bench: &mut B,
+    cursor: &Cursor,
+    object: &Object,
+    index: &RowIndex,
+) -> Result<Option<Found<RowRecord>>, EepromFault>
+    requires over { IsOver store.now (B.chip bench.old) }
+    requires index { Indexes index.now store.now (B.chip bench.old) }
+    ensures there { IfOk result (λ found. IfSome found (λ found. found.slot < store.now.chains.cells)) }
+    ensures at { IfOk result (λ found. IfSome found (λ found. IfSome (slots_of store.now Working (B.chip bench.old)) (λ slots. Some found.value ≡ at_slot row_kind found.slot slots))) }
+    ensures row { (db : Database) → IsHeld store.now Working (B.chip bench.old) db → IsCursorOf db cursor.now → object_stamped db.objects cursor.now.object ≡ Some object.now
+        → defining.is_table_or_view object.now.kind ≡ true → IfOk result (λ found. option_map (λ found. found.value) found ≡ record_at_cursor db cursor.now) }
+    ensures frame { Reads each_error B.chip B.faults bench.old bench.new result }
+{
+    let Some(stamp) = stamp_at(cursor.place) else {
+        return Ok(None);
+    };
+    let resolved = resolve(store, bench, Side::Working, object)?;
+    // A cursor's conditions are on columns of its object.
+    let Some(conditions) = bind(&resolved.all, &cursor.conditions).ok() else {
+        return Ok(None);
+    };
+    let Some(found) = row_table::find_stamp(store, bench, Side::Working, stamp, index)? else {
+        return Ok(None);
+    };
+    if !is_row_reached(&resolved, &conditions, &found.value) {
+        return Ok(None);
+    }
+    Ok(Some(found))
+}
+
+// The stamp of the row at which a cursor stands.
+fn stamp_at(place: Place) -> Option<u32>
+    ensures { result ≡ reached.stamp_at place }
+{
+    match place {
+        Place::At { stamp } => Some(stamp),
+        Place::NotOpen | Place::End => None,
+    }
+}
+
+// Whether a row is one of the table, and meets the cursor's conditions and those of each view.
+fn is_row_reached(resolved: &Resolved, conditions: &Bound, row: &RowRecord) -> bool
+    ensures { result ≡ is_reached resolved.now conditions.now row.now }
+{
+    row.table == resolved.table
+        && conditions.matches(&row.row)
+        && passes_each(resolved.filters.as_slice(), &row.row)
+}
+
+fn passes_each(filters: &[Bound], row: &Row) -> bool
+    ensures { result ≡ list_all (passes row.now) filters.now }
+{
+    filters.iter().all(|filter| filter.matches(row))
+}
