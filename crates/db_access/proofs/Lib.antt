@@ -3,3 +3,4 @@ pub mod Asking
 pub mod NamedUser
 pub mod PairsFound
 pub mod PrivilegesChanged
+pub mod UserDeleted

@@ -1,3 +1,4 @@
 pub mod Asked
+pub mod Depending
 pub mod Pairs
 pub mod Presenting

@@ -2,12 +2,14 @@
 #![tactic(auto)]
 
 mod creating;
+mod deleting;
 mod granting;
 mod pairs;
 mod presenting;
 mod revoking;
 
 pub use creating::create_user;
+pub use deleting::delete_user;
 pub use granting::grant;
 pub use presenting::{Presented, present};
 pub use revoking::revoke;

@@ -7,6 +7,7 @@ pub mod LeftRecords
 pub mod ListedChanges
 pub mod ListedSearches
 pub mod Made
+pub mod MadeLeft
 pub mod ReadingCosts
 pub mod Rewriting
 pub mod Scan

@@ -1,0 +1,151 @@
+// DELETE USER.
+ghost use Rattle.std.specs.Prelude.{◌≡◌, ◌<◌, Some, drop, IfOk, IfSome, IsTrue, IsErrOf};
+ghost use Rattle.std.specs.List.{list_any};
+ghost use Rattle.eeprom.specs.Chip.{Keeps};
+ghost use Rattle.eeprom.specs.Fault.{CountsFaults, each_error};
+ghost use Rattle.eeprom.specs.Frame.{Reads};
+ghost use Rattle.eeprom.specs.StoreOf.{store_of, image_size};
+ghost use Rattle.record_store.specs.Held.{IsOver};
+ghost use Rattle.record_store.specs.declared.side.Side.TheVariants.{Committed, Working};
+ghost use Rattle.scql_base.specs.declared.words.StatusWord.{StatusWord};
+ghost use Rattle.scql_model.specs.Database as model;
+ghost use Rattle.scql_model.specs.Database.{Database};
+ghost use Rattle.scql_model.specs.Users as users;
+ghost use Rattle.scql_model.specs.Users.{removing_user, user_deleted};
+ghost use Rattle.catalog_codec.specs.Catalog.{user_kind};
+ghost use Rattle.record_table.specs.Listed.{at_slot, slots_of};
+ghost use Rattle.record_table.specs.Making.{IsHeld, Ends, GoesOn, KeepsRows, is_stop_fault};
+ghost use Rattle.db_access.specs.Asked.{Answers};
+ghost use Rattle.db_access.specs.Depending.{is_for, is_object_of, is_user_of};
+
+use eeprom::{Eeprom, EepromFault};
+use privilege_table::is_owned_by;
+use record_store::{Found, Side, Store};
+use record_table::{Stop, Wanted, find_by, refused, remove, remove_each};
+use scql_base::{Actor, Grant, Name, Object, Profile, StatusWord, User};
+use user_table::find_name;
+
+/// Deletes a user whom the actor owns and whom nothing needs, on the working side, and the grants to it.
+pub fn delete_user<B: Eeprom>(
+    store: &mut Store,
+    bench: &mut B,
+    actor: Actor,
+    name: Name,
+) -> Result<(), Stop>
+    requires begun { IsTrue store.old.begun }
+    requires over { IsOver store.old (B.chip bench.old) }
+    ensures ends { (db : Database) → IsHeld store.old Working (B.chip bench.old) db
+        → Ends db (user_deleted db actor name) result store.old store.new (B.chip bench.old) (B.chip bench.new) }
+    ensures goes_on { ¬ IsErrOf result Stop.Fault → GoesOn store.old store.new (B.chip bench.old) (B.chip bench.new) }
+    ensures rows { ¬ IsErrOf result Stop.Fault → KeepsRows (slots_of store.old Working (B.chip bench.old)) (slots_of store.new Working (B.chip bench.new)) }
+    ensures refused { (word : StatusWord) → IsErrOf result (Stop.Refused word) → slots_of store.new Working (B.chip bench.new) ≡ slots_of store.old Working (B.chip bench.old) }
+    ensures committed { ¬ IsErrOf result Stop.Fault → slots_of store.new Committed (B.chip bench.new) ≡ slots_of store.old Committed (B.chip bench.old) }
+    ensures moments { Keeps store_of (B.chip bench.old) (B.chip bench.new) }
+    ensures behind { Keeps (drop (image_size store.old.chains.cells)) (B.chip bench.old) (B.chip bench.new) }
+    ensures cause { CountsFaults is_stop_fault (B.faults bench.old) (B.faults bench.new) result }
+{
+    let user = find_to_delete(store, bench, actor, name)?;
+    remove(store, user.slot);
+    remove_each(store, bench, &GrantedTo(user.value.stamp))?;
+    Ok(())
+}
+
+// Finds the user who is deleted, or the first refusal.
+fn find_to_delete<B: Eeprom>(
+    store: &Store,
+    bench: &mut B,
+    actor: Actor,
+    name: Name,
+) -> Result<Found<User>, Stop>
+    requires over { IsOver store.now (B.chip bench.old) }
+    ensures there { IfOk result (λ user. user.slot < store.now.chains.cells) }
+    ensures at { IfOk result (λ user. IfSome (slots_of store.now Working (B.chip bench.old)) (λ slots. Some user.value ≡ at_slot user_kind user.slot slots)) }
+    ensures found { (db : Database) → IsHeld store.now Working (B.chip bench.old) db → Answers (λ user. removing_user db user.value) (user_deleted db actor name) result }
+    ensures frame { Reads is_stop_fault B.chip B.faults bench.old bench.new result }
+{
+    let Some(user) = find_name(store, bench, Side::Working, name)? else {
+        return refused(StatusWord::NOT_FOUND);
+    };
+    if !is_owned_by(actor, user.value.owner) {
+        return refused(StatusWord::SECURITY_NOT_SATISFIED);
+    }
+    if is_needed(store, bench, &user.value)? {
+        return refused(StatusWord::CONDITIONS_NOT_SATISFIED);
+    }
+    Ok(user)
+}
+
+// Whether it is OWNER, or owns a user or an object.
+fn is_needed<B: Eeprom>(store: &Store, bench: &mut B, user: &User) -> Result<bool, EepromFault>
+    requires over { IsOver store.now (B.chip bench.old) }
+    ensures needed { (db : Database) → IsHeld store.now Working (B.chip bench.old) db → IfOk result (λ needed. needed ≡ users.is_needed db user.now) }
+    ensures frame { Reads each_error B.chip B.faults bench.old bench.new result }
+{
+    if is_db_o(user) {
+        return Ok(true);
+    }
+    if owns_users(store, bench, user.stamp)? {
+        return Ok(true);
+    }
+    owns_objects(store, bench, user.stamp)
+}
+
+fn is_db_o(user: &User) -> bool
+    ensures { result ≡ model.is_db_o user.now }
+{
+    matches!(user.profile, Profile::DbO)
+}
+
+// Whether the user of a stamp owns a user.
+fn owns_users<B: Eeprom>(store: &Store, bench: &mut B, stamp: u32) -> Result<bool, EepromFault>
+    requires over { IsOver store.now (B.chip bench.old) }
+    ensures owns { (db : Database) → IsHeld store.now Working (B.chip bench.old) db → IfOk result (λ owns. owns ≡ list_any (is_user_of stamp) db.users) }
+    ensures frame { Reads each_error B.chip B.faults bench.old bench.new result }
+{
+    Ok(find_by(store, bench, Side::Working, &UserOf(stamp))?.is_some())
+}
+
+// Whether the user of a stamp owns an object.
+fn owns_objects<B: Eeprom>(store: &Store, bench: &mut B, stamp: u32) -> Result<bool, EepromFault>
+    requires over { IsOver store.now (B.chip bench.old) }
+    ensures owns { (db : Database) → IsHeld store.now Working (B.chip bench.old) db → IfOk result (λ owns. owns ≡ list_any (is_object_of stamp) db.objects) }
+    ensures frame { Reads each_error B.chip B.faults bench.old bench.new result }
+{
+    Ok(find_by(store, bench, Side::Working, &ObjectOf(stamp))?.is_some())
+}
+
+// The users whom the user of a stamp owns.
+#[derive(Clone, Copy)]
+struct UserOf(u32);
+
+impl Wanted<User> for UserOf {
+    ghost wants = { λ wanted user. is_user_of wanted.0 user };
+
+    fn is(&self, entry: &User) -> bool {
+        entry.owner == self.0
+    }
+}
+
+// The objects that the user of a stamp owns.
+#[derive(Clone, Copy)]
+struct ObjectOf(u32);
+
+impl Wanted<Object> for ObjectOf {
+    ghost wants = { λ wanted object. is_object_of wanted.0 object };
+
+    fn is(&self, entry: &Object) -> bool {
+        entry.owner == self.0
+    }
+}
+
+// The grants to the user of a stamp.
+#[derive(Clone, Copy)]
+struct GrantedTo(u32);
+
+impl Wanted<Grant> for GrantedTo {
+    ghost wants = { λ wanted grant. is_for wanted.0 grant };
+
+    fn is(&self, entry: &Grant) -> bool {
+        entry.grantee == self.0
+    }
+}
