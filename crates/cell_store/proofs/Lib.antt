@@ -1,3 +1,4 @@
+pub mod Along
 pub mod Among
 pub mod Cells
 pub mod Chains

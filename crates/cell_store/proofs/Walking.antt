@@ -74,7 +74,7 @@ pub cell-payload : (n cell : ℕ) (octets octets' : List ℕ) (image : Option (L
 cell-payload n cell octets octets' None read is more = tt
 cell-payload n cell octets octets' (Some image) read is more = more ∙ ap (λ (xs : List ℕ). octets ++ xs) (payload-read image read n cell is)
 
-walked-more : (n : ℕ) (chain : List ℕ) (cell : ℕ) (octets octets' : List ℕ) (step next : ℕ) (image : List ℕ) → n ≤ 2048 → cell < 2 * n → next ≡ number_at image (cell_place n cell) → octets' ≡ octets ++ payload_of image n cell
+pub walked-more : (n : ℕ) (chain : List ℕ) (cell : ℕ) (octets octets' : List ℕ) (step next : ℕ) (image : List ℕ) → n ≤ 2048 → cell < 2 * n → next ≡ number_at image (cell_place n cell) → octets' ≡ octets ++ payload_of image n cell
     → Walked n chain cell octets step image → Walked n chain next octets' (step + 1) image
 walked-more n chain cell octets octets' step next image few inside link more w =
     let s = step-cell image n cell w.rest few inside w.left in

@@ -1,5 +1,5 @@
 // The record of a chain of cells. A cell has the number of the next one and 30 octets of payload.
-ghost use Rattle.std.specs.Prelude.{◌≡◌, ◌+◌, ◌*◌, ◌<◌, ◌≤◌, ◌++◌, ℕ, List, Some, length, IfSome, IfOk, OnOk};
+ghost use Rattle.std.specs.Prelude.{◌≡◌, ◌+◌, ◌-◌, ◌*◌, ◌<◌, ◌≤◌, ◌++◌, ℕ, List, Some, length, IfSome, IfOk, OnOk};
 ghost use Rattle.std.specs.List.{flat_map};
 ghost use Rattle.arrayvec.specs.ArrayVec.{array_vec_len};
 ghost use Rattle.eeprom.specs.Chip.{Becomes};
@@ -8,18 +8,24 @@ ghost use Rattle.eeprom.specs.Frame.{HasRoom, Reads};
 ghost use Rattle.eeprom.specs.StoreOf.{most_cells, chain_of, payload_of, slot_of, record_in, number_at, cell_place, piece_size, longest_record, longest_chain};
 ghost use Rattle.cell_store.specs.Chains.{IsRecordChain};
 ghost use Rattle.cell_store.specs.Reading.{Extends, ReadsCells, ReadsRecord};
+ghost use Rattle.cell_store.specs.Walk.{CopiesRecord, GoesAlong};
 
 use crate::layout::{LARGEST_PAYLOAD, LINK_SIZE, number_of};
 use arrayvec::ArrayVec;
-use eeprom::{CELL_SIZE, Eeprom, EepromFault, LONGEST_CHAIN, LONGEST_RECORD, cell_place};
+use eeprom::{
+    CELL_SIZE, Eeprom, EepromFault, LONGEST_CHAIN, LONGEST_RECORD, PIECE_SIZE, cell_place,
+};
 
 /// The octets of a record.
 pub type RecordOctets = ArrayVec<u8, LONGEST_RECORD>;
 
+/// The payload of one cell.
+type Piece = ArrayVec<u8, PIECE_SIZE>;
+
 /// The payload of the longest chain.
 pub type Payload = ArrayVec<u8, LARGEST_PAYLOAD>;
 
-/// Reads the record whose chain begins at `first`.
+/// Reads the record whose chain begins at `first`. Most chains have one cell, and need no room for the payload of more.
 pub fn read_record<B: Eeprom>(
     bench: &mut B,
     cells: u16,
@@ -33,49 +39,72 @@ pub fn read_record<B: Eeprom>(
         → Becomes (ReadsRecord (Some out.new.items)) (B.octets_read bench.old) (B.octets_read bench.new))) }
     ensures frame { Reads each_error B.chip B.faults bench.old bench.new result }
 {
+    let mut piece = Piece::new();
+    let next = read_payload(bench, cells, first, 1, &mut piece)?;
+    if next as u32 >= 2 * cells as u32 {
+        copy_record(piece.as_slice(), out);
+        return Ok(());
+    }
+    read_longer(bench, cells, next, piece.as_slice(), out)
+}
+
+/// Reads the record of a chain of several cells, from the second one on, behind the piece of payload of the first.
+fn read_longer<B: Eeprom>(
+    bench: &mut B,
+    cells: u16,
+    second: u16,
+    piece: &[u8],
+    out: &mut RecordOctets,
+) -> Result<(), EepromFault>
+    requires many { cells ≤ most_cells }
+    requires room { HasRoom cells (B.chip bench.old) }
+    requires size { length piece.now ≤ piece_size }
+    ensures copies { OnOk result (CopiesRecord cells second (longest_chain - 1) piece.now out.new.items (B.chip bench.old).image (B.octets_read bench.old) (B.octets_read bench.new)) }
+    ensures frame { Reads each_error B.chip B.faults bench.old bench.new result }
+{
     let mut payload = Payload::new();
-    read_payload(bench, cells, first, &mut payload)?;
+    append(&mut payload, piece);
+    read_payload(bench, cells, second, LONGEST_CHAIN - 1, &mut payload)?;
     copy_record(payload.as_slice(), out);
     Ok(())
 }
 
-/// Reads the payload of the chain that begins at `first`.
-fn read_payload<B: Eeprom>(
+/// Reads the payload of so many cells of a chain, from one on, or to the chain's end, behind octets that are there already, and
+/// answers the number of the cell that comes next.
+fn read_payload<B: Eeprom, const CAP: usize>(
     bench: &mut B,
     cells: u16,
     first: u16,
-    payload: &mut Payload,
-) -> Result<(), EepromFault>
+    most: u16,
+    payload: &mut ArrayVec<u8, CAP>,
+) -> Result<u16, EepromFault>
     requires many { cells ≤ most_cells }
     requires room { HasRoom cells (B.chip bench.old) }
-    ensures payload { OnOk result (IfSome (B.chip bench.old).image (λ image. (chain : List ℕ) → chain_of image cells (2 * cells) first ≡ Some chain
-        → length chain ≤ longest_chain → payload.new.items ≡ flat_map (payload_of image cells) chain)) }
-    ensures octets_read { OnOk result (IfSome (B.chip bench.old).image (λ image. (chain : List ℕ) → chain_of image cells (2 * cells) first ≡ Some chain
-        → length chain ≤ longest_chain → Becomes (ReadsCells (length chain)) (B.octets_read bench.old) (B.octets_read bench.new))) }
+    requires fits { array_vec_len payload.old + piece_size * most ≤ CAP }
+    ensures along { IfOk result (λ next. GoesAlong cells first next most payload.old.items payload.new.items (B.chip bench.old).image (B.octets_read bench.old) (B.octets_read bench.new)) }
     ensures frame { Reads each_error B.chip B.faults bench.old bench.new result }
 {
-    payload.clear();
     let mut cell = first;
-    for _step in 0..LONGEST_CHAIN {
+    for _step in 0..most {
         if cell as u32 >= 2 * cells as u32 {
             break;
         }
         cell = read_cell(bench, cells, cell, payload)?;
     }
-    Ok(())
+    Ok(cell)
 }
 
 /// Reads a cell: appends its payload, and answers the number of the next cell.
-pub fn read_cell<B: Eeprom>(
+pub fn read_cell<B: Eeprom, const CAP: usize>(
     bench: &mut B,
     cells: u16,
     cell: u16,
-    payload: &mut Payload,
+    payload: &mut ArrayVec<u8, CAP>,
 ) -> Result<u16, EepromFault>
     requires many { cells ≤ most_cells }
     requires inside { cell < 2 * cells }
     requires room { HasRoom cells (B.chip bench.old) }
-    requires fits { array_vec_len payload.old + piece_size ≤ piece_size * longest_chain }
+    requires fits { array_vec_len payload.old + piece_size ≤ CAP }
     ensures link { IfOk result (λ next. IfSome (B.chip bench.old).image (λ image. next ≡ number_at image (cell_place cells cell))) }
     ensures payload { OnOk result (IfSome (B.chip bench.old).image (λ image. payload.new.items ≡ payload.old.items ++ payload_of image cells cell)) }
     ensures appends { OnOk result (Extends piece_size payload.old.items payload.new.items) }

@@ -1,22 +1,46 @@
-use Rattle.std.proofs.Common.{◌≡◌, ℕ, List, Some, IfSome}
-use Rattle.eeprom.specs.StoreOf.{slot_of}
-use Rattle.cell_store.specs.Chains.{IsRecordChain}
-use Rattle.cell_store.proofs.Chains.{record-some}
-use Rattle.cell_store.proofs.Reading.{reads-record}
-use Rattle.cell_store.proofs.chain.read_record.Goals.{After-copy_record}
+use Rattle.std.proofs.Common.{ap, arith, [], OnOk}
+use Rattle.eeprom.specs.Chip.{Chip}
+use Rattle.eeprom.specs.StoreOf.{longest_chain}
+use Rattle.cell_store.specs.Walk.{CopiesRecord}
+use Rattle.cell_store.proofs.Along.{along-longer, copies-behind, copied-record, copied-reads, then-record, then-reads}
+use Rattle.cell_store.proofs.chain.read_record.Goals.{After-copy_record, After-read_longer}
 use Rattle.cell_store.proofs.chain.read_record.Goals as goal
 
-reads : (g : _) (c : After-copy_record g) → IfSome (g.B.Eeprom.chip c.args.bench.now).image (λ image. (chain : List ℕ) → IsRecordChain image c.args.cells c.args.first chain → slot_of image c.args.cells chain ≡ Some c.copy_record.new.out.items)
-reads g c =
-    let copied = rw c.as_slice.ensures.value at c.copy_record.ensures.record in
-    record-some c.args.cells c.args.first (g.B.Eeprom.chip c.args.bench.now).image (g.B.Eeprom.chip c.args.bench.now).still.size
-    c.read_payload.new.payload.items c.copy_record.new.out.items c.requires.room (g.met.B.Eeprom.sized c.args.bench.now) c.in_ok-read_payload.ensures.payload copied
+-- the chain has one cell
+short : (g : _) (c : After-copy_record g) → CopiesRecord c.args.cells c.args.first longest_chain [] c.copy_record.new.out.items
+    (g.B.Eeprom.chip c.args.bench.now).image (g.B.Eeprom.octets_read c.args.bench.now) (g.B.Eeprom.octets_read c.read_payload.new.bench)
+short g c = record {
+  next = c.in_ok-next.next;
+  payload = c.read_payload.new.payload.items;
+  along = along-longer c.args.cells c.args.first c.in_ok-next.next 1 longest_chain [] c.read_payload.new.payload.items (g.B.Eeprom.chip c.args.bench.now).image (g.B.Eeprom.octets_read c.args.bench.now) (g.B.Eeprom.octets_read c.read_payload.new.bench)
+      (omega arith) c.if-next-cells.true (rw c.new-piece.ensures at c.in_ok-next.ensures.along);
+  copied = rw c.as_slice.ensures.value at c.copy_record.ensures.record;
+}
+
+pub returns-then-next-cells-clause-record : goal.returns-then-next-cells-clause-record
+returns-then-next-cells-clause-record g c =
+    copied-record c.args.cells c.args.first (g.B.Eeprom.chip c.args.bench.now).still.size c.copy_record.new.out.items (g.B.Eeprom.chip c.args.bench.now).image (g.B.Eeprom.octets_read c.args.bench.now) (g.B.Eeprom.octets_read c.read_payload.new.bench)
+    c.requires.room (g.met.B.Eeprom.sized c.args.bench.now) (short g (goal.at.returns-then-next-cells-clause-record g c).After-copy_record)
+
+pub returns-then-next-cells-clause-octets_read : goal.returns-then-next-cells-clause-octets_read
+returns-then-next-cells-clause-octets_read g c =
+    copied-reads c.args.cells c.args.first (g.B.Eeprom.chip c.args.bench.now).still.size c.copy_record.new.out.items (g.B.Eeprom.chip c.args.bench.now).image (g.B.Eeprom.octets_read c.args.bench.now) (g.B.Eeprom.octets_read c.read_payload.new.bench)
+    c.requires.room (g.met.B.Eeprom.sized c.args.bench.now) (short g (goal.at.returns-then-next-cells-clause-octets_read g c).After-copy_record)
+
+-- the chain has several
+longer : (g : _) (c : After-read_longer g) → OnOk c.read_longer.result (CopiesRecord c.args.cells c.args.first longest_chain [] c.read_longer.new.out.items
+    (g.B.Eeprom.chip c.args.bench.now).image (g.B.Eeprom.octets_read c.args.bench.now) (g.B.Eeprom.octets_read c.read_longer.new.bench))
+longer g c =
+    copies-behind c.read_longer.result c.args.cells c.args.first c.in_ok-next.next 1 34 [] c.read_payload.new.payload.items c.read_longer.new.out.items (g.B.Eeprom.chip c.args.bench.now).image (g.B.Eeprom.chip c.read_payload.new.bench).image
+    (g.B.Eeprom.octets_read c.args.bench.now) (g.B.Eeprom.octets_read c.read_payload.new.bench) (g.B.Eeprom.octets_read c.read_longer.new.bench)
+    c.if-next-cells.false (ap (λ (chip : Chip). chip.image) c.in_ok-next.ensures.frame.same) (rw c.new-piece.ensures at c.in_ok-next.ensures.along) (rw c.as_slice-2.ensures.value at c.read_longer.ensures.copies)
 
 pub returns-clause-record : goal.returns-clause-record
-returns-clause-record g c = reads g (goal.at.returns-clause-record g c).After-copy_record
+returns-clause-record g c =
+    then-record c.read_longer.result c.args.cells c.args.first (g.B.Eeprom.chip c.args.bench.now).still.size c.read_longer.new.out.items (g.B.Eeprom.chip c.args.bench.now).image (g.B.Eeprom.octets_read c.args.bench.now) (g.B.Eeprom.octets_read c.read_longer.new.bench)
+    c.requires.room (g.met.B.Eeprom.sized c.args.bench.now) (longer g (goal.at.returns-clause-record g c).After-read_longer)
 
 pub returns-clause-octets_read : goal.returns-clause-octets_read
 returns-clause-octets_read g c =
-    reads-record c.args.cells c.args.first (g.B.Eeprom.chip c.args.bench.now).image (g.B.Eeprom.chip c.args.bench.now).still.size c.copy_record.new.out.items
-    (g.B.Eeprom.octets_read c.args.bench.now) (g.B.Eeprom.octets_read c.read_payload.new.bench) c.requires.room (g.met.B.Eeprom.sized c.args.bench.now)
-    (reads g (goal.at.returns-clause-octets_read g c).After-copy_record) c.in_ok-read_payload.ensures.octets_read
+    then-reads c.read_longer.result c.args.cells c.args.first (g.B.Eeprom.chip c.args.bench.now).still.size c.read_longer.new.out.items (g.B.Eeprom.chip c.args.bench.now).image (g.B.Eeprom.octets_read c.args.bench.now) (g.B.Eeprom.octets_read c.read_longer.new.bench)
+    c.requires.room (g.met.B.Eeprom.sized c.args.bench.now) (longer g (goal.at.returns-clause-octets_read g c).After-read_longer)
