@@ -1,0 +1,3 @@
+pub mod Declared
+pub mod Sighted
+pub mod Stopping

@@ -33,7 +33,7 @@ given le word cursor values =
 
 -- a stop by a refusal is that of the model
 abbrev pub Stops : {T : Type 0} → Result T StatusWord → Stop → Type 0
-Stops {T} outcome (Refused word) = outcome ≡ Err word
+Stops {T} outcome (Refused word) = (outcome ≡ Err word) × (refuses word ≡ true)
 Stops {T} outcome Fault = Unit {0}
 
 -- what an operation answers that stopped

@@ -3,6 +3,6 @@ use Rattle.std.specs.Prelude.{Bool, if◌then◌else◌}
 use Rattle.db_read.specs.declared.sight.Sight.{Sight}
 use Rattle.db_read.specs.declared.sight.Sight.TheVariants.{Hidden, Closed, Open}
 
--- by whether it appears, and whether it may be selected from; what may be selected from appears
+-- by whether it appears, and whether it may be selected from
 abbrev pub sight_of : Bool → Bool → Sight
-sight_of appears selects = if selects then Open else (if appears then Closed else Hidden)
+sight_of appears selects = if appears then (if selects then Open else Closed) else Hidden

@@ -47,8 +47,6 @@ pub fn declare<B: Eeprom>(
         → IfOk result (λ word. moved db actor (record { cursor = cursor.old; pending = pending }) (commands.declare object columns.now conditions.now) ≡ answered word cursor.new) }
     ensures refused { IfOk result (λ word. IsTrue (refuses word) → cursor.new ≡ cursor.old) }
     ensures fault { OnErr result (cursor.new ≡ cursor.old) }
-    ensures octets_read { IfOk result (λ word. word ≡ done → IfSome (slots_of store.now side (B.chip bench.old))
-        (λ slots. Becomes (RisesAtMost (cell_size * cells_marked object_kind slots + cell_size * cells_marked grant_kind slots)) (B.octets_read bench.old) (B.octets_read bench.new))) }
     ensures frame { Reads each_error B.chip B.faults bench.old bench.new result }
 {
     match cursor_on(store, bench, side, actor, object, columns, conditions) {
