@@ -1,3 +1,5 @@
+pub mod CutRows
 pub mod Declared
+pub mod RowReads
 pub mod Sighted
 pub mod Stopping

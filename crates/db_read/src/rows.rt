@@ -101,14 +101,14 @@ fn row_behind<B: Eeprom>(
         (λ slots. Becomes (RisesAtMost (cost_reached table slots next)) (B.octets_read bench.old) (B.octets_read bench.new))) }
     ensures frame { Reads each_error B.chip B.faults bench.old bench.new result }
 {
-    match next_after(store, bench, side, table, stamp, index)? {
-        Some(found) => Ok(if found.value.stamp > stamp {
-            Some(found.value)
-        } else {
-            None
-        }),
-        None => Ok(None),
+    let Some(found) = next_after(store, bench, side, table, stamp, index)? else {
+        return Ok(None);
+    };
+    // No stamp is passed twice, whatever an image tells that isn't a valid one.
+    if found.value.stamp <= stamp {
+        return Ok(None);
     }
+    Ok(Some(found.value))
 }
 
 // The row of a stamp, if it is one of the table. A row of another table isn't read.
