@@ -3,3 +3,4 @@ pub mod Declared
 pub mod RowReads
 pub mod Sighted
 pub mod Stopping
+pub mod Skipping

@@ -18,12 +18,12 @@ use Rattle.catalog_codec.specs.Catalog.{row_kind}
 use Rattle.catalog_codec.specs.Kinds.{read_as}
 use Rattle.record_table.specs.Listed.{at_slot, has_kind_mark, kind_cells, listed, slots_of}
 use Rattle.row_index.specs.Index.{HasRows, Index, Indexes, side_places}
-use Rattle.row_index.specs.Places.{place_slot, place_stamp, row_places}
+use Rattle.row_index.specs.Places.{is_later_in, place_slot, place_stamp, row_places}
 use Rattle.row_index.specs.declared.place.RowPlace.{RowPlace}
 use Rattle.row_index.proofs.Scans.{found_both, found_row}
 use Rattle.row_index.proofs.Standing.{rows-told}
-use Rattle.row_table.specs.Found.{cells_of_row, is_row_after}
-use Rattle.row_table.proofs.FoundRows.{finds-told, none-found}
+use Rattle.row_table.specs.Found.{is_row_after}
+use Rattle.row_table.proofs.FoundRows.{Finds, finds-told, none-found}
 use Rattle.scql_model.proofs.Depths.{some-map}
 use Rattle.scql_model.proofs.LongerLists.{find-passes}
 use Rattle.cursor.specs.Costs.{Cost, RisesBetween, cost_behind, cost_of, cost_where}
@@ -73,15 +73,30 @@ cost-found table (entry ∷ slots) (suc slot) r at same =
     let more = costs-more (λ (other : ℕ). other == r.stamp) (cost_in table entry) (row_costs table slots) in
     omega arith
 
--- the row that a search reaches is one of the table, and costs what the table's costs say
+-- What the index answers is what a search finds.
+pub behind-found : (table stamp first slot : ℕ) (slots : Option Slots) (o : Option (ℕ × ℕ)) (value : Option RowRecord) → o ≡ Some (first, slot) → IfSome slots (Finds o (is_row_after table stamp)) → IfSome slots (λ slots. value ≡ at_slot row_kind slot slots)
+    → IfSome slots (λ slots. value ≡ find (is_row_after table stamp) (listed row_kind slots))
+behind-found table stamp first slot None o value is finds at = tt
+behind-found table stamp first slot (Some slots) o value is finds at = at ∙ (sym (ap (option_and_then (λ (answer : ℕ × ℕ). at_slot row_kind answer.1 slots)) is) ∙ finds.row)
+
+pub behind-missing : (table stamp first slot : ℕ) (slots : Option Slots) (o : Option (ℕ × ℕ)) (P : Slots → Type 0) → o ≡ Some (first, slot) → IfSome slots (Finds o (is_row_after table stamp)) → IfSome slots (λ slots. None ≡ at_slot row_kind slot slots)
+    → IfSome slots P
+behind-missing table stamp first slot None o P is finds at = tt
+behind-missing table stamp first slot (Some slots) o P is finds at =
+    let none = at ∙ (sym (ap (option_and_then (λ (answer : ℕ × ℕ). at_slot row_kind answer.1 slots)) is) ∙ finds.row) in
+    let some : true ≡ is_some (find (is_row_after table stamp) (listed row_kind slots)) = sym (ap is_some is) ∙ finds.some in
+    absurd (false≢true (sym (some ∙ sym (ap is_some none))))
+
+-- the row that is reached is one of the table, and costs what the table's costs say
 pub row-reached : (table stamp slot : ℕ) (slots : Option Slots) (r : RowRecord) (a b : Option ℕ) → IfSome slots (λ slots. Some r ≡ at_slot row_kind slot slots) → IfSome slots (λ slots. Some r ≡ find (is_row_after table stamp) (listed row_kind slots))
-    → IfSome slots (λ slots. Becomes (RisesAtMost (cell_size * cells_of_row slots (Some slot))) a b) → IfSome slots (λ slots. Becomes (RisesAtMost (cost_reached table slots (Some r))) a b)
+    → IfSome slots (λ slots. Becomes (RisesBetween (least_of (Some r)) (cell_size * kind_cells row_kind (get_or slots slot None))) a b) → IfSome slots (λ slots. Becomes (RisesBetween 0 (cost_reached table slots (Some r))) a b)
 row-reached table stamp slot None r a b at found reads = tt
 row-reached table stamp slot (Some slots) r a b at found reads = λ after told.
     let h = reads after told in
     let passes = find-passes (is_row_after table stamp) (listed row_kind slots) r (sym found) in
     let same = eqb-true r.table table (and_parts (r.table == table) (nat_lt stamp r.stamp) passes).0 in
-    (h.0, h.1, omega (arith, h.2, cost-found table slots slot r (sym at) same))
+    let cost = cost-found table slots slot r (sym at) same in
+    (h.0, h.1, (omega (arith, h.2.0), omega (arith, h.2.1, cost)))
 
 -- and it has a greater stamp
 pub row-later : (table stamp : ℕ) (slots : Option Slots) (r : RowRecord) (P : Slots → Type 0) → IfSome slots (λ slots. Some r ≡ find (is_row_after table stamp) (listed row_kind slots)) → r.stamp ≤ stamp → IfSome slots P
@@ -172,3 +187,9 @@ indexed-none index store chip side stamp table o value stands is =
     filtered : (slots : Option Slots) → IfSome slots (λ slots. None ≡ find (has row_kind.key stamp) (listed row_kind slots)) → IfSome slots (λ slots. None ≡ of_table table stamp slots)
     filtered None none = tt
     filtered (Some slots) none = ap (option_filter (λ (r : RowRecord). r.table == table)) none
+
+-- the answer of the index behind a stamp
+pub finds-behind : (index : Index) (store : Held) (chip : Chip) (side : Side) (table stamp : ℕ) (o : Option (ℕ × ℕ)) → o ≡ option_map (λ (place : RowPlace). (place.stamp, place.slot)) (find (is_later_in table stamp) (side_places index side))
+    → Indexes index store chip → IfSome (slots_of store side chip) (Finds o (is_row_after table stamp))
+finds-behind index store chip side table stamp o value stands =
+    finds-told index store chip side (is_later_in table stamp) (is_row_after table stamp) (λ slot row. refl) (λ (place : RowPlace). (place.stamp, place.slot)) (λ place. refl) o value stands

@@ -3,7 +3,7 @@ ghost use Rattle.std.specs.Prelude.{◌≡◌, ◌<◌, ◌==◌, ◌*◌, ℕ, 
 ghost use Rattle.std.specs.List.{find};
 ghost use Rattle.std.specs.Option.{option_map_or};
 ghost use Rattle.std.proofs.lemmas.Map.Entries.{option_filter};
-ghost use Rattle.eeprom.specs.Chip.{Becomes, RisesAtMost};
+ghost use Rattle.eeprom.specs.Chip.{Becomes};
 ghost use Rattle.eeprom.specs.Fault.{each_error};
 ghost use Rattle.eeprom.specs.Frame.{Reads};
 ghost use Rattle.eeprom.specs.Slots.{has};
@@ -26,7 +26,6 @@ use catalog_codec::Record;
 use eeprom::{Eeprom, EepromFault};
 use record_store::{RecordOctets, Side, Store};
 use row_index::RowIndex;
-use row_table::next_after;
 use scql_base::{Row, RowRecord};
 
 /// The stamp of the next chosen row behind a stamp. The rows between are read.
@@ -98,17 +97,20 @@ fn row_behind<B: Eeprom>(
     ensures behind { IfOk result (λ next. IfSome next (λ row. stamp < row.stamp)) }
     ensures next { IfOk result (λ next. IfSome (slots_of store.now side (B.chip bench.old)) (λ slots. next ≡ find (is_row_after table stamp) (listed row_kind slots))) }
     ensures octets_read { IfOk result (λ next. IfSome (slots_of store.now side (B.chip bench.old))
-        (λ slots. Becomes (RisesAtMost (cost_reached table slots next)) (B.octets_read bench.old) (B.octets_read bench.new))) }
+        (λ slots. Becomes (RisesBetween 0 (cost_reached table slots next)) (B.octets_read bench.old) (B.octets_read bench.new))) }
     ensures frame { Reads each_error B.chip B.faults bench.old bench.new result }
 {
-    let Some(found) = next_after(store, bench, side, table, stamp, index)? else {
+    let Some((_, slot)) = index.next_after(side, table, stamp) else {
+        return Ok(None);
+    };
+    let Some(row) = row_in(store, bench, side, slot)? else {
         return Ok(None);
     };
     // No stamp is passed twice, whatever an image tells that isn't a valid one.
-    if found.value.stamp <= stamp {
+    if row.stamp <= stamp {
         return Ok(None);
     }
-    Ok(Some(found.value))
+    Ok(Some(row))
 }
 
 // The row of a stamp, if it is one of the table. A row of another table isn't read.
