@@ -4,3 +4,4 @@ pub mod RowReads
 pub mod Sighted
 pub mod Stopping
 pub mod Skipping
+pub mod ShownRows
