@@ -1,7 +1,10 @@
+pub mod Chooses
 pub mod CutRows
 pub mod Declared
+pub mod Going
 pub mod RowReads
-pub mod Sighted
-pub mod Stopping
-pub mod Skipping
 pub mod ShownRows
+pub mod Sighted
+pub mod Skipping
+pub mod Stopping
+pub mod Through

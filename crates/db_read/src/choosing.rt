@@ -1,5 +1,6 @@
 // What a cursor chooses of its table.
-ghost use Rattle.std.specs.Prelude.{◌≡◌, IfSome, IsSome, true};
+ghost use Rattle.std.specs.Prelude.{◌≡◌, ◌≤◌, IfSome, IsSome, length, true};
+ghost use Rattle.scql_base.specs.declared.name_list.TheConstants.NameList.{MOST};
 ghost use Rattle.search_cond.specs.Bound.{Binds};
 ghost use Rattle.scql_base.specs.Row.{are_a_row};
 ghost use Rattle.scql_model.specs.Database.{are_named_among};
@@ -59,8 +60,10 @@ pub(crate) fn choose(
 ) -> Option<Chosen>
     ensures chosen { IfSome result (λ chosen. (chosen.table ≡ resolved.table) × (chosen.filters ≡ resolved.filters)
         × ArePlaces chosen.places.items resolved.all columns.now × Binds chosen.conditions resolved.all conditions.now) }
+    ensures few { IfSome result (λ _. length columns.now ≤ MOST) }
     ensures there { are_named_among resolved.all columns.now conditions.now ≡ true → IsSome result }
 {
+    prove!(columns.len() <= NameList::MOST);
     Some(Chosen {
         table: resolved.table,
         places: places_of(&resolved.all, columns)?,

@@ -37,7 +37,8 @@ pub fn open_cursor<B: Eeprom>(
     requires index { Indexes index.now store.now (B.chip bench.old) }
     ensures moved { (db : Database) → IsHeld store.now side (B.chip bench.old) db → IfSome cursor.old (IsCursorOf db) → IfSome cursor.old (IsOnTableOrView db) → (pending : List ℕ)
         → IfOk result (λ word. moved db actor (record { cursor = cursor.old; pending = pending }) commands.open_cursor ≡ answered word cursor.new) }
-    ensures refused { IfOk result (λ word. IsTrue (refuses word) → cursor.new ≡ cursor.old) }
+    ensures refused { (db : Database) → IsHeld store.now side (B.chip bench.old) db → IfSome cursor.old (IsCursorOf db) → IfSome cursor.old (IsOnTableOrView db)
+        → IfOk result (λ word. IsTrue (refuses word) → cursor.new ≡ cursor.old) }
     ensures fault { OnErr result (cursor.new ≡ cursor.old) }
     ensures frame { Reads each_error B.chip B.faults bench.old bench.new result }
 {
@@ -67,7 +68,8 @@ pub fn next_row<B: Eeprom>(
     requires index { Indexes index.now store.now (B.chip bench.old) }
     ensures moved { (db : Database) → IsHeld store.now side (B.chip bench.old) db → IfSome cursor.old (IsCursorOf db) → IfSome cursor.old (IsOnTableOrView db) → (pending : List ℕ)
         → IfOk result (λ word. moved db actor (record { cursor = cursor.old; pending = pending }) commands.next ≡ answered word cursor.new) }
-    ensures refused { IfOk result (λ word. IsTrue (refuses word) → cursor.new ≡ cursor.old) }
+    ensures refused { (db : Database) → IsHeld store.now side (B.chip bench.old) db → IfSome cursor.old (IsCursorOf db) → IfSome cursor.old (IsOnTableOrView db)
+        → IfOk result (λ word. IsTrue (refuses word) → cursor.new ≡ cursor.old) }
     ensures fault { OnErr result (cursor.new ≡ cursor.old) }
     ensures frame { Reads each_error B.chip B.faults bench.old bench.new result }
 {
