@@ -1,5 +1,5 @@
 -- What is chosen of the table under a cursor is what the rows under the cursor are.
-use Rattle.std.proofs.Common.{◌≡◌, ℕ, ◌≤◌, ◌==◌, nat_le, nat_lt, Bool, true, false, ◌&&◌, List, [], ◌∷◌, length, map, Option, Some, None, Ok, refl, sym, ap, subst, ◌∙◌, inl, inr, arith}
+use Rattle.std.proofs.Common.{◌≡◌, ℕ, ◌≤◌, ◌==◌, nat_le, nat_lt, Bool, true, false, ◌&&◌, List, [], ◌∷◌, length, map, Option, Some, Ok, refl, sym, ap, subst, ◌∙◌, inl, inr, arith}
 use Rattle.std.specs.Prelude.{IfSome}
 use Rattle.std.specs.List.{filter, list_all}
 use Rattle.std.specs.Option.{option_map_or}
@@ -7,7 +7,6 @@ use Rattle.std.proofs.lemmas.Bool.{and_parts, and_from, cases_Bool, eqb-true, le
 use Rattle.std.proofs.lemmas.List.Folds.{list_all-map}
 use Rattle.std.proofs.lemmas.Option.{same_Some}
 use Rattle.eeprom.specs.Chip.{Chip}
-use Rattle.eeprom.specs.StoreOf.{Slots}
 use Rattle.record_store.specs.Held.{Held}
 use Rattle.record_store.specs.declared.side.Side.{Side}
 use Rattle.scql_base.specs.Row.{is_narrow, row_size}
@@ -22,16 +21,14 @@ use Rattle.scql_model.specs.Matching.{Columns}
 use Rattle.scql_model.specs.Moves as moves
 use Rattle.scql_model.specs.Objects.{StampedRow, columns_of}
 use Rattle.scql_model.specs.Records.{is_count_of_columns, is_row, row_record}
-use Rattle.scql_model.specs.Resolving as model
 use Rattle.scql_model.specs.Rights.{seen_stamped}
 use Rattle.scql_model.specs.Rules.{fits_table, has_table}
 use Rattle.scql_model.proofs.LongerLists.{find-passes}
 use Rattle.scql_model.proofs.SeenThrough.{IsSeenThrough-resolved_of}
-use Rattle.catalog_codec.specs.Catalog.{row_kind}
-use Rattle.record_table.specs.Listed.{listed, slots_of}
+use Rattle.record_table.specs.Listed.{slots_of}
 use Rattle.record_table.specs.Making.{IsHeld}
 use Rattle.search_cond.specs.Bound.{Binds}
-use Rattle.views.specs.Resolved.{AreBound, AreKnown, ArePlaces, Resolves}
+use Rattle.views.specs.Resolved.{AreKnown, ArePlaces, Resolves}
 use Rattle.views.specs.declared.resolving.Resolved.{Resolved}
 use Rattle.views.proofs.KnownNames.{IsKnown, IsKnown-resolved_of, among-within, names-valid}
 use Rattle.db_read.specs.Answered.{Chooses, IsCursorOf, selectable}

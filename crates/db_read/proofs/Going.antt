@@ -1,5 +1,5 @@
 -- A cursor that goes to a row or to its end isn't refused.
-use Rattle.std.proofs.Common.{◌≡◌, false, Option, Some, None, refl, ap, ◌∙◌}
+use Rattle.std.proofs.Common.{◌≡◌, false, Option, Some, None, ap}
 use Rattle.scql_base.specs.Words.{done, end_reached}
 use Rattle.scql_base.specs.declared.cursor.Cursor.{Cursor}
 use Rattle.scql_base.specs.declared.cursor.Place.{Place}

@@ -1,21 +1,20 @@
 -- How many octets are read of a row.
-use Rattle.std.proofs.Common.{◌≡◌, ℕ, zero, suc, ◌+◌, ◌*◌, ◌<◌, ◌≤◌, ◌==◌, nat_le, nat_lt, Bool, true, false, ◌&&◌, if◌then◌else◌, List, [], ◌∷◌, length, get_or, Option, Some, None, Result, Ok, Err, refl, sym, ap, subst, ◌∙◌, inl, inr, arith}
+use Rattle.std.proofs.Common.{◌≡◌, ℕ, zero, suc, ◌*◌, ◌≤◌, ◌==◌, nat_lt, Bool, true, ◌&&◌, if◌then◌else◌, List, [], ◌∷◌, length, get_or, Option, Some, None, Result, Ok, Err, refl, sym, ap, subst, ◌∙◌, inl, inr, arith}
 use Rattle.std.specs.Prelude.{IfSome, IfOk, is_some, option_and_then, option_map}
-use Rattle.std.specs.List.{cons_option, filter_map, find, sum_by}
+use Rattle.std.specs.List.{cons_option, find}
 use Rattle.std.proofs.lemmas.List.Sums.{sum_by-cons}
 use Rattle.std.proofs.lemmas.Map.Entries.{option_filter}
 use Rattle.std.proofs.lemmas.Option.{none-some, same_Some}
 use Rattle.std.proofs.lemmas.Bool.{and_parts, cases_Bool, eq-eqb, eqb-true, false≢true, ltb-true, ne_eqb}
-use Rattle.eeprom.specs.Chip.{Becomes, Chip, RisesAtMost}
-use Rattle.eeprom.specs.Slots.{has, in_slot}
-use Rattle.eeprom.specs.StoreOf.{Slots, cell_size, cells_of}
+use Rattle.eeprom.specs.Chip.{Becomes, Chip}
+use Rattle.eeprom.specs.Slots.{has}
+use Rattle.eeprom.specs.StoreOf.{Slots, cell_size}
 use Rattle.cell_store.specs.Reading.{ReadsRecord}
 use Rattle.record_store.specs.Held.{Held, contents, record_at, StandsFor}
 use Rattle.record_store.specs.declared.side.Side.{Side}
 use Rattle.scql_base.proofs.RowOctets.{row_size-spelled}
 use Rattle.scql_base.specs.declared.records.RowRecord.{RowRecord}
 use Rattle.catalog_codec.specs.Catalog.{row_kind}
-use Rattle.catalog_codec.specs.Kinds.{read_as}
 use Rattle.record_table.specs.Listed.{at_slot, has_kind_mark, kind_cells, listed, slots_of}
 use Rattle.row_index.specs.Index.{HasRows, Index, Indexes, side_places}
 use Rattle.row_index.specs.Places.{is_later_in, place_slot, place_stamp, row_places}
@@ -26,7 +25,7 @@ use Rattle.row_table.specs.Found.{is_row_after}
 use Rattle.row_table.proofs.FoundRows.{Finds, finds-told, none-found}
 use Rattle.scql_model.proofs.Depths.{some-map}
 use Rattle.scql_model.proofs.LongerLists.{find-passes}
-use Rattle.cursor.specs.Costs.{Cost, RisesBetween, cost_behind, cost_of, cost_where}
+use Rattle.cursor.specs.Costs.{Cost, RisesBetween, cost_of, cost_where}
 use Rattle.db_read.specs.Costs.{cost_in, cost_reached, least_of, row_costs}
 
 -- a row has no more octets than its record

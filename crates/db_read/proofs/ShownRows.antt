@@ -1,5 +1,5 @@
 -- The chosen row of a stamp, and how it is shown.
-use Rattle.std.proofs.Common.{◌≡◌, ℕ, ◌+◌, ◌≤◌, ◌==◌, nat_le, Bool, true, false, ◌&&◌, List, [], ◌∷◌, Option, Some, None, option_map, refl, sym, ap, subst, ◌∙◌, inl, inr, arith}
+use Rattle.std.proofs.Common.{◌≡◌, ℕ, ◌≤◌, ◌==◌, nat_le, Bool, true, ◌&&◌, List, [], ◌∷◌, Option, Some, None, option_map, refl, sym, ap, subst, ◌∙◌, inl, inr, arith}
 use Rattle.std.specs.Prelude.{IfSome}
 use Rattle.std.specs.List.{filter, find, list_all}
 use Rattle.std.proofs.lemmas.Bool.{and_parts, and_from, cases_Bool, leb-true}
@@ -14,11 +14,10 @@ use Rattle.scql_model.specs.Matching.{Values}
 use Rattle.scql_model.specs.Moves.{row_at}
 use Rattle.scql_model.specs.Objects.{StampedRow}
 use Rattle.scql_model.proofs.FoundAgain.{find-map_filter}
-use Rattle.scql_model.proofs.LongerLists.{find-passes}
 use Rattle.catalog_codec.specs.Catalog.{row_kind}
 use Rattle.record_table.specs.Listed.{listed}
 use Rattle.privilege_table.proofs.Seen.{find-both}
-use Rattle.cursor.specs.Costs.{Cost, RisesBetween, cost_of}
+use Rattle.cursor.specs.Costs.{RisesBetween, cost_of}
 use Rattle.db_read.specs.Chosen.{are_rising, can_cut, can_show, costs_shown, is_chosen, is_shown, rows_shown, shown_row, values_at}
 use Rattle.db_read.specs.Costs.{least_of, row_costs}
 use Rattle.db_read.specs.declared.choosing.Chosen.{Chosen}

@@ -1,14 +1,13 @@
 -- What an actor sees of an object, and what that makes of a search for it.
-use Rattle.std.proofs.Common.{◌≡◌, ℕ, ◌≤◌, ◌==◌, ◌&&◌, Bool, true, false, List, [], ◌∷◌, count_by, Option, Some, None, Result, Ok, Err, refl, lit≤, sym, ap, subst, ◌∙◌, arith, inl, inr}
+use Rattle.std.proofs.Common.{◌≡◌, ℕ, ◌≤◌, ◌==◌, Bool, true, false, List, [], ◌∷◌, count_by, Option, Some, None, Result, Ok, Err, refl, lit≤, sym, ap, subst, ◌∙◌, arith, inl, inr}
 use Rattle.std.specs.Prelude.{IfSome}
-use Rattle.std.specs.List.{find, list_any}
-use Rattle.std.proofs.lemmas.Bool.{cases_Bool, false≢true, eqb-true}
+use Rattle.std.specs.List.{list_any}
+use Rattle.std.proofs.lemmas.Bool.{cases_Bool, eqb-true}
 use Rattle.std.proofs.lemmas.Map.Entries.{option_filter}
-use Rattle.std.proofs.lemmas.Option.{none-some, same_Some}
+use Rattle.std.proofs.lemmas.Option.{none-some}
 use Rattle.eeprom.specs.Chip.{Chip}
 use Rattle.eeprom.specs.Slots.{Rises, has}
-use Rattle.eeprom.specs.StoreOf.{Slots}
-use Rattle.eeprom.proofs.InOrder.{count_by-cons, count-above, counts_not}
+use Rattle.eeprom.proofs.InOrder.{count_by-cons, count-above}
 use Rattle.record_store.specs.Held.{Held}
 use Rattle.record_store.specs.declared.side.Side.{Side}
 use Rattle.scql_base.specs.Words.{not_found, security_not_satisfied}
@@ -29,7 +28,6 @@ use Rattle.privilege_table.proofs.Seen.{find-both}
 use Rattle.views.proofs.Stamped.{IsOfStamp, stamped-held}
 use Rattle.db_read.specs.Answered.{selectable}
 use Rattle.db_read.specs.Sight.{sight_of}
-use Rattle.db_read.specs.declared.sight.Sight.{Sight}
 use Rattle.db_read.specs.declared.sight.Sight.TheVariants.{Hidden, Closed, Open}
 
 -- an object is seen by what is known of it

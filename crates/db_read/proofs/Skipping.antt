@@ -1,7 +1,7 @@
 -- The next chosen row is found by passing over the rows of the table that aren't chosen, and what that costs.
 use Rattle.std.proofs.Common.{◌≡◌, ℕ, ◌+◌, ◌<◌, ◌≤◌, ◌==◌, nat_le, nat_lt, Bool, true, false, ◌&&◌, if◌then◌else◌, List, [], ◌∷◌, Option, Some, None, option_map, refl, sym, ap, subst, ◌∙◌, inl, inr, arith}
 use Rattle.std.specs.Prelude.{IfSome}
-use Rattle.std.specs.List.{AllByRecursion, find, list_all, sum_by}
+use Rattle.std.specs.List.{AllByRecursion, find, list_all}
 use Rattle.std.proofs.lemmas.Bool.{and_parts, cases_Bool, eqb-true, le-leb, le-ltb, leb-true, lt-ltb, ltb-false, ltb-true, lt-leb}
 use Rattle.std.proofs.lemmas.List.Sums.{sum_by-cons}
 use Rattle.std.proofs.lemmas.Option.{none-some, same_Some}
@@ -93,8 +93,10 @@ next-skipped chosen passed (x ∷ rows) r rises found hidden =
           rw (here, not-shown (nat_lt passed x.stamp) (x.table == chosen.table), not-shown (nat_lt r.stamp x.stamp) (x.table == chosen.table))
           (all-behind chosen passed x.stamp rows rises.0 less ∙ ap (λ (s : ℕ). find (is_wanted chosen s) rows) stamp))
       | inr f ↦ (let less = found-later chosen.table passed rows r (rw f at found) in
-          rw (not-after (x.table == chosen.table) (nat_lt passed x.stamp) (is_shown chosen x.row) f,
-          not-after (x.table == chosen.table) (nat_lt r.stamp x.stamp) (is_shown chosen x.row) (not-later chosen.table passed r.stamp x f less)) (next-skipped chosen passed rows r rises.1 (rw f at found) hidden))
+          rw (
+            not-after (x.table == chosen.table) (nat_lt passed x.stamp) (is_shown chosen x.row) f,
+            not-after (x.table == chosen.table) (nat_lt r.stamp x.stamp) (is_shown chosen x.row) (not-later chosen.table passed r.stamp x f less),
+          ) (next-skipped chosen passed rows r rises.1 (rw f at found) hidden))
     ]
 
 -- rows in order rise

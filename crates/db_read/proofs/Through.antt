@@ -1,10 +1,9 @@
 -- The chosen rows of a table are what a cursor's object shows, whatever views stand between.
-use Rattle.std.proofs.Common.{◌≡◌, ℕ, zero, suc, ◌+◌, ◌<◌, ◌≤◌, ◌==◌, nat_le, nat_lt, Bool, true, false, not, ◌&&◌, ◌||◌, List, [], ◌∷◌, length, map, get_or, Option, Some, None, refl, sym, ap, subst, ◌∙◌, inl, inr, arith}
+use Rattle.std.proofs.Common.{◌≡◌, ℕ, zero, suc, ◌+◌, ◌<◌, ◌≤◌, ◌==◌, nat_le, nat_lt, Bool, true, false, not, ◌&&◌, ◌||◌, List, [], ◌∷◌, length, map, get_or, Some, refl, sym, ap, subst, ◌∙◌, inl, inr, arith}
 use Rattle.std.specs.Prelude.{position}
-use Rattle.std.specs.List.{AllByRecursion, filter, list_all, list_any, sum_by}
-use Rattle.std.specs.Option.{option_map_or}
+use Rattle.std.specs.List.{AllByRecursion, filter, list_all, list_any}
 use Rattle.std.specs.Str.{bytes_eq}
-use Rattle.std.proofs.lemmas.Bool.{and_parts, and_from, cases_Bool, eqb-true, eq-eqb, false≢true, le-leb, leb-true, lt-ltb, not-true, or_parts}
+use Rattle.std.proofs.lemmas.Bool.{and_parts, and_from, cases_Bool, false≢true, le-leb, lt-ltb, not-true, or_parts}
 use Rattle.std.proofs.lemmas.List.{length-map}
 use Rattle.std.proofs.lemmas.List.Quantifiers.{position-Some}
 use Rattle.std.proofs.lemmas.List.Sums.{sum_by-cons}
@@ -20,11 +19,10 @@ use Rattle.scql_model.specs.Objects.{StampedRow}
 use Rattle.scql_model.specs.Resolving as model
 use Rattle.scql_model.specs.Resolving.{passes_filters}
 use Rattle.scql_model.proofs.LongerLists.{not_equal-sym}
-use Rattle.catalog_codec.specs.Catalog.{row_kind}
 use Rattle.search_cond.specs.Bound.{Binds, passes}
 use Rattle.search_cond.specs.declared.placed.Placed.{Placed}
 use Rattle.views.specs.Resolved.{AreBound, ArePlaces}
-use Rattle.db_read.specs.Chosen.{are_rising, chosen_rows, is_chosen, is_shown, shown_row, values_at}
+use Rattle.db_read.specs.Chosen.{are_rising, chosen_rows, is_shown, values_at}
 use Rattle.db_read.specs.declared.choosing.Chosen.{Chosen}
 
 -- a row's value in a column is the one at the column's place
@@ -45,7 +43,6 @@ values-placed (p ∷ places) all (w ∷ wanted) values are =
     let first : Some p ≡ position (bytes_eq w) all = cc in
     let rest : map Some places ≡ map (λ (column : List ℕ). position (bytes_eq column) all) wanted = cc in
     rw (value-at all values w p (sym first), values-placed places all wanted values rest) refl
-
 
 filters-match : (filters : List (List Placed)) (all : Columns) (lists : List (List Condition)) (values : Values) → AreBound filters all lists → list_all (passes values) filters ≡ list_all (λ (conditions : List Condition). matches all conditions values) lists
 filters-match [] all [] values are = refl
@@ -174,5 +171,10 @@ pub cut-fits : (places : List ℕ) (all wanted : Columns) (values : Values) → 
 cut-fits places all wanted values are few different among long narrow small =
     let size = size-cut all wanted values different among long in
     let count : length (cut_to all wanted values) ≤ 15 = rw length-map few in
-    rw (values-placed places all wanted values are, le-leb (length (cut_to all wanted values)) 15 count, narrow-cut all wanted values narrow, le-leb (row_size (cut_to all wanted values)) 1020 (omega arith),
-    le-leb (row_size (cut_to all wanted values)) (row_size values) size) refl
+    rw (
+      values-placed places all wanted values are,
+      le-leb (length (cut_to all wanted values)) 15 count,
+      narrow-cut all wanted values narrow,
+      le-leb (row_size (cut_to all wanted values)) 1020 (omega arith),
+      le-leb (row_size (cut_to all wanted values)) (row_size values) size,
+    ) refl

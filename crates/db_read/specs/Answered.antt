@@ -1,5 +1,5 @@
 -- What the answers of reading operations mean: the word, the cursor and the row as a move of the model; and of which cursors they speak.
-use Rattle.std.specs.Prelude.{◌≡◌, ℕ, ◌==◌, Bool, true, List, [], Option, Some, Result, Ok, Err, IfSome, if◌then◌else◌}
+use Rattle.std.specs.Prelude.{◌≡◌, ℕ, ◌==◌, true, List, [], Option, Some, Result, Ok, Err, IfSome, if◌then◌else◌}
 use Rattle.eeprom.specs.declared.fault.EepromFault.{EepromFault}
 use Rattle.scql_base.specs.Words.{done, not_found, security_not_satisfied}
 use Rattle.scql_base.specs.declared.words.Actor.{Actor}

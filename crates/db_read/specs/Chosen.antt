@@ -9,7 +9,6 @@ use Rattle.scql_model.specs.Objects.{StampedRow}
 use Rattle.catalog_codec.specs.Catalog.{row_kind}
 use Rattle.record_table.specs.Listed.{listed}
 use Rattle.search_cond.specs.Bound.{passes}
-use Rattle.search_cond.specs.declared.placed.Placed.{Placed}
 use Rattle.cursor.specs.Costs.{Cost}
 use Rattle.db_read.specs.Costs.{row_costs}
 use Rattle.db_read.specs.declared.choosing.Chosen.{Chosen}

@@ -1,7 +1,6 @@
 // The rows of a table that a cursor chooses, found by the index and read one at a time.
 ghost use Rattle.std.specs.Prelude.{◌≡◌, ◌<◌, ◌==◌, ◌*◌, ℕ, List, None, IfOk, IfSome, if◌then◌else◌, option_map, slice_index_or};
 ghost use Rattle.std.specs.List.{find};
-ghost use Rattle.std.specs.Option.{option_map_or};
 ghost use Rattle.std.proofs.lemmas.Map.Entries.{option_filter};
 ghost use Rattle.eeprom.specs.Chip.{Becomes};
 ghost use Rattle.eeprom.specs.Fault.{each_error};

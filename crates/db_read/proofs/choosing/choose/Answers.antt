@@ -1,5 +1,5 @@
 -- Conditions that can't be bound aren't on these columns.
-use Rattle.std.proofs.Common.{◌≡◌, sym, ◌∙◌}
+use Rattle.std.proofs.Common.{sym, ◌∙◌}
 use Rattle.std.proofs.lemmas.Bool.{and_parts, false≢true}
 use Rattle.scql_model.specs.Database.{are_among}
 use Rattle.views.specs.Resolved.{AreKnown}

@@ -1,5 +1,5 @@
 -- A condition's column is a column as its name is.
-use Rattle.std.proofs.Common.{◌≡◌, ◌&&◌, Bool, List, ℕ, map, sym, ap, ◌∙◌}
+use Rattle.std.proofs.Common.{◌&&◌, Bool, List, ℕ, map, sym, ap, ◌∙◌}
 use Rattle.std.specs.List.{list_any}
 use Rattle.std.specs.Str.{bytes_eq}
 use Rattle.std.proofs.lemmas.List.Folds.{list_all-map}

@@ -1,5 +1,5 @@
 -- The cursor is on the object that was found; a name that isn't a column's refuses it.
-use Rattle.std.proofs.Common.{◌≡◌, Some, None, sym, ap, refl, ◌∙◌, option_map}
+use Rattle.std.proofs.Common.{sym, ap, refl, ◌∙◌, option_map}
 use Rattle.std.proofs.lemmas.Option.{none-some, same_Some}
 use Rattle.scql_base.specs.Words.{not_found}
 use Rattle.scql_model.specs.Objects.{columns_of}

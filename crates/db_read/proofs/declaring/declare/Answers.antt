@@ -1,12 +1,10 @@
 -- The cursor is the one that is declared; a refusal leaves the old one.
-use Rattle.std.proofs.Common.{◌≡◌, Ok, Some, sym, ap, refl, ◌∙◌, subst}
-use Rattle.std.specs.Prelude.{IfErr}
+use Rattle.std.proofs.Common.{Ok, sym, ap, ◌∙◌}
 use Rattle.scql_base.specs.Words.{done}
 use Rattle.scql_base.specs.declared.cursor.Place.{Place}
 use Rattle.scql_model.specs.Machine.{Reading}
 use Rattle.scql_model.specs.Moves.{moved, moved_to}
 use Rattle.scql_model.specs.ReadingCommands.{declare}
-use Rattle.db_read.specs.Answered.{Stops}
 use Rattle.db_read.proofs.Stopping.{answered-stop}
 use Rattle.db_read.proofs.declaring.declare.Goals as goal
 

@@ -1,5 +1,5 @@
 -- The object is resolved, and the cursor's names are the table's.
-use Rattle.std.proofs.Common.{◌≡◌, true, Option, Some, Ok, sym, subst, ◌∙◌}
+use Rattle.std.proofs.Common.{◌≡◌, true, Option, Ok, sym, subst}
 use Rattle.std.specs.Prelude.{IfSome}
 use Rattle.std.proofs.lemmas.Bool.{false≢true}
 use Rattle.scql_base.specs.declared.records.Object.{Object}
@@ -9,7 +9,6 @@ use Rattle.scql_model.specs.Moves.{chosen}
 use Rattle.scql_model.specs.Rights.{seen_stamped}
 use Rattle.db_read.specs.Answered.{Stops, rows_under, selectable}
 use Rattle.db_read.proofs.Chooses.{Chooses-chosen, at-object, at-stamp, named-all}
-use Rattle.db_read.proofs.Sighted.{asked}
 use Rattle.db_read.proofs.Stopping.{stops-asked, stops-on}
 use Rattle.db_read.proofs.finding.find_chosen.Goals as goal
 

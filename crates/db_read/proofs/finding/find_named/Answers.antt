@@ -1,7 +1,6 @@
 -- The one object of the name is seen if it appears.
 use Rattle.std.proofs.Common.{◌≡◌, sym, subst, Ok, option_map}
 use Rattle.std.specs.Prelude.{IfOk, IfErr}
-use Rattle.scql_base.specs.declared.records.Object.{Object}
 use Rattle.privilege_table.proofs.Seen.{seen-held}
 use Rattle.db_read.specs.Answered.{Stops, selectable}
 use Rattle.db_read.proofs.finding.find_named.Goals as goal

@@ -1,5 +1,5 @@
 -- What is found is answered by how it is seen.
-use Rattle.std.proofs.Common.{◌≡◌, sym, refl, ◌∙◌}
+use Rattle.std.proofs.Common.{sym, refl, ◌∙◌}
 use Rattle.scql_base.specs.Words.{not_found, security_not_satisfied}
 use Rattle.db_read.proofs.Sighted.{selects-closed, selects-hidden, selects-open}
 use Rattle.db_read.proofs.Stopping.{stops-refused}

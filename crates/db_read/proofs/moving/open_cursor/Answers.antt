@@ -1,5 +1,5 @@
 -- Where the rows are told the cursor goes, and isn't refused.
-use Rattle.std.proofs.Common.{◌≡◌, sym, ◌∙◌}
+use Rattle.std.proofs.Common.{sym, ◌∙◌}
 use Rattle.std.proofs.lemmas.Bool.{false≢true}
 use Rattle.scql_model.specs.Moves.{first_row}
 use Rattle.db_read.proofs.Going.{went-word}

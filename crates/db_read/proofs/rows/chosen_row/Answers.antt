@@ -1,6 +1,5 @@
 -- The row of the stamp is handed out where it is chosen.
-use Rattle.std.proofs.Common.{◌≡◌, Option, Some, None, sym, ◌∙◌}
-use Rattle.eeprom.specs.StoreOf.{Slots}
+use Rattle.std.proofs.Common.{Some, None, sym, ◌∙◌}
 use Rattle.record_table.specs.Listed.{slots_of}
 use Rattle.db_read.proofs.ShownRows.{reads-none, row-cut, row-cut-reads, row-there}
 use Rattle.db_read.proofs.rows.chosen_row.Goals as goal

@@ -1,5 +1,5 @@
 -- A row that is chosen is the next; one that isn't is passed.
-use Rattle.std.proofs.Common.{◌≡◌, ◌<◌, ◌≤◌, Option, Some, None, sym, ◌∙◌, arith}
+use Rattle.std.proofs.Common.{◌<◌, ◌≤◌, Option, Some, None, sym, ◌∙◌, arith}
 use Rattle.eeprom.specs.StoreOf.{Slots}
 use Rattle.record_table.specs.Listed.{slots_of}
 use Rattle.db_read.proofs.Skipping.{costs-behind, left-found, left-next, left-none, reads-end, reads-next}

@@ -1,7 +1,5 @@
 -- The index answers the slot of the next row, which costs what the table's costs say.
-use Rattle.std.proofs.Common.{◌≡◌, Option, Some, None}
-use Rattle.std.specs.Prelude.{IfSome}
-use Rattle.eeprom.specs.StoreOf.{Slots}
+use Rattle.std.proofs.Common.{Some}
 use Rattle.record_table.specs.Listed.{slots_of}
 use Rattle.row_table.specs.Found.{is_row_after}
 use Rattle.row_table.proofs.FoundRows.{none-found}

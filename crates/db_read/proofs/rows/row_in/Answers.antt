@@ -1,5 +1,4 @@
 -- A row costs its cells at most, and its octets at least.
-use Rattle.std.proofs.Common.{◌≡◌}
 use Rattle.db_read.proofs.RowReads.{reads-row}
 use Rattle.db_read.proofs.rows.row_in.Goals as goal
 

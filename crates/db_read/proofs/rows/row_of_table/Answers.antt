@@ -1,13 +1,5 @@
 -- The index answers the slot of the row, if there is one, and its table.
-use Rattle.std.proofs.Common.{Option, None, refl, ap}
-use Rattle.std.specs.Prelude.{IfSome}
-use Rattle.eeprom.specs.Slots.{has}
-use Rattle.eeprom.specs.StoreOf.{Slots}
-use Rattle.catalog_codec.specs.Catalog.{row_kind}
 use Rattle.record_table.specs.Listed.{slots_of}
-use Rattle.row_index.specs.Places.{place_stamp}
-use Rattle.row_index.specs.declared.place.RowPlace.{RowPlace}
-use Rattle.row_table.proofs.FoundRows.{finds-told, none-found}
 use Rattle.db_read.proofs.RowReads.{indexed-found, indexed-none, indexed-other, indexed-reads, indexed-told}
 use Rattle.db_read.proofs.rows.row_of_table.Goals as goal
 

@@ -1,5 +1,5 @@
 -- The owner sees all, and anybody else what grants give.
-use Rattle.std.proofs.Common.{◌≡◌, Bool, true, false, sym, ◌∙◌}
+use Rattle.std.proofs.Common.{true, false, sym, ◌∙◌}
 use Rattle.scql_model.specs.Rights.{appears, holds, select_privilege}
 use Rattle.privilege_table.specs.declared.rights.Privilege.TheVariants.{Select}
 use Rattle.privilege_table.proofs.Seen.{appears-granted, appears-owned, held-granted, holds-granted, holds-owned}

@@ -1,5 +1,5 @@
 -- Each push takes one value more.
-use Rattle.std.proofs.Common.{◌≡◌, ℕ, ◌<◌, ◌≤◌, [], length, get_or, refl, sym, ap, ◌∙◌, List}
+use Rattle.std.proofs.Common.{◌≡◌, ℕ, ◌<◌, ◌≤◌, length, get_or, refl, ap, ◌∙◌, List}
 use Rattle.std.proofs.lemmas.List.{get_or_default, take_all}
 use Rattle.search_cond.proofs.Binding.{value_there}
 use Rattle.db_read.specs.Chosen.{values_at}
