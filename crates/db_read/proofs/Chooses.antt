@@ -1,5 +1,5 @@
 -- What is chosen of the table under a cursor is what the rows under the cursor are.
-use Rattle.std.proofs.Common.{◌≡◌, ℕ, ◌≤◌, ◌==◌, nat_le, nat_lt, Bool, true, false, ◌&&◌, List, [], ◌∷◌, length, map, Option, Some, Ok, refl, sym, ap, subst, ◌∙◌, inl, inr, arith}
+use Rattle.std.proofs.Common.{◌≡◌, ℕ, ◌≤◌, ◌==◌, nat_le, nat_lt, Bool, true, false, ◌&&◌, List, [], ◌∷◌, length, map, Option, option_map, Some, Ok, refl, sym, ap, subst, ◌∙◌, inl, inr, arith}
 use Rattle.std.specs.Prelude.{IfSome}
 use Rattle.std.specs.List.{filter, list_all}
 use Rattle.std.specs.Option.{option_map_or}
@@ -21,6 +21,7 @@ use Rattle.scql_model.specs.Matching.{Columns}
 use Rattle.scql_model.specs.Moves as moves
 use Rattle.scql_model.specs.Objects.{StampedRow, columns_of}
 use Rattle.scql_model.specs.Records.{is_count_of_columns, is_row, row_record}
+use Rattle.scql_model.specs.Resolving as model
 use Rattle.scql_model.specs.Rights.{seen_stamped}
 use Rattle.scql_model.specs.Rules.{fits_table, has_table}
 use Rattle.scql_model.proofs.LongerLists.{find-passes}
@@ -68,9 +69,12 @@ module _ (store : Held) (side : Side) (chip : Chip) (db : Database) (actor : Act
   pub at-object : object_stamped db.objects c.object ≡ Some o
   at-object = object-stamped db actor c.object o held.valid (selectable-parts db actor (seen_stamped db actor c.object) o selects).0
 
+  own-stamp : o.stamp ≡ c.object
+  own-stamp = eqb-true o.stamp c.object (find-passes (λ (x : Object). x.stamp == c.object) db.objects o at-object)
+
   -- the object stands under its own stamp
   pub at-stamp : object_stamped db.objects o.stamp ≡ Some o
-  at-stamp = ap (object_stamped db.objects) (eqb-true o.stamp c.object (find-passes (λ (x : Object). x.stamp == c.object) db.objects o at-object)) ∙ at-object
+  at-stamp = ap (object_stamped db.objects) own-stamp ∙ at-object
 
   module _ (resolves : Resolves db.objects o.stamp answer) where
     known : IsKnown db.objects o.stamp resolves.is
@@ -127,8 +131,9 @@ module _ (store : Held) (side : Side) (chip : Chip) (db : Database) (actor : Act
           ∙ sym (chosen-through chosen resolves.is c.columns c.conditions of_model placed (subst (λ (all : Columns). Binds chosen.conditions all c.conditions) resolves.stands.all binds)
           (rw filters resolves.stands.filters) db.rows)
 
-      pub Chooses-chosen : Chooses db actor c (rows_shown chosen (slots_of store side chip))
+      pub Chooses-chosen : Chooses db actor c chosen.table (rows_shown chosen (slots_of store side chip))
       Chooses-chosen = record {
+        resolved = ap (option_map (λ (r : model.Resolved). r.table)) (ap (model.resolved_of db.objects) (sym own-stamp) ∙ resolves.resolved) ∙ ap Some (sym of_model);
         rows = chosen_rows chosen db.rows;
         under = asked-Ok db actor (seen_stamped db actor c.object) (λ (x : Object) (contents : Contents). Ok (moves.chosen contents c)) o selects ∙ ap Ok through;
         shown = told;

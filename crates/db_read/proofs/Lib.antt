@@ -1,3 +1,4 @@
+pub mod Adding
 pub mod Chooses
 pub mod CutRows
 pub mod Declared

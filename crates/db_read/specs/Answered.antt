@@ -1,5 +1,5 @@
 -- What the answers of reading operations mean: the word, the cursor and the row as a move of the model; and of which cursors they speak.
-use Rattle.std.specs.Prelude.{◌≡◌, ℕ, ◌==◌, true, List, [], Option, Some, Result, Ok, Err, IfSome, if◌then◌else◌}
+use Rattle.std.specs.Prelude.{◌≡◌, ℕ, ◌==◌, true, List, [], Option, Some, Result, Ok, Err, IfSome, option_map, ◌+◌, if◌then◌else◌}
 use Rattle.eeprom.specs.declared.fault.EepromFault.{EepromFault}
 use Rattle.scql_base.specs.Words.{done, not_found, security_not_satisfied}
 use Rattle.scql_base.specs.declared.words.Actor.{Actor}
@@ -9,6 +9,11 @@ use Rattle.scql_base.specs.declared.words.StatusWord.{StatusWord}
 use Rattle.scql_model.specs.Database.{Database, are_different, are_named_among, object_stamped}
 use Rattle.scql_model.specs.Defining.{is_table_or_view}
 use Rattle.scql_model.specs.Machine.{Reading}
+use Rattle.scql_model.specs.Resolving.{Resolved, resolved_of}
+use Rattle.eeprom.specs.Chip.{Becomes, RisesAtMost}
+use Rattle.eeprom.specs.StoreOf.{Slots}
+use Rattle.cursor.specs.Costs.{Cost}
+use Rattle.db_read.specs.Costs.{catalogue_cost, row_costs}
 use Rattle.scql_model.specs.Moves as moves
 use Rattle.scql_model.specs.Refusals.{◌>>=◌, or_refused, provided}
 use Rattle.scql_model.specs.Rights.{holds, select_privilege}
@@ -57,9 +62,16 @@ pub record IsCursorOf (db : Database) (c : Cursor) : Type 0 where
 abbrev pub IsOnTableOrView : Database → Cursor → Type 0
 IsOnTableOrView db c = IfSome (object_stamped db.objects c.object) (λ (o : Object). is_table_or_view o.kind ≡ true)
 
--- the rows under a cursor are those that are told
-pub record Chooses (db : Database) (actor : Actor) (c : Cursor) (told : Option (List StampedRow)) : Type 0 where
+-- the rows under a cursor are those of this table that are told
+pub record Chooses (db : Database) (actor : Actor) (c : Cursor) (table : ℕ) (told : Option (List StampedRow)) : Type 0 where
+  pub resolved : option_map (λ (r : Resolved). r.table) (resolved_of db.objects c.object) ≡ Some table
   pub rows : List StampedRow
   pub under : moves.rows_under db actor c ≡ Ok rows
   pub shown : told ≡ Some rows
   pub stamped : AreStamped rows
+
+-- what is read through a cursor costs at most the searches for its object and so much of the rows of its table
+pub record ReadsThrough (db : Database) (c : Cursor) (slots : Option Slots) (cost : List Cost → ℕ) (before after : Option ℕ) : Type 0 where
+  pub table : ℕ
+  pub resolved : option_map (λ (r : Resolved). r.table) (resolved_of db.objects c.object) ≡ Some table
+  pub reads : IfSome slots (λ slots. Becomes (RisesAtMost (catalogue_cost slots + cost (row_costs table slots))) before after)

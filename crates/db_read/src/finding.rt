@@ -34,7 +34,7 @@ pub(crate) fn find_chosen<B: Eeprom>(
 ) -> Result<Chosen, Stop>
     requires over { IsOver store.now (B.chip bench.old) }
     ensures chosen { (db : Database) → IsHeld store.now side (B.chip bench.old) db → IsCursorOf db cursor.now → IsOnTableOrView db cursor.now
-        → IfOk result (λ chosen. Chooses db actor cursor.now (rows_shown chosen (slots_of store.now side (B.chip bench.old)))) }
+        → IfOk result (λ chosen. Chooses db actor cursor.now chosen.table (rows_shown chosen (slots_of store.now side (B.chip bench.old)))) }
     ensures refused { (db : Database) → IsHeld store.now side (B.chip bench.old) db → IsCursorOf db cursor.now → IsOnTableOrView db cursor.now
         → IfErr result (Stops (rows_under db actor cursor.now)) }
     ensures octets_read { IfOk result (λ _. IfSome (slots_of store.now side (B.chip bench.old))

@@ -1,5 +1,5 @@
 // OPEN and NEXT.
-ghost use Rattle.std.specs.Prelude.{◌≡◌, ℕ, List, IfOk, IfSome, IsTrue, OnErr};
+ghost use Rattle.std.specs.Prelude.{◌≡◌, ℕ, List, IfOk, IfSome, IsTrue, OnErr, Some, false};
 ghost use Rattle.eeprom.specs.Fault.{each_error};
 ghost use Rattle.eeprom.specs.Frame.{Reads};
 ghost use Rattle.record_store.specs.Held.{IsOver};
@@ -12,8 +12,11 @@ ghost use Rattle.record_table.specs.Listed.{slots_of};
 ghost use Rattle.record_table.specs.Making.{IsHeld};
 ghost use Rattle.row_index.specs.Index.{Indexes};
 ghost use Rattle.cursor.specs.Moved.{AreStamped, refuses};
-ghost use Rattle.db_read.specs.Answered.{IsCursorOf, IsOnTableOrView, answered};
-ghost use Rattle.db_read.specs.Chosen.{rows_shown};
+ghost use Rattle.db_read.specs.Answered.{IsCursorOf, IsOnTableOrView, ReadsThrough, answered};
+ghost use Rattle.db_read.specs.Chosen.{costs_shown, rows_shown};
+ghost use Rattle.scql_base.specs.declared.cursor.Place.{Place};
+ghost use Rattle.cursor.specs.Costs.{RisesBetween, cost_between};
+ghost use Rattle.eeprom.specs.Chip.{Becomes};
 
 use crate::choosing::Chosen;
 use crate::feed::ChosenRows;
@@ -40,6 +43,8 @@ pub fn open_cursor<B: Eeprom>(
     ensures refused { (db : Database) → IsHeld store.now side (B.chip bench.old) db → IfSome cursor.old (IsCursorOf db) → IfSome cursor.old (IsOnTableOrView db)
         → IfOk result (λ word. IsTrue (refuses word) → cursor.new ≡ cursor.old) }
     ensures fault { OnErr result (cursor.new ≡ cursor.old) }
+    ensures octets_read { (db : Database) → IsHeld store.now side (B.chip bench.old) db → IfSome cursor.old (IsCursorOf db) → IfSome cursor.old (IsOnTableOrView db)
+        → IfOk result (λ word. IfSome cursor.new (λ c. refuses word ≡ false → ReadsThrough db c (slots_of store.now side (B.chip bench.old)) (cost_between (Place.At 0) c.place) (B.octets_read bench.old) (B.octets_read bench.new))) }
     ensures frame { Reads each_error B.chip B.faults bench.old bench.new result }
 {
     let Some(held) = cursor else {
@@ -71,6 +76,9 @@ pub fn next_row<B: Eeprom>(
     ensures refused { (db : Database) → IsHeld store.now side (B.chip bench.old) db → IfSome cursor.old (IsCursorOf db) → IfSome cursor.old (IsOnTableOrView db)
         → IfOk result (λ word. IsTrue (refuses word) → cursor.new ≡ cursor.old) }
     ensures fault { OnErr result (cursor.new ≡ cursor.old) }
+    ensures octets_read { (db : Database) → IsHeld store.now side (B.chip bench.old) db → IfSome cursor.old (IsCursorOf db) → IfSome cursor.old (IsOnTableOrView db)
+        → (was : Cursor) → cursor.old ≡ Some was → IfOk result (λ word. IfSome cursor.new (λ c. refuses word ≡ false
+        → ReadsThrough db c (slots_of store.now side (B.chip bench.old)) (cost_between was.place c.place) (B.octets_read bench.old) (B.octets_read bench.new))) }
     ensures frame { Reads each_error B.chip B.faults bench.old bench.new result }
 {
     let Some(held) = cursor else {
@@ -109,6 +117,8 @@ fn to_first<B: Eeprom>(
     requires index { Indexes index.now store.now (B.chip bench.old) }
     ensures moved { IfOk result (λ word. IfSome (rows_shown chosen.now (slots_of store.now side (B.chip bench.old)))
         (λ rows. AreStamped rows → (c : Cursor) → moved_to place.new c word ≡ went_to c (first_row rows))) }
+    ensures read { IfOk result (λ _. IfSome (costs_shown chosen.now (slots_of store.now side (B.chip bench.old)))
+        (λ costs. Becomes (RisesBetween 0 (cost_between (Place.At 0) place.new costs)) (B.octets_read bench.old) (B.octets_read bench.new))) }
     ensures frame { Reads each_error B.chip B.faults bench.old bench.new result }
 {
     let mut feed = ChosenRows {
@@ -134,6 +144,8 @@ fn to_next<B: Eeprom>(
     requires index { Indexes index.now store.now (B.chip bench.old) }
     ensures moved { IfOk result (λ word. IfSome (rows_shown chosen.now (slots_of store.now side (B.chip bench.old)))
         (λ rows. (c : Cursor) → moved_to place.new c word ≡ went_to c (row_behind place.old rows))) }
+    ensures read { IfOk result (λ _. IfSome (costs_shown chosen.now (slots_of store.now side (B.chip bench.old)))
+        (λ costs. Becomes (RisesBetween 0 (cost_between place.old place.new costs)) (B.octets_read bench.old) (B.octets_read bench.new))) }
     ensures frame { Reads each_error B.chip B.faults bench.old bench.new result }
 {
     let mut feed = ChosenRows {
