@@ -12,8 +12,10 @@ ghost use Rattle.record_table.specs.Listed.{slots_of};
 ghost use Rattle.record_table.specs.Making.{IsHeld};
 ghost use Rattle.row_index.specs.Index.{Indexes};
 ghost use Rattle.cursor.specs.Moved.{fetched, refuses};
-ghost use Rattle.db_read.specs.Answered.{IsCursorOf, IsOnTableOrView, given};
-ghost use Rattle.db_read.specs.Chosen.{rows_shown};
+ghost use Rattle.db_read.specs.Answered.{IsCursorOf, IsOnTableOrView, ReadsThrough, given};
+ghost use Rattle.db_read.specs.Chosen.{costs_shown, rows_shown};
+ghost use Rattle.cursor.specs.Costs.{RisesBetween, cost_at, least_read};
+ghost use Rattle.eeprom.specs.Chip.{Becomes};
 
 use crate::choosing::Chosen;
 use crate::feed::ChosenRows;
@@ -41,6 +43,8 @@ pub fn fetch_row<B: Eeprom>(
     ensures moved { (db : Database) → IsHeld store.now side (B.chip bench.old) db → IfSome cursor.old (IsCursorOf db) → IfSome cursor.old (IsOnTableOrView db) → (pending : List ℕ)
         → IfOk result (λ word. moved db actor (record { cursor = cursor.old; pending = pending }) (commands.fetch le) ≡ given le word cursor.new out.new) }
     ensures stays { cursor.new ≡ cursor.old }
+    ensures octets_read { (db : Database) → IsHeld store.now side (B.chip bench.old) db → IfSome cursor.old (IsCursorOf db) → IfSome cursor.old (IsOnTableOrView db)
+        → IfOk result (λ word. IfSome cursor.new (λ c. refuses word ≡ false → ReadsThrough db c (slots_of store.now side (B.chip bench.old)) (cost_at c.place) (B.octets_read bench.old) (B.octets_read bench.new))) }
     ensures frame { Reads each_error B.chip B.faults bench.old bench.new result }
 {
     let Some(held) = cursor else {
@@ -107,6 +111,8 @@ fn give<B: Eeprom>(
     requires index { Indexes index.now store.now (B.chip bench.old) }
     ensures fetched { IfOk result (λ word. IfSome (rows_shown chosen.now (slots_of store.now side (B.chip bench.old)))
         (λ rows. (c : Cursor) → fetched place.now c le word out.new ≡ gave c le place.now rows)) }
+    ensures read { IfOk result (λ word. IfSome (costs_shown chosen.now (slots_of store.now side (B.chip bench.old)))
+        (λ costs. Becomes (RisesBetween (least_read word out.new) (cost_at place.now costs)) (B.octets_read bench.old) (B.octets_read bench.new))) }
     ensures frame { Reads each_error B.chip B.faults bench.old bench.new result }
 {
     let mut feed = ChosenRows {
