@@ -1,9 +1,8 @@
 // FETCH and FETCH NEXT.
-ghost use Rattle.std.specs.Prelude.{◌≡◌, ◌==◌, ℕ, List, [], false, IfOk, IfSome, IsTrue, OnErr};
+ghost use Rattle.std.specs.Prelude.{◌≡◌, ◌*◌, ℕ, List, Some, false, IfOk, IfSome, IsTrue, OnErr};
 ghost use Rattle.eeprom.specs.Fault.{each_error};
 ghost use Rattle.eeprom.specs.Frame.{Reads};
 ghost use Rattle.record_store.specs.Held.{IsOver};
-ghost use Rattle.scql_base.specs.Words.{done};
 ghost use Rattle.scql_base.specs.declared.cursor.Cursor.{Cursor};
 ghost use Rattle.scql_model.specs.Database.{Database};
 ghost use Rattle.scql_model.specs.Moves.{gave, gave_next, moved, row_behind};
@@ -11,10 +10,10 @@ ghost use Rattle.scql_model.specs.ReadingCommands as commands;
 ghost use Rattle.record_table.specs.Listed.{slots_of};
 ghost use Rattle.record_table.specs.Making.{IsHeld};
 ghost use Rattle.row_index.specs.Index.{Indexes};
-ghost use Rattle.cursor.specs.Moved.{fetched, refuses};
+ghost use Rattle.cursor.specs.Moved.{fetched, place_reached, refuses};
 ghost use Rattle.db_read.specs.Answered.{IsCursorOf, IsOnTableOrView, ReadsThrough, given};
 ghost use Rattle.db_read.specs.Chosen.{costs_shown, rows_shown};
-ghost use Rattle.cursor.specs.Costs.{RisesBetween, cost_at, least_read};
+ghost use Rattle.cursor.specs.Costs.{RisesBetween, cost_at, cost_between, least_read};
 ghost use Rattle.eeprom.specs.Chip.{Becomes};
 
 use crate::choosing::Chosen;
@@ -78,6 +77,9 @@ pub fn fetch_next_row<B: Eeprom>(
         → IfOk result (λ word. moved db actor (record { cursor = cursor.old; pending = pending }) (commands.fetch_next le) ≡ given le word cursor.new out.new) }
     ensures refused { IfOk result (λ word. IsTrue (refuses word) → cursor.new ≡ cursor.old) }
     ensures fault { OnErr result (cursor.new ≡ cursor.old) }
+    ensures octets_read { (db : Database) → IsHeld store.now side (B.chip bench.old) db → IfSome cursor.old (IsCursorOf db) → IfSome cursor.old (IsOnTableOrView db)
+        → (was : Cursor) → cursor.old ≡ Some was → IfOk result (λ word. IfSome cursor.new (λ c. refuses word ≡ false
+        → ReadsThrough db c (slots_of store.now side (B.chip bench.old)) (λ costs. 2 * cost_between was.place c.place costs) (B.octets_read bench.old) (B.octets_read bench.new))) }
     ensures frame { Reads each_error B.chip B.faults bench.old bench.new result }
 {
     let Some(held) = cursor else {
@@ -141,6 +143,9 @@ fn give_next<B: Eeprom>(
     ensures fetched { IfOk result (λ word. IfSome (rows_shown chosen.now (slots_of store.now side (B.chip bench.old)))
         (λ rows. (c : Cursor) → fetched place.new c le word out.new ≡ gave_next c le (row_behind place.old rows))) }
     ensures refused { IfOk result (λ word. IsTrue (refuses word) → place.new ≡ place.old) }
+    ensures read { IfOk result (λ word. IfSome (rows_shown chosen.now (slots_of store.now side (B.chip bench.old)))
+        (λ rows. IfSome (costs_shown chosen.now (slots_of store.now side (B.chip bench.old)))
+        (λ costs. Becomes (RisesBetween (least_read word out.new) (2 * cost_between place.old (place_reached (row_behind place.old rows)) costs)) (B.octets_read bench.old) (B.octets_read bench.new)))) }
     ensures frame { Reads each_error B.chip B.faults bench.old bench.new result }
 {
     let mut feed = ChosenRows {
