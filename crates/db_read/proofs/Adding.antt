@@ -1,5 +1,5 @@
 -- What the searches for an object and a move of its cursor cost together.
-use Rattle.std.proofs.Common.{◌≡◌, ℕ, ◌+◌, Bool, true, false, List, Option, Some, None, Result, Ok, Err, sym, ap, subst, ◌∙◌, inl, inr, arith}
+use Rattle.std.proofs.Common.{◌≡◌, ℕ, ◌+◌, false, List, Option, Some, None, Result, sym, subst, ◌∙◌, inl, inr, arith}
 use Rattle.std.specs.Prelude.{IfOk, IfSome}
 use Rattle.std.proofs.lemmas.Bool.{cases_Bool, false≢true}
 use Rattle.std.proofs.lemmas.Option.{none-some}
@@ -38,3 +38,7 @@ reads-refused P outcome (Refused word) result cursor is stops = subst (λ r. IfO
     none None = tt
     none (Some c) = λ goes. absurd (false≢true (sym goes ∙ stops.1))
 reads-refused P outcome Fault result cursor is stops = subst (λ r. IfOk r (λ word. IfSome cursor (λ c. refuses word ≡ false → P word c))) (sym is) tt
+
+pub none-refused : {U : Type 0} (P : Type 0) (outcome : Result U StatusWord) (stop : Stop) (result : Result StatusWord EepromFault) → result ≡ stop_answer stop → Stops outcome stop → IfOk result (λ word. refuses word ≡ false → P)
+none-refused P outcome (Refused word) result is stops = subst (λ r. IfOk r (λ word. refuses word ≡ false → P)) (sym is) (λ goes. absurd (false≢true (sym goes ∙ stops.1)))
+none-refused P outcome Fault result is stops = subst (λ r. IfOk r (λ word. refuses word ≡ false → P)) (sym is) tt

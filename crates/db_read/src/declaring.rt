@@ -1,5 +1,5 @@
 // DECLARE CURSOR.
-ghost use Rattle.std.specs.Prelude.{◌≡◌, ◌+◌, ◌*◌, Some, Ok, IfOk, IfErr, IfSome, IsTrue, OnErr, true, List, ℕ, option_map};
+ghost use Rattle.std.specs.Prelude.{◌≡◌, ◌+◌, ◌*◌, Some, Ok, IfOk, IfErr, IfSome, IsTrue, OnErr, false, true, List, ℕ, option_map};
 ghost use Rattle.std.specs.List.{list_all, list_any};
 ghost use Rattle.std.specs.Str.{bytes_eq};
 ghost use Rattle.eeprom.specs.Chip.{Becomes, RisesAtMost};
@@ -47,6 +47,9 @@ pub fn declare<B: Eeprom>(
         → IfOk result (λ word. moved db actor (record { cursor = cursor.old; pending = pending }) (commands.declare object columns.now conditions.now) ≡ answered word cursor.new) }
     ensures refused { IfOk result (λ word. IsTrue (refuses word) → cursor.new ≡ cursor.old) }
     ensures fault { OnErr result (cursor.new ≡ cursor.old) }
+    ensures octets_read { (db : Database) → IsHeld store.now side (B.chip bench.old) db → IfSome (seen_named db actor object) (λ o. is_table_or_view o.kind ≡ true)
+        → IfOk result (λ word. refuses word ≡ false → IfSome (slots_of store.now side (B.chip bench.old))
+        (λ slots. Becomes (RisesAtMost (cell_size * cells_marked object_kind slots + cell_size * cells_marked grant_kind slots)) (B.octets_read bench.old) (B.octets_read bench.new))) }
     ensures frame { Reads each_error B.chip B.faults bench.old bench.new result }
 {
     match cursor_on(store, bench, side, actor, object, columns, conditions) {

@@ -1,18 +1,14 @@
 -- What is read is read of the table under the cursor.
-use Rattle.std.proofs.Common.{◌≡◌, ◌*◌, Option, Some, sym, ap, ◌∙◌}
+use Rattle.std.proofs.Common.{◌*◌, Option, Some, sym, ap, ◌∙◌}
 use Rattle.std.proofs.lemmas.Option.{same_Some}
 use Rattle.scql_base.specs.declared.cursor.Cursor.{Cursor}
 use Rattle.scql_model.specs.Moves.{row_behind}
 use Rattle.cursor.specs.Moved.{place_reached}
 use Rattle.db_read.proofs.Going.{place-fetched}
-use Rattle.std.specs.Prelude.{IfSome}
-use Rattle.std.proofs.lemmas.Result.{IfOk-weaker}
-use Rattle.eeprom.specs.Chip.{Becomes}
 use Rattle.eeprom.specs.StoreOf.{Slots}
 use Rattle.record_table.specs.Listed.{slots_of}
 use Rattle.cursor.specs.Costs.{cost_between, least_read}
 use Rattle.db_read.specs.Answered.{ReadsThrough, rows_under}
-use Rattle.db_read.specs.Chosen.{costs_shown}
 use Rattle.db_read.proofs.Adding.{reads-both, reads-refused}
 use Rattle.db_read.proofs.fetching.fetch_next_row.Goals as goal
 

@@ -1,5 +1,5 @@
 -- What is read is read of the table under the cursor.
-use Rattle.std.proofs.Common.{◌≡◌, Option, Some}
+use Rattle.std.proofs.Common.{Option, Some}
 use Rattle.std.specs.Prelude.{IfSome}
 use Rattle.std.proofs.lemmas.Result.{IfOk-weaker}
 use Rattle.eeprom.specs.Chip.{Becomes}

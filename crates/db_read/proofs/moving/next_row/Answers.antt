@@ -6,7 +6,6 @@ use Rattle.std.proofs.Common.{Option, Some, ap}
 use Rattle.std.proofs.lemmas.Option.{same_Some}
 use Rattle.scql_base.specs.declared.cursor.Cursor.{Cursor}
 use Rattle.eeprom.specs.StoreOf.{Slots}
-use Rattle.scql_base.specs.declared.cursor.Place.TheVariants.{At}
 use Rattle.record_table.specs.Listed.{slots_of}
 use Rattle.cursor.specs.Costs.{cost_between}
 use Rattle.db_read.specs.Answered.{ReadsThrough, rows_under}
