@@ -47,11 +47,24 @@ pub record IsKnown (objects : List Object) (stamp : ℕ) (r : Resolved) : Type 0
   pub columns : columns_of object.kind ≡ r.columns
   pub within : are_among r.columns r.all ≡ true
   pub filters : list_all (AreKnown r.all) r.filters ≡ true
+  -- the table, which has all the columns
+  pub table : Object
+  pub found_table : object_stamped objects r.table ≡ Some table
+  pub all : columns_of table.kind ≡ r.all
 
 known-over : (objects : List Object) (n stamp : ℕ) (o : Object) (kind : ObjectKind) (r : Resolved) → ((base : ℕ) (b : Resolved) → resolved_below n objects base ≡ Some b → IsKnown objects base b)
     → names_its_base objects (record o { kind = kind }) ≡ true → object_stamped objects stamp ≡ Some (record o { kind = kind }) → resolved_over (resolved_below n objects) o kind ≡ Some r → IsKnown objects stamp r
 known-over objects n stamp o (Table columns) r known named at is =
-    subst (IsKnown objects stamp) (same_Some _ r is) (record { object = record o { kind = Table columns }; found = at; columns = refl; within = among-self columns; filters = refl })
+    subst (IsKnown objects stamp) (same_Some _ r is) (record {
+      object = record o { kind = Table columns };
+      found = at;
+      columns = refl;
+      within = among-self columns;
+      filters = refl;
+      table = record o { kind = Table columns };
+      found_table = ap (object_stamped objects) (eqb-true o.stamp stamp (find-passes (λ (x : Object). x.stamp == stamp) objects (record o { kind = Table columns }) at)) ∙ at;
+      all = refl;
+    })
 known-over objects n stamp o (View base columns conditions) r known named at is =
     let b = some-map (λ (x : Resolved). let over : Resolved = record x { columns = columns; filters = conditions ∷ x.filters } in over) (resolved_below n objects base) r is in
     let there = known base b.0 b.1 in
@@ -66,6 +79,9 @@ known-over objects n stamp o (View base columns conditions) r known named at is 
       columns = refl;
       within = among-within columns b.0.columns b.0.all there.within shown;
       filters = and_from (AreKnown b.0.all conditions) (list_all (AreKnown b.0.all) b.0.filters) (among-within (map (λ (c : Condition). c.column) conditions) b.0.columns b.0.all there.within asked) there.filters;
+      table = there.table;
+      found_table = there.found_table;
+      all = there.all;
     })
 known-over objects n stamp o (Dictionary subject) r known named at is = absurd (none-some r is)
 

@@ -1,6 +1,6 @@
 // A table or a view, down to its table.
-ghost use Rattle.std.specs.Prelude.{◌≡◌, ◌≤◌, ◌<◌, ◌*◌, ℕ, true, List, Some, IfOk, IfSome, IsSome, length, map, position};
-ghost use Rattle.std.specs.List.{AllZip, list_all};
+ghost use Rattle.std.specs.Prelude.{◌≡◌, ◌≤◌, ◌<◌, ◌*◌, true, Some, IfOk, IfSome, IsSome, length, position};
+ghost use Rattle.std.specs.List.{list_all};
 ghost use Rattle.std.specs.Str.{bytes_eq};
 ghost use Rattle.eeprom.specs.Chip.{Becomes, RisesAtMost};
 ghost use Rattle.eeprom.specs.Fault.{each_error};
@@ -11,11 +11,9 @@ ghost use Rattle.scql_base.specs.declared.name_list.TheConstants.NameList.{MOST}
 ghost use Rattle.scql_model.specs.Database.{Database, are_among, object_stamped};
 ghost use Rattle.scql_model.specs.Defining.{is_table_or_view};
 ghost use Rattle.scql_model.specs.Objects.{columns_of, deepest};
-ghost use Rattle.scql_model.specs.Resolving as model;
 ghost use Rattle.catalog_codec.specs.Catalog.{object_kind};
 ghost use Rattle.record_table.specs.Listed.{cells_marked, slots_of};
 ghost use Rattle.record_table.specs.Making.{IsHeld};
-ghost use Rattle.search_cond.specs.Bound.{Binds};
 ghost use Rattle.views.specs.Layers.{resolved_as};
 ghost use Rattle.views.specs.Resolved.{AreBound, AreKnown, ArePlaces, Resolves, StandsFor};
 

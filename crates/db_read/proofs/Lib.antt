@@ -1,0 +1,11 @@
+pub mod Adding
+pub mod Chooses
+pub mod CutRows
+pub mod Declared
+pub mod Going
+pub mod RowReads
+pub mod ShownRows
+pub mod Sighted
+pub mod Skipping
+pub mod Stopping
+pub mod Through

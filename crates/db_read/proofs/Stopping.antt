@@ -1,0 +1,37 @@
+-- How the stop of a part of an operation is one of the operation.
+use Rattle.std.proofs.Common.{◌≡◌, true, Option, Result, Ok, Err, sym, subst}
+use Rattle.std.specs.Prelude.{IfOk, IfErr, IsErrAnd}
+use Rattle.eeprom.specs.declared.fault.EepromFault.{EepromFault}
+use Rattle.scql_base.specs.declared.cursor.Cursor.{Cursor}
+use Rattle.scql_base.specs.declared.words.Actor.{Actor}
+use Rattle.scql_base.specs.declared.words.StatusWord.{StatusWord}
+use Rattle.scql_base.specs.declared.records.Object.{Object}
+use Rattle.scql_model.specs.Contents.{Contents}
+use Rattle.scql_model.specs.Database.{Database}
+use Rattle.scql_model.specs.Machine.{Reading}
+use Rattle.scql_model.specs.ReadingCommands.{Move}
+use Rattle.record_table.specs.declared.stop.Stop.{Stop}
+use Rattle.record_table.specs.declared.stop.Stop.TheVariants.{Refused, Fault}
+use Rattle.cursor.specs.Moved.{refuses}
+use Rattle.db_read.specs.Answered.{Stops, answered, selectable, stop_answer}
+use Rattle.db_read.proofs.Sighted.{asked, asked-Err}
+
+-- a stop is handed on
+pub stops-on : {T U : Type 0} (P Q : Stop → Type 0) (from : Result T Stop) (to : Result U Stop) (stop : Stop) → ((s : Stop) → P s → Q s) → from ≡ Err stop → IsErrAnd to (λ given. given ≡ stop) → IfErr from P → IfErr to Q
+stops-on P Q from (Ok x) stop more is gives said = absurd gives
+stops-on P Q from (Err given) stop more is gives said = (let here : P stop = subst (λ r. IfErr r P) is said in subst Q (sym gives) (more stop here))
+
+-- a refusal
+pub stops-refused : {T U : Type 0} (outcome : Result U StatusWord) (result : Result T Stop) (word : StatusWord) → result ≡ Err (Refused word) → outcome ≡ Err word → refuses word ≡ true → IfErr result (Stops outcome)
+stops-refused outcome result word is refused out = subst (λ r. IfErr r (Stops outcome)) (sym is) (refused, out)
+
+-- what stops the search for an object stops what comes of it
+pub stops-asked : {X : Type 0} (db : Database) (actor : Actor) (seen : Option Object) (f : Object → Contents → Result X StatusWord) (stop : Stop) → Stops (selectable db actor seen) stop → Stops (asked db actor seen f) stop
+stops-asked db actor seen f (Refused word) stops = (asked-Err db actor seen f word stops.0, stops.1)
+stops-asked db actor seen f Fault stops = tt
+
+-- an operation that stopped answers the refusal, and leaves the cursor
+pub answered-stop : (outcome : Result (Move Reading) StatusWord) (stop : Stop) (result : Result StatusWord EepromFault) (cursor : Option Cursor) → result ≡ stop_answer stop → Stops outcome stop
+    → IfOk result (λ word. outcome ≡ answered word cursor)
+answered-stop outcome (Refused word) result cursor is stops = subst (λ r. IfOk r (λ word. outcome ≡ answered word cursor)) (sym is) (rw stops.1 stops.0)
+answered-stop outcome Fault result cursor is stops = subst (λ r. IfOk r (λ word. outcome ≡ answered word cursor)) (sym is) tt

@@ -1,0 +1,24 @@
+-- Each push takes one value more.
+use Rattle.std.proofs.Common.{◌≡◌, ℕ, ◌<◌, ◌≤◌, length, get_or, refl, ap, ◌∙◌, List}
+use Rattle.std.proofs.lemmas.List.{get_or_default, take_all}
+use Rattle.search_cond.proofs.Binding.{value_there}
+use Rattle.db_read.specs.Chosen.{values_at}
+use Rattle.db_read.proofs.CutRows.{cut-more}
+use Rattle.db_read.proofs.choosing.Chosen.cut.Goals as goal
+
+pub loop-place-preserved : goal.loop-place-preserved
+loop-place-preserved c =
+    let places : List ℕ = c.args.self.now.places.items in
+    let values = c.args.row.now in
+    let i : ℕ = c.loop-place.place-index in
+    let within : i < length places = rw c.as_slice-place-items.ensures.value at c.loop-place-test.true in
+    let is : c.from.result ≡ get_or places i c.from.result = (rw c.as_slice-place-items.ensures.value at c.from.ensures) ∙ get_or_default places i 0 c.from.result within in
+    let value = ap (λ v. v.now) c.unwrap_or-value.ensures ∙ value_there c.get.result _ values c.from.result c.get.ensures.value refl in
+    cut-more places values i c.from.result c.unwrap_or-value.result.now c.loop-place.cut c.push.new.self c.push.result within is value c.push.ensures.ok c.push.ensures.err c.loop-place.invariant
+
+pub returns : goal.returns
+returns c = λ row.
+    let places : List ℕ = c.args.self.now.places.items in
+    let values = c.args.row.now in
+    let whole : length places ≤ c.loop-place.place-index = rw c.as_slice-place-items.ensures.value at c.loop-place-test.false in
+    c.loop-place.invariant row ∙ ap (λ (ps : List ℕ). values_at ps values) (take_all c.loop-place.place-index places whole)

@@ -1,0 +1,33 @@
+-- What is read is read of the table under the cursor.
+use Rattle.std.proofs.Common.{◌*◌, Option, Some, sym, ap, ◌∙◌}
+use Rattle.std.proofs.lemmas.Option.{same_Some}
+use Rattle.scql_base.specs.declared.cursor.Cursor.{Cursor}
+use Rattle.scql_model.specs.Moves.{row_behind}
+use Rattle.cursor.specs.Moved.{place_reached}
+use Rattle.db_read.proofs.Going.{place-fetched}
+use Rattle.eeprom.specs.StoreOf.{Slots}
+use Rattle.record_table.specs.Listed.{slots_of}
+use Rattle.cursor.specs.Costs.{cost_between, least_read}
+use Rattle.db_read.specs.Answered.{ReadsThrough, rows_under}
+use Rattle.db_read.proofs.Adding.{reads-both, reads-refused}
+use Rattle.db_read.proofs.fetching.fetch_next_row.Goals as goal
+
+pub returns-in-Err-clause-octets_read : goal.returns-in-Err-clause-octets_read
+returns-in-Err-clause-octets_read g c = λ db held cursor kind was e.
+    reads-refused (λ word x. ReadsThrough db x (slots_of c.args.store.now c.args.side (g.B.Eeprom.chip c.args.bench.now)) (λ costs. 2 * cost_between was.place x.place costs) (g.B.Eeprom.octets_read c.args.bench.now) (g.B.Eeprom.octets_read c.find_chosen.new.bench))
+    (rows_under db c.args.actor c.in-Some.held) c.in-Err.stop c.stopped.result (Some c.in-Some.held) c.stopped.ensures (c.in-Err.ensures.refused db held (rw c.in-Some.is at cursor) (rw c.in-Some.is at kind))
+
+pub returns-clause-octets_read : goal.returns-clause-octets_read
+returns-clause-octets_read g c = λ db held cursor kind was e goes.
+    let slots : Option Slots = slots_of c.args.store.now c.args.side (g.B.Eeprom.chip c.args.bench.now) in
+    let chooses = c.in-Ok.ensures.chosen db held (rw c.in-Some.is at cursor) (rw c.in-Some.is at kind) in
+    let same = ap (λ (x : Cursor). x.place) (same_Some c.in-Some.held was (sym c.in-Some.is ∙ e)) in
+    let fetches = rw (c.in-Ok.ensures.frame.same, chooses.shown) at c.in_ok-word.ensures.fetched in
+    let reached = place-fetched c.give_next.new.place c.in-Some.held c.args.le c.in_ok-word.word c.give_next.new.out (row_behind c.in-Some.held.place chooses.rows) goes (fetches c.in-Some.held) in
+    let reads = rw (c.in-Ok.ensures.frame.same, chooses.shown) at c.in_ok-word.ensures.read in
+    record {
+      table = c.in-Ok.chosen.table;
+      resolved = chooses.resolved;
+      reads = rw (sym same, reached) (reads-both c.in-Ok.chosen slots chooses.rows (least_read c.in_ok-word.word c.give_next.new.out) (λ costs. 2 * cost_between c.in-Some.held.place (place_reached (row_behind c.in-Some.held.place chooses.rows)) costs) _ _ _
+          chooses.shown c.in-Ok.ensures.octets_read reads);
+    }

@@ -1,0 +1,18 @@
+-- The one object of the stamp is seen if it appears.
+use Rattle.std.proofs.Common.{◌≡◌, sym, subst, Ok, option_map}
+use Rattle.std.specs.Prelude.{IfOk, IfErr}
+use Rattle.db_read.specs.Answered.{Stops, selectable}
+use Rattle.db_read.proofs.Sighted.{seen-stamped-held}
+use Rattle.db_read.proofs.finding.find_selected.Goals as goal
+
+pub returns-clause-found : goal.returns-clause-found
+returns-clause-found g c = λ db held.
+    subst (λ seen. IfOk c.select.result (λ object. selectable db c.args.actor seen ≡ Ok object))
+    (seen-stamped-held c.args.store.now c.args.side (g.B.Eeprom.chip c.args.bench.now) db c.args.actor c.args.stamp (option_map (λ found. found.value) c.in_ok-found.found) held c.in_ok-found.ensures.found)
+    (c.select.ensures.found db (rw (sym c.in_ok-found.ensures.frame.same) at held))
+
+pub returns-clause-refused : goal.returns-clause-refused
+returns-clause-refused g c = λ db held.
+    subst (λ seen. IfErr c.select.result (Stops (selectable db c.args.actor seen)))
+    (seen-stamped-held c.args.store.now c.args.side (g.B.Eeprom.chip c.args.bench.now) db c.args.actor c.args.stamp (option_map (λ found. found.value) c.in_ok-found.found) held c.in_ok-found.ensures.found)
+    (c.select.ensures.refused db (rw (sym c.in_ok-found.ensures.frame.same) at held))

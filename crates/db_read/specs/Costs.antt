@@ -1,0 +1,34 @@
+-- What reading the rows of a table may cost.
+use Rattle.std.specs.Prelude.{ℕ, ◌==◌, ◌*◌, ◌+◌, if◌then◌else◌, List, Option, Some, None, option_and_then}
+use Rattle.std.specs.List.{filter_map}
+use Rattle.eeprom.specs.Slots.{in_slot}
+use Rattle.eeprom.specs.StoreOf.{Slots, cell_size}
+use Rattle.scql_base.specs.Row.{row_size}
+use Rattle.scql_base.specs.declared.records.RowRecord.{RowRecord}
+use Rattle.scql_model.specs.Objects.{deepest}
+use Rattle.catalog_codec.specs.Catalog.{grant_kind, object_kind, row_kind}
+use Rattle.catalog_codec.specs.Kinds.{read_as}
+use Rattle.record_table.specs.Listed.{cells_marked, kind_cells}
+use Rattle.cursor.specs.Costs.{Cost, cost_of}
+
+-- the cells of a slot that has a row of the table
+abbrev pub cost_in : ℕ → Option (List ℕ) → Option Cost
+cost_in table entry = option_and_then (λ (r : RowRecord). if r.table == table then Some (record { stamp = r.stamp; octets = cell_size * kind_cells row_kind entry }) else None) (in_slot (read_as row_kind) entry)
+
+-- the stamps of the rows of a table, with what reading the cells of each may cost
+abbrev pub row_costs : ℕ → Slots → List Cost
+row_costs table slots = filter_map (cost_in table) slots
+
+-- what reading one row may cost, if there is one
+abbrev pub cost_reached : ℕ → Slots → Option RowRecord → ℕ
+cost_reached table slots None = 0
+cost_reached table slots (Some r) = cost_of r.stamp (row_costs table slots)
+
+-- what the searches of a reading operation for its object may cost: one for the object, one for the grants on it, and one for each view down to the table
+abbrev pub catalogue_cost : Slots → ℕ
+catalogue_cost slots = (deepest + 1) * (cell_size * cells_marked object_kind slots) + cell_size * cells_marked grant_kind slots
+
+-- a row that is read has as many octets at least
+abbrev pub least_of : Option RowRecord → ℕ
+least_of None = 0
+least_of (Some r) = row_size r.row

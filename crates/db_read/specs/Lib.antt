@@ -1,0 +1,4 @@
+pub mod Answered
+pub mod Chosen
+pub mod Costs
+pub mod Sight

@@ -1,0 +1,148 @@
+// DECLARE CURSOR.
+ghost use Rattle.std.specs.Prelude.{◌≡◌, ◌+◌, ◌*◌, Some, Ok, IfOk, IfErr, IfSome, IsTrue, OnErr, false, true, List, ℕ, option_map};
+ghost use Rattle.std.specs.List.{list_all, list_any};
+ghost use Rattle.std.specs.Str.{bytes_eq};
+ghost use Rattle.eeprom.specs.Chip.{Becomes, RisesAtMost};
+ghost use Rattle.eeprom.specs.Fault.{each_error};
+ghost use Rattle.eeprom.specs.Frame.{Reads};
+ghost use Rattle.eeprom.specs.StoreOf.{cell_size};
+ghost use Rattle.record_store.specs.Held.{IsOver};
+ghost use Rattle.scql_base.specs.Words.{done};
+ghost use Rattle.scql_base.specs.declared.cursor.Place.TheVariants.{NotOpen};
+ghost use Rattle.scql_model.specs.Database.{Database, are_among, are_named_among};
+ghost use Rattle.scql_model.specs.Defining.{is_table_or_view};
+ghost use Rattle.scql_model.specs.Machine.{Reading};
+ghost use Rattle.scql_model.specs.Moves.{moved, moved_to};
+ghost use Rattle.scql_model.specs.Objects.{columns_of};
+ghost use Rattle.scql_model.specs.ReadingCommands as commands;
+ghost use Rattle.scql_model.specs.ReadingCommands.{wanted_of};
+ghost use Rattle.scql_model.specs.Rights.{seen_named};
+ghost use Rattle.catalog_codec.specs.Catalog.{grant_kind, object_kind};
+ghost use Rattle.record_table.specs.Listed.{cells_marked, slots_of};
+ghost use Rattle.record_table.specs.Making.{IsHeld, is_stop_fault};
+ghost use Rattle.cursor.specs.Moved.{refuses};
+ghost use Rattle.db_read.specs.Answered.{Stops, answered};
+
+use crate::finding::{find_named, stopped};
+use eeprom::{Eeprom, EepromFault};
+use record_store::{Side, Store};
+use record_table::{Stop, refused};
+use row_index::RowIndex;
+use scql_base::{Actor, Conditions, Cursor, Name, NameList, ObjectKind, Place, StatusWord};
+
+/// DECLARE CURSOR: the cursor is on an object, shows these columns or all, and chooses rows by these conditions.
+pub fn declare<B: Eeprom>(
+    store: &Store,
+    bench: &mut B,
+    side: Side,
+    actor: Actor,
+    cursor: &mut Option<Cursor>,
+    object: Name,
+    columns: &NameList,
+    conditions: &Conditions,
+    _index: &RowIndex,
+) -> Result<StatusWord, EepromFault>
+    requires over { IsOver store.now (B.chip bench.old) }
+    ensures moved { (db : Database) → IsHeld store.now side (B.chip bench.old) db → IfSome (seen_named db actor object) (λ o. is_table_or_view o.kind ≡ true) → (pending : List ℕ)
+        → IfOk result (λ word. moved db actor (record { cursor = cursor.old; pending = pending }) (commands.declare object columns.now conditions.now) ≡ answered word cursor.new) }
+    ensures refused { IfOk result (λ word. IsTrue (refuses word) → cursor.new ≡ cursor.old) }
+    ensures fault { OnErr result (cursor.new ≡ cursor.old) }
+    ensures octets_read { (db : Database) → IsHeld store.now side (B.chip bench.old) db → IfSome (seen_named db actor object) (λ o. is_table_or_view o.kind ≡ true)
+        → IfOk result (λ word. refuses word ≡ false → IfSome (slots_of store.now side (B.chip bench.old))
+        (λ slots. Becomes (RisesAtMost (cell_size * cells_marked object_kind slots + cell_size * cells_marked grant_kind slots)) (B.octets_read bench.old) (B.octets_read bench.new))) }
+    ensures frame { Reads each_error B.chip B.faults bench.old bench.new result }
+{
+    match cursor_on(store, bench, side, actor, object, columns, conditions) {
+        Ok(declared) => {
+            *cursor = Some(declared);
+            Ok(StatusWord::DONE)
+        }
+        Err(stop) => stopped(stop),
+    }
+}
+
+// The cursor that is declared, or the first refusal.
+fn cursor_on<B: Eeprom>(
+    store: &Store,
+    bench: &mut B,
+    side: Side,
+    actor: Actor,
+    object: Name,
+    columns: &NameList,
+    conditions: &Conditions,
+) -> Result<Cursor, Stop>
+    requires over { IsOver store.now (B.chip bench.old) }
+    ensures declared { (db : Database) → IsHeld store.now side (B.chip bench.old) db → IfSome (seen_named db actor object) (λ o. is_table_or_view o.kind ≡ true) → (before : Reading)
+        → IfOk result (λ cursor. moved db actor before (commands.declare object columns.now conditions.now) ≡ Ok (moved_to NotOpen cursor done)) }
+    ensures new { IfOk result (λ cursor. cursor.place ≡ NotOpen) }
+    ensures refused { (db : Database) → IsHeld store.now side (B.chip bench.old) db → IfSome (seen_named db actor object) (λ o. is_table_or_view o.kind ≡ true) → (before : Reading)
+        → IfErr result (Stops (moved db actor before (commands.declare object columns.now conditions.now))) }
+    ensures octets_read { IfOk result (λ _. IfSome (slots_of store.now side (B.chip bench.old))
+        (λ slots. Becomes (RisesAtMost (cell_size * cells_marked object_kind slots + cell_size * cells_marked grant_kind slots)) (B.octets_read bench.old) (B.octets_read bench.new))) }
+    ensures frame { Reads is_stop_fault B.chip B.faults bench.old bench.new result }
+{
+    let object = find_named(store, bench, side, actor, object)?;
+    let Some(all) = columns_in(&object.kind) else {
+        return refused(StatusWord::NOT_FOUND);
+    };
+    if !are_named(all, columns, conditions) {
+        return refused(StatusWord::NOT_FOUND);
+    }
+    Ok(Cursor {
+        object: object.stamp,
+        columns: wanted(all, columns),
+        conditions: conditions.copy(),
+        place: Place::NotOpen,
+    })
+}
+
+// The columns of a table or a view.
+fn columns_in(kind: &ObjectKind) -> Option<&NameList>
+    ensures { is_table_or_view kind.now ≡ true → option_map (λ columns. columns.now) result ≡ Some (columns_of kind.now) }
+{
+    match kind {
+        ObjectKind::Table { columns } | ObjectKind::View { columns, .. } => Some(columns),
+        ObjectKind::Dictionary { .. } => None,
+    }
+}
+
+// Whether the columns and those of the conditions are among all.
+fn are_named(all: &NameList, columns: &NameList, conditions: &Conditions) -> bool
+    ensures { result ≡ are_named_among all.now columns.now conditions.now }
+{
+    are_columns(all, columns) && are_of_columns(all, conditions)
+}
+
+fn are_columns(all: &NameList, names: &NameList) -> bool
+    ensures { result ≡ are_among names.now all.now }
+{
+    names.as_slice().iter().all(|name| is_column(all, name))
+}
+
+fn are_of_columns(all: &NameList, conditions: &Conditions) -> bool
+    ensures { result ≡ list_all (λ condition. list_any (bytes_eq condition.column) all.now) conditions.now }
+{
+    conditions
+        .as_slice()
+        .iter()
+        .all(|condition| is_column(all, &condition.column))
+}
+
+fn is_column(all: &NameList, name: &Name) -> bool
+    ensures { result ≡ list_any (bytes_eq name.now) all.now }
+{
+    all.as_slice()
+        .iter()
+        .any(|column| name.octets() == column.octets())
+}
+
+// The named columns, or all where none is named.
+fn wanted(all: &NameList, named: &NameList) -> NameList
+    ensures { result ≡ wanted_of all.now named.now }
+{
+    if named.len() == 0 {
+        all.copy()
+    } else {
+        named.copy()
+    }
+}

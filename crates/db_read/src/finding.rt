@@ -1,0 +1,125 @@
+// The object from which a cursor reads, and what the cursor chooses of it.
+ghost use Rattle.std.specs.Prelude.{◌≡◌, ◌+◌, ◌*◌, Ok, IfOk, IfErr, IfSome, option_map};
+ghost use Rattle.std.proofs.lemmas.Map.Entries.{option_filter};
+ghost use Rattle.eeprom.specs.Chip.{Becomes, RisesAtMost};
+ghost use Rattle.eeprom.specs.Frame.{Reads};
+ghost use Rattle.eeprom.specs.StoreOf.{cell_size};
+ghost use Rattle.record_store.specs.Held.{IsOver};
+ghost use Rattle.scql_model.specs.Database.{Database};
+ghost use Rattle.scql_model.specs.Rights as model;
+ghost use Rattle.scql_model.specs.Rights.{seen_named, seen_stamped};
+ghost use Rattle.catalog_codec.specs.Catalog.{grant_kind, object_kind};
+ghost use Rattle.record_table.specs.Listed.{cells_marked, slots_of};
+ghost use Rattle.record_table.specs.Making.{IsHeld, is_stop_fault};
+ghost use Rattle.db_read.specs.Answered.{Chooses, IsCursorOf, IsOnTableOrView, Stops, rows_under, selectable, stop_answer};
+ghost use Rattle.db_read.specs.Chosen.{rows_shown};
+ghost use Rattle.db_read.specs.Costs.{catalogue_cost};
+
+use crate::choosing::{Chosen, choose};
+use crate::sight::{Sight, see};
+use eeprom::{Eeprom, EepromFault};
+use object_table::{find_name, find_stamp};
+use record_store::{Found, Side, Store};
+use record_table::{Stop, refused};
+use scql_base::{Actor, Cursor, Name, Object, StatusWord};
+use views::resolve;
+
+/// What a cursor chooses of its object, or the first refusal.
+pub(crate) fn find_chosen<B: Eeprom>(
+    store: &Store,
+    bench: &mut B,
+    side: Side,
+    actor: Actor,
+    cursor: &Cursor,
+) -> Result<Chosen, Stop>
+    requires over { IsOver store.now (B.chip bench.old) }
+    ensures chosen { (db : Database) → IsHeld store.now side (B.chip bench.old) db → IsCursorOf db cursor.now → IsOnTableOrView db cursor.now
+        → IfOk result (λ chosen. Chooses db actor cursor.now chosen.table (rows_shown chosen (slots_of store.now side (B.chip bench.old)))) }
+    ensures refused { (db : Database) → IsHeld store.now side (B.chip bench.old) db → IsCursorOf db cursor.now → IsOnTableOrView db cursor.now
+        → IfErr result (Stops (rows_under db actor cursor.now)) }
+    ensures octets_read { IfOk result (λ _. IfSome (slots_of store.now side (B.chip bench.old))
+        (λ slots. Becomes (RisesAtMost (catalogue_cost slots)) (B.octets_read bench.old) (B.octets_read bench.new))) }
+    ensures frame { Reads is_stop_fault B.chip B.faults bench.old bench.new result }
+{
+    let object = find_selected(store, bench, side, actor, cursor.object)?;
+    let resolved = resolve(store, bench, side, &object)?;
+    match choose(resolved, &cursor.columns, &cursor.conditions) {
+        Some(chosen) => Ok(chosen),
+        None => refused(StatusWord::NOT_FOUND),
+    }
+}
+
+// The object of a stamp, from which the actor may select, or the first refusal.
+fn find_selected<B: Eeprom>(
+    store: &Store,
+    bench: &mut B,
+    side: Side,
+    actor: Actor,
+    stamp: u32,
+) -> Result<Object, Stop>
+    requires over { IsOver store.now (B.chip bench.old) }
+    ensures found { (db : Database) → IsHeld store.now side (B.chip bench.old) db → IfOk result (λ object. selectable db actor (seen_stamped db actor stamp) ≡ Ok object) }
+    ensures refused { (db : Database) → IsHeld store.now side (B.chip bench.old) db → IfErr result (Stops (selectable db actor (seen_stamped db actor stamp))) }
+    ensures octets_read { IfOk result (λ _. IfSome (slots_of store.now side (B.chip bench.old))
+        (λ slots. Becomes (RisesAtMost (cell_size * cells_marked object_kind slots + cell_size * cells_marked grant_kind slots)) (B.octets_read bench.old) (B.octets_read bench.new))) }
+    ensures frame { Reads is_stop_fault B.chip B.faults bench.old bench.new result }
+{
+    let found = find_stamp(store, bench, side, stamp)?;
+    select(store, bench, side, actor, found)
+}
+
+/// The object of a name, from which the actor may select, or the first refusal.
+pub(crate) fn find_named<B: Eeprom>(
+    store: &Store,
+    bench: &mut B,
+    side: Side,
+    actor: Actor,
+    name: Name,
+) -> Result<Object, Stop>
+    requires over { IsOver store.now (B.chip bench.old) }
+    ensures found { (db : Database) → IsHeld store.now side (B.chip bench.old) db → IfOk result (λ object. selectable db actor (seen_named db actor name) ≡ Ok object) }
+    ensures refused { (db : Database) → IsHeld store.now side (B.chip bench.old) db → IfErr result (Stops (selectable db actor (seen_named db actor name))) }
+    ensures octets_read { IfOk result (λ _. IfSome (slots_of store.now side (B.chip bench.old))
+        (λ slots. Becomes (RisesAtMost (cell_size * cells_marked object_kind slots + cell_size * cells_marked grant_kind slots)) (B.octets_read bench.old) (B.octets_read bench.new))) }
+    ensures frame { Reads is_stop_fault B.chip B.faults bench.old bench.new result }
+{
+    let found = find_name(store, bench, side, name)?;
+    select(store, bench, side, actor, found)
+}
+
+// The object that was found, if the actor may select from it, or the first refusal.
+fn select<B: Eeprom>(
+    store: &Store,
+    bench: &mut B,
+    side: Side,
+    actor: Actor,
+    found: Option<Found<Object>>,
+) -> Result<Object, Stop>
+    requires over { IsOver store.now (B.chip bench.old) }
+    ensures found { (db : Database) → IsHeld store.now side (B.chip bench.old) db
+        → IfOk result (λ object. selectable db actor (option_filter (model.appears db actor) (option_map (λ found. found.value) found)) ≡ Ok object) }
+    ensures refused { (db : Database) → IsHeld store.now side (B.chip bench.old) db
+        → IfErr result (Stops (selectable db actor (option_filter (model.appears db actor) (option_map (λ found. found.value) found)))) }
+    ensures octets_read { IfOk result (λ _. IfSome (slots_of store.now side (B.chip bench.old))
+        (λ slots. Becomes (RisesAtMost (cell_size * cells_marked grant_kind slots)) (B.octets_read bench.old) (B.octets_read bench.new))) }
+    ensures frame { Reads is_stop_fault B.chip B.faults bench.old bench.new result }
+{
+    let Some(found) = found else {
+        return refused(StatusWord::NOT_FOUND);
+    };
+    match see(store, bench, side, actor, &found.value)? {
+        Sight::Open => Ok(found.value),
+        Sight::Closed => refused(StatusWord::SECURITY_NOT_SATISFIED),
+        Sight::Hidden => refused(StatusWord::NOT_FOUND),
+    }
+}
+
+/// What an operation answers that stopped: the word of a refusal, or a fault.
+pub(crate) fn stopped(stop: Stop) -> Result<StatusWord, EepromFault>
+    ensures { result ≡ stop_answer stop }
+{
+    match stop {
+        Stop::Refused { word } => Ok(word),
+        Stop::Fault => Err(EepromFault),
+    }
+}

@@ -1,0 +1,15 @@
+//! Operations that read: a cursor is declared, opened, moved, and gives rows.
+#![tactic(auto)]
+
+mod choosing;
+mod declaring;
+mod feed;
+mod fetching;
+mod finding;
+mod moving;
+mod rows;
+mod sight;
+
+pub use declaring::declare;
+pub use fetching::{fetch_next_row, fetch_row};
+pub use moving::{next_row, open_cursor};

@@ -1,0 +1,159 @@
+// OPEN and NEXT.
+ghost use Rattle.std.specs.Prelude.{◌≡◌, ℕ, List, IfOk, IfSome, IsTrue, OnErr, Some, false};
+ghost use Rattle.eeprom.specs.Fault.{each_error};
+ghost use Rattle.eeprom.specs.Frame.{Reads};
+ghost use Rattle.record_store.specs.Held.{IsOver};
+ghost use Rattle.scql_base.specs.declared.cursor.Cursor.{Cursor};
+ghost use Rattle.scql_model.specs.Database.{Database};
+ghost use Rattle.scql_model.specs.Moves as moves;
+ghost use Rattle.scql_model.specs.Moves.{first_row, moved, moved_to, row_behind, went_to};
+ghost use Rattle.scql_model.specs.ReadingCommands as commands;
+ghost use Rattle.record_table.specs.Listed.{slots_of};
+ghost use Rattle.record_table.specs.Making.{IsHeld};
+ghost use Rattle.row_index.specs.Index.{Indexes};
+ghost use Rattle.cursor.specs.Moved.{AreStamped, refuses};
+ghost use Rattle.db_read.specs.Answered.{IsCursorOf, IsOnTableOrView, ReadsThrough, answered};
+ghost use Rattle.db_read.specs.Chosen.{costs_shown, rows_shown};
+ghost use Rattle.scql_base.specs.declared.cursor.Place.{Place};
+ghost use Rattle.cursor.specs.Costs.{RisesBetween, cost_between};
+ghost use Rattle.eeprom.specs.Chip.{Becomes};
+
+use crate::choosing::Chosen;
+use crate::feed::ChosenRows;
+use crate::finding::{find_chosen, stopped};
+use cursor::{first, step};
+use eeprom::{Eeprom, EepromFault};
+use record_store::{Side, Store};
+use row_index::RowIndex;
+use scql_base::{Actor, Cursor, Place, StatusWord};
+
+/// OPEN: the cursor goes to the first of its rows, or to its end where there is none.
+pub fn open_cursor<B: Eeprom>(
+    store: &Store,
+    bench: &mut B,
+    side: Side,
+    actor: Actor,
+    cursor: &mut Option<Cursor>,
+    index: &RowIndex,
+) -> Result<StatusWord, EepromFault>
+    requires over { IsOver store.now (B.chip bench.old) }
+    requires index { Indexes index.now store.now (B.chip bench.old) }
+    ensures moved { (db : Database) → IsHeld store.now side (B.chip bench.old) db → IfSome cursor.old (IsCursorOf db) → IfSome cursor.old (IsOnTableOrView db) → (pending : List ℕ)
+        → IfOk result (λ word. moved db actor (record { cursor = cursor.old; pending = pending }) commands.open_cursor ≡ answered word cursor.new) }
+    ensures refused { (db : Database) → IsHeld store.now side (B.chip bench.old) db → IfSome cursor.old (IsCursorOf db) → IfSome cursor.old (IsOnTableOrView db)
+        → IfOk result (λ word. IsTrue (refuses word) → cursor.new ≡ cursor.old) }
+    ensures fault { OnErr result (cursor.new ≡ cursor.old) }
+    ensures octets_read { (db : Database) → IsHeld store.now side (B.chip bench.old) db → IfSome cursor.old (IsCursorOf db) → IfSome cursor.old (IsOnTableOrView db)
+        → IfOk result (λ word. IfSome cursor.new (λ c. refuses word ≡ false → ReadsThrough db c (slots_of store.now side (B.chip bench.old)) (cost_between (Place.At 0) c.place) (B.octets_read bench.old) (B.octets_read bench.new))) }
+    ensures frame { Reads each_error B.chip B.faults bench.old bench.new result }
+{
+    let Some(held) = cursor else {
+        return Ok(StatusWord::CONDITIONS_NOT_SATISFIED);
+    };
+    let chosen = match find_chosen(store, bench, side, actor, held) {
+        Ok(chosen) => chosen,
+        Err(stop) => return stopped(stop),
+    };
+    let mut place = held.place;
+    let word = to_first(store, bench, side, &chosen, &mut place, index)?;
+    held.place = place;
+    Ok(word)
+}
+
+/// NEXT: the cursor goes to the next of its rows, or to its end where there is none.
+pub fn next_row<B: Eeprom>(
+    store: &Store,
+    bench: &mut B,
+    side: Side,
+    actor: Actor,
+    cursor: &mut Option<Cursor>,
+    index: &RowIndex,
+) -> Result<StatusWord, EepromFault>
+    requires over { IsOver store.now (B.chip bench.old) }
+    requires index { Indexes index.now store.now (B.chip bench.old) }
+    ensures moved { (db : Database) → IsHeld store.now side (B.chip bench.old) db → IfSome cursor.old (IsCursorOf db) → IfSome cursor.old (IsOnTableOrView db) → (pending : List ℕ)
+        → IfOk result (λ word. moved db actor (record { cursor = cursor.old; pending = pending }) commands.next ≡ answered word cursor.new) }
+    ensures refused { (db : Database) → IsHeld store.now side (B.chip bench.old) db → IfSome cursor.old (IsCursorOf db) → IfSome cursor.old (IsOnTableOrView db)
+        → IfOk result (λ word. IsTrue (refuses word) → cursor.new ≡ cursor.old) }
+    ensures fault { OnErr result (cursor.new ≡ cursor.old) }
+    ensures octets_read { (db : Database) → IsHeld store.now side (B.chip bench.old) db → IfSome cursor.old (IsCursorOf db) → IfSome cursor.old (IsOnTableOrView db)
+        → (was : Cursor) → cursor.old ≡ Some was → IfOk result (λ word. IfSome cursor.new (λ c. refuses word ≡ false
+        → ReadsThrough db c (slots_of store.now side (B.chip bench.old)) (cost_between was.place c.place) (B.octets_read bench.old) (B.octets_read bench.new))) }
+    ensures frame { Reads each_error B.chip B.faults bench.old bench.new result }
+{
+    let Some(held) = cursor else {
+        return Ok(StatusWord::CONDITIONS_NOT_SATISFIED);
+    };
+    if !is_opened(held.place) {
+        return Ok(StatusWord::CONDITIONS_NOT_SATISFIED);
+    }
+    let chosen = match find_chosen(store, bench, side, actor, held) {
+        Ok(chosen) => chosen,
+        Err(stop) => return stopped(stop),
+    };
+    let mut place = held.place;
+    let word = to_next(store, bench, side, &chosen, &mut place, index)?;
+    held.place = place;
+    Ok(word)
+}
+
+/// Whether a cursor was opened.
+pub(crate) fn is_opened(place: Place) -> bool
+    ensures { result ≡ moves.is_opened place }
+{
+    !matches!(place, Place::NotOpen)
+}
+
+// The first of the chosen rows.
+fn to_first<B: Eeprom>(
+    store: &Store,
+    bench: &mut B,
+    side: Side,
+    chosen: &Chosen,
+    place: &mut Place,
+    index: &RowIndex,
+) -> Result<StatusWord, EepromFault>
+    requires over { IsOver store.now (B.chip bench.old) }
+    requires index { Indexes index.now store.now (B.chip bench.old) }
+    ensures moved { IfOk result (λ word. IfSome (rows_shown chosen.now (slots_of store.now side (B.chip bench.old)))
+        (λ rows. AreStamped rows → (c : Cursor) → moved_to place.new c word ≡ went_to c (first_row rows))) }
+    ensures read { IfOk result (λ _. IfSome (costs_shown chosen.now (slots_of store.now side (B.chip bench.old)))
+        (λ costs. Becomes (RisesBetween 0 (cost_between (Place.At 0) place.new costs)) (B.octets_read bench.old) (B.octets_read bench.new))) }
+    ensures frame { Reads each_error B.chip B.faults bench.old bench.new result }
+{
+    let mut feed = ChosenRows {
+        store,
+        bench,
+        side,
+        chosen,
+        index,
+    };
+    first(&mut feed, place)
+}
+
+// The next of the chosen rows.
+fn to_next<B: Eeprom>(
+    store: &Store,
+    bench: &mut B,
+    side: Side,
+    chosen: &Chosen,
+    place: &mut Place,
+    index: &RowIndex,
+) -> Result<StatusWord, EepromFault>
+    requires over { IsOver store.now (B.chip bench.old) }
+    requires index { Indexes index.now store.now (B.chip bench.old) }
+    ensures moved { IfOk result (λ word. IfSome (rows_shown chosen.now (slots_of store.now side (B.chip bench.old)))
+        (λ rows. (c : Cursor) → moved_to place.new c word ≡ went_to c (row_behind place.old rows))) }
+    ensures read { IfOk result (λ _. IfSome (costs_shown chosen.now (slots_of store.now side (B.chip bench.old)))
+        (λ costs. Becomes (RisesBetween 0 (cost_between place.old place.new costs)) (B.octets_read bench.old) (B.octets_read bench.new))) }
+    ensures frame { Reads each_error B.chip B.faults bench.old bench.new result }
+{
+    let mut feed = ChosenRows {
+        store,
+        bench,
+        side,
+        chosen,
+        index,
+    };
+    step(&mut feed, place)
+}
