@@ -39,7 +39,8 @@ lines_found : map (λ (l : Line). line_of operations l.ins l.p1 l.p2) operations
 lines_found = refl
 
 -- what is built today
-kinds_built : map (λ (l : Line). l.kind) built_operations ≡ kind.CreateTable ∷ kind.DropTable ∷ kind.Insert ∷ kind.PresentUser ∷ kind.CreateUser ∷ []
+kinds_built : map (λ (l : Line). l.kind) built_operations ≡ kind.CreateTable ∷ kind.DropTable ∷ kind.Insert ∷ kind.PresentUser ∷ kind.CreateUser
+    ∷ kind.OpenChannel 0 ∷ kind.OpenChannel 1 ∷ kind.OpenChannel 2 ∷ kind.OpenChannel 3 ∷ kind.CloseChannel 0 ∷ kind.CloseChannel 1 ∷ kind.CloseChannel 2 ∷ kind.CloseChannel 3 ∷ []
 kinds_built = refl
 
 -- each refusal in its order
