@@ -1,5 +1,5 @@
 -- Who changes the database.
-use Rattle.std.proofs.Common.{◌≡◌, ℕ, true, not, List, Option, Some, None, Ok, sym, ap, subst, ◌∙◌}
+use Rattle.std.proofs.Common.{◌≡◌, ℕ, List, Option, Some, None, sym, ap, subst, ◌∙◌}
 use Rattle.std.specs.Prelude.{IfSome}
 use Rattle.std.specs.Option.{option_map_or}
 use Rattle.eeprom.specs.Chip.{Chip}
@@ -7,7 +7,6 @@ use Rattle.eeprom.specs.Slots.{Rises}
 use Rattle.record_store.specs.Held.{Held}
 use Rattle.record_store.specs.declared.side.Side.{Side}
 use Rattle.scql_base.specs.declared.records.User.{User}
-use Rattle.scql_base.specs.declared.words.Actor.{Actor}
 use Rattle.scql_base.specs.declared.words.Actor.TheVariants.{Public, User as a_user}
 use Rattle.scql_model.specs.Creating.{IsActorOf}
 use Rattle.scql_model.specs.Database.{Database, user_stamped}

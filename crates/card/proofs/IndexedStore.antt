@@ -1,10 +1,10 @@
 -- The index of a card stands for its store before, in and after each change.
 use Rattle.std.proofs.Common.{◌≡◌, ◌<◌, ℕ, suc, ◌&&◌, Bool, true, false, ltb, List, [], ◌∷◌, length, Option, Some, None, is_some, Result, Ok, Err, refl, sym, ap, subst, ◌∙◌}
 use Rattle.std.specs.Prelude.{IfSome, OnOk, IsErrOf, option_and_then, if◌then◌else◌}
-use Rattle.std.specs.List.{filter_map, list_all, cons_option, AllByRecursion}
-use Rattle.std.proofs.lemmas.Bool.{false≢true, and_from, lt-ltb}
+use Rattle.std.specs.List.{filter_map, list_all, AllByRecursion}
+use Rattle.std.proofs.lemmas.Bool.{and_from, lt-ltb}
 use Rattle.eeprom.specs.Chip.{Chip}
-use Rattle.eeprom.specs.Slots.{in_order, in_slot}
+use Rattle.eeprom.specs.Slots.{in_slot}
 use Rattle.eeprom.specs.StoreOf.{Slots, slots_at}
 use Rattle.eeprom.proofs.InOrder.{list_all-in_order}
 use Rattle.record_store.specs.Held.{Held, contents}
@@ -24,7 +24,7 @@ use Rattle.record_table.specs.declared.stop.Stop.{Stop}
 use Rattle.record_table.specs.declared.stop.Stop.TheVariants.{Refused, Fault}
 use Rattle.row_index.specs.Index.{HasRows, Index, Indexes, is_above, side_places}
 use Rattle.row_index.proofs.IndexLaws.{Indexes-kept, Indexes-untold}
-use Rattle.row_index.specs.Places.{numbered, place_in, place_stamp, row_places}
+use Rattle.row_index.specs.Places.{numbered, place_in, place_stamp}
 use Rattle.row_index.specs.declared.place.RowPlace.{RowPlace}
 use Rattle.card.specs.Card.{HoldsSome, IsAtRest}
 use Rattle.card.specs.Changing.{Concludes}

@@ -1,5 +1,5 @@
 -- Edits that make no object but tables: those of every operation but CREATE VIEW and CREATE DICTIONARY.
-use Rattle.std.proofs.Common.{◌≡◌, ℕ, ◌==◌, ◌&&◌, ◌++◌, Bool, true, false, not, List, [], ◌∷◌, length, map, filter, Option, Some, None, Result, Ok, Err, if◌then◌else◌, refl, ◌∙◌, inl, inr}
+use Rattle.std.proofs.Common.{◌≡◌, ℕ, ◌==◌, ◌&&◌, ◌++◌, Bool, true, false, not, List, [], ◌∷◌, length, map, filter, Option, Some, None, Ok, Err, refl, ◌∙◌, inl, inr}
 use Rattle.std.specs.Prelude.{nat_le}
 use Rattle.std.specs.List.{list_all, list_any}
 use Rattle.std.specs.Str.{bytes_eq}
@@ -20,7 +20,7 @@ use Rattle.scql_base.specs.Words.{instruction_not_supported, conditions_not_sati
 use Rattle.scql_model.specs.Changing.{edits_of}
 use Rattle.scql_model.specs.Creating.{may_create, is_taken, new_user, user_added}
 use Rattle.scql_model.specs.Database.{Database, is_table, are_among, user_named}
-use Rattle.scql_model.specs.Defining.{has_view, makes_objects, named_anew, new_object, object_created, of_kind, owned_by, removing_object, removing_rows, table_dropped, view_dropped}
+use Rattle.scql_model.specs.Defining.{has_view, makes_objects, new_object, object_created, of_kind, owned_by, removing_object, removing_rows, table_dropped, view_dropped}
 use Rattle.scql_model.specs.Edits.{Action, to_add, to_change, to_remove, AnyRecord, of_counter, of_user, of_object, of_grant, of_row, Edit, edited, applied, making, changing, removing}
 use Rattle.scql_model.specs.Granting.{grant_to, grantee_named, less_granted, more_granted, privileges_granted, privileges_left, privileges_revoked}
 use Rattle.scql_model.specs.Moves.{opened}

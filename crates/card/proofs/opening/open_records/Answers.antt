@@ -164,3 +164,12 @@ returns-in_err-room-clause-no_memory g c = λ _. (c.in_ok-opening.opening.chains
 
 pub returns-in_err-with_capacity-clause-no_memory : goal.returns-in_err-with_capacity-clause-no_memory
 returns-in_err-with_capacity-clause-no_memory g c = λ _. (c.in_ok-opening.opening.chains.cells, c.in_ok-opening.ensures.reads_front)
+
+pub returns-in_err-with_capacity-clause-frame : goal.returns-in_err-with_capacity-clause-frame
+returns-in_err-with_capacity-clause-frame g c = record {
+  store = c.new.ensures.frame.store;
+  counts = first_of (
+    search (rules, c.in_ok-opening.ensures.frame.counts.1, c.from_residual-in_err-with_capacity.ensures),
+    grind (arith, common_steps, c.in_ok-opening.ensures.frame.counts.1, c.from_residual-in_err-with_capacity.ensures),
+  );
+}

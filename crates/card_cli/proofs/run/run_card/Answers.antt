@@ -91,6 +91,14 @@ returns-in-Migrate-clause-migrate g c = λ asked.
     c.run_migration.ensures.moments c.run_migration.ensures.already c.run_migration.ensures.others
     (subst (λ (f : AllFaults). EndsBy c.run_migration.result f now) same (c.run_migration.ensures.ends (g.S.Source.source_faults c.args.source.now)))
 
+pub returns-in-Migrate-clause-ends : goal.returns-in-Migrate-clause-ends
+returns-in-Migrate-clause-ends g c =
+    let run : Opened g = (goal.at.returns-in-Migrate-clause-ends g c).After-open_card in
+    let now : AllFaults = record { eeprom = g.B.Eeprom.faults c.run_migration.new.bench; source = g.S.Source.source_faults c.args.source.now; outlet = g.B.Outlet.sink_faults c.run_migration.new.bench } in
+    let same = same_faults (g.B.Eeprom.faults c.open_card.new.bench) (g.B.Eeprom.faults c.args.bench.now) (g.S.Source.source_faults c.args.source.now) (g.B.Outlet.sink_faults c.open_card.new.bench) (g.B.Outlet.sink_faults c.args.bench.now)
+    c.in-Ok.ensures.quiet (outlet_stays g run) in
+    subst (λ (f : AllFaults). EndsBy c.run_migration.result f now) same (c.run_migration.ensures.ends (g.S.Source.source_faults c.args.source.now))
+
 -- It was opened to answer lines.
 
 still : (g : given.Over) (c : Ended g) → (g.B.Eeprom.chip c.open_card.new.bench).still ≡ (g.B.Eeprom.chip c.args.bench.now).still
