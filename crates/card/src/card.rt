@@ -413,7 +413,10 @@ impl Card {
 
 // The channel that a command means by this number: its own by 0.
 fn channel_meant(own: u8, number: u8) -> u8
-    ensures { result ≡ (if number == 0 then own else number) }
+    requires own { own < 4 }
+    requires number { number < 4 }
+    ensures meant { result ≡ (if number == 0 then own else number) }
+    ensures few { result < 4 }
 {
     if number == 0 { own } else { number }
 }

@@ -11,6 +11,7 @@ use Rattle.scql_base.specs.declared.operation.Operation.TheVariants.{OpenChannel
 use Rattle.scql_model.specs.Bound.{octets_carried_out, or_nothing}
 use Rattle.scql_model.specs.Machine.{Machine}
 use Rattle.scql_model.specs.Step.{Answer, answered, carried_out, changed, user_presented, channel_opened, channel_closed}
+use Rattle.scql_model.specs.WellFormed.{HasForm}
 use Rattle.card.specs.Answering.{Answers, Performs, replied}
 use Rattle.card.specs.Card.{Kept, IsReady, IsAt}
 use Rattle.card.proofs.BuiltLines.{IsChange-built}
@@ -42,16 +43,38 @@ returns-in-PresentUser-clause-behind g c =
     Keeps-none (drop (image_size c.args.self.now.store.chains.cells)) (g.B.Eeprom.chip c.args.bench.now) (g.B.Eeprom.chip c.present_user.new.bench) c.present_user.ensures.same
 
 pub open_channel-requires-clause-number : goal.open_channel-requires-clause-number
-open_channel-requires-clause-number g c = ?
+open_channel-requires-clause-number g c = let few : HasForm (OpenChannel c.in-OpenChannel.number) = subst HasForm c.in-OpenChannel.is c.requires.formed.form in omega (arith, few)
 
 pub returns-in-OpenChannel-clause-performs : goal.returns-in-OpenChannel-clause-performs
 returns-in-OpenChannel-clause-performs g c = λ m at.
     let old = g.B.Eeprom.chip c.args.bench.now in
-    let opens : carried_out m c.args.command.now ≡ channel_opened m c.args.command.now.channel c.in-OpenChannel.number.now =
+    let opens : carried_out m c.args.command.now ≡ channel_opened m c.args.command.now.channel c.in-OpenChannel.number =
     ap (λ (operation : Operation). carried_out m (record { channel = c.args.command.now.channel; operation = operation; le = c.args.command.now.le })) c.in-OpenChannel.is
-    ∙ carried_out-opens m c.args.command.now.channel c.in-OpenChannel.number.now c.args.command.now.le at.transaction in
-    of_sessions c.args.self.now c.open_channel.new.self old old m c.args.command.now (channel_opened m c.args.command.now.channel c.in-OpenChannel.number.now) c.open_channel.new.reply.body (Ok c.open_channel.result) c.requires.ready at refl opens
+    ∙ carried_out-opens m c.args.command.now.channel c.in-OpenChannel.number c.args.command.now.le at.transaction in
+    of_sessions c.args.self.now c.open_channel.new.self old old m c.args.command.now (channel_opened m c.args.command.now.channel c.in-OpenChannel.number) c.open_channel.new.reply.body (Ok c.open_channel.result) c.requires.ready at refl opens
     (c.open_channel.ensures.step old m c.args.command.now.channel at)
+
+pub returns-in-OpenChannel-clause-behind : goal.returns-in-OpenChannel-clause-behind
+returns-in-OpenChannel-clause-behind g c =
+    Keeps-none (drop (image_size c.args.self.now.store.chains.cells)) (g.B.Eeprom.chip c.args.bench.now) (g.B.Eeprom.chip c.args.bench.now) refl
+
+pub channel_meant-requires-clause-number : goal.channel_meant-requires-clause-number
+channel_meant-requires-clause-number g c = let few : HasForm (CloseChannel c.in-CloseChannel.number) = subst HasForm c.in-CloseChannel.is c.requires.formed.form in omega (arith, few)
+
+pub returns-in-CloseChannel-clause-performs : goal.returns-in-CloseChannel-clause-performs
+returns-in-CloseChannel-clause-performs g c = λ m at.
+    let old = g.B.Eeprom.chip c.args.bench.now in
+    let closes : carried_out m c.args.command.now ≡ channel_closed m c.args.command.now.channel c.channel_meant.result =
+    ap (λ (operation : Operation). carried_out m (record { channel = c.args.command.now.channel; operation = operation; le = c.args.command.now.le })) c.in-CloseChannel.is
+    ∙ (carried_out-closes m c.args.command.now.channel c.in-CloseChannel.number c.args.command.now.le at.transaction
+    ∙ ap (channel_closed m c.args.command.now.channel) (sym c.channel_meant.ensures.meant)) in
+    subst (λ (body : List ℕ). Performs m (answered m (carried_out m c.args.command.now)) (or_nothing (octets_carried_out m c.args.command.now)) body (Ok c.close_channel.result) c.close_channel.new.self old old) (sym c.requires.empty)
+    (of_sessions c.args.self.now c.close_channel.new.self old old m c.args.command.now (channel_closed m c.args.command.now.channel c.channel_meant.result) [] (Ok c.close_channel.result) c.requires.ready at refl closes
+    (c.close_channel.ensures.step old m c.args.command.now.channel at))
+
+pub returns-in-CloseChannel-clause-behind : goal.returns-in-CloseChannel-clause-behind
+returns-in-CloseChannel-clause-behind g c =
+    Keeps-none (drop (image_size c.args.self.now.store.chains.cells)) (g.B.Eeprom.chip c.args.bench.now) (g.B.Eeprom.chip c.args.bench.now) refl
 
 pub change-requires : goal.change-requires
 change-requires g c = record {
