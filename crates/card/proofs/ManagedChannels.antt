@@ -6,7 +6,7 @@ use Rattle.scql_base.specs.declared.words.StatusWord.{StatusWord}
 use Rattle.scql_base.specs.Words.{done, channel_not_supported, conditions_not_satisfied, function_not_supported}
 use Rattle.scql_model.specs.Machine.{Machine, Session, Transaction, new_session}
 use Rattle.scql_model.specs.Refusals.{◌>>=◌, or_refused, provided}
-use Rattle.scql_model.specs.Replies.{Reply, said}
+use Rattle.scql_model.specs.Replies.{said}
 use Rattle.scql_model.specs.Sessions.{with_session, is_channel_open}
 use Rattle.scql_model.specs.Sessions as sessions
 use Rattle.scql_model.specs.Step.{Answer, answered, done_with, channel_opened, channel_closed}
