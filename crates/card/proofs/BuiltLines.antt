@@ -6,7 +6,7 @@ use Rattle.scql_base.specs.declared.operation.Line.{Line}
 use Rattle.scql_base.specs.declared.operation.Operation.{Operation}
 use Rattle.scql_base.specs.declared.operation.Operation.TheVariants as asks
 use Rattle.scql_base.specs.declared.operation.OperationKind.{OperationKind}
-use Rattle.scql_base.specs.declared.operation.OperationKind.TheVariants.{PresentUser}
+use Rattle.scql_base.specs.declared.operation.OperationKind.TheVariants.{PresentUser, OpenChannel, CloseChannel}
 use Rattle.scql_model.specs.Operations.{IsBuilt, built_operations, kind_of}
 use Rattle.scql_model.specs.Spelling.{is_same}
 use Rattle.card.specs.Changing.{IsChange, is_changing}
@@ -30,22 +30,29 @@ is_built kind = list_any (λ other. is_same other kind) kinds_built
 
 -- a change that is built
 abbrev pub is_change : OperationKind → Bool
-is_change kind = is_built kind && is_changing kind
+is_change kind = is_changing kind && is_built kind
 
 pub is_change-IsChange : (operation : Operation) → IsChange operation → is_change (kind_of operation) ≡ true
-is_change-IsChange operation change = and_from (is_built (kind_of operation)) (is_changing (kind_of operation)) (all-Contains is_built kinds_built (kind_of operation) refl change.0) change.1
+is_change-IsChange operation change = and_from (is_changing (kind_of operation)) (is_built (kind_of operation)) change.1 (all-Contains is_built kinds_built (kind_of operation) refl change.0)
 
--- an operation that is built changes the database, or is PRESENT USER
-abbrev is_presenting : OperationKind → Bool
-is_presenting PresentUser = true
-is_presenting kind = false
+-- an operation that is built changes the database, or the session of a channel: it is PRESENT USER, or MANAGE CHANNEL
+abbrev is_of_sessions : OperationKind → Bool
+is_of_sessions PresentUser = true
+is_of_sessions (OpenChannel number) = true
+is_of_sessions (CloseChannel number) = true
+is_of_sessions kind = false
 
-pub IsChange-built : (operation : Operation) → IsBuilt (kind_of operation) → ((name : List ℕ) → operation ≡ asks.PresentUser name → ⊥) → IsChange operation
-IsChange-built operation built not_presents = (built, of operation not_presents (all-Contains (λ kind. is_changing kind || is_presenting kind) kinds_built (kind_of operation) refl built))
+pub IsChange-built : (operation : Operation) → IsBuilt (kind_of operation) → ((name : List ℕ) → operation ≡ asks.PresentUser name → ⊥) → ((number : ℕ) → operation ≡ asks.OpenChannel number → ⊥)
+    → ((number : ℕ) → operation ≡ asks.CloseChannel number → ⊥) → IsChange operation
+IsChange-built operation built not_presents not_opens not_closes =
+    (built, of operation not_presents not_opens not_closes (all-Contains (λ kind. is_changing kind || is_of_sessions kind) kinds_built (kind_of operation) refl built))
   where
-    of : (operation : Operation) → ((name : List ℕ) → operation ≡ asks.PresentUser name → ⊥) → (is_changing (kind_of operation) || is_presenting (kind_of operation)) ≡ true → is_changing (kind_of operation) ≡ true
-    of (asks.PresentUser name) not_presents is = absurd (not_presents name refl)
-    of operation not_presents is = is
+    of : (operation : Operation) → ((name : List ℕ) → operation ≡ asks.PresentUser name → ⊥) → ((number : ℕ) → operation ≡ asks.OpenChannel number → ⊥) → ((number : ℕ) → operation ≡ asks.CloseChannel number → ⊥)
+        → (is_changing (kind_of operation) || is_of_sessions (kind_of operation)) ≡ true → is_changing (kind_of operation) ≡ true
+    of (asks.PresentUser name) not_presents not_opens not_closes is = absurd (not_presents name refl)
+    of (asks.OpenChannel number) not_presents not_opens not_closes is = absurd (not_opens number refl)
+    of (asks.CloseChannel number) not_presents not_opens not_closes is = absurd (not_closes number refl)
+    of operation not_presents not_opens not_closes is = is
 
 -- and makes no view or dictionary yet
 pub makes_view-built : (operation : Operation) → IsBuilt (kind_of operation) → makes_view (kind_of operation) ≡ false

@@ -9,6 +9,7 @@ mod IndexedStore
 mod Labels
 pub mod Leaving
 mod ListsInOrder
+mod ManagedChannels
 mod Neighbours
 mod OfKinds
 mod OpenedDatabase

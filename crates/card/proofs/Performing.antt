@@ -23,7 +23,7 @@ use Rattle.scql_model.specs.Step.{Answer, answered, changed, done_with, session_
 use Rattle.scql_model.proofs.ChangingSessions.{changing_session-set}
 use Rattle.db_access.specs.Presenting.{session_presented}
 use Rattle.db_access.specs.declared.presenting.Presented.{Presented as Found}
-use Rattle.card.specs.Answering.{Answers, LeavesOneOf, Performs, committed_at_once, with_session_for}
+use Rattle.card.specs.Answering.{Answers, LeavesOneOf, Performs, committed_at_once, replied, with_session, with_session_for}
 use Rattle.row_index.specs.Index.{Index}
 use Rattle.card.specs.Card.{Kept, IsReady, IsAt, committed_slots, IsAtRest}
 use Rattle.card.specs.Changing.{Concludes, Changes, acting, new_of, commits_of}
@@ -34,9 +34,9 @@ use Rattle.card.proofs.Told.{if_some-at}
 use Rattle.card.proofs.UnreadSteps.{committed-base, changed-outcome, octets-changed}
 
 -- a command that writes nothing
-pub Performs-unwritten : (card new_card : Kept) (old new : Chip) (m : Machine) (answer : Answer) (most : ℕ) (result : Result StatusWord EepromFault) → IsReady card old → IsAt card old m → new ≡ old
-    → IfOk result (λ word. Answers answer (said word) new_card new) → Performs m answer most result new_card old new
-Performs-unwritten card new_card old new m answer most result ready at same step = record {
+pub Performs-unwritten : (card new_card : Kept) (old new : Chip) (m : Machine) (answer : Answer) (most : ℕ) (body : List ℕ) (result : Result StatusWord EepromFault) → IsReady card old → IsAt card old m → new ≡ old
+    → IfOk result (λ word. Answers answer (replied body word) new_card new) → Performs m answer most body result new_card old new
+Performs-unwritten card new_card old new m answer most body result ready at same step = record {
   step = step;
   moments = unwritten_leaves card old new m answer.commits ready at same;
   unwritten = go result;
@@ -52,9 +52,9 @@ Performs-unwritten card new_card old new m answer most result ready at same step
     go (Err fault) = tt
 
 -- a command from a machine that has committed the same
-pub Performs-from : (m next : Machine) (answer : Answer) (most : ℕ) (result : Result StatusWord EepromFault) (card : Kept) (old new : Chip) → next.committed ≡ m.committed
-    → Performs next answer most result card old new → Performs m answer most result card old new
-Performs-from m next answer most result card old new same performs = record {
+pub Performs-from : (m next : Machine) (answer : Answer) (most : ℕ) (body : List ℕ) (result : Result StatusWord EepromFault) (card : Kept) (old new : Chip) → next.committed ≡ m.committed
+    → Performs next answer most body result card old new → Performs m answer most body result card old new
+Performs-from m next answer most body result card old new same performs = record {
   step = performs.step;
   moments = subst (λ (db : Database). LeavesOneOf (db ∷ answer.commits) old new) same performs.moments;
   unwritten = performs.unwritten;
@@ -106,14 +106,14 @@ actor-at card chip m channel user at is =
 -- What a change does to the store, it does to the machine.
 pub Performs-changed : (card : Kept) (store : Held) (index : Index) (old new : Chip) (m : Machine) (channel : ℕ) (operation : Operation) (user : Option ℕ) (result : Result StatusWord EepromFault) → IsAt card old m → AreUnread card.sessions
     → user ≡ proved_user (option_flatten (slice_get card.sessions channel)) → Changes m.committed (edits_of m.committed (acting m.committed user) (cursor_of m channel) operation) result store old new
-    → Performs m (answered m (changed m channel operation)) (or_nothing (octets_changed m channel operation)) result (record card { store = store; index = index }) old new
+    → Performs m (answered m (changed m channel operation)) (or_nothing (octets_changed m channel operation)) [] result (record card { store = store; index = index }) old new
 Performs-changed card store index old new m channel operation user result at unread is changes =
     let edited = edits_of m.committed (actor m channel) (cursor_of m channel) operation in
     let by : Changes m.committed edited result store old new
     = subst (λ (who : Actor). Changes m.committed (edits_of m.committed who (cursor_of m channel) operation) result store old new) (sym (actor-at card old m channel user at is)) changes in
-    subst (λ (o : Result Answer StatusWord). Performs m (answered m o) (or_nothing (octets_changed m channel operation)) result (record card { store = store; index = index }) old new)
+    subst (λ (o : Result Answer StatusWord). Performs m (answered m o) (or_nothing (octets_changed m channel operation)) [] result (record card { store = store; index = index }) old new)
     (sym (changed-outcome m channel operation at.transaction (subst AreUnread (sym at.sessions) unread)))
-    (subst (λ (most : ℕ). Performs m (answered m (committed_at_once m (new_of m.committed edited))) most result (record card { store = store; index = index }) old new)
+    (subst (λ (most : ℕ). Performs m (answered m (committed_at_once m (new_of m.committed edited))) most [] result (record card { store = store; index = index }) old new)
     (sym (octets-changed m channel operation at.transaction)) (record {
       step = each result (concluded (new_of m.committed edited)) by.step;
       moments = subst (λ (dbs : List Database). LeavesOneOf (m.committed ∷ dbs) old new) (sym (committed (new_of m.committed edited))) by.moments;
@@ -139,6 +139,19 @@ Performs-changed card store index old new m channel operation user result at unr
     idle (Ok word) outcome same = λ none. same (sym (committed outcome) ∙ none)
     idle (Err fault) outcome same = tt
 
+-- A channel of a card at a machine has this session, or none, and so has the machine's.
+pub IsAt-set : (card : Kept) (chip : Chip) (m : Machine) (channel : ℕ) (session : Option Session) → IsAt card chip m → IsAt (with_session card channel session) chip (sessions.with_session m channel session)
+IsAt-set card chip m channel session at = record {
+  slots = at.slots;
+  committed = at.committed;
+  limit = at.limit;
+  holds = at.holds;
+  valid = at.valid;
+  tables = at.tables;
+  transaction = at.transaction;
+  sessions = ap (λ (others : List (Option Session)). slice_set others channel session) at.sessions;
+}
+
 -- PRESENT USER, by who was found.
 module _ (card : Kept) (old new : Chip) (m : Machine) (channel : ℕ) (name : List ℕ) (found : Found) (at : IsAt card old m) (same : new ≡ old) (is : session_presented found ≡ session_named m.committed name) where
   presented-by : (outcome : Result Session StatusWord) → session_presented found ≡ outcome → user_presented m channel name ≡ (outcome >>= λ session. Ok (done_with (sessions.with_session m channel (Some session)) channel []))
@@ -161,16 +174,4 @@ module _ (card : Kept) (old new : Chip) (m : Machine) (channel : ℕ) (name : Li
       subst (λ (kept : Kept). Answers (answered m (user_presented m channel name)) (said done) kept new) (sym set)
       (subst (λ (chip : Chip). Answers (answered m (user_presented m channel name)) (said done) (with_session_for card channel user) chip) (sym same)
       (subst (λ (o : Result Answer StatusWord). Answers (answered m o) (said done) (with_session_for card channel user) old) (sym (presented-by (Ok (session_for user)) was))
-      (record { reply = refl; at = subst (IsAt (with_session_for card channel user) old) (sym dropped) moved })))
-    where
-      moved : IsAt (with_session_for card channel user) old (sessions.with_session m channel (Some (session_for user)))
-      moved = record {
-        slots = at.slots;
-        committed = at.committed;
-        limit = at.limit;
-        holds = at.holds;
-        valid = at.valid;
-        tables = at.tables;
-        transaction = at.transaction;
-        sessions = ap (λ (others : List (Option Session)). slice_set others channel (Some (session_for user))) at.sessions;
-      }
+      (record { reply = refl; at = subst (IsAt (with_session_for card channel user) old) (sym dropped) (IsAt-set card old m channel (Some (session_for user)) at) })))

@@ -11,8 +11,7 @@ use Rattle.scql_model.specs.Machine.{Chain}
 use Rattle.row_index.specs.Index.{Index}
 use Rattle.card.specs.Card.{Kept}
 use Rattle.card.specs.Sessions.{session_seen, sessions_of, AreUnread, proved_stamp, proved_user}
-use Rattle.card.specs.Answering.{with_session_for}
-use Rattle.scql_base.specs.declared.cursor.PresentedUser.{PresentedUser}
+use Rattle.card.specs.Answering.{with_session}
 use Rattle.card.specs.declared.session.Session.{Session}
 
 -- which of four channels have a session
@@ -88,21 +87,21 @@ sessions_of-chain change next seen (Some session ∷ sessions) (chain ∷ chains
 sessions_of-chain change next seen (session ∷ sessions) (chain ∷ chains) (suc channel) =
     ap (λ rest. option_map (session_seen chain) session ∷ rest) (sessions_of-chain change next seen sessions chains channel)
 
--- A new session of a channel has no parts.
-sessions_of-new : (sessions : List (Option Session)) (chains : List (Option Chain)) (channel : ℕ) (user : Option PresentedUser)
-    → sessions_of (slice_set sessions channel (Some (record { user = user }))) (slice_set chains channel None) ≡ slice_set (sessions_of sessions chains) channel (Some (machine.session_for user))
-sessions_of-new [] chains channel user = refl
-sessions_of-new (session ∷ sessions) [] zero user = refl
-sessions_of-new (session ∷ sessions) [] (suc channel) user = refl
-sessions_of-new (session ∷ sessions) (chain ∷ chains) zero user = refl
-sessions_of-new (session ∷ sessions) (chain ∷ chains) (suc channel) user =
-    ap (λ rest. option_map (session_seen chain) session ∷ rest) (sessions_of-new sessions chains channel user)
+-- A new session of a channel has no parts, and a closed channel has no session.
+sessions_of-new : (sessions : List (Option Session)) (chains : List (Option Chain)) (channel : ℕ) (set : Option Session)
+    → sessions_of (slice_set sessions channel set) (slice_set chains channel None) ≡ slice_set (sessions_of sessions chains) channel (option_map (session_seen None) set)
+sessions_of-new [] chains channel set = refl
+sessions_of-new (session ∷ sessions) [] zero set = refl
+sessions_of-new (session ∷ sessions) [] (suc channel) set = refl
+sessions_of-new (session ∷ sessions) (chain ∷ chains) zero set = refl
+sessions_of-new (session ∷ sessions) (chain ∷ chains) (suc channel) set =
+    ap (λ rest. option_map (session_seen chain) session ∷ rest) (sessions_of-new sessions chains channel set)
 
-pub sessions_of-set : (store : Held) (index : Index) (live : Bool) (sessions : List (Option Session)) (chains left : List (Option Chain)) (channel : ℕ) (user : Option PresentedUser) → (card : Kept)
+pub sessions_of-set : (store : Held) (index : Index) (live : Bool) (sessions : List (Option Session)) (chains left : List (Option Chain)) (channel : ℕ) (set : Option Session) → (card : Kept)
     → record { store = store; index = index; sessions = sessions_of sessions chains; live = live } ≡ card → left ≡ slice_set chains channel None
-    → record { store = store; index = index; sessions = sessions_of (slice_set sessions channel (Some (record { user = user }))) left; live = live } ≡ with_session_for card channel user
-sessions_of-set store index live sessions chains left channel user card is ended =
+    → record { store = store; index = index; sessions = sessions_of (slice_set sessions channel set) left; live = live } ≡ with_session card channel (option_map (session_seen None) set)
+sessions_of-set store index live sessions chains left channel set card is ended =
     let seen = λ (changed : List (Option machine.Session)). let kept : Kept = record { store = store; index = index; sessions = changed; live = live } in kept in
-    ap (λ (left : List (Option Chain)). seen (sessions_of (slice_set sessions channel (Some (record { user = user }))) left)) ended
-    ∙ (ap seen (sessions_of-new sessions chains channel user)
-    ∙ ap (λ (kept : Kept). with_session_for kept channel user) is)
+    ap (λ (left : List (Option Chain)). seen (sessions_of (slice_set sessions channel set) left)) ended
+    ∙ (ap seen (sessions_of-new sessions chains channel set)
+    ∙ ap (λ (kept : Kept). with_session kept channel (option_map (session_seen None) set)) is)

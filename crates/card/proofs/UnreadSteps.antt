@@ -1,5 +1,5 @@
 -- What the operations that are built do at a machine of a card, whose sessions read nothing, and which has no transaction.
-use Rattle.std.proofs.Common.{◌≡◌, ℕ, zero, suc, true, List, [], ◌∷◌, Option, Some, None, Result, Ok, Err, refl, sym, ap, subst, ◌∙◌, inl, inr}
+use Rattle.std.proofs.Common.{◌≡◌, ◌==◌, ℕ, zero, suc, true, not, if◌then◌else◌, is_some, List, [], ◌∷◌, Option, Some, None, Result, Ok, Err, refl, sym, ap, subst, ◌∙◌, inl, inr}
 use Rattle.std.specs.Prelude.{◌⊎◌, IfOk, IfSome, option_map, slice_get}
 use Rattle.std.specs.Option.{option_flatten, option_map_or}
 use Rattle.scql_base.specs.declared.words.StatusWord.{StatusWord}
@@ -7,11 +7,11 @@ use Rattle.scql_base.specs.declared.words.Actor.{Actor}
 use Rattle.scql_base.specs.declared.operation.Command.{Command}
 use Rattle.scql_base.specs.declared.operation.Operation.{Operation}
 use Rattle.scql_base.specs.declared.operation.Operation.TheVariants as asks
-use Rattle.scql_base.specs.Words.{done}
-use Rattle.scql_model.specs.Refusals.{◌>>=◌}
+use Rattle.scql_base.specs.Words.{done, channel_not_supported, conditions_not_satisfied, function_not_supported}
+use Rattle.scql_model.specs.Refusals.{◌>>=◌, or_refused, provided}
 use Rattle.scql_model.specs.Database.{Database}
 use Rattle.scql_model.specs.Machine.{Machine, Reading, Session, Transaction, session_of, base_of, base, actor}
-use Rattle.scql_model.specs.Sessions.{reading_so, without_pending, cursor_of}
+use Rattle.scql_model.specs.Sessions.{reading_so, without_pending, cursor_of, is_channel_open, least_closed}
 use Rattle.scql_model.specs.Transactions.{own_transaction}
 use Rattle.scql_model.specs.Operations.{IsBuilt, kind_of}
 use Rattle.scql_model.specs.Edits.{Edit}
@@ -19,7 +19,7 @@ use Rattle.scql_model.specs.Bound.{octets_for_change, octets_changed, octets_ope
 use Rattle.scql_model.specs.Changing.{edits_of, with_edits}
 use Rattle.scql_model.specs.ReadingCommands.{reading_command}
 use Rattle.scql_model.specs.Replies.{said}
-use Rattle.scql_model.specs.Step.{Answer, answered, done_with, changed_to, changed, session_named, user_presented, reading_done, operated, carried_out}
+use Rattle.scql_model.specs.Step.{Answer, answered, done_with, changed_to, changed, session_named, user_presented, channel_opened, channel_closed, reading_done, operated, carried_out}
 use Rattle.scql_model.proofs.ChangingSessions.{changing_session-same}
 use Rattle.scql_model.proofs.LastCommits.{of_outcome}
 use Rattle.card.proofs.BuiltLines.{IsChange-built}
@@ -55,6 +55,15 @@ carried_out-presents m channel name le none = rw none refl
 carried_out-none : (m : Machine) (channel : ℕ) (operation : Operation) (le : Option ℕ) → m.transaction ≡ None → carried_out m (record { channel = channel; operation = operation; le = le })
     ≡ option_map_or (λ command. Ok (reading_done m channel command)) (reading_command operation le) (operated m channel operation)
 carried_out-none m channel operation le none = rw none refl
+
+pub carried_out-opens : (m : Machine) (channel number : ℕ) (le : Option ℕ) → m.transaction ≡ None
+    → carried_out m (record { channel = channel; operation = asks.OpenChannel number; le = le }) ≡ channel_opened m channel number
+carried_out-opens m channel number le none = carried_out-none m channel (asks.OpenChannel number) le none
+
+-- a channel closes itself by the number 0
+pub carried_out-closes : (m : Machine) (channel number : ℕ) (le : Option ℕ) → m.transaction ≡ None
+    → carried_out m (record { channel = channel; operation = asks.CloseChannel number; le = le }) ≡ channel_closed m channel (if number == 0 then channel else number)
+carried_out-closes m channel number le none = carried_out-none m channel (asks.CloseChannel number) le none
 
 octets-carried_out_none : (m : Machine) (channel : ℕ) (operation : Operation) (le : Option ℕ) → m.transaction ≡ None
     → octets_carried_out m (record { channel = channel; operation = operation; le = le }) ≡ octets_operated m channel operation
@@ -141,12 +150,25 @@ done-changed m channel operation =
     made edits db None = refl
     made edits db (Some t) = refl
 
+done-opened : (m : Machine) (channel number : ℕ) → IfOk (channel_opened m channel number) SaysDone
+done-opened m channel zero = of_outcome SaysDone (or_refused (least_closed m) function_not_supported) _ (λ number. refl)
+done-opened m channel (suc n) = of_outcome SaysDone (provided (not (is_channel_open m (suc n))) conditions_not_satisfied) _ (λ _. refl)
+
+done-closed : (m : Machine) (channel number : ℕ) → IfOk (channel_closed m channel number) SaysDone
+done-closed m channel number =
+    of_outcome SaysDone (provided (is_channel_open m number) channel_not_supported) _ (λ _.
+    of_outcome SaysDone (provided (not (is_some (own_transaction m.transaction number))) conditions_not_satisfied) _ (λ _. refl))
+
 done-carried_out : (m : Machine) (channel : ℕ) (operation : Operation) (le : Option ℕ) → m.transaction ≡ None → IsBuilt (kind_of operation)
     → IfOk (carried_out m (record { channel = channel; operation = operation; le = le })) SaysDone
 done-carried_out m channel (asks.PresentUser name) le none built =
     subst (λ (o : Result Answer StatusWord). IfOk o SaysDone) (sym (carried_out-presents m channel name le none)) (of_outcome SaysDone (session_named (base m channel) name) _ (λ session. refl))
+done-carried_out m channel (asks.OpenChannel number) le none built =
+    subst (λ (o : Result Answer StatusWord). IfOk o SaysDone) (sym (carried_out-opens m channel number le none)) (done-opened m channel number)
+done-carried_out m channel (asks.CloseChannel number) le none built =
+    subst (λ (o : Result Answer StatusWord). IfOk o SaysDone) (sym (carried_out-closes m channel number le none)) (done-closed m channel (if number == 0 then channel else number))
 done-carried_out m channel operation le none built =
-    subst (λ (o : Result Answer StatusWord). IfOk o SaysDone) (sym (carried_out-changes m channel operation le (IsChange-built operation built (λ name is. cc)).1 none)) (done-changed m channel operation)
+    subst (λ (o : Result Answer StatusWord). IfOk o SaysDone) (sym (carried_out-changes m channel operation le (IsChange-built operation built (λ name is. cc) (λ number is. cc) (λ number is. cc)).1 none)) (done-changed m channel operation)
 
 pub carried_out-done : (m : Machine) (c : Command) → m.transaction ≡ None → IsBuilt (kind_of c.operation) → DoneOrStays m (answered m (carried_out m c))
 carried_out-done m c none built = done-answered m (carried_out m c) (done-carried_out m c.channel c.operation c.le none built)

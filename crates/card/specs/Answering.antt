@@ -7,7 +7,7 @@ use Rattle.eeprom.specs.declared.EepromFault.{EepromFault}
 use Rattle.scql_base.specs.declared.words.StatusWord.{StatusWord}
 use Rattle.scql_base.specs.Words.{done}
 use Rattle.scql_model.specs.Replies as model
-use Rattle.scql_model.specs.Machine.{Machine, session_for}
+use Rattle.scql_model.specs.Machine.{Machine, Session, session_for}
 use Rattle.scql_model.specs.Replies.{said}
 use Rattle.scql_model.specs.Accepting.{channel_named, IsAsBefore}
 use Rattle.scql_model.specs.Step.{Answer}
@@ -23,18 +23,25 @@ pub record Answers (answer : Answer) (sent : model.Reply) (card : Kept) (chip : 
 abbrev pub LeavesOneOf : List Database → Chip → Chip → Type 0
 LeavesOneOf dbs old new = Leaves (OpensToOneOf dbs) old new
 
--- What a command does to a card and its EEPROM that are at a machine: the machine's answer, or a device failed. What commits nothing writes nothing,
--- and what is answered has written at most so many octets.
-pub record Performs (m : Machine) (answer : Answer) (most : ℕ) (result : Result StatusWord EepromFault) (card : Kept) (old new : Chip) : Type 0 where
-  pub step : IfOk result (λ word. Answers answer (said word) card new)
+-- an answer with this body and word
+abbrev pub replied : List ℕ → StatusWord → model.Reply
+replied body word = record { body = body; word = word }
+
+-- What a command does to a card and its EEPROM that are at a machine: the machine's answer, with this body, or a device failed. What commits nothing
+-- writes nothing, and what is answered has written at most so many octets.
+pub record Performs (m : Machine) (answer : Answer) (most : ℕ) (body : List ℕ) (result : Result StatusWord EepromFault) (card : Kept) (old new : Chip) : Type 0 where
+  pub step : IfOk result (λ word. Answers answer (replied body word) card new)
   pub moments : LeavesOneOf (m.committed ∷ answer.commits) old new
   pub unwritten : OnOk result (answer.commits ≡ [] → new ≡ old)
   pub octets : OnOk result (Becomes (RisesAtMost most) old.written new.written)
 
+-- a channel has this session, or none where it is closed
+abbrev pub with_session : Kept → ℕ → Option Session → Kept
+with_session card channel session = record card { sessions = slice_set card.sessions channel session }
+
 -- a new session of a channel, for this user
 abbrev pub with_session_for : Kept → ℕ → Option PresentedUser → Kept
-with_session_for card channel user =
-    record card { sessions = slice_set card.sessions channel (Some (session_for user)) }
+with_session_for card channel user = with_session card channel (Some (session_for user))
 
 -- what comes of a change that is committed at once, where nothing is pending on the channel
 abbrev pub committed_at_once : Machine → Result Database StatusWord → Result Answer StatusWord

@@ -1,6 +1,7 @@
 -- The program's sessions, as the model's.
-use Rattle.std.specs.Prelude.{◌≡◌, ℕ, List, [], ◌∷◌, Option, Some, None, option_map, option_and_then, IfSome, if◌then◌else◌}
-use Rattle.std.specs.List.{AllByRecursion}
+use Rattle.std.specs.Prelude.{◌≡◌, ℕ, Bool, not, List, [], ◌∷◌, Option, Some, None, is_some, option_map, option_and_then, slice_get, IfSome, if◌then◌else◌}
+use Rattle.std.specs.List.{AllByRecursion, find}
+use Rattle.std.specs.Option.{option_flatten}
 use Rattle.scql_model.specs.Machine as machine
 use Rattle.scql_base.specs.declared.cursor.PresentedUser.{PresentedUser}
 use Rattle.card.specs.declared.session.Session.{Session}
@@ -28,3 +29,10 @@ proved_stamp p = if p.proved then Some p.stamp else None
 
 abbrev pub proved_user : Option machine.Session → Option ℕ
 proved_user session = option_and_then proved_stamp (option_and_then (λ (s : machine.Session). s.user) session)
+
+-- Which channels are open.
+abbrev pub is_open : List (Option machine.Session) → ℕ → Bool
+is_open sessions channel = is_some (option_flatten (slice_get sessions channel))
+
+abbrev pub least_closed : List (Option machine.Session) → Option ℕ
+least_closed sessions = find (λ channel. not (is_open sessions channel)) (1 ∷ 2 ∷ 3 ∷ [])

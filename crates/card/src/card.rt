@@ -1,5 +1,5 @@
 // The card: its store, its sessions, and the answer to a command.
-ghost use Rattle.std.specs.Prelude.{◌≡◌, ◌≢◌, ◌↔◌, ℕ, List, slice_get, ◌<◌, ◌≤◌, ◌+◌, ◌*◌, [], ◌∷◌, Some, None, true, false, map, is_some, length, drop, option_map, IfSome, IfOk, OnOk, IsTrue, IsErrOf};
+ghost use Rattle.std.specs.Prelude.{◌≡◌, ◌≢◌, ◌↔◌, ◌==◌, ℕ, List, slice_get, ◌<◌, ◌≤◌, ◌+◌, ◌*◌, [], ◌∷◌, Some, None, true, false, map, is_some, length, drop, option_map, IfSome, IfOk, OnOk, OnErr, IsTrue, IsErrOf, if◌then◌else◌};
 ghost use Rattle.eeprom.specs.Chip.{Chip, Becomes, Keeps, RisesAtMost};
 ghost use Rattle.eeprom.specs.Fault.{Counts, Rose};
 ghost use Rattle.eeprom.specs.StoreOf.{fewest_cells, image_size, is_gate_open, most_cells};
@@ -18,11 +18,11 @@ ghost use Rattle.scql_model.specs.Database.{Database, fresh};
 ghost use Rattle.eeprom.specs.Image.{overwrite};
 ghost use Rattle.card.specs.Behind.{KeepsBehind, own_cells};
 ghost use Rattle.card.specs.Card.{Kept, IsReady, IsAt, fresh_card};
-ghost use Rattle.card.specs.Answering.{Answers, IsAtAsBefore, IsDoneOrStays, LeavesOneOf, Performs, with_session_for};
+ghost use Rattle.card.specs.Answering.{Answers, IsAtAsBefore, IsDoneOrStays, LeavesOneOf, Performs, replied, with_session, with_session_for};
 ghost use Rattle.card.specs.Changing.{IsChange};
 ghost use Rattle.card.specs.Making.{LeavesMade};
 ghost use Rattle.card.specs.Opening.{ReadsCard};
-ghost use Rattle.card.specs.Sessions.{proved_user, sessions_of};
+ghost use Rattle.card.specs.Sessions.{AreUnread, is_open, least_closed, proved_user, session_seen, sessions_of};
 ghost use Rattle.scql_model.specs.Bound.{octets_bound, octets_carried_out, octets_changed, or_nothing};
 ghost use Rattle.scql_model.specs.Accepting.{channel_named};
 ghost use Rattle.scql_model.specs.Operations.{IsBuilt, kind_of};
@@ -151,7 +151,7 @@ impl Card {
         ensures behind { Keeps (drop (image_size self.old.store.chains.cells)) (B.chip bench.old) (B.chip bench.new) }
     {
         reply.body.clear();
-        match self.word_of(bench, command) {
+        match self.word_of(bench, command, reply) {
             Ok(word) => {
                 reply.word = word;
                 Outcome::Replied
@@ -182,18 +182,22 @@ impl Card {
         self.chains.clear();
     }
 
+    // The word that a command is answered with. The body of the reply, which is empty before, is written.
     fn word_of<B: Eeprom>(
         &mut self,
         bench: &mut B,
         command: &[u8],
+        reply: &mut Reply,
     ) -> Result<StatusWord, EepromFault>
         requires ready { IsReady self.old (B.chip bench.old) }
+        requires empty { reply.old.body ≡ [] }
         ensures performs { (m : machine.Machine) → IsAt self.old (B.chip bench.old) m
-            → Performs m (stepping.step m command.now) (octets_bound m command.now) result self.new (B.chip bench.old) (B.chip bench.new) }
+            → Performs m (stepping.step m command.now) (octets_bound m command.now) reply.new.body result self.new (B.chip bench.old) (B.chip bench.new) }
         ensures ready { OnOk result (IsReady self.new (B.chip bench.new)) }
         ensures cause { Counts (B.faults bench.old) (B.faults bench.new) result }
         ensures cells { OnOk result (self.new.store.chains.cells ≡ self.old.store.chains.cells) }
         ensures behind { Keeps (drop (image_size self.old.store.chains.cells)) (B.chip bench.old) (B.chip bench.new) }
+        ensures unsaid { OnErr result (reply.new.body ≡ []) }
         // None of the operations that are built answers another word than done where it changes the machine.
         ensures done_or_stays { (m : machine.Machine) → IsAt self.old (B.chip bench.old) m → IsDoneOrStays m command.now (stepping.step m command.now) }
     {
@@ -201,7 +205,7 @@ impl Card {
         match self.chains.take(command, channels, self.store.row_limit()) {
             Taken::Refused { word } => Ok(word),
             Taken::Kept => Ok(StatusWord::DONE),
-            Taken::Whole { command } => self.carry_out(bench, &command),
+            Taken::Whole { command } => self.carry_out(bench, &command, reply),
         }
     }
 
@@ -209,21 +213,28 @@ impl Card {
         &mut self,
         bench: &mut B,
         command: &Command,
+        reply: &mut Reply,
     ) -> Result<StatusWord, EepromFault>
         requires ready { IsReady self.old (B.chip bench.old) }
+        requires empty { reply.old.body ≡ [] }
         requires formed { IsWellFormed command.now }
         requires built { IsBuilt (kind_of command.now.operation) }
         requires fits { FitsCard self.old.store.row_limit command.now.operation }
         ensures performs { (m : machine.Machine) → IsAt self.old (B.chip bench.old) m
-            → Performs m (stepping.answered m (stepping.carried_out m command.now)) (or_nothing (octets_carried_out m command.now)) result self.new (B.chip bench.old) (B.chip bench.new) }
+            → Performs m (stepping.answered m (stepping.carried_out m command.now)) (or_nothing (octets_carried_out m command.now)) reply.new.body result self.new (B.chip bench.old) (B.chip bench.new) }
         ensures ready { OnOk result (IsReady self.new (B.chip bench.new)) }
         ensures cause { Counts (B.faults bench.old) (B.faults bench.new) result }
         ensures cells { OnOk result (self.new.store.chains.cells ≡ self.old.store.chains.cells) }
         ensures behind { Keeps (drop (image_size self.old.store.chains.cells)) (B.chip bench.old) (B.chip bench.new) }
+        ensures unsaid { OnErr result (reply.new.body ≡ []) }
     {
         let channel = command.channel;
         match &command.operation {
             Operation::PresentUser { name } => self.present_user(bench, channel, name.copy()),
+            Operation::OpenChannel { number } => Ok(self.open_channel(*number, reply)),
+            Operation::CloseChannel { number } => {
+                Ok(self.close_channel(channel_meant(channel, *number)))
+            }
             operation => self.change(bench, channel, operation),
         }
     }
@@ -277,7 +288,7 @@ impl Card {
         requires formed { HasForm operation.now }
         requires fits { FitsCard self.old.store.row_limit operation.now }
         ensures performs { (m : machine.Machine) → IsAt self.old (B.chip bench.old) m
-            → Performs m (stepping.answered m (stepping.changed m channel operation.now)) (or_nothing (octets_changed m channel operation.now)) result self.new (B.chip bench.old) (B.chip bench.new) }
+            → Performs m (stepping.answered m (stepping.changed m channel operation.now)) (or_nothing (octets_changed m channel operation.now)) [] result self.new (B.chip bench.old) (B.chip bench.new) }
         ensures ready { OnOk result (IsReady self.new (B.chip bench.new)) }
         ensures cause { Counts (B.faults bench.old) (B.faults bench.new) result }
         ensures cells { OnOk result (self.new.store.chains.cells ≡ self.old.store.chains.cells) }
@@ -302,9 +313,112 @@ impl Card {
         requires channel { channel < 4 }
         ensures { self.new ≡ with_session_for self.old channel user }
     {
-        self.sessions[channel as usize] = Some(Session { user });
+        self.set_session(channel, Some(Session { user }));
+    }
+
+    // Opens the channel of this number, or where it is 0 the least that is closed, whose number is the body of the reply.
+    fn open_channel(&mut self, number: u8, reply: &mut Reply) -> StatusWord
+        requires number { number < 4 }
+        requires empty { reply.old.body ≡ [] }
+        ensures step { (chip : Chip) (m : machine.Machine) (channel : ℕ) → IsAt self.old chip m
+            → Answers (stepping.answered m (stepping.channel_opened m channel number)) (replied reply.new.body result) self.new chip }
+        ensures ready { (chip : Chip) → IsReady self.old chip → IsReady self.new chip }
+        ensures store { self.new.store ≡ self.old.store }
+    {
+        if number == 0 {
+            self.open_least(reply)
+        } else {
+            self.open_named(number)
+        }
+    }
+
+    fn open_least(&mut self, reply: &mut Reply) -> StatusWord
+        requires empty { reply.old.body ≡ [] }
+        ensures step { (chip : Chip) (m : machine.Machine) (channel : ℕ) → IsAt self.old chip m
+            → Answers (stepping.answered m (stepping.channel_opened m channel 0)) (replied reply.new.body result) self.new chip }
+        ensures ready { (chip : Chip) → IsReady self.old chip → IsReady self.new chip }
+        ensures store { self.new.store ≡ self.old.store }
+    {
+        let Some(number) = self.least_closed() else {
+            return StatusWord::FUNCTION_NOT_SUPPORTED;
+        };
+        self.set_user(number, None);
+        reply.body.push(number);
+        StatusWord::DONE
+    }
+
+    fn open_named(&mut self, number: u8) -> StatusWord
+        requires number { number < 4 }
+        requires named { 0 < number }
+        ensures step { (chip : Chip) (m : machine.Machine) (channel : ℕ) → IsAt self.old chip m
+            → Answers (stepping.answered m (stepping.channel_opened m channel number)) (model.said result) self.new chip }
+        ensures ready { (chip : Chip) → IsReady self.old chip → IsReady self.new chip }
+        ensures store { self.new.store ≡ self.old.store }
+    {
+        if self.is_open(number) {
+            return StatusWord::CONDITIONS_NOT_SATISFIED;
+        }
+        self.set_user(number, None);
+        StatusWord::DONE
+    }
+
+    fn close_channel(&mut self, number: u8) -> StatusWord
+        requires number { number < 4 }
+        ensures step { (chip : Chip) (m : machine.Machine) (channel : ℕ) → IsAt self.old chip m
+            → Answers (stepping.answered m (stepping.channel_closed m channel number)) (model.said result) self.new chip }
+        ensures ready { (chip : Chip) → IsReady self.old chip → IsReady self.new chip }
+        ensures store { self.new.store ≡ self.old.store }
+    {
+        if !self.is_open(number) {
+            return StatusWord::CHANNEL_NOT_SUPPORTED;
+        }
+        self.set_session(number, None);
+        StatusWord::DONE
+    }
+
+    // No session reads anything yet, so none has octets that an answer would drop.
+    fn is_open(&self, channel: u8) -> bool
+        requires channel { channel < 4 }
+        ensures is { result ≡ is_open self.now.sessions channel }
+        ensures unread { AreUnread self.now.sessions }
+    {
+        self.sessions[channel as usize].is_some()
+    }
+
+    fn least_closed(&self) -> Option<u8>
+        ensures least { result ≡ least_closed self.now.sessions }
+        ensures few { IfSome result (λ channel. channel < 4) }
+        ensures unread { AreUnread self.now.sessions }
+    {
+        if !self.is_open(1) {
+            Some(1)
+        } else if !self.is_open(2) {
+            Some(2)
+        } else if !self.is_open(3) {
+            Some(3)
+        } else {
+            None
+        }
+    }
+
+    // A channel has this session from now on, or is closed. It has no parts of a command.
+    fn set_session(&mut self, channel: u8, session: Option<Session>)
+        requires channel { channel < 4 }
+        ensures { self.new ≡ with_session self.old channel (option_map (session_seen None) session) }
+    {
+        self.sessions[channel as usize] = session;
         self.chains.forget(channel);
     }
+}
+
+// The channel that a command means by this number: its own by 0.
+fn channel_meant(own: u8, number: u8) -> u8
+    requires own { own < 4 }
+    requires number { number < 4 }
+    ensures meant { result ≡ (if number == 0 then own else number) }
+    ensures few { result < 4 }
+{
+    if number == 0 { own } else { number }
 }
 
 // The user with whom a card is made.

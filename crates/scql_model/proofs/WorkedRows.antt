@@ -77,6 +77,16 @@ parts_taken : run_text card (lines (codes "0014008006054F574E4552\n0010008006015
 unfolding line_text line_step step step_by form_of edits_of object_created row_inserted appears holds params_of pieces_of hex_on_literals
 parts_taken = refl
 
+-- Channels: the least that is closed is opened and its number answered, a named one is opened once; a channel closes another, or itself, and channel 0 stays open.
+channels_opened : run_text card (lines (codes "0070000001\n00700002\n00700002\n0070000001\n0070000001\n00708002\n00708002\n01708000\n00708000\n") true) ≡ codes "019000\n9000\n6985\n039000\n6A81\n9000\n6881\n9000\n6A86\n"
+unfolding line_text line_step step step_by form_of edits_of params_of pieces_of hex_on_literals
+channels_opened = refl
+
+-- each has a user of its own, who goes when it is closed
+channel_users : run_text card (lines (codes "0070000001\n0114008006054F574E4552\n0110008006015401410142\n0010008C050154017800\n01708000\n00700001\n0110008006015501410142\n") true) ≡ codes "019000\n9000\n9000\n6A88\n9000\n9000\n6982\n"
+unfolding line_text line_step step step_by form_of edits_of object_created row_inserted appears holds params_of pieces_of hex_on_literals
+channel_users = refl
+
 -- what isn't hexadecimal, a reset, blanks, notes and empty lines
 odd_lines : run_text card (lines (codes "zz\n0\nreset\n\n# note\n 00 10 00 \n") true) ≡ codes "not hexadecimal\nnot hexadecimal\nreset\n6700\n"
 unfolding line_text line_step step step_by form_of edits_of params_of pieces_of hex_on_literals

@@ -1,9 +1,10 @@
 use Rattle.std.proofs.Common.{ap, ◌∙◌, inl, inr}
 use Rattle.scql_model.specs.Replies.{Reply}
+use Rattle.card.specs.Answering.{replied}
 use Rattle.card.proofs.card.Card.answer.Goals as goal
 
 pub returns-in-Ok-clause-step : goal.returns-in-Ok-clause-step
-returns-in-Ok-clause-step g c = λ m at is. let answers = (c.in-Ok.ensures.performs m at).step in record { reply = cc; at = answers.at }
+returns-in-Ok-clause-step g c = λ m at is. let answers = (c.in-Ok.ensures.performs m at).step in record { reply = ap (λ (sent : Reply). replied sent.body c.in-Ok.word) c.reply-2.view_is ∙ answers.reply; at = answers.at }
 
 pub returns-in-Ok-clause-moments : goal.returns-in-Ok-clause-moments
 returns-in-Ok-clause-moments g c = λ m at. (c.in-Ok.ensures.performs m at).moments

@@ -1,5 +1,5 @@
 -- What was taken with the card's open channels and chains is what the machine takes with its own.
-use Rattle.std.proofs.Common.{◌≡◌, ◌≤◌, ◌∙◌, ℕ, min, [], drop, ap, Ok, Err, refl, sym, subst, inl, inr, arith}
+use Rattle.std.proofs.Common.{◌≡◌, ◌≤◌, ◌∙◌, ℕ, min, List, [], drop, ap, Ok, Err, refl, sym, subst, inl, inr, arith}
 use Rattle.eeprom.specs.Chip.{Keeps}
 use Rattle.eeprom.specs.StoreOf.{image_size}
 use Rattle.scql_base.specs.declared.words.StatusWord.{StatusWord}
@@ -53,18 +53,26 @@ at-taken g c m at =
 -- nothing is written for what is no command
 unwritten : (g : _) (c : After-take g) (m : Machine) (answer : Answer) (word : StatusWord) → IsAt c.args.self.now (g.B.Eeprom.chip c.args.bench.now) m
     → answered (taken_at m (form g c)) (outcome_of (taken_at m (form g c)) (form g c)) ≡ answer → answer.reply ≡ said word → answer.machine ≡ taken_at m (form g c)
-    → Performs m (step m c.args.command.now) (octets_bound m c.args.command.now) (Ok word) (after_take g c) (g.B.Eeprom.chip c.args.bench.now) (g.B.Eeprom.chip c.args.bench.now)
+    → Performs m (step m c.args.command.now) (octets_bound m c.args.command.now) [] (Ok word) (after_take g c) (g.B.Eeprom.chip c.args.bench.now) (g.B.Eeprom.chip c.args.bench.now)
 unwritten g c m answer word at is says stays =
     let chip = g.B.Eeprom.chip c.args.bench.now in
-    subst (λ (answer : Answer). Performs m answer (octets_bound m c.args.command.now) (Ok word) (after_take g c) chip chip) (sym (steps g c m at ∙ is))
-    (Performs-unwritten c.args.self.now (after_take g c) chip chip m answer (octets_bound m c.args.command.now) (Ok word) c.requires.ready at refl
+    subst (λ (answer : Answer). Performs m answer (octets_bound m c.args.command.now) [] (Ok word) (after_take g c) chip chip) (sym (steps g c m at ∙ is))
+    (Performs-unwritten c.args.self.now (after_take g c) chip chip m answer (octets_bound m c.args.command.now) [] (Ok word) c.requires.ready at refl
     (record { reply = sym says; at = subst (λ (next : Machine). IsAt (after_take g c) chip next) (sym stays) (at-taken g c m at) }))
+
+-- nor said
+unsaid : (g : _) (c : After-take g) (m : Machine) (word : StatusWord) → c.args.reply.now.body ≡ []
+    → Performs m (step m c.args.command.now) (octets_bound m c.args.command.now) [] (Ok word) (after_take g c) (g.B.Eeprom.chip c.args.bench.now) (g.B.Eeprom.chip c.args.bench.now)
+    → Performs m (step m c.args.command.now) (octets_bound m c.args.command.now) c.args.reply.now.body (Ok word) (after_take g c) (g.B.Eeprom.chip c.args.bench.now) (g.B.Eeprom.chip c.args.bench.now)
+unsaid g c m word empty performs =
+    let chip = g.B.Eeprom.chip c.args.bench.now in
+    subst (λ (body : List ℕ). Performs m (step m c.args.command.now) (octets_bound m c.args.command.now) body (Ok word) (after_take g c) chip chip) (sym empty) performs
 
 pub returns-in-Refused-clause-performs : goal.returns-in-Refused-clause-performs
 returns-in-Refused-clause-performs g c = λ m at.
     let w = (goal.at.returns-in-Refused-clause-performs g c).After-take in
     let next = taken_at m (form g w) in
-    unwritten g w m (answered next (Err c.in-Refused.word)) c.in-Refused.word at (ap (answered next) (taken-refused next (form g w) c.in-Refused.word (sym c.in-Refused.is ∙ c.take.ensures.taken))) refl refl
+    unsaid g w m _ c.requires.empty (unwritten g w m (answered next (Err c.in-Refused.word)) c.in-Refused.word at (ap (answered next) (taken-refused next (form g w) c.in-Refused.word (sym c.in-Refused.is ∙ c.take.ensures.taken))) refl refl)
 
 pub returns-in-Refused-clause-done_or_stays : goal.returns-in-Refused-clause-done_or_stays
 returns-in-Refused-clause-done_or_stays g c = λ m at.
@@ -80,7 +88,7 @@ returns-in-Kept-clause-performs g c = λ m at.
     let w = (goal.at.returns-in-Kept-clause-performs g c).After-take in
     let next = taken_at m (form g w) in
     let unread : AreUnread next.sessions = subst AreUnread (sym (at-taken g w m at).sessions) (unread-sessions c.self.inside.sessions c.take.new.self) in
-    unwritten g w m (record { reply = said done; machine = next; commits = [] }) done at (ap (answered next) (taken-kept next (form g w) unread (sym c.in-Kept.is ∙ c.take.ensures.taken))) refl refl
+    unsaid g w m _ c.requires.empty (unwritten g w m (record { reply = said done; machine = next; commits = [] }) done at (ap (answered next) (taken-kept next (form g w) unread (sym c.in-Kept.is ∙ c.take.ensures.taken))) refl refl)
 
 pub returns-in-Kept-clause-done_or_stays : goal.returns-in-Kept-clause-done_or_stays
 returns-in-Kept-clause-done_or_stays g c = λ m at.
@@ -105,9 +113,9 @@ returns-in-Whole-clause-performs g c = λ m at.
     let next = taken_at m (form g w) in
     let most = bounds g w m at ∙ octets-whole next (form g w) c.in-Whole.command (sym c.in-Whole.is ∙ c.take.ensures.taken) in
     let is = steps g w m at ∙ ap (answered next) (outcome-whole next (form g w) c.in-Whole.command (sym c.in-Whole.is ∙ c.take.ensures.taken)) in
-    subst (λ (answer : Answer). Performs m answer (octets_bound m c.args.command.now) c.carry_out.result c.carry_out.new.self (g.B.Eeprom.chip c.args.bench.now) (g.B.Eeprom.chip c.carry_out.new.bench)) (sym is)
-    (subst (λ (most : ℕ). Performs m (answered next (carried_out next c.in-Whole.command)) most c.carry_out.result c.carry_out.new.self (g.B.Eeprom.chip c.args.bench.now) (g.B.Eeprom.chip c.carry_out.new.bench)) (sym most)
-    (Performs-from m next _ _ c.carry_out.result c.carry_out.new.self (g.B.Eeprom.chip c.args.bench.now) (g.B.Eeprom.chip c.carry_out.new.bench) (taken-committed m (form g w))
+    subst (λ (answer : Answer). Performs m answer (octets_bound m c.args.command.now) c.carry_out.new.reply.body c.carry_out.result c.carry_out.new.self (g.B.Eeprom.chip c.args.bench.now) (g.B.Eeprom.chip c.carry_out.new.bench)) (sym is)
+    (subst (λ (most : ℕ). Performs m (answered next (carried_out next c.in-Whole.command)) most c.carry_out.new.reply.body c.carry_out.result c.carry_out.new.self (g.B.Eeprom.chip c.args.bench.now) (g.B.Eeprom.chip c.carry_out.new.bench)) (sym most)
+    (Performs-from m next _ _ c.carry_out.new.reply.body c.carry_out.result c.carry_out.new.self (g.B.Eeprom.chip c.args.bench.now) (g.B.Eeprom.chip c.carry_out.new.bench) (taken-committed m (form g w))
     (c.carry_out.ensures.performs next (at-taken g w m at))))
 
 pub returns-in-Refused-clause-behind : goal.returns-in-Refused-clause-behind
