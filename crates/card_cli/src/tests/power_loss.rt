@@ -90,8 +90,9 @@ fn left_in(
     }
     let (_, again) = run_over(alloc, &["apdu"], "", opened.image(), no_faults(alloc))?;
     let is_quiet = is_open(image) || opened.writes() == 0;
-    let is_kept =
-        !is_open(opened.image()) && again.writes() == 0 && again.image() == opened.image();
+    let is_kept = !is_open(opened.image())
+        && again.writes() == 0
+        && again.image() == opened.image();
     let (last, probed) = run_over(alloc, &["apdu"], probe, opened.image(), no_faults(alloc))?;
     let mut answers = Vec::new(alloc);
     if first == Status::Done && last == Status::Done && is_quiet && is_kept {
@@ -127,12 +128,7 @@ fn is_same(first: &Option<Vec<u8>>, second: &Option<Vec<u8>>) -> bool {
 
 // Whether that may be left where so many octets had gone out, of five an answer: the first answer is OWNER's, and each further
 // one that of a change. Where a card is made, what the card before answered is told.
-fn may_be_left(
-    story: &Story,
-    left: &Option<Vec<u8>>,
-    given: usize,
-    before: Option<&str>,
-) -> bool {
+fn may_be_left(story: &Story, left: &Option<Vec<u8>>, given: usize, before: Option<&str>) -> bool {
     let Some(left) = left else {
         return before.is_some() && given == 0;
     };
@@ -226,7 +222,11 @@ fn cut_in_each_write(rt: HostRuntime) -> Result<(), Fail> {
         // For each user the first write of the gate with FF, each of the directory's two, and the last of the gate with FF.
         assert!(rt; 24 <= count_open(alloc, &bench)?, "{before:?}");
         assert!(rt; has_all(alloc, &THREE_USERS, bench.image())?, "{before:?}");
-        assert_eq!(rt; count_wrong(alloc, &THREE_USERS, &bench, before)?, 0, "{before:?}");
+        assert_eq!(rt;
+            count_wrong(alloc, &THREE_USERS, &bench, before)?,
+            0,
+            "{before:?}"
+        );
     }
     Ok(())
 }
