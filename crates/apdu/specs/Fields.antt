@@ -1,26 +1,15 @@
 -- The parts of data fields, each read from strings by the model's grammar.
-use Rattle.std.specs.Prelude.{ℕ, nat_le, ◌&&◌, Bool, true, false, List, [], ◌∷◌, length, take, drop, Option, Some, None, option_map}
+use Rattle.std.specs.Prelude.{ℕ, nat_le, ◌&&◌, List, [], ◌∷◌, length, take, drop, Option, Some, None, option_map}
 use Rattle.scql_base.specs.declared.words.Profile.{Profile}
 use Rattle.scql_base.specs.declared.words.Subject.{Subject}
 use Rattle.scql_base.specs.declared.words.Comparison.{Comparison}
 use Rattle.scql_base.specs.declared.condition.Condition.{Condition}
-use Rattle.scql_base.specs.declared.operation.OperationKind.{OperationKind}
-use Rattle.scql_base.specs.declared.operation.OperationKind.TheVariants as kind
 use Rattle.scql_base.specs.Name.{is_name, name_of}
 use Rattle.scql_base.specs.Row.{is_narrow}
 use Rattle.scql_base.specs.Strings.{params_of}
 use Rattle.scql_model.specs.Parameters as parameters
 use Rattle.scql_model.specs.Parameters.{◌>>=◌, only_where, are_columns, are_chosen_columns, are_conditions, are_changes, Choice, made_profile_of}
 use Rattle.scql_model.specs.Records.{subject_of, comparison_of, is_privileges, is_row_within}
-
--- the operations that are asked for most
-abbrev pub is_frequent : OperationKind → Bool
-is_frequent kind.CreateTable = true
-is_frequent kind.DropTable = true
-is_frequent kind.Insert = true
-is_frequent kind.PresentUser = true
-is_frequent kind.CreateUser = true
-is_frequent operation = false
 
 -- a name alone
 abbrev pub name_in : List (List ℕ) → Option (List ℕ)

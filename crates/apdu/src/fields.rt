@@ -1,5 +1,5 @@
 // The data fields of commands, read: which operation the parameters of each ask for (ISO/IEC 7816-7).
-ghost use Rattle.std.specs.Prelude.{◌≡◌, ◌≤◌, ℕ, Bool, false, option_map};
+ghost use Rattle.std.specs.Prelude.{◌≡◌, ◌≤◌, option_map};
 ghost use Rattle.scql_base.specs.declared.operation.Operation.TheVariants as operation;
 ghost use Rattle.scql_base.specs.declared.row.TheConstants.Row.{LARGEST};
 ghost use Rattle.scql_model.specs.Parameters as parameters;
@@ -12,9 +12,7 @@ use scql_base::{
 };
 
 // The operation that a data field asks for, where secrets can be shown or not, and where a row has at most so many octets.
-// A place for an operation has room for the longest one and is cleared first. So what is asked for most is made right where
-// it is used, and all else in a place that is cleared only then.
-#[inline(always)]
+#[inline(never)]
 pub(crate) fn operation_in(
     secrets: bool,
     kind: OperationKind,
@@ -26,32 +24,11 @@ pub(crate) fn operation_in(
 {
     match kind {
         OperationKind::CreateTable => create_table_in(octets),
-        OperationKind::DropTable => drop_table_in(octets),
-        OperationKind::Insert => insert_in(limit, octets),
-        OperationKind::PresentUser => present_user_in(octets),
-        OperationKind::CreateUser => create_user_in(secrets, octets),
-        _ => rare_operation_in(kind, octets),
-    }
-}
-
-// An operation of those that aren't asked for most, in a place of its own.
-#[inline(always)]
-fn rare_operation_in(kind: OperationKind, octets: &[u8]) -> Option<Operation>
-    requires { fields.is_frequent kind ≡ false }
-    ensures { (secrets : Bool) (limit : ℕ) → result ≡ parameters.operation_in secrets kind limit octets.now }
-{
-    let operation = any_rare_operation_in(kind, octets);
-    operation
-}
-
-#[inline(never)]
-fn any_rare_operation_in(kind: OperationKind, octets: &[u8]) -> Option<Operation>
-    requires { fields.is_frequent kind ≡ false }
-    ensures { (secrets : Bool) (limit : ℕ) → result ≡ parameters.operation_in secrets kind limit octets.now }
-{
-    match kind {
         OperationKind::CreateView => create_view_in(octets),
         OperationKind::CreateDictionary => create_dictionary_in(octets),
+        OperationKind::DropTable => Some(Operation::DropTable {
+            name: name_in(octets)?,
+        }),
         OperationKind::DropView => Some(Operation::DropView {
             name: name_in(octets)?,
         }),
@@ -62,11 +39,16 @@ fn any_rare_operation_in(kind: OperationKind, octets: &[u8]) -> Option<Operation
         OperationKind::Next => Some(Operation::Next),
         OperationKind::Fetch => Some(Operation::Fetch),
         OperationKind::FetchNext => Some(Operation::FetchNext),
+        OperationKind::Insert => insert_in(limit, octets),
         OperationKind::Update => update_in(octets),
         OperationKind::Delete => Some(Operation::Delete),
         OperationKind::Begin => Some(Operation::Begin),
         OperationKind::Commit => Some(Operation::Commit),
         OperationKind::Rollback => Some(Operation::Rollback),
+        OperationKind::PresentUser => Some(Operation::PresentUser {
+            name: name_in(octets)?,
+        }),
+        OperationKind::CreateUser => create_user_in(secrets, octets),
         OperationKind::DeleteUser => Some(Operation::DeleteUser {
             name: name_in(octets)?,
         }),
@@ -74,15 +56,9 @@ fn any_rare_operation_in(kind: OperationKind, octets: &[u8]) -> Option<Operation
         OperationKind::OpenChannel { number } => Some(Operation::OpenChannel { number }),
         OperationKind::CloseChannel { number } => Some(Operation::CloseChannel { number }),
         OperationKind::GetResponse => Some(Operation::GetResponse),
-        OperationKind::CreateTable
-        | OperationKind::DropTable
-        | OperationKind::Insert
-        | OperationKind::PresentUser
-        | OperationKind::CreateUser => unreachable!(),
     }
 }
 
-#[inline(always)]
 fn create_table_in(octets: &[u8]) -> Option<Operation>
     ensures { result ≡ fields.read_by parameters.create_table_in octets.now }
 {
@@ -90,22 +66,6 @@ fn create_table_in(octets: &[u8]) -> Option<Operation>
     let name = Name::read(name)?;
     let columns = columns_in(rest)?;
     Some(Operation::CreateTable { name, columns })
-}
-
-#[inline(always)]
-fn drop_table_in(octets: &[u8]) -> Option<Operation>
-    ensures { result ≡ fields.read_by (parameters.named_in operation.DropTable) octets.now }
-{
-    let name = name_in(octets)?;
-    Some(Operation::DropTable { name })
-}
-
-#[inline(always)]
-fn present_user_in(octets: &[u8]) -> Option<Operation>
-    ensures { result ≡ fields.read_by (parameters.named_in operation.PresentUser) octets.now }
-{
-    let name = name_in(octets)?;
-    Some(Operation::PresentUser { name })
 }
 
 fn create_view_in(octets: &[u8]) -> Option<Operation>
@@ -188,7 +148,6 @@ fn declare_cursor_in(octets: &[u8]) -> Option<Operation>
     })
 }
 
-#[inline(always)]
 fn insert_in(limit: u16, octets: &[u8]) -> Option<Operation>
     requires { limit ≤ LARGEST }
     ensures { result ≡ fields.read_by (parameters.insert_in limit) octets.now }
@@ -206,7 +165,6 @@ fn update_in(octets: &[u8]) -> Option<Operation>
     Some(Operation::Update { changes })
 }
 
-#[inline(always)]
 fn create_user_in(secrets: bool, octets: &[u8]) -> Option<Operation>
     ensures { result ≡ fields.read_by (parameters.create_user_in secrets) octets.now }
 {
