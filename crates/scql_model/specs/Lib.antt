@@ -4,6 +4,7 @@ pub mod Bound
 pub mod Changing
 pub mod Contents
 pub mod Creating
+pub mod Cursors
 pub mod Database
 pub mod Defining
 pub mod Dictionaries
