@@ -11,6 +11,8 @@ use Rattle.scql_model.specs.Changing.{edits_of}
 use Rattle.scql_model.specs.Defining.{object_created, table_dropped}
 use Rattle.scql_model.specs.Rights.{appears, holds}
 use Rattle.scql_model.specs.Writing.{row_inserted}
+use Rattle.scql_model.specs.Moves.{move_of}
+use Rattle.scql_model.specs.Users.{user_deleted}
 use Rattle.scql_model.specs.Lines.{lines, line_text, line_step, run_text, machine_after}
 
 abbrev card : Machine
@@ -41,7 +43,7 @@ nobody_creates = refl
 
 -- a profile of OWNER's, no octet of a profile, a secret, too few parameters and too many
 wrong_creations : run_text card (lines (codes "001400810703414E4E010100\n0014008106 03414E4E0000\n001400810B03424F4201030431323334\n001400810603414E4E0103\n001400810803414E4E01030000\n0014008100\n") true)
-    ≡ codes "6A80\n6A80\n6A80\n6A80\n6A80\n6700\n"
+    ≡ codes "6A80\n6A80\n6982\n6A80\n6A80\n6700\n"
 unfolding line_text line_step step step_by form_of edits_of params_of pieces_of hex_on_literals
 wrong_creations = refl
 
@@ -57,8 +59,13 @@ refusals : run_text card (lines (codes "001400\n80140080\n04140080\n00FF0080\n01
 unfolding line_text line_step step step_by form_of edits_of params_of pieces_of hex_on_literals
 refusals = refl
 
+-- without a cursor and without a user; no such user
+nothing_yet : run_text card (lines (codes "00100088\n0020000004 30303030\n00C0000000\n00140082020154\n") true) ≡ codes "6985\n6985\n6985\n6A88\n"
+unfolding line_text line_step step step_by form_of edits_of move_of user_deleted params_of pieces_of hex_on_literals
+nothing_yet = refl
+
 -- operations that aren't built yet
-not_built : run_text card (lines (codes "00100088\n0020000004 30303030\n00C0000000\n00140082020154\n0010008F\n00120080\n") true) ≡ codes "6A86\n6D00\n6D00\n6A86\n6A86\n6D00\n"
+not_built : run_text card (lines (codes "00100082050154014F\n0010008F\n00120080\n") true) ≡ codes "6A86\n6A86\n6D00\n"
 unfolding line_text line_step step step_by form_of edits_of params_of pieces_of hex_on_literals
 not_built = refl
 
