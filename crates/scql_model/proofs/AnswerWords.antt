@@ -50,7 +50,7 @@ record Ends (db : Database) (actor : Actor) (reading : Reading) (command : Readi
   is : move ≡ moved_to End cursor end_reached
 
 -- an opened cursor was declared
-opened-parts : (cursor : Option Cursor) (c : Cursor) → opened cursor ≡ Ok c → (cursor ≡ Some c) × (is_opened c.place ≡ true)
+pub opened-parts : (cursor : Option Cursor) (c : Cursor) → opened cursor ≡ Ok c → (cursor ≡ Some c) × (is_opened c.place ≡ true)
 opened-parts None c is = refused-not conditions_not_satisfied c is
 opened-parts (Some d) c is = go (is_opened d.place) refl is
   where

@@ -90,7 +90,7 @@ AreNames-wanted all (name ∷ names) are chosen =
     let b = and_parts (list_all is_name (name ∷ names)) (are_different (name ∷ names)) a.1 in
     record { count = and_from (nat_le 1 (length (name ∷ names))) (nat_le (length (name ∷ names)) 15) (le-leb 1 (length (name ∷ names)) (omega arith)) a.0; named = b.0; different = b.1 }
 
-among-wanted : (all columns : Columns) (conditions : List Condition) → are_named_among all columns conditions ≡ true → are_named_among all (wanted_of all columns) conditions ≡ true
+pub among-wanted : (all columns : Columns) (conditions : List Condition) → are_named_among all columns conditions ≡ true → are_named_among all (wanted_of all columns) conditions ≡ true
 among-wanted all [] conditions among =
     let parts = and_parts (are_among [] all) (are_among (map (λ (c : Condition). c.column) conditions) all) among in
     and_from (are_among all all) (are_among (map (λ (c : Condition). c.column) conditions) all) (among-self all) parts.1

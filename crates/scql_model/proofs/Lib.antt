@@ -23,6 +23,7 @@ pub mod ChosenRows
 pub mod CommandsAgain
 pub mod ContentsRise
 pub mod Creating
+pub mod CursorsStand
 pub mod Depths
 pub mod EditLaws
 pub mod FewerObjects
@@ -49,6 +50,7 @@ pub mod Migrating
 pub mod NameOrder
 pub mod Naming
 pub mod NothingWritten
+pub mod ObjectsFollow
 pub mod PartsAgain
 pub mod Positions
 pub mod ReadFits

@@ -4,7 +4,7 @@ use Rattle.std.specs.Prelude.{IfOk, IfSome, nat_lt, option_and_then, slice_get, 
 use Rattle.std.specs.List.{list_all, AllByRecursion}
 use Rattle.std.specs.Option.{option_flatten, option_map_or}
 use Rattle.std.specs.Str.{bytes_eq}
-use Rattle.std.proofs.lemmas.Bool.{cases_Bool, and_parts, false≢true, not-true, le-leb, leb-true}
+use Rattle.std.proofs.lemmas.Bool.{cases_Bool, and_parts, eqb-true, false≢true, ne_eqb, not-true, le-leb, leb-true}
 use Rattle.std.proofs.lemmas.Option.{none-some, same_Some}
 use Rattle.scql_base.specs.declared.words.StatusWord.{StatusWord}
 use Rattle.scql_base.specs.declared.cursor.PresentedUser.{PresentedUser}
@@ -17,8 +17,8 @@ use Rattle.scql_model.specs.Records.{is_tries, is_secret, user_record}
 use Rattle.scql_base.specs.Name.{is_name}
 use Rattle.scql_model.specs.Refusals.{◌>>=◌, or_refused, provided}
 use Rattle.scql_model.specs.Database.{Database, IsValid, public_name, user_named, user_stamped, is_named}
-use Rattle.scql_model.specs.Machine.{Machine, Session, Transaction, new_session, session_for, session_of, open_channels, base_of, base, actor, start}
-use Rattle.scql_model.specs.Sessions.{with_session, changing_session, command_chain, cursor_of, without_chain, without_pending, without_cursor, proving, presented, user_of, reading_so, with_part, is_of_user, left_by, without_user, is_channel_open, least_closed}
+use Rattle.scql_model.specs.Machine.{Machine, Session, Transaction, no_reading, new_session, session_for, session_of, open_channels, base_of, base, actor, start}
+use Rattle.scql_model.specs.Sessions.{with_session, changing_session, command_chain, cursor_of, without_chain, without_pending, without_cursor, proving, presented, reading_of, user_of, reading_so, with_part, is_of_user, left_by, without_user, is_channel_open, least_closed}
 use Rattle.scql_model.specs.Transactions.{own_transaction, waits, for_others, for_any, is_kept_waiting}
 use Rattle.scql_base.specs.declared.operation.Line.{Line}
 use Rattle.scql_model.specs.Operations.{built_operations, kind_of}
@@ -27,7 +27,9 @@ use Rattle.scql_model.specs.ReadingCommands.{ReadingCommand, reading_command}
 use Rattle.scql_model.specs.Edits.{Edit}
 use Rattle.scql_model.specs.Changing.{edits_of, with_edits, transaction_after}
 use Rattle.scql_model.specs.WellFormed.{HasForm, FitsCard}
-use Rattle.scql_model.specs.ValidMachine.{HasSecret, IsPresentedIn, ArePresentedIn, IsValidWork, IsValidMachine}
+use Rattle.scql_model.specs.Moves.{move_of}
+use Rattle.scql_model.specs.Cursors.{Follows}
+use Rattle.scql_model.specs.ValidMachine.{HasSecret, IsPresentedIn, ArePresentedIn, IsReadingOf, IsValidWork, IsValidMachine}
 use Rattle.scql_model.specs.Step.{Answer, answered, done_with, reading_done, changed_to, changed, user_and_sessions_deleted, session_named, with_tries, secret_right, secret_wrong, verified, channel_opened, channel_closed, operated, carried_out, stepped, step_by, step}
 use Rattle.scql_model.proofs.Acting.{IsActorOf-actor}
 use Rattle.scql_model.proofs.AddedUser.{users_below}
@@ -42,6 +44,8 @@ use Rattle.scql_model.proofs.KeepsValid.{IsValid-edits_of}
 use Rattle.scql_model.proofs.LastCommits.{of_outcome}
 use Rattle.scql_model.proofs.LongerLists.{find-all}
 use Rattle.scql_model.proofs.ReadFits.{FitsCard-form_of}
+use Rattle.scql_model.proofs.CursorsStand.{HasChosen, HasChosen-reading_command, IsReadingOf-follows, IsReadingOf-move_of, no_reading-of}
+use Rattle.scql_model.proofs.ObjectsFollow.{Follows-itself, Follows-through, Follows-edits_of}
 use Rattle.scql_model.proofs.UsersFollow.{presented-edits_of, presented-with_tries}
 
 -- The users of sessions.
@@ -71,27 +75,68 @@ are_presented-in : (db new : Database) (sessions : List (Option Session)) → ((
 are_presented-in db new sessions each are =
     each-weaker (Presents db) (Presents new) sessions (λ session is. if_some-weaker (IsPresentedIn db) (IsPresentedIn new) (option_and_then (λ (s : Session). s.user) session) each is) are
 
+-- What sessions read.
+abbrev Reads : Database → Option Session → Type 0
+Reads db session = IsReadingOf db (option_map_or (λ (s : Session). s.reading) session no_reading)
+
+-- what each session reads, of the database of its channel
+abbrev AreReading : (ℕ → Database) → List (Option Session) → Type 0
+AreReading db sessions = (channel : ℕ) → Reads (db channel) (option_flatten (slice_get sessions channel))
+
+reading-set : (db : ℕ → Database) (sessions : List (Option Session)) (channel : ℕ) (session : Option Session)
+    → ((other : ℕ) → (other ≡ channel → ⊥) → Reads (db other) (option_flatten (slice_get sessions other))) → Reads (db channel) session → AreReading db (slice_set sessions channel session)
+reading-set db [] channel session others here other = no_reading-of (db other)
+reading-set db (s ∷ sessions) zero session others here zero = here
+reading-set db (s ∷ sessions) zero session others here (suc other) = others (suc other) (λ (same : suc other ≡ zero). omega arith)
+reading-set db (s ∷ sessions) (suc channel) session others here zero = others zero (λ (same : zero ≡ suc channel). omega arith)
+reading-set db (s ∷ sessions) (suc channel) session others here (suc other) =
+    reading-set (λ n. db (suc n)) sessions channel session (λ n apart. others (suc n) (λ (same : suc n ≡ suc channel). apart (omega arith))) here other
+
+reading-map : (db : ℕ → Database) (change : Session → Session) (sessions : List (Option Session)) → ((db : Database) (s : Session) → IsReadingOf db s.reading → IsReadingOf db (change s).reading)
+    → AreReading db sessions → AreReading db (map (option_map change) sessions)
+reading-map db change [] keeps are channel = no_reading-of (db channel)
+reading-map db change (None ∷ sessions) keeps are zero = no_reading-of (db zero)
+reading-map db change (Some s ∷ sessions) keeps are zero = keeps (db zero) s (are zero)
+reading-map db change (s ∷ sessions) keeps are (suc channel) = reading-map (λ n. db (suc n)) change sessions keeps (λ n. are (suc n)) channel
+
+reading-follows : (db new : ℕ → Database) (sessions : List (Option Session)) → ((channel : ℕ) → Follows (db channel) (new channel)) → AreReading db sessions → AreReading new sessions
+reading-follows db new sessions follows are channel = IsReadingOf-follows (db channel) (new channel) _ (follows channel) (are channel)
+
 -- a machine whose sessions alone are other ones
-valid-sessions : (m : Machine) (sessions : List (Option Session)) → ((db : Database) → ArePresentedIn db m.sessions → ArePresentedIn db sessions) → IsValidMachine m → IsValidMachine (record m { sessions = sessions })
-valid-sessions m sessions each valid = record {
+valid-sessions : (m : Machine) (sessions : List (Option Session)) → ((db : Database) → ArePresentedIn db m.sessions → ArePresentedIn db sessions) → AreReading (base m) sessions → IsValidMachine m
+    → IsValidMachine (record m { sessions = sessions })
+valid-sessions m sessions each reading valid = record {
   committed = valid.committed;
   presented = each m.committed valid.presented;
   transaction = if_some-weaker (IsValidWork m) (IsValidWork (record m { sessions = sessions })) m.transaction
-      (λ t (work : IsValidWork m t). record { working = work.working; limit = work.limit; presented = each t.working work.presented }) valid.transaction;
+      (λ t (work : IsValidWork m t). record { working = work.working; limit = work.limit; follows = work.follows; presented = each t.working work.presented }) valid.transaction;
+  readings = reading;
 }
 
 -- the session of a channel is none, a new one, or one of the same user
-valid-with_session : (m : Machine) (channel : ℕ) (session : Option Session) → ((db : Database) → ArePresentedIn db m.sessions → Presents db session) → IsValidMachine m → IsValidMachine (with_session m channel session)
-valid-with_session m channel session is valid = valid-sessions m (slice_set m.sessions channel session) (λ db are. all-set (Presents db) m.sessions channel session are (is db are)) valid
+valid-with_session : (m : Machine) (channel : ℕ) (session : Option Session) → ((db : Database) → ArePresentedIn db m.sessions → Presents db session) → Reads (base m channel) session → IsValidMachine m
+    → IsValidMachine (with_session m channel session)
+valid-with_session m channel session is reads valid =
+    valid-sessions m (slice_set m.sessions channel session) (λ db are. all-set (Presents db) m.sessions channel session are (is db are))
+    (reading-set (base m) m.sessions channel session (λ other _. valid.readings other) reads) valid
 
-valid-changing : (m : Machine) (channel : ℕ) (change : Session → Session) → ((db : Database) (s : Session) → Presents db (Some s) → Presents db (Some (change s))) → IsValidMachine m
-    → IsValidMachine (changing_session change m channel)
-valid-changing m channel change keeps valid =
-    valid-with_session m channel (option_map change (session_of m channel)) (λ db are. go db (session_of m channel) (all-get (Presents db) m.sessions channel are tt)) valid
+valid-changing : (m : Machine) (channel : ℕ) (change : Session → Session) → ((db : Database) (s : Session) → Presents db (Some s) → Presents db (Some (change s)))
+    → ((s : Session) → IsReadingOf (base m channel) s.reading → IsReadingOf (base m channel) (change s).reading) → IsValidMachine m → IsValidMachine (changing_session change m channel)
+valid-changing m channel change keeps reads valid =
+    valid-with_session m channel (option_map change (session_of m channel)) (λ db are. go db (session_of m channel) (all-get (Presents db) m.sessions channel are tt))
+    (read (session_of m channel) (valid.readings channel)) valid
   where
     go : (db : Database) (session : Option Session) → Presents db session → Presents db (option_map change session)
     go db None is = tt
     go db (Some s) is = keeps db s is
+
+    read : (session : Option Session) → Reads (base m channel) session → Reads (base m channel) (option_map change session)
+    read None is = is
+    read (Some s) is = reads s is
+
+-- what was pending is so no more
+no_pending : (db : Database) (s : Session) → IsReadingOf db s.reading → IsReadingOf db (without_pending s).reading
+no_pending db s is = record { cursor = is.cursor; pending = λ _. refl }
 
 -- An answer leaves a valid machine, and commits valid databases.
 pub record IsValidAnswer (answer : Answer) : Type 0 where
@@ -99,30 +144,36 @@ pub record IsValidAnswer (answer : Answer) : Type 0 where
   pub commits : AllByRecursion IsValid answer.commits
 
 valid-done : (m : Machine) (channel : ℕ) (commits : List Database) → IsValidMachine m → AllByRecursion IsValid commits → IsValidAnswer (done_with m channel commits)
-valid-done m channel commits valid each = record { machine = valid-changing m channel without_pending (λ db s is. is) valid; commits = each }
-
-valid-reading : (m : Machine) (channel : ℕ) (command : ReadingCommand) → IsValidMachine m → IsValidAnswer (reading_done m channel command)
-valid-reading m channel command valid = record { machine = valid-changing m channel (reading_so _) (λ db s is. is) valid; commits = tt }
+valid-done m channel commits valid each = record { machine = valid-changing m channel without_pending (λ db s is. is) (no_pending (base m channel)) valid; commits = each }
 
 -- What a channel reads and changes is valid.
 record IsValidBase (m : Machine) (db : Database) : Type 0 where
   valid : IsValid db
   limit : db.limit ≡ m.committed.limit
+  follows : Follows m.committed db
   presented : ArePresentedIn db m.sessions
 
 valid-base : (m : Machine) (channel : ℕ) → IsValidMachine m → IsValidBase m (base m channel)
 valid-base m channel valid = go m.transaction valid.transaction
   where
     committed : IsValidBase m m.committed
-    committed = record { valid = valid.committed; limit = refl; presented = valid.presented }
+    committed = record { valid = valid.committed; limit = refl; follows = Follows-itself m.committed; presented = valid.presented }
 
     either : (t : Transaction) (b : Bool) → IsValidWork m t → IsValidBase m (if b then t.working else m.committed)
-    either t true work = record { valid = work.working; limit = work.limit; presented = work.presented }
+    either t true work = record { valid = work.working; limit = work.limit; follows = work.follows; presented = work.presented }
     either t false work = committed
 
     go : (t : Option Transaction) → IfSome t (IsValidWork m) → IsValidBase m (base_of t m.committed channel)
     go None work = committed
     go (Some t) work = either t (t.channel == channel) work
+
+-- reading
+valid-reading : (m : Machine) (channel : ℕ) (command : ReadingCommand) → HasChosen command → IsValidMachine m → IsValidAnswer (reading_done m channel command)
+valid-reading m channel command chosen valid = record {
+  machine = valid-changing m channel (reading_so (move_of (base m channel) (actor m channel) (reading_of m channel) command).after) (λ db s is. is)
+      (λ s _. IsReadingOf-move_of (base m channel) (actor m channel) (reading_of m channel) (valid-base m channel valid).valid (valid.readings channel) command chosen) valid;
+  commits = tt;
+}
 
 -- what comes of a value comes of an outcome
 bound-ok : {A B : Type 0} (P : B → Type 0) (r : Result A StatusWord) (f : A → Result B StatusWord) → ((x : A) → r ≡ Ok x → IfOk (f x) P) → IfOk (r >>= f) P
@@ -145,6 +196,38 @@ none_open (Some t) channel free = absurd cc
 others-any : (t : Option Transaction) (channel : ℕ) → is_kept_waiting for_any t channel ≡ false → is_kept_waiting for_others t channel ≡ false
 others-any None channel free = refl
 others-any (Some t) channel free = absurd cc
+
+-- where no transaction is open all channels read what is committed
+reading-committed : (m : Machine) (db : Database) → m.transaction ≡ None → Follows m.committed db → IsValidMachine m → AreReading (base_of m.transaction db) m.sessions
+reading-committed m db none follows valid =
+    subst (λ (t : Option Transaction). AreReading (base_of t db) m.sessions) (sym none)
+    (reading-follows (λ _. m.committed) (λ _. db) m.sessions (λ _. follows)
+    (subst (λ (t : Option Transaction). AreReading (base_of t m.committed) m.sessions) none valid.readings))
+
+-- an open one is its channel's own
+own-parts : (o : Option Transaction) (channel : ℕ) (t : Transaction) → own_transaction o channel ≡ Some t → (o ≡ Some t) × ((t.channel == channel) ≡ true)
+own-parts None channel t own = absurd (none-some t own)
+own-parts (Some other) channel t own =
+    elim (cases_Bool (other.channel == channel)) [
+      | inl e ↦ (let same : other ≡ t = same_Some other t (rw e at own) in (ap Some same, subst (λ (t : Transaction). (t.channel == channel) ≡ true) same e))
+      | inr f ↦ absurd (none-some t (rw f at own))
+    ]
+
+-- its channel reads what it works on
+base-own : (m : Machine) (channel : ℕ) (t : Transaction) → own_transaction m.transaction channel ≡ Some t → base m channel ≡ t.working
+base-own m channel t own = let parts = own-parts m.transaction channel t own in rw (parts.0, parts.1) refl
+
+-- where it goes on, its channel alone reads another database
+reading-working : (m : Machine) (channel : ℕ) (t : Transaction) (db : Database) → own_transaction m.transaction channel ≡ Some t → Follows t.working db → IsValidMachine m
+    → (new : Transaction) → new.channel ≡ t.channel → new.working ≡ db → AreReading (base_of (Some new) m.committed) m.sessions
+reading-working m channel t db own follows valid new there works =
+    reading-follows (base_of (Some t) m.committed) (base_of (Some new) m.committed) m.sessions
+    (λ other. rw (there, works) (either (t.channel == other)))
+    (subst (λ (o : Option Transaction). AreReading (base_of o m.committed) m.sessions) (own-parts m.transaction channel t own).0 valid.readings)
+  where
+    either : (b : Bool) → Follows (if b then t.working else m.committed) (if b then db else m.committed)
+    either true = follows
+    either false = Follows-itself m.committed
 
 -- Changes.
 valid-changed : (m : Machine) (channel : ℕ) (operation : Operation) → IsValidMachine m → HasForm operation → FitsCard m.committed.limit operation → is_kept_waiting for_others m.transaction channel ≡ false
@@ -169,16 +252,27 @@ valid-changed m channel operation valid form fits free =
             (λ p is. subst (λ (db : Database). IsPresentedIn db p) (sym (AreMade-with_edits (base m channel) edits db ok).is)
             (presented-edits_of (base m channel) (actor m channel) (cursor_of m channel) operation edits p before.valid made is)) before.presented
 
+        follows : Follows (base m channel) db
+        follows = subst (Follows (base m channel)) (sym (AreMade-with_edits (base m channel) edits db ok).is) (Follows-edits_of (base m channel) (actor m channel) (cursor_of m channel) operation edits made)
+
         go : (own : Option Transaction) → own_transaction m.transaction channel ≡ own → IsValidAnswer (changed_to m channel edits db own)
         go None is = valid-done (record m { committed = db }) channel (db ∷ []) (record {
           committed = new;
           presented = users;
           transaction = subst (λ (t : Option Transaction). IfSome t (IsValidWork (record m { committed = db }))) (sym (no_other m.transaction channel is free)) tt;
+          readings = let none = no_other m.transaction channel is free in
+              reading-committed m db none (subst (λ (t : Option Transaction). Follows (base_of t m.committed channel) db) none follows) valid;
         }) (new, tt)
         go (Some t) is = valid-done (record m { transaction = Some (transaction_after m.committed t edits db) }) channel [] (record {
           committed = valid.committed;
           presented = valid.presented;
-          transaction = record { working = new; limit = (AreMade-with_edits (base m channel) edits db ok).limit ∙ before.limit; presented = users };
+          transaction = record {
+            working = new;
+            limit = (AreMade-with_edits (base m channel) edits db ok).limit ∙ before.limit;
+            follows = Follows-through m.committed (base m channel) db before.follows follows;
+            presented = users;
+          };
+          readings = reading-working m channel t db is (subst (λ (from : Database). Follows from db) (base-own m channel t is) follows) valid (transaction_after m.committed t edits db) refl refl;
         }) tt
 
 -- a user who is deleted is presented nowhere any more
@@ -194,45 +288,91 @@ valid-deleted m channel name valid form free = go (changed m channel (DeleteUser
         either true = tt
         either false = is
 
+    leaves : (stamp : ℕ) (db : Database) (s : Session) → IsReadingOf db s.reading → IsReadingOf db (left_by stamp s).reading
+    leaves stamp db s is = either (is_of_user stamp s)
+      where
+        either : (b : Bool) → IsReadingOf db (if b then without_cursor (record s { user = None }) else s).reading
+        either true = no_reading-of db
+        either false = is
+
     go : (r : Result Answer StatusWord) → IfOk r IsValidAnswer
         → IfOk (r >>= λ (answer : Answer). or_refused (user_named (base m channel).users name) not_found >>= λ (u : User). Ok (record answer { machine = without_user answer.machine u.stamp })) IsValidAnswer
     go (Err word) is = tt
     go (Ok answer) is = of_outcome IsValidAnswer (or_refused (user_named (base m channel).users name) not_found) _ (λ u. record {
       machine = valid-sessions answer.machine (map (option_map (left_by u.stamp)) answer.machine.sessions)
-          (λ db are. all-map (Presents db) (option_map (left_by u.stamp)) answer.machine.sessions (left u.stamp db) are) is.machine;
+          (λ db are. all-map (Presents db) (option_map (left_by u.stamp)) answer.machine.sessions (left u.stamp db) are)
+          (reading-map (base answer.machine) (left_by u.stamp) answer.machine.sessions (leaves u.stamp) is.machine.readings) is.machine;
       commits = is.commits;
     })
 
 -- Transactions.
-own-some : (P : Transaction → Type 0) (o : Option Transaction) (channel : ℕ) (t : Transaction) → own_transaction o channel ≡ Some t → IfSome o P → P t
-own-some P None channel t own is = absurd (none-some t own)
-own-some P (Some other) channel t own is = go (other.channel == channel) own
-  where
-    go : (b : Bool) → (if b then Some other else None) ≡ Some t → P t
-    go true own = subst P (same_Some other t own) is
-    go false own = absurd (none-some t own)
-
 valid-begun : (m : Machine) (channel : ℕ) → IsValidMachine m → IfOk (operated m channel Begin) IsValidAnswer
 valid-begun m channel valid =
-    of_outcome IsValidAnswer (provided (not (is_some m.transaction)) conditions_not_satisfied) _ (λ _.
-    valid-done (record m { transaction = Some (record { channel = channel; working = m.committed; touched = [] }) }) channel [] (record {
+    bound-ok IsValidAnswer (provided (not (is_some m.transaction)) conditions_not_satisfied) _ (λ x is.
+    let begun : Transaction = record { channel = channel; working = m.committed; touched = [] } in
+    valid-done (record m { transaction = Some begun }) channel [] (record {
       committed = valid.committed;
       presented = valid.presented;
-      transaction = record { working = valid.committed; limit = refl; presented = valid.presented };
+      transaction = record { working = valid.committed; limit = refl; follows = Follows-itself m.committed; presented = valid.presented };
+      readings = reading-follows (base m) (base_of (Some begun) m.committed) m.sessions (λ other. same (none m.transaction (not-true (is_some m.transaction) (not_unless (not (is_some m.transaction)) conditions_not_satisfied x is))) other) valid.readings;
     }) tt)
+  where
+    none : (t : Option Transaction) → is_some t ≡ false → t ≡ None
+    none None closed = refl
+    none (Some t) closed = absurd (false≢true (sym closed))
+
+    either : (b : Bool) → Follows m.committed (if b then m.committed else m.committed)
+    either true = Follows-itself m.committed
+    either false = Follows-itself m.committed
+
+    same : m.transaction ≡ None → (other : ℕ) → Follows (base m other) (if channel == other then m.committed else m.committed)
+    same closed other = subst (λ (t : Option Transaction). Follows (base_of t m.committed other) (if channel == other then m.committed else m.committed)) (sym closed) (either (channel == other))
 
 valid-committed : (m : Machine) (channel : ℕ) → IsValidMachine m → IfOk (operated m channel Commit) IsValidAnswer
 valid-committed m channel valid =
     bound-ok IsValidAnswer (or_refused (own_transaction m.transaction channel) conditions_not_satisfied) _ (λ t is.
-    let work = own-some (IsValidWork m) m.transaction channel t (not_refused (own_transaction m.transaction channel) conditions_not_satisfied t is) valid.transaction in
-    valid-done (record m { committed = t.working; transaction = None }) channel (t.working ∷ []) (record { committed = work.working; presented = work.presented; transaction = tt }) (work.working, tt))
+    let own = own-parts m.transaction channel t (not_refused (own_transaction m.transaction channel) conditions_not_satisfied t is) in
+    let work : IsValidWork m t = subst (λ (o : Option Transaction). IfSome o (IsValidWork m)) own.0 valid.transaction in
+    valid-done (record m { committed = t.working; transaction = None }) channel (t.working ∷ []) (record {
+      committed = work.working;
+      presented = work.presented;
+      transaction = tt;
+      readings = reading-follows (base_of (Some t) m.committed) (λ _. t.working) m.sessions (λ other. either t work.follows (t.channel == other))
+          (subst (λ (o : Option Transaction). AreReading (base_of o m.committed) m.sessions) own.0 valid.readings);
+    }) (work.working, tt))
+  where
+    either : (t : Transaction) → Follows m.committed t.working → (b : Bool) → Follows (if b then t.working else m.committed) t.working
+    either t follows true = Follows-itself t.working
+    either t follows false = follows
 
 valid-rolled_back : (m : Machine) (channel : ℕ) → IsValidMachine m → IfOk (operated m channel Rollback) IsValidAnswer
 valid-rolled_back m channel valid =
-    of_outcome IsValidAnswer (or_refused (own_transaction m.transaction channel) conditions_not_satisfied) _ (λ _.
-    let ended : Machine = record m { transaction = None } in
-    valid-done (changing_session without_cursor ended channel) channel []
-    (valid-changing ended channel without_cursor (λ db s is. is) (record { committed = valid.committed; presented = valid.presented; transaction = tt })) tt)
+    bound-ok IsValidAnswer (or_refused (own_transaction m.transaction channel) conditions_not_satisfied) _ (λ t is.
+    let own = own-parts m.transaction channel t (not_refused (own_transaction m.transaction channel) conditions_not_satisfied t is) in
+    let session = session_of m channel in
+    valid-done (changing_session without_cursor (record m { transaction = None }) channel) channel [] (record {
+      committed = valid.committed;
+      presented = all-set (Presents m.committed) m.sessions channel (option_map without_cursor session) valid.presented (presents session (all-get (Presents m.committed) m.sessions channel valid.presented tt));
+      transaction = tt;
+      readings = reading-set (λ _. m.committed) m.sessions channel (option_map without_cursor session)
+          (λ other apart. elsewhere t own.0 other (elsewhere_not t channel other own.1 apart)) (nothing session);
+    }) tt)
+  where
+    presents : (session : Option Session) → Presents m.committed session → Presents m.committed (option_map without_cursor session)
+    presents None is = tt
+    presents (Some s) is = is
+
+    nothing : (session : Option Session) → Reads m.committed (option_map without_cursor session)
+    nothing None = no_reading-of m.committed
+    nothing (Some s) = no_reading-of m.committed
+
+    elsewhere_not : (t : Transaction) (channel other : ℕ) → (t.channel == channel) ≡ true → (other ≡ channel → ⊥) → (t.channel == other) ≡ false
+    elsewhere_not t channel other own apart = let here = eqb-true t.channel channel own in ne_eqb t.channel other (λ (same : t.channel ≡ other). apart (omega arith))
+
+    elsewhere : (t : Transaction) → m.transaction ≡ Some t → (other : ℕ) → (t.channel == other) ≡ false → Reads m.committed (session_of m other)
+    elsewhere t is other not_own =
+        let read = subst (λ (o : Option Transaction). Reads (base_of o m.committed other) (session_of m other)) is (valid.readings other) in
+        rw not_own at read
 
 -- PRESENT USER: who is found has the secret that it has
 presents-named : (db : Database) (name : List ℕ) (session : Session) → IsValid db → session_named db name ≡ Ok session → Presents db (Some session)
@@ -257,6 +397,18 @@ presents-named db name session valid is = go (bytes_eq name public_name) is
     go true is = let same : new_session ≡ session = cc in subst (λ (s : Session). Presents db (Some s)) same tt
     go false is = named (user_named db.users name) refl is
 
+-- and nothing is read yet
+reads-named : (db : Database) (name : List ℕ) (session : Session) → session_named db name ≡ Ok session → session.reading ≡ no_reading
+reads-named db name session is = go (bytes_eq name public_name) is
+  where
+    named : (found : Option User) → (or_refused found not_found >>= λ (u : User). Ok (session_for (Some (presented u)))) ≡ Ok session → session.reading ≡ no_reading
+    named None is = absurd cc
+    named (Some u) is = let same : session_for (Some (presented u)) ≡ session = cc in ap (λ (s : Session). s.reading) (sym same)
+
+    go : (b : Bool) → (if b then Ok new_session else (or_refused (user_named db.users name) not_found >>= λ (u : User). Ok (session_for (Some (presented u))))) ≡ Ok session → session.reading ≡ no_reading
+    go true is = let same : new_session ≡ session = cc in ap (λ (s : Session). s.reading) (sym same)
+    go false is = named (user_named db.users name) is
+
 valid-presented : (m : Machine) (channel : ℕ) (name : List ℕ) → IsValidMachine m → is_kept_waiting for_any m.transaction channel ≡ false → IfOk (operated m channel (PresentUser name)) IsValidAnswer
 valid-presented m channel name valid free =
     bound-ok IsValidAnswer (session_named (base m channel) name) _ (λ session is. valid-done (with_session m channel (Some session)) channel [] (machine session is) tt)
@@ -270,6 +422,8 @@ valid-presented m channel name valid free =
       presented = all-set (Presents m.committed) m.sessions channel (Some session) valid.presented
           (presents-named m.committed name session valid.committed (ap (λ (t : Option Transaction). session_named (base_of t m.committed channel) name) (sym none) ∙ is));
       transaction = subst (λ (t : Option Transaction). IfSome t (IsValidWork (with_session m channel (Some session)))) (sym none) tt;
+      readings = reading-set (base m) m.sessions channel (Some session) (λ other _. valid.readings other)
+          (subst (IsReadingOf (base m channel)) (sym (reads-named (base m channel) name session is)) (no_reading-of (base m channel)));
     }
 
 -- VERIFY: a user who isn't proved has a secret, and so may have fewer tries
@@ -283,6 +437,7 @@ module _ (m : Machine) (valid : IsValidMachine m) (none : m.transaction ≡ None
     committed = valid-tries tries few;
     presented = are_presented-in m.committed (with_tries m.committed u tries) m.sessions (λ q is. presented-with_tries m.committed u tries q secret is) valid.presented;
     transaction = subst (λ (t : Option Transaction). IfSome t (IsValidWork (record m { committed = with_tries m.committed u tries }))) (sym none) tt;
+    readings = reading-committed m (with_tries m.committed u tries) none (record { next = (Follows-itself m.committed).next; objects = (Follows-itself m.committed).objects }) valid;
   }
 
   fewer : is_tries (u.tries - 1) ≡ true
@@ -298,7 +453,7 @@ module _ (m : Machine) (valid : IsValidMachine m) (none : m.transaction ≡ None
   valid-compared channel true =
       let restored : Machine = record m { committed = with_tries m.committed u 3 } in
       valid-done (changing_session proving restored channel) channel (with_tries m.committed u (u.tries - 1) ∷ with_tries m.committed u 3 ∷ [])
-      (valid-changing restored channel proving (λ db s is. proved db s.user is) (valid-with_tries 3 refl)) (valid-tries (u.tries - 1) fewer, (valid-tries 3 refl, tt))
+      (valid-changing restored channel proving (λ db s is. proved db s.user is) (λ s is. is) (valid-with_tries 3 refl)) (valid-tries (u.tries - 1) fewer, (valid-tries 3 refl, tt))
     where
       proved : (db : Database) (user : Option PresentedUser) → IfSome user (IsPresentedIn db) → IfSome (option_map (λ (p : PresentedUser). record p { proved = true }) user) (IsPresentedIn db)
       proved db None is = tt
@@ -320,16 +475,16 @@ valid-verified m channel secret valid free =
 -- MANAGE CHANNEL
 valid-opened : (m : Machine) (channel number : ℕ) → IsValidMachine m → IfOk (channel_opened m channel number) IsValidAnswer
 valid-opened m channel zero valid = of_outcome IsValidAnswer (or_refused (least_closed m) function_not_supported) _ (λ number.
-    let done = valid-done (with_session m number (Some new_session)) channel [] (valid-with_session m number (Some new_session) (λ db are. tt) valid) tt in
+    let done = valid-done (with_session m number (Some new_session)) channel [] (valid-with_session m number (Some new_session) (λ db are. tt) (no_reading-of (base m number)) valid) tt in
     record { machine = done.machine; commits = tt })
 valid-opened m channel (suc n) valid = of_outcome IsValidAnswer (provided (not (is_channel_open m (suc n))) conditions_not_satisfied) _ (λ _.
-    valid-done (with_session m (suc n) (Some new_session)) channel [] (valid-with_session m (suc n) (Some new_session) (λ db are. tt) valid) tt)
+    valid-done (with_session m (suc n) (Some new_session)) channel [] (valid-with_session m (suc n) (Some new_session) (λ db are. tt) (no_reading-of (base m (suc n))) valid) tt)
 
 valid-closed : (m : Machine) (channel number : ℕ) → IsValidMachine m → IfOk (channel_closed m channel number) IsValidAnswer
 valid-closed m channel number valid =
     of_outcome IsValidAnswer (provided (is_channel_open m number) channel_not_supported) _ (λ _.
     of_outcome IsValidAnswer (provided (not (is_some (own_transaction m.transaction number))) conditions_not_satisfied) _ (λ _.
-    valid-done (with_session m number None) channel [] (valid-with_session m number None (λ db are. tt) valid) tt))
+    valid-done (with_session m number None) channel [] (valid-with_session m number None (λ db are. tt) (no_reading-of (base m number)) valid) tt))
 
 -- Each operation that doesn't read.
 valid-operated : (m : Machine) (channel : ℕ) (operation : Operation) → IsValidMachine m → HasForm operation → FitsCard m.committed.limit operation
@@ -354,26 +509,26 @@ valid-operated m channel operation valid form fits free = valid-changed m channe
 valid-carried_out : (m : Machine) (c : Command) → IsValidMachine m → HasForm c.operation → FitsCard m.committed.limit c.operation → IfOk (carried_out m c) IsValidAnswer
 valid-carried_out m c valid form fits =
     bound-ok IsValidAnswer (provided (not (is_kept_waiting (waits (kind_of c.operation)) m.transaction c.channel)) conditions_not_satisfied) _ (λ x free.
-    either (reading_command c.operation c.le)
+    either (reading_command c.operation c.le) refl
     (not-true (is_kept_waiting (waits (kind_of c.operation)) m.transaction c.channel) (not_unless (not (is_kept_waiting (waits (kind_of c.operation)) m.transaction c.channel)) conditions_not_satisfied x free)))
   where
-    either : (command : Option ReadingCommand) → is_kept_waiting (waits (kind_of c.operation)) m.transaction c.channel ≡ false
+    either : (command : Option ReadingCommand) → reading_command c.operation c.le ≡ command → is_kept_waiting (waits (kind_of c.operation)) m.transaction c.channel ≡ false
         → IfOk (option_map_or (λ command. Ok (reading_done m c.channel command)) command (operated m c.channel c.operation)) IsValidAnswer
-    either None free = valid-operated m c.channel c.operation valid form fits free
-    either (Some command) free = valid-reading m c.channel command valid
+    either None is free = valid-operated m c.channel c.operation valid form fits free
+    either (Some command) is free = valid-reading m c.channel command (HasChosen-reading_command c.operation c.le command form is) valid
 
 valid-answered : (m : Machine) (outcome : Result Answer StatusWord) → IsValidMachine m → IfOk outcome IsValidAnswer → IsValidAnswer (answered m outcome)
 valid-answered m (Ok answer) valid is = is
 valid-answered m (Err word) valid is = record { machine = valid; commits = tt }
 
 valid-ended : (m : Machine) (channel : ℕ) → IsValidMachine m → IsValidMachine (changing_session without_chain m channel)
-valid-ended m channel valid = valid-changing m channel without_chain (λ db s is. is) valid
+valid-ended m channel valid = valid-changing m channel without_chain (λ db s is. is) (λ s is. is) valid
 
 valid-stepped : (m : Machine) (form : Form) → IsValidMachine m → ((c : Command) → form ≡ a_command c → HasForm c.operation × FitsCard m.committed.limit c.operation) → IsValidAnswer (stepped m form)
 valid-stepped m (refused word) valid right = record { machine = valid; commits = tt }
 valid-stepped m (refused_on channel word) valid right = record { machine = valid-ended m channel valid; commits = tt }
 valid-stepped m (part_on channel kind octets) valid right =
-    valid-done (changing_session (with_part kind octets) m channel) channel [] (valid-changing m channel (with_part kind octets) (λ db s is. is) valid) tt
+    valid-done (changing_session (with_part kind octets) m channel) channel [] (valid-changing m channel (with_part kind octets) (λ db s is. is) (λ s is. is) valid) tt
 valid-stepped m (a_command c) valid right =
     let ended : Machine = changing_session without_chain m c.channel in
     let fields = right c refl in
@@ -398,4 +553,11 @@ IsValidAnswer-step m octets are valid = IsValidAnswer-step_by built_operations m
 
 -- the machine with which a card begins
 pub IsValidMachine-start : (db : Database) → IsValid db → IsValidMachine (start db)
-IsValidMachine-start db valid = record { committed = valid; presented = (tt, (tt, (tt, (tt, tt)))); transaction = tt }
+IsValidMachine-start db valid = record { committed = valid; presented = (tt, (tt, (tt, (tt, tt)))); transaction = tt; readings = none }
+  where
+    none : AreReading (λ _. db) (start db).sessions
+    none zero = no_reading-of db
+    none (suc zero) = no_reading-of db
+    none (suc (suc zero)) = no_reading-of db
+    none (suc (suc (suc zero))) = no_reading-of db
+    none (suc (suc (suc (suc channel)))) = no_reading-of db

@@ -1,10 +1,12 @@
--- Machines whose databases are valid, and whose sessions present users of them.
-use Rattle.std.specs.Prelude.{◌≡◌, ◌<◌, ◌==◌, false, List, length, Option, IfSome, option_and_then}
+-- Machines whose databases are valid, and whose sessions present users of them and have cursors that stand on them.
+use Rattle.std.specs.Prelude.{◌≡◌, ℕ, ◌<◌, ◌==◌, false, List, [], length, Option, None, IfSome, option_and_then}
 use Rattle.std.specs.List.{AllByRecursion}
 use Rattle.scql_base.specs.declared.cursor.PresentedUser.{PresentedUser}
 use Rattle.scql_base.specs.declared.records.User.{User}
 use Rattle.scql_model.specs.Database.{Database, IsValid, user_stamped}
-use Rattle.scql_model.specs.Machine.{Machine, Session, Transaction}
+use Rattle.scql_model.specs.Machine.{Machine, Reading, Session, Transaction, base}
+use Rattle.scql_model.specs.Sessions.{reading_of}
+use Rattle.scql_model.specs.Cursors.{StandsOn, Follows}
 
 abbrev pub HasSecret : User → Type 0
 HasSecret u = (length u.secret == 0) ≡ false
@@ -18,13 +20,21 @@ pub record IsPresentedIn (db : Database) (p : PresentedUser) : Type 0 where
 abbrev pub ArePresentedIn : Database → List (Option Session) → Type 0
 ArePresentedIn db sessions = AllByRecursion (λ (session : Option Session). IfSome (option_and_then (λ (s : Session). s.user) session) (IsPresentedIn db)) sessions
 
--- a transaction works on a valid database with the limit of the committed one
+-- what is read of a database: the cursor stands on it, and octets are pending only where there is a cursor
+pub record IsReadingOf (db : Database) (reading : Reading) : Type 0 where
+  pub cursor : IfSome reading.cursor (StandsOn db)
+  pub pending : reading.cursor ≡ None → reading.pending ≡ []
+
+-- a transaction works on a valid database with the limit of the committed one, which it follows
 pub record IsValidWork (m : Machine) (t : Transaction) : Type 0 where
   pub working : IsValid t.working
   pub limit : t.working.limit ≡ m.committed.limit
+  pub follows : Follows m.committed t.working
   pub presented : ArePresentedIn t.working m.sessions
 
+-- each channel reads the working database where the transaction is its own, else the committed one
 pub record IsValidMachine (m : Machine) : Type 0 where
   pub committed : IsValid m.committed
   pub presented : ArePresentedIn m.committed m.sessions
   pub transaction : IfSome m.transaction (IsValidWork m)
+  pub readings : (channel : ℕ) → IsReadingOf (base m channel) (reading_of m channel)

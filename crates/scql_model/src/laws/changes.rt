@@ -31,8 +31,8 @@ pub fn a_change_keeps_a_database_valid()
         → (applied db edits).next ≡ (if takes_stamp edits then db.next + 1 else db.next) }
 {}
 
-/// A step of a valid machine leaves a valid one, and commits valid databases; and a card begins with one. Of cursors, chains and pending
-/// octets it says nothing.
+/// A step of a valid machine leaves a valid one, and commits valid databases; and a card begins with one. In a valid machine each cursor stands
+/// on the database that its channel reads, and octets are pending only where there is a cursor. Of chains it says nothing.
 pub fn a_step_keeps_a_machine_valid()
     ensures start { (db : Database) → IsValid db → IsValidMachine (start db) }
     ensures machine { (m : Machine) (octets : List ℕ) → ((i : ℕ) → slice_index octets i < 256) → IsValidMachine m
