@@ -13,7 +13,7 @@ use Rattle.scql_base.specs.declared.operation.OperationKind.TheVariants as kind
 use Rattle.scql_base.specs.Words.{wrong_length, class_not_supported, secure_messaging_not_supported, chaining_not_supported, instruction_not_supported, channel_not_supported, wrong_parameters, wrong_data}
 use Rattle.scql_base.specs.Strings.{spelled, params_of, pieces_of}
 use Rattle.scql_base.specs.declared.operation.Line.{Line}
-use Rattle.scql_model.specs.Operations.{operations, built_operations, line_of}
+use Rattle.scql_model.specs.Operations.{operations, line_of}
 use Rattle.scql_model.specs.Form.{Form, refused, refused_on, part_on, a_command, form_of, no_chain}
 
 -- octets, from their digits
