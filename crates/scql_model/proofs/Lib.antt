@@ -12,6 +12,7 @@ pub mod AddedUser
 pub mod AnswerWords
 pub mod Apart
 pub mod Assigning
+pub mod CardReads
 pub mod ChangeLaws
 pub mod ChangedGrants
 pub mod ChangedLists

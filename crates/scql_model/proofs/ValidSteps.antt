@@ -28,7 +28,7 @@ use Rattle.scql_model.specs.Edits.{Edit}
 use Rattle.scql_model.specs.Changing.{edits_of, with_edits, transaction_after}
 use Rattle.scql_model.specs.WellFormed.{HasForm, FitsCard}
 use Rattle.scql_model.specs.Moves.{move_of}
-use Rattle.scql_model.specs.Cursors.{Follows}
+use Rattle.scql_model.specs.Cursors.{IsCursorOf, StandsOn, Follows}
 use Rattle.scql_model.specs.ValidMachine.{HasSecret, IsPresentedIn, ArePresentedIn, IsReadingOf, IsValidWork, IsValidMachine}
 use Rattle.scql_model.specs.Step.{Answer, answered, done_with, reading_done, changed_to, changed, user_and_sessions_deleted, session_named, with_tries, secret_right, secret_wrong, verified, channel_opened, channel_closed, operated, carried_out, stepped, step_by, step}
 use Rattle.scql_model.proofs.Acting.{IsActorOf-actor}
@@ -147,13 +147,13 @@ valid-done : (m : Machine) (channel : ℕ) (commits : List Database) → IsValid
 valid-done m channel commits valid each = record { machine = valid-changing m channel without_pending (λ db s is. is) (no_pending (base m channel)) valid; commits = each }
 
 -- What a channel reads and changes is valid.
-record IsValidBase (m : Machine) (db : Database) : Type 0 where
-  valid : IsValid db
+pub record IsValidBase (m : Machine) (db : Database) : Type 0 where
+  pub valid : IsValid db
   limit : db.limit ≡ m.committed.limit
   follows : Follows m.committed db
   presented : ArePresentedIn db m.sessions
 
-valid-base : (m : Machine) (channel : ℕ) → IsValidMachine m → IsValidBase m (base m channel)
+pub valid-base : (m : Machine) (channel : ℕ) → IsValidMachine m → IsValidBase m (base m channel)
 valid-base m channel valid = go m.transaction valid.transaction
   where
     committed : IsValidBase m m.committed
@@ -166,6 +166,10 @@ valid-base m channel valid = go m.transaction valid.transaction
     go : (t : Option Transaction) → IfSome t (IsValidWork m) → IsValidBase m (base_of t m.committed channel)
     go None work = committed
     go (Some t) work = either t (t.channel == channel) work
+
+-- the cursor of a channel has columns of its database
+pub cursor-base : (m : Machine) (channel : ℕ) → IsValidMachine m → IfSome (cursor_of m channel) (IsCursorOf (base m channel))
+cursor-base m channel valid = if_some-weaker (StandsOn (base m channel)) (IsCursorOf (base m channel)) (cursor_of m channel) (λ c stands. stands.columns) (valid.readings channel).cursor
 
 -- reading
 valid-reading : (m : Machine) (channel : ℕ) (command : ReadingCommand) → HasChosen command → IsValidMachine m → IsValidAnswer (reading_done m channel command)
@@ -521,7 +525,8 @@ valid-answered : (m : Machine) (outcome : Result Answer StatusWord) → IsValidM
 valid-answered m (Ok answer) valid is = is
 valid-answered m (Err word) valid is = record { machine = valid; commits = tt }
 
-valid-ended : (m : Machine) (channel : ℕ) → IsValidMachine m → IsValidMachine (changing_session without_chain m channel)
+-- a command of a channel ends its chain
+pub valid-ended : (m : Machine) (channel : ℕ) → IsValidMachine m → IsValidMachine (changing_session without_chain m channel)
 valid-ended m channel valid = valid-changing m channel without_chain (λ db s is. is) (λ s is. is) valid
 
 valid-stepped : (m : Machine) (form : Form) → IsValidMachine m → ((c : Command) → form ≡ a_command c → HasForm c.operation × FitsCard m.committed.limit c.operation) → IsValidAnswer (stepped m form)

@@ -5,16 +5,20 @@ ghost use Rattle.std.specs.List.Sorted.{IsSortedByKey};
 ghost use Rattle.std.specs.Ordering.{nat_cmp};
 ghost use Rattle.scql_base.specs.declared.operation.Command.{Command};
 ghost use Rattle.scql_base.specs.declared.words.Actor.{Actor};
+ghost use Rattle.scql_model.specs.Accepting.{channel_named};
+ghost use Rattle.scql_model.specs.Answering.{AreCommand};
 ghost use Rattle.scql_model.specs.Database.{Database, IsValid};
 ghost use Rattle.scql_model.specs.Form.{a_command};
 ghost use Rattle.scql_model.specs.Machine.{Machine, Reading, Session, base, session_of};
 ghost use Rattle.scql_model.specs.Moves.{move_of};
 ghost use Rattle.scql_model.specs.ReadingCommands.{ReadingCommand, reading_command};
-ghost use Rattle.scql_model.specs.ReadingLaws.{IsReadable, reading_after, replies_to};
+ghost use Rattle.scql_model.specs.Operations.{built_operations};
+ghost use Rattle.scql_model.specs.ReadingLaws.{IsReadable, IsReadingCommand, ReadsWhatIsShown, reading_after, replies_to};
 ghost use Rattle.scql_model.specs.Reads.{is_called, read_next, read_reply};
 ghost use Rattle.scql_model.specs.Rights.{seen_named};
 ghost use Rattle.scql_model.specs.Shown.{ShownObject, object_shown, shown, shown_on};
-ghost use Rattle.scql_model.specs.Step.{stepped};
+ghost use Rattle.scql_model.specs.Step.{step, stepped};
+ghost use Rattle.scql_model.specs.ValidMachine.{IsValidMachine};
 
 /// The objects that are shown stand in the order of their names, and by each name the object is shown that is seen by it.
 pub fn objects_are_shown_by_their_names()
@@ -58,4 +62,12 @@ pub fn a_step_reads_what_is_shown()
         → shown_on (stepped m (a_command c)).machine c.channel ≡ read_next (shown_on m c.channel) command }
     ensures others { (m : Machine) (c : Command) (command : ReadingCommand) (other : ℕ) → reading_command c.operation c.le ≡ Some command
         → ¬ (c.channel ≡ other) → shown_on (stepped m (a_command c)).machine other ≡ shown_on m other }
+{}
+
+/// A card reads what is shown: the step to octets that are a reading command, by today's table and on a valid machine, answers from what is
+/// shown on the channel that they name.
+pub fn a_card_reads_what_is_shown()
+    ensures { (m : Machine) (octets : List ℕ) (reading : ReadingCommand) → IsValidMachine m
+        → AreCommand built_operations m octets (IsReadingCommand reading)
+        → ReadsWhatIsShown m (channel_named octets) reading (step m octets) }
 {}
