@@ -1,5 +1,5 @@
 -- The records gathered of slots, in rising order of their stamps, are of each kind those of the database which the slots hold.
-use Rattle.std.proofs.Common.{◌≡◌, ℕ, refl, sym, ap, ◌∙◌}
+use Rattle.std.proofs.Common.{sym, ap, ◌∙◌}
 use Rattle.std.specs.List.{filter_map}
 use Rattle.eeprom.specs.StoreOf.{Slots}
 use Rattle.eeprom.specs.Slots.{AreApart, has, in_order, in_slot}

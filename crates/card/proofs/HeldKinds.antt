@@ -1,5 +1,5 @@
 -- The records of a database that slots hold: they are admitted where it is valid, and those gathered are its own.
-use Rattle.std.proofs.Common.{◌≡◌, ℕ, suc, ◌+◌, ◌≤◌, ◌==◌, ◌||◌, Bool, true, ◌&&◌, List, [], ◌∷◌, map, Option, Some, None, option_map, refl, sym, ap, ◌∙◌, arith}
+use Rattle.std.proofs.Common.{◌≡◌, ℕ, suc, ◌+◌, ◌≤◌, ◌==◌, ◌||◌, Bool, true, ◌&&◌, List, [], ◌∷◌, Option, Some, None, option_map, refl, sym, ap, ◌∙◌, arith}
 use Rattle.std.specs.Option.{option_and_then, option_map_or, option_or}
 use Rattle.std.specs.List.{list_all, filter_map, cons_option}
 use Rattle.std.proofs.lemmas.Bool.{and_parts}
@@ -22,7 +22,7 @@ use Rattle.card.specs.declared.kept_record.KeptRecord.{KeptRecord}
 use Rattle.card.specs.declared.kept_record.KeptRecord.TheVariants as kept_as
 use Rattle.card.specs.Validity.{HasFittingRecords}
 use Rattle.card.proofs.Tested.{HasFittingRecords-valid}
-use Rattle.card.proofs.ListsInOrder.{filter_map-option_map, filter_map-cons_option, and-same, list_all-both}
+use Rattle.card.proofs.ListsInOrder.{filter_map-cons_option, and-same, list_all-both}
 
 abbrev pub user_stamp : User → ℕ
 user_stamp u = u.stamp

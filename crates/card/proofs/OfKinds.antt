@@ -1,5 +1,5 @@
 -- The records of each kind among those of rising stamps.
-use Rattle.std.proofs.Common.{◌≡◌, ℕ, ◌==◌, Bool, List, Option, Some, refl, sym, ap, ◌∙◌}
+use Rattle.std.proofs.Common.{◌≡◌, ℕ, ◌==◌, Bool, List, Option, Some, sym, ap, ◌∙◌}
 use Rattle.std.specs.Prelude.{option_and_then, is_some}
 use Rattle.std.specs.List.{find, list_any}
 use Rattle.std.proofs.lemmas.Option.{none-some, same_Some}

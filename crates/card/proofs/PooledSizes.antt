@@ -1,5 +1,5 @@
 -- The octets of records have room in their pool.
-use Rattle.std.proofs.Common.{◌≡◌, ℕ, ◌+◌, ◌*◌, ◌/◌, ◌≤◌, List, [], ◌∷◌, length, arith}
+use Rattle.std.proofs.Common.{◌≡◌, ℕ, ◌+◌, ◌*◌, ◌≤◌, List, [], ◌∷◌, length, arith}
 use Rattle.eeprom.specs.StoreOf.{cells_of, cells_for}
 use Rattle.record_store.specs.Opening.{slot_with}
 

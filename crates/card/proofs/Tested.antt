@@ -1,8 +1,7 @@
 -- A database is valid exactly where its records are within their limits and pass the test.
-use Rattle.std.proofs.Common.{◌≡◌, ℕ, ◌+◌, ◌<◌, ◌≤◌, ◌==◌, Bool, true, false, cond, not, ◌&&◌, List, [], ◌∷◌, ◌++◌, length, map, filter, Option, Some, None, refl, sym, ap, subst, ◌∙◌, inl, inr, arith}
-use Rattle.std.specs.Prelude.{nat_le, nat_lt, option_map}
-use Rattle.std.specs.Option.{option_map_or}
-use Rattle.std.specs.List.{list_all, list_any, find, count_by, AllByRecursion}
+use Rattle.std.proofs.Common.{◌≡◌, ℕ, ◌+◌, ◌≤◌, ◌==◌, Bool, true, false, cond, not, ◌&&◌, List, [], ◌∷◌, ◌++◌, map, filter, refl, sym, ap, subst, ◌∙◌, inl, inr, arith}
+use Rattle.std.specs.Prelude.{nat_le}
+use Rattle.std.specs.List.{list_all, list_any, count_by}
 use Rattle.std.specs.Str.{bytes_eq}
 use Rattle.std.proofs.lemmas.Bool.{cases_Bool, and_parts, and_from, not-true, false≢true, leb-true, le-leb}
 use Rattle.std.proofs.lemmas.List.Folds.{list_all-map, list_all-append}
@@ -11,20 +10,16 @@ use Rattle.eeprom.specs.Slots.{Rises, AreApart, has}
 use Rattle.eeprom.proofs.InOrder.{AreApart-rising, count_by-cons}
 use Rattle.scql_base.specs.declared.records.User.{User}
 use Rattle.scql_base.specs.declared.records.Object.{Object}
-use Rattle.scql_base.specs.declared.records.ObjectKind.{ObjectKind}
-use Rattle.scql_base.specs.declared.records.ObjectKind.TheVariants.{Table, View, Dictionary}
 use Rattle.scql_base.specs.declared.records.Grant.{Grant}
 use Rattle.scql_base.specs.declared.records.RowRecord.{RowRecord}
 use Rattle.scql_base.specs.Name.{is_name}
 use Rattle.scql_model.specs.Records.{user_record, object_fits, grant_record, row_record, is_secret}
 use Rattle.scql_model.specs.Stored.{StoredRecord, IsStored, is_storable, is_given_out}
-use Rattle.scql_model.specs.Objects.{columns_of}
-use Rattle.scql_model.specs.Rules.{AreUsers, AreObjects, AreGrants, AreRows, public_name, are_different, are_apart_by, is_db_o, is_made_by_maker, has_maker, has_all_tries, is_table, is_founded, is_short, has_object_and_grantee, is_of_pair, has_table, is_within_limit}
+use Rattle.scql_model.specs.Rules.{AreUsers, AreObjects, AreGrants, AreRows, public_name, are_different, are_apart_by, is_db_o, is_made_by_maker, has_maker, has_all_tries, is_founded, is_short, has_object_and_grantee, is_of_pair, has_table, is_within_limit}
 use Rattle.scql_model.specs.Database.{Database, IsValid, stored_user, stored_object, stored_grant, stored_row, records_of, counter_cells}
-use Rattle.scql_model.proofs.LongerLists.{all-weaker, all-by_both, any-map, find-all}
-use Rattle.scql_model.proofs.ContentsRise.{Rises-map}
+use Rattle.scql_model.proofs.LongerLists.{all-weaker, all-by_both}
 use Rattle.scql_model.proofs.Creating.{user-short}
-use Rattle.scql_model.proofs.RecordLengths.{short-table, storable-object, storable-grant, storable-row}
+use Rattle.scql_model.proofs.RecordLengths.{storable-object, storable-grant, storable-row}
 use Rattle.card.specs.declared.kept_record.KeptRecord.{KeptRecord}
 use Rattle.card.specs.declared.kept_record.KeptRecord.TheVariants as kept_as
 use Rattle.card.specs.KeptRecords.{AreRecordsOf, stamp_of, as_user, as_object, as_grant, as_row, users_in, objects_in, grants_in, rows_in}

@@ -1,6 +1,6 @@
 -- The record of the place at an index.
-use Rattle.std.proofs.Common.{◌∙◌, ◌<◌, ap, arith, get_or, length, subst, sym}
-use Rattle.card.specs.Pool.{IsPlaceIn, record_at}
+use Rattle.std.proofs.Common.{◌∙◌, ap, arith, get_or}
+use Rattle.card.specs.Pool.{record_at}
 use Rattle.card.proofs.Pooled.{entry-at, items-seen, length-pool, place-at}
 use Rattle.card.proofs.kept_records.KeptRecords.at.Goals as goal
 

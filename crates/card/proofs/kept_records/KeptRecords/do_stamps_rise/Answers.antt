@@ -1,10 +1,8 @@
 -- A test of neighbours tells whether the stamps rise.
-use Rattle.std.proofs.Common.{rules, ltb, subst, sym, List}
+use Rattle.std.proofs.Common.{rules, ltb, subst, sym}
 use Rattle.std.proofs.lemmas.List.Sorted.{answers_always}
 use Rattle.eeprom.specs.Slots.{Rises}
 use Rattle.card.specs.KeptRecords.{stamp_of}
-use Rattle.card.specs.declared.kept_record.KeptRecord.{KeptRecord}
-use Rattle.card.specs.declared.kept_records.RecordPlace.{RecordPlace}
 use Rattle.card.proofs.Pooled.{items-seen, place_stamp, rise-entries, rise-places}
 use Rattle.card.proofs.Sorting.{rises-answered}
 use Rattle.card.proofs.kept_records.KeptRecords.do_stamps_rise.Goals as goal

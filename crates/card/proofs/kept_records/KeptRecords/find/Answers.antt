@@ -1,5 +1,5 @@
 -- A search by halves among the places finds what a search from the front finds among the records.
-use Rattle.std.proofs.Common.{◌≡◌, ◌==◌, ◌∙◌, None, Some, ap, rules, subst, sym}
+use Rattle.std.proofs.Common.{◌≡◌, ◌==◌, ◌∙◌, ap, rules, subst, sym}
 use Rattle.std.specs.Prelude.{option_and_then}
 use Rattle.std.specs.List.{find}
 use Rattle.std.proofs.lemmas.List.Sorted.{answers_always}

@@ -1,5 +1,5 @@
 -- The places are sorted, and their records with them.
-use Rattle.std.proofs.Common.{◌∙◌, List, ap, rules, subst, sym}
+use Rattle.std.proofs.Common.{◌∙◌, List, rules, subst, sym}
 use Rattle.std.specs.List.{filter_map}
 use Rattle.std.specs.List.Sorted.{IsPermutation}
 use Rattle.std.proofs.lemmas.List.Sorted.{IsNonDecreasingBy-from_sort_by_key}
