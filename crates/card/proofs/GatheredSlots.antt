@@ -17,12 +17,12 @@ use Rattle.record_store.proofs.Weights.{limited, store-begins}
 use Rattle.scql_model.specs.Records.{counter_in}
 use Rattle.scql_model.specs.Database.{Database, IsValid}
 use Rattle.scql_model.specs.Opens.{Holds, are_tables, counter_stamp}
-use Rattle.card.specs.Opening.{gathered, is_admitted, summary_in}
-use Rattle.card.specs.declared.summary.Summary.{Summary}
+use Rattle.card.specs.Opening.{gathered, is_admitted, record_in}
+use Rattle.card.specs.declared.kept_record.KeptRecord.{KeptRecord}
 use Rattle.card.proofs.HeldKinds.{are_admitted, admitted-held, admitted-valid}
 
--- These are the counter and what is kept of the other records in so many slots, each of which is admitted.
-pub record Gathers (limit count : ℕ) (slots : Slots) (counter : Option ℕ) (records : List Summary) : Type 0 where
+-- These are the counter and the other records in so many slots, each of which is admitted.
+pub record Gathers (limit count : ℕ) (slots : Slots) (counter : Option ℕ) (records : List KeptRecord) : Type 0 where
   pub count_is : length slots ≡ count
   pub admitted : list_all (is_admitted limit) slots ≡ true
   pub counters : filter_map (in_slot counter_in) slots ≡ cons_option counter []
@@ -33,31 +33,31 @@ abbrev pub HoldsNone : Stored → Type 0
 HoldsNone was = (db : Database) → db.limit ≡ was.row_limit → Holds was.slots db → IsValid db → are_tables db.objects ≡ true → ⊥
 
 -- these were found in the slots so far
-abbrev pub GathersSoFar : HeldSoFar → ℕ → Option (List ℕ) → Option ℕ → List Summary → Type 0
+abbrev pub GathersSoFar : HeldSoFar → ℕ → Option (List ℕ) → Option ℕ → List KeptRecord → Type 0
 GathersSoFar held count image counter records = IfSome image (λ image. IfSome (slots_so_far held image) (λ slots. Gathers held.row_limit count slots counter records))
 
 -- one slot more
 abbrev pub IsNext : HeldSoFar → HeldSoFar → List ℕ → List ℕ → Type 0
 IsNext held next octets image = slots_so_far next image ≡ option_map (λ slots. slots ++ slot_with octets ∷ []) (slots_so_far held image)
 
-gathered-append : (k : ℕ) (slots : Slots) (v : Option (List ℕ)) → gathered k (slots ++ v ∷ []) ≡ gathered k slots ++ cons_option (in_slot (summary_in (k + length slots)) v) []
+gathered-append : (k : ℕ) (slots : Slots) (v : Option (List ℕ)) → gathered k (slots ++ v ∷ []) ≡ gathered k slots ++ cons_option (in_slot (record_in (k + length slots)) v) []
 gathered-append k [] v = let same : k + 0 ≡ k = omega arith in rw same refl
 gathered-append k (w ∷ slots) v =
     let same : suc k + length slots ≡ k + suc (length slots) = omega arith in
-    ap (cons_option (in_slot (summary_in k) w)) (gathered-append (suc k) slots v) ∙ (rw same (go (in_slot (summary_in k) w) (gathered (suc k) slots) (cons_option (in_slot (summary_in (k + suc (length slots))) v) [])))
+    ap (cons_option (in_slot (record_in k) w)) (gathered-append (suc k) slots v) ∙ (rw same (go (in_slot (record_in k) w) (gathered (suc k) slots) (cons_option (in_slot (record_in (k + suc (length slots))) v) [])))
   where
-    go : (o : Option Summary) (xs ys : List Summary) → cons_option o (xs ++ ys) ≡ cons_option o xs ++ ys
+    go : (o : Option KeptRecord) (xs ys : List KeptRecord) → cons_option o (xs ++ ys) ≡ cons_option o xs ++ ys
     go None xs ys = refl
     go (Some x) xs ys = refl
 
-gathers-more : (limit count : ℕ) (slots : Slots) (v : Option (List ℕ)) (counter counter' : Option ℕ) (records records' : List Summary) → Gathers limit count slots counter records → is_admitted limit v ≡ true
-    → cons_option counter' [] ≡ cons_option counter (cons_option (in_slot counter_in v) []) → records' ≡ records ++ cons_option (in_slot (summary_in count) v) []
+gathers-more : (limit count : ℕ) (slots : Slots) (v : Option (List ℕ)) (counter counter' : Option ℕ) (records records' : List KeptRecord) → Gathers limit count slots counter records → is_admitted limit v ≡ true
+    → cons_option counter' [] ≡ cons_option counter (cons_option (in_slot counter_in v) []) → records' ≡ records ++ cons_option (in_slot (record_in count) v) []
     → Gathers limit (count + 1) (slots ++ v ∷ []) counter' records'
 gathers-more limit count slots v counter counter' records records' g admitted counters added = record {
   count_is = length-append slots (v ∷ []) ∙ ap (λ n. n + 1) g.count_is;
   admitted = list_all-append (is_admitted limit) slots (v ∷ []) ∙ and_from (list_all (is_admitted limit) slots) (is_admitted limit v && true) g.admitted (and_from (is_admitted limit v) true admitted refl);
   counters = filter_map-append (in_slot counter_in) slots (v ∷ []) ∙ ap (λ xs. xs ++ cons_option (in_slot counter_in v) []) g.counters ∙ go counter (cons_option (in_slot counter_in v) []) ∙ sym counters;
-  records_are = gathered-append 0 slots v ∙ (rw place (ap (λ xs. xs ++ cons_option (in_slot (summary_in count) v) []) g.records_are)) ∙ sym added;
+  records_are = gathered-append 0 slots v ∙ (rw place (ap (λ xs. xs ++ cons_option (in_slot (record_in count) v) []) g.records_are)) ∙ sym added;
 }
   where
     place : 0 + length slots ≡ count
@@ -68,7 +68,7 @@ gathers-more limit count slots v counter counter' records records' g admitted co
     go (Some x) ys = refl
 
 -- before the first slot
-pub gathered-none : (held : HeldSoFar) (image : Option (List ℕ)) (records : List Summary) → held.claimed ≡ 0 → records ≡ [] → GathersSoFar held 0 image None records
+pub gathered-none : (held : HeldSoFar) (image : Option (List ℕ)) (records : List KeptRecord) → held.claimed ≡ 0 → records ≡ [] → GathersSoFar held 0 image None records
 gathered-none held None records none empty = tt
 gathered-none held (Some image) records none empty = subst (λ (k : ℕ). IfSome (slots_at image held.chains.cells (take k held.firsts)) (λ slots. Gathers held.row_limit 0 slots None records)) (sym none) (go (nat_le 0 held.chains.cells))
   where
@@ -76,9 +76,9 @@ gathered-none held (Some image) records none empty = subst (λ (k : ℕ). IfSome
     go true = record { count_is = refl; admitted = refl; counters = refl; records_are = sym empty }
     go false = tt
 
-pub gathered-next : (held next : HeldSoFar) (image : Option (List ℕ)) (octets : List ℕ) (count : ℕ) (counter counter' : Option ℕ) (records records' : List Summary) → IfSome image (IsNext held next octets) → next.row_limit ≡ held.row_limit
+pub gathered-next : (held next : HeldSoFar) (image : Option (List ℕ)) (octets : List ℕ) (count : ℕ) (counter counter' : Option ℕ) (records records' : List KeptRecord) → IfSome image (IsNext held next octets) → next.row_limit ≡ held.row_limit
     → is_admitted next.row_limit (slot_with octets) ≡ true → cons_option counter' [] ≡ cons_option counter (cons_option (in_slot counter_in (slot_with octets)) [])
-    → records' ≡ records ++ cons_option (in_slot (summary_in count) (slot_with octets)) [] → GathersSoFar held count image counter records → GathersSoFar next (count + 1) image counter' records'
+    → records' ≡ records ++ cons_option (in_slot (record_in count) (slot_with octets)) [] → GathersSoFar held count image counter records → GathersSoFar next (count + 1) image counter' records'
 gathered-next held next None octets count counter counter' records records' is rows admitted counters added g = tt
 gathered-next held next (Some image) octets count counter counter' records records' is rows admitted counters added g =
     subst (λ (o : Option Slots). IfSome o (λ slots. Gathers next.row_limit (count + 1) slots counter' records')) (sym is) (go (slots_so_far held image) g)
@@ -110,7 +110,7 @@ none-two limit slots a b rest two = λ db limited holds valid tables.
     let g = sum_by-cons one db.next [] in
     omega (arith, c, d, e, f, g)
 
-none-second : (limit count : ℕ) (before : Slots) (counter : Option ℕ) (records : List Summary) (v : Option (List ℕ)) (more : Slots) → Gathers limit count before counter records → counter ≢ None → in_slot counter_in v ≢ None
+none-second : (limit count : ℕ) (before : Slots) (counter : Option ℕ) (records : List KeptRecord) (v : Option (List ℕ)) (more : Slots) → Gathers limit count before counter records → counter ≢ None → in_slot counter_in v ≢ None
     → HoldsNone (record { row_limit = limit; slots = before ++ v ∷ more })
 none-second limit count before counter records v more g there some = go counter (in_slot counter_in v) refl there some
     (filter_map-append (in_slot counter_in) before (v ∷ more) ∙ ap (λ xs. xs ++ filter_map (in_slot counter_in) (v ∷ more)) g.counters)
@@ -121,13 +121,13 @@ none-second limit count before counter records v more g there some = go counter 
     go (Some a) None is there some two = absurd (some refl)
     go (Some a) (Some b) is there some two = none-two limit (before ++ v ∷ more) a b (filter_map (in_slot counter_in) more) two
 
-none-refused : (limit count : ℕ) (before : Slots) (counter : Option ℕ) (records : List Summary) (v : Option (List ℕ)) (more : Slots) → Gathers limit count before counter records → IsRefused limit counter v
+none-refused : (limit count : ℕ) (before : Slots) (counter : Option ℕ) (records : List KeptRecord) (v : Option (List ℕ)) (more : Slots) → Gathers limit count before counter records → IsRefused limit counter v
     → HoldsNone (record { row_limit = limit; slots = before ++ v ∷ more })
 none-refused limit count before counter records v more g (inl unadmitted) = none-unadmitted limit before v more unadmitted
 none-refused limit count before counter records v more g (inr second) = none-second limit count before counter records v more g second.0 second.1
 
 -- the store of an image begins with the slots so far, and has the row limit that was read
-pub none-next : (held next : HeldSoFar) (image : Option (List ℕ)) (octets : List ℕ) (count : ℕ) (counter : Option ℕ) (records : List Summary) → IfSome image (IsNext held next octets) → next.row_limit ≡ held.row_limit → IfSome image (StandsSoFar next)
+pub none-next : (held next : HeldSoFar) (image : Option (List ℕ)) (octets : List ℕ) (count : ℕ) (counter : Option ℕ) (records : List KeptRecord) → IfSome image (IsNext held next octets) → next.row_limit ≡ held.row_limit → IfSome image (StandsSoFar next)
     → IsRefused next.row_limit counter (slot_with octets) → GathersSoFar held count image counter records → IfSome image (λ image. (was : Stored) → store_of image ≡ Some was → HoldsNone was)
 none-next held next None octets count counter records is rows stands refused g = tt
 none-next held next (Some image) octets count counter records is rows stands refused g = λ was there.

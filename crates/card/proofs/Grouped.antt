@@ -3,16 +3,16 @@ use Rattle.std.proofs.Common.{◌≡◌, ℕ, Bool, true, false, ◌&&◌, List,
 use Rattle.std.specs.Prelude.{nat_le}
 use Rattle.std.specs.List.{list_all}
 use Rattle.scql_base.specs.declared.records.User.{User}
+use Rattle.scql_base.specs.declared.records.Object.{Object}
 use Rattle.scql_base.specs.declared.records.Grant.{Grant}
-use Rattle.scql_model.specs.Rules.{is_db_o, is_made_by_maker}
-use Rattle.card.specs.declared.apart.Label.TheVariants.{UserName, TableName, GrantPair}
-use Rattle.card.specs.declared.summary.Summary.{Summary}
-use Rattle.card.specs.declared.summary.Summary.TheVariants as kept_as
-use Rattle.card.specs.declared.summary.TableSummary.{TableSummary}
-use Rattle.card.specs.declared.summary.RowSummary.{RowSummary}
-use Rattle.card.specs.Summary.{users_in, tables_in, grants_in, rows_in}
+use Rattle.scql_base.specs.declared.records.RowRecord.{RowRecord}
+use Rattle.scql_model.specs.Rules.{is_db_o, has_object_and_grantee, has_table}
+use Rattle.card.specs.declared.apart.Label.TheVariants.{UserName, ObjectName, GrantPair}
+use Rattle.card.specs.declared.kept_record.KeptRecord.{KeptRecord}
+use Rattle.card.specs.declared.kept_record.KeptRecord.TheVariants as kept_as
+use Rattle.card.specs.KeptRecords.{users_in, objects_in, grants_in, rows_in}
 use Rattle.card.specs.Apart.{is_never_shared}
-use Rattle.card.specs.Validity.{is_owner_alone, is_stamp_before, is_right_user, is_right_grant, is_right_row, is_right_record, is_valid_database}
+use Rattle.card.specs.Validity.{is_owner_alone, is_stamp_before, is_right_user, is_right_object, is_right_record, is_valid_database}
 
 second : (p a b c d : Bool) → (p && (a && b && c && d)) ≡ (a && (p && b) && c && d)
 second true a b c d = refl
@@ -37,34 +37,34 @@ first true a b c d = refl
 first false a b c d = refl
 
 -- those of each kind have stamps that were given out, and meet the rules of their kind
-abbrev right_users : ℕ → List User → List Summary → Bool
+abbrev right_users : ℕ → List User → List KeptRecord → Bool
 right_users next us records = list_all (λ (u : User). is_stamp_before next u.stamp && is_right_user us u) (users_in records)
 
-abbrev right_tables : ℕ → List User → List Summary → Bool
-right_tables next us records = list_all (λ (t : TableSummary). is_stamp_before next t.stamp && is_made_by_maker us t.owner) (tables_in records)
+abbrev right_objects : ℕ → List User → List Object → List KeptRecord → Bool
+right_objects next us os records = list_all (λ (o : Object). is_stamp_before next o.stamp && is_right_object us os o) (objects_in records)
 
-abbrev right_grants : ℕ → List User → List TableSummary → List Summary → Bool
-right_grants next us ts records = list_all (λ (g : Grant). is_stamp_before next g.stamp && is_right_grant us ts g) (grants_in records)
+abbrev right_grants : ℕ → List User → List Object → List KeptRecord → Bool
+right_grants next us os records = list_all (λ (g : Grant). is_stamp_before next g.stamp && has_object_and_grantee us os g) (grants_in records)
 
-abbrev right_rows : ℕ → List TableSummary → List Summary → Bool
-right_rows next ts records = list_all (λ (r : RowSummary). is_stamp_before next r.stamp && is_right_row ts r) (rows_in records)
+abbrev right_rows : ℕ → List Object → List KeptRecord → Bool
+right_rows next os records = list_all (λ (r : RowRecord). is_stamp_before next r.stamp && has_table os r) (rows_in records)
 
 -- what holds of all records holds of those of each kind
-pub all-kinds : (next : ℕ) (us : List User) (ts : List TableSummary) (records : List Summary)
-    → list_all (is_right_record next us ts) records ≡ (right_users next us records && right_tables next us records && right_grants next us ts records && right_rows next ts records)
-all-kinds next us ts [] = refl
-all-kinds next us ts (kept_as.User u ∷ records) =
-    let here = is_right_record next us ts (kept_as.User u) in
-    ap (λ (b : Bool). here && b) (all-kinds next us ts records) ∙ first here (right_users next us records) (right_tables next us records) (right_grants next us ts records) (right_rows next ts records)
-all-kinds next us ts (kept_as.Table t ∷ records) =
-    let here = is_right_record next us ts (kept_as.Table t) in
-    ap (λ (b : Bool). here && b) (all-kinds next us ts records) ∙ second here (right_users next us records) (right_tables next us records) (right_grants next us ts records) (right_rows next ts records)
-all-kinds next us ts (kept_as.Grant g ∷ records) =
-    let here = is_right_record next us ts (kept_as.Grant g) in
-    ap (λ (b : Bool). here && b) (all-kinds next us ts records) ∙ third here (right_users next us records) (right_tables next us records) (right_grants next us ts records) (right_rows next ts records)
-all-kinds next us ts (kept_as.Row r ∷ records) =
-    let here = is_right_record next us ts (kept_as.Row r) in
-    ap (λ (b : Bool). here && b) (all-kinds next us ts records) ∙ fourth here (right_users next us records) (right_tables next us records) (right_grants next us ts records) (right_rows next ts records)
+pub all-kinds : (next : ℕ) (us : List User) (os : List Object) (records : List KeptRecord)
+    → list_all (is_right_record next us os) records ≡ (right_users next us records && right_objects next us os records && right_grants next us os records && right_rows next os records)
+all-kinds next us os [] = refl
+all-kinds next us os (kept_as.User u ∷ records) =
+    let here = is_right_record next us os (kept_as.User u) in
+    ap (λ (b : Bool). here && b) (all-kinds next us os records) ∙ first here (right_users next us records) (right_objects next us os records) (right_grants next us os records) (right_rows next os records)
+all-kinds next us os (kept_as.Object o ∷ records) =
+    let here = is_right_record next us os (kept_as.Object o) in
+    ap (λ (b : Bool). here && b) (all-kinds next us os records) ∙ second here (right_users next us records) (right_objects next us os records) (right_grants next us os records) (right_rows next os records)
+all-kinds next us os (kept_as.Grant g ∷ records) =
+    let here = is_right_record next us os (kept_as.Grant g) in
+    ap (λ (b : Bool). here && b) (all-kinds next us os records) ∙ third here (right_users next us records) (right_objects next us os records) (right_grants next us os records) (right_rows next os records)
+all-kinds next us os (kept_as.Row slot r ∷ records) =
+    let here = is_right_record next us os (kept_as.Row slot r) in
+    ap (λ (b : Bool). here && b) (all-kinds next us os records) ∙ fourth here (right_users next us records) (right_objects next us os records) (right_grants next us os records) (right_rows next os records)
 
 -- the tests in the order of the rules
 regrouped : (l o u du t dt g dg r : Bool) → (l && o && (u && t && g && r) && (du && dt && dg)) ≡ (l && (u && o && du) && (t && dt) && (g && dg) && r)
@@ -87,14 +87,14 @@ regrouped true true true false true dt false dg r = refl
 regrouped true true true false false dt g dg r = refl
 
 -- So the tests together are those of a valid database.
-pub grouped : (next : ℕ) (records : List Summary)
-    → (nat_le 2 next && is_owner_alone (filter is_db_o (users_in records)) && list_all (is_right_record next (users_in records) (tables_in records)) records
-    && (is_never_shared UserName records && is_never_shared TableName records && is_never_shared GrantPair records))
-    ≡ is_valid_database next (users_in records) (tables_in records) (grants_in records) (rows_in records)
+pub grouped : (next : ℕ) (records : List KeptRecord)
+    → (nat_le 2 next && is_owner_alone (filter is_db_o (users_in records)) && list_all (is_right_record next (users_in records) (objects_in records)) records
+    && (is_never_shared UserName records && is_never_shared ObjectName records && is_never_shared GrantPair records))
+    ≡ is_valid_database next (users_in records) (objects_in records) (grants_in records) (rows_in records)
 grouped next records =
     let us = users_in records in
-    let ts = tables_in records in
+    let os = objects_in records in
     let owner = is_owner_alone (filter is_db_o us) in
-    ap (λ (b : Bool). nat_le 2 next && owner && b && (is_never_shared UserName records && is_never_shared TableName records && is_never_shared GrantPair records)) (all-kinds next us ts records)
-    ∙ regrouped (nat_le 2 next) owner (right_users next us records) (is_never_shared UserName records) (right_tables next us records) (is_never_shared TableName records)
-    (right_grants next us ts records) (is_never_shared GrantPair records) (right_rows next ts records)
+    ap (λ (b : Bool). nat_le 2 next && owner && b && (is_never_shared UserName records && is_never_shared ObjectName records && is_never_shared GrantPair records)) (all-kinds next us os records)
+    ∙ regrouped (nat_le 2 next) owner (right_users next us records) (is_never_shared UserName records) (right_objects next us os records) (is_never_shared ObjectName records)
+    (right_grants next us os records) (is_never_shared GrantPair records) (right_rows next os records)

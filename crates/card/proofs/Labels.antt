@@ -9,14 +9,14 @@ use Rattle.std.proofs.lemmas.Bool.{cases_Bool, and_parts, and_from, eqb-true, eq
 use Rattle.std.proofs.lemmas.Slice.Eq.{bytes_eq-Decides}
 use Rattle.scql_base.specs.Name.{is_name, is_name_octet}
 use Rattle.scql_base.specs.declared.records.User.{User}
+use Rattle.scql_base.specs.declared.records.Object.{Object}
 use Rattle.scql_base.specs.declared.records.Grant.{Grant}
 use Rattle.scql_model.specs.Rules.{are_apart_by, is_of_pair}
 use Rattle.scql_model.proofs.LongerLists.{all-weaker}
 use Rattle.card.specs.declared.apart.Label.{Label}
-use Rattle.card.specs.declared.apart.Label.TheVariants.{UserName, TableName, GrantPair}
-use Rattle.card.specs.declared.summary.Summary.{Summary}
-use Rattle.card.specs.declared.summary.TableSummary.{TableSummary}
-use Rattle.card.specs.Summary.{as_user, as_table, as_grant, users_in, tables_in, grants_in}
+use Rattle.card.specs.declared.apart.Label.TheVariants.{UserName, ObjectName, GrantPair}
+use Rattle.card.specs.declared.kept_record.KeptRecord.{KeptRecord}
+use Rattle.card.specs.KeptRecords.{as_user, as_object, as_grant, users_in, objects_in, grants_in}
 use Rattle.card.specs.Apart.{are_different_numbers, octets_number, pair_number, is_pair_of_stamps, number_by, is_numbered, is_never_shared}
 
 -- a digit to base 256 that isn't 0
@@ -126,13 +126,13 @@ map-itself [] = refl
 map-itself (x ∷ xs) = ap (λ ys. x ∷ ys) (map-itself xs)
 
 -- What no two records share, by numbers.
-pub never-shared : (label : Label) (records : List Summary) → list_all (is_numbered label) records ≡ true → are_different_numbers (filter_map (number_by label) records) ≡ is_never_shared label records
+pub never-shared : (label : Label) (records : List KeptRecord) → list_all (is_numbered label) records ≡ true → are_different_numbers (filter_map (number_by label) records) ≡ is_never_shared label records
 never-shared UserName records numbered =
     ap are_different_numbers (numbers-kind as_user (λ (u : User). u.name) octets_number records)
     ∙ different-apart_by octets_number bytes_eq is_name name-same (map (λ (u : User). u.name) (users_in records)) (right-kind as_user (λ (u : User). u.name) is_name records numbered)
-never-shared TableName records numbered =
-    ap are_different_numbers (numbers-kind as_table (λ (t : TableSummary). t.name) octets_number records)
-    ∙ different-apart_by octets_number bytes_eq is_name name-same (map (λ (t : TableSummary). t.name) (tables_in records)) (right-kind as_table (λ (t : TableSummary). t.name) is_name records numbered)
+never-shared ObjectName records numbered =
+    ap are_different_numbers (numbers-kind as_object (λ (o : Object). o.name) octets_number records)
+    ∙ different-apart_by octets_number bytes_eq is_name name-same (map (λ (o : Object). o.name) (objects_in records)) (right-kind as_object (λ (o : Object). o.name) is_name records numbered)
 never-shared GrantPair records numbered =
     ap are_different_numbers (numbers-kind as_grant (λ (g : Grant). g) (λ (g : Grant). pair_number g.object g.grantee) records)
     ∙ different-apart_by (λ (g : Grant). pair_number g.object g.grantee) is_of_pair (λ (g : Grant). is_pair_of_stamps g.object g.grantee) pair-same (map (λ (g : Grant). g) (grants_in records))

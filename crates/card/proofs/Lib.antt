@@ -2,6 +2,7 @@ mod BuiltLines
 mod ChangedStore
 mod ChangingOperations
 mod GatheredSlots
+mod Founding
 mod Grouped
 mod HeldInOrder
 mod HeldKinds
@@ -15,6 +16,8 @@ mod OfKinds
 mod OpenedDatabase
 mod OwnerSearch
 mod Passing
+mod Pooled
+mod PooledSizes
 mod Performing
 mod PlacedRows
 mod SeenSessions

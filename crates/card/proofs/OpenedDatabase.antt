@@ -18,16 +18,16 @@ use Rattle.scql_model.specs.Opens.{Holds, Opens, counter_stamp, is_spelled}
 use Rattle.scql_model.proofs.LongerLists.{all-weaker}
 use Rattle.scql_model.proofs.Room.{cells-filled}
 use Rattle.card.specs.Opening.{PassTest, ReadsCard, gathered, is_admitted}
-use Rattle.card.specs.Summary.{stamp_of}
-use Rattle.card.specs.declared.summary.Summary.{Summary}
+use Rattle.card.specs.KeptRecords.{stamp_of}
+use Rattle.card.specs.declared.kept_record.KeptRecord.{KeptRecord}
 use Rattle.card.proofs.GatheredSlots.{Gathers, GathersSoFar, HoldsNone}
 use Rattle.card.proofs.HeldKinds.{user_stamp, object_stamp, grant_stamp, row_stamp, admitted-held, admitted-parts}
-use Rattle.card.proofs.HeldInOrder.{apart-held, summarizes-held}
+use Rattle.card.proofs.HeldInOrder.{apart-held, records-held}
 use Rattle.card.proofs.Tested.{IsValid-tested, tested-IsValid}
 use Rattle.card.proofs.SortedTest.{is_valid_list}
 
 -- what was found in all slots
-pub gathered-all : (held : HeldSoFar) (image : Option (List ℕ)) (count : ℕ) (counter : Option ℕ) (records : List Summary) (store : Held) → ((image : List ℕ) → StandsSoFar held image → store_of image ≡ stored store Committed image)
+pub gathered-all : (held : HeldSoFar) (image : Option (List ℕ)) (count : ℕ) (counter : Option ℕ) (records : List KeptRecord) (store : Held) → ((image : List ℕ) → StandsSoFar held image → store_of image ≡ stored store Committed image)
     → ((image : List ℕ) → StandsSoFar held image → contents store Committed image ≡ slots_so_far held image) → IfSome image (StandsSoFar held) → GathersSoFar held count image counter records
     → IfSome image (λ image. (was : Stored) → store_of image ≡ Some was → Gathers was.row_limit count was.slots counter records)
 gathered-all held None count counter records store opened same stands g = tt
@@ -52,7 +52,7 @@ database_of was next = record {
 spelled-admitted : (limit : ℕ) (v : Option (List ℕ)) → is_admitted limit v ≡ true → is_spelled v ≡ true
 spelled-admitted limit v admitted = (and_parts (is_spelled v) _ admitted).0
 
-holds-database : (was : Stored) (count next : ℕ) (records : List Summary) → Gathers was.row_limit count was.slots (Some next) records → Holds was.slots (database_of was next)
+holds-database : (was : Stored) (count next : ℕ) (records : List KeptRecord) → Gathers was.row_limit count was.slots (Some next) records → Holds was.slots (database_of was next)
 holds-database was count next records g = record {
   cells = refl;
   spelled = all-weaker (is_admitted was.row_limit) is_spelled was.slots (spelled-admitted was.row_limit) g.admitted;
@@ -64,23 +64,23 @@ holds-database was count next records g = record {
 }
 
 -- slots that pass the test hold a valid database
-pub opens-tested : (image : List ℕ) (was : Stored) (count next : ℕ) (records : List Summary) → store_of image ≡ Some was → (16 ≤ length was.slots) × (length was.slots ≤ 2048) → (was.row_limit == 240 || was.row_limit == 1020) ≡ true
+pub opens-tested : (image : List ℕ) (was : Stored) (count next : ℕ) (records : List KeptRecord) → store_of image ≡ Some was → (16 ≤ length was.slots) × (length was.slots ≤ 2048) → (was.row_limit == 240 || was.row_limit == 1020) ≡ true
     → sum_by cells_of was.slots ≤ length was.slots → Gathers was.row_limit count was.slots (Some next) records → PassTest next records → (db : Database) × Opens image db
 opens-tested image was count next records there cells limit room g passed =
     let db = database_of was next in
     let holds : Holds was.slots db = holds-database was count next records g in
-    let apart = subst (λ (records : List Summary). AreApart stamp_of records) (sym g.records_are) passed.apart in
+    let apart = subst (λ (records : List KeptRecord). AreApart stamp_of records) (sym g.records_are) passed.apart in
     let admitted = admitted-parts db (sym (admitted-held db.limit was.slots db holds) ∙ g.admitted) in
     let room' : weight db ≤ db.cells = subst (λ (w : ℕ). w ≤ length was.slots) (cells-filled was.slots db holds) room in
     let sorted = in_order stamp_of (gathered 0 was.slots) in
-    let valid = subst (λ (records : List Summary). is_valid_list next (in_order stamp_of records) ≡ true) (sym g.records_are) passed.valid in (
+    let valid = subst (λ (records : List KeptRecord). is_valid_list next (in_order stamp_of records) ≡ true) (sym g.records_are) passed.valid in (
       db,
       record {
         store = was;
         stored = there;
         limit = refl;
         holds = holds;
-        valid = IsValid-tested db sorted (summarizes-held was.slots db holds apart admitted.0) (admitted.1 cells limit room') valid;
+        valid = IsValid-tested db sorted (records-held was.slots db holds apart) (admitted.1 cells limit room') valid;
         tables = admitted.0;
       },
     )
@@ -90,12 +90,12 @@ counter-held None next is = absurd (cc)
 counter-held (Some n) next is = ap Some (cc)
 
 -- slots that don't pass the test hold none
-pub none-tested : (was : Stored) (count : ℕ) (counter : Option ℕ) (records : List Summary) → Gathers was.row_limit count was.slots counter records → ((next : ℕ) → counter ≡ Some next → PassTest next records → ⊥) → HoldsNone was
+pub none-tested : (was : Stored) (count : ℕ) (counter : Option ℕ) (records : List KeptRecord) → Gathers was.row_limit count was.slots counter records → ((next : ℕ) → counter ≡ Some next → PassTest next records → ⊥) → HoldsNone was
 none-tested was count counter records g failed = λ db limit holds valid tables.
     let apart = apart-held was.slots db holds valid in
-    let passes = tested-IsValid db (in_order stamp_of (gathered 0 was.slots)) (summarizes-held was.slots db holds apart tables) valid in
+    let passes = tested-IsValid db (in_order stamp_of (gathered 0 was.slots)) (records-held was.slots db holds apart) valid in
     failed db.next (counter-held counter db.next (sym (ap (in_order counter_stamp) g.counters) ∙ holds.counter))
-    (subst (λ (records : List Summary). PassTest db.next records) g.records_are (record { apart = apart; valid = passes }))
+    (subst (λ (records : List KeptRecord). PassTest db.next records) g.records_are (record { apart = apart; valid = passes }))
 
 -- The same where the image may not be told.
 limit-one : (image : List ℕ) → (row_limit image == 240 || row_limit image == 1020) ≡ true
@@ -105,14 +105,14 @@ limit-one image = go (slice_index image 5 % 2 == 0)
     go true = refl
     go false = refl
 
-opens-whole : (held : HeldSoFar) (image : List ℕ) (count next : ℕ) (records : List Summary) (slots : Slots) → StandsSoFar held image → store_of image ≡ Some (record { row_limit = held.row_limit; slots = slots })
+opens-whole : (held : HeldSoFar) (image : List ℕ) (count next : ℕ) (records : List KeptRecord) (slots : Slots) → StandsSoFar held image → store_of image ≡ Some (record { row_limit = held.row_limit; slots = slots })
     → held.weight ≡ sum_by cells_of slots → held.weight ≤ held.chains.cells → held.chains.cells ≡ count → 16 ≤ count → count ≤ 2048
     → Gathers held.row_limit count slots (Some next) records → PassTest next records → (db : Database) × Opens image db
 opens-whole held image count next records slots stands there weight few cells least most g passed =
     opens-tested image (record { row_limit = held.row_limit; slots = slots }) count next records there (omega (arith, g.count_is), omega (arith, g.count_is))
     (subst (λ (limit : ℕ). (limit == 240 || limit == 1020) ≡ true) stands.begins.rows (limit-one image)) (omega (arith, weight, few, cells, g.count_is)) g passed
 
-pub opens-finished : (held : HeldSoFar) (image : Option (List ℕ)) (count next : ℕ) (records : List Summary) (store : Held) → ((image : List ℕ) → StandsSoFar held image → contents store Committed image ≡ slots_so_far held image)
+pub opens-finished : (held : HeldSoFar) (image : Option (List ℕ)) (count next : ℕ) (records : List KeptRecord) (store : Held) → ((image : List ℕ) → StandsSoFar held image → contents store Committed image ≡ slots_so_far held image)
     → ((image : List ℕ) → StandsSoFar held image → store_of image ≡ stored store Committed image)
     → ((image : List ℕ) (slots : Slots) → StandsSoFar held image → contents store Committed image ≡ Some slots → held.weight ≡ sum_by cells_of slots) → IfSome image (StandsSoFar held) → held.weight ≤ held.chains.cells
     → held.chains.cells ≡ count → 16 ≤ count → count ≤ 2048 → GathersSoFar held count image (Some next) records → PassTest next records → IfSome image (λ image. (db : Database) × Opens image db)
@@ -127,7 +127,7 @@ opens-finished held (Some image) count next records store same opened weight sta
         let limit = (limited held.row_limit (slots_at image held.chains.cells held.firsts) _ (sym (store-begins held.chains.cells held.row_limit held.firsts image stands.begins) ∙ there)).1 in
         opens-whole held image count next records slots stands (subst (λ (limit : ℕ). store_of image ≡ Some (record { row_limit = limit; slots = slots })) (sym limit) there) (weight image slots stands all) few cells least most g passed
 
-pub none-tested_told : (image : Option (List ℕ)) (count : ℕ) (counter : Option ℕ) (records : List Summary) → IfSome image (λ image. (was : Stored) → store_of image ≡ Some was → Gathers was.row_limit count was.slots counter records)
+pub none-tested_told : (image : Option (List ℕ)) (count : ℕ) (counter : Option ℕ) (records : List KeptRecord) → IfSome image (λ image. (was : Stored) → store_of image ≡ Some was → Gathers was.row_limit count was.slots counter records)
     → ((next : ℕ) → counter ≡ Some next → PassTest next records → ⊥) → IfSome image (λ image. (was : Stored) → store_of image ≡ Some was → HoldsNone was)
 none-tested_told None count counter records g failed = tt
 none-tested_told (Some image) count counter records g failed = λ was there. none-tested was count counter records (g was there) failed
@@ -152,7 +152,7 @@ refused-kept old new keeps told none =
     (refused_told new.image none)
 
 -- the octets of its records are those of the database
-pub reads-card : (old start : Chip) (cells count : ℕ) (counter : Option ℕ) (records : List Summary) (before now : Option ℕ) → IfSome old.image (λ image. is_gate_open image ≡ false → start ≡ old) → cells ≡ count
+pub reads-card : (old start : Chip) (cells count : ℕ) (counter : Option ℕ) (records : List KeptRecord) (before now : Option ℕ) → IfSome old.image (λ image. is_gate_open image ≡ false → start ≡ old) → cells ≡ count
     → IfSome start.image (λ image. (was : Stored) → store_of image ≡ Some was → Gathers was.row_limit count was.slots counter records)
     → IfSome old.image (λ image. (was : Stored) → store_of image ≡ Some was → is_gate_open image ≡ false → Becomes (ReadsStore cells was.slots) before now)
     → IfSome old.image (λ image. (db : Database) → Opens image db → is_gate_open image ≡ false → Becomes (ReadsCard db) before now)

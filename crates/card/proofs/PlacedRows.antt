@@ -18,6 +18,9 @@ use Rattle.record_store.specs.Opening.{HeldSoFar, front_octets, journal_octets, 
 use Rattle.record_store.proofs.OpeningSlots.{ReadsSoFar}
 use Rattle.record_store.proofs.Weights.{limited}
 use Rattle.cell_store.specs.Reading.{ReadsCells}
+use Rattle.scql_base.specs.declared.records.User.{User}
+use Rattle.scql_base.specs.declared.records.Object.{Object}
+use Rattle.scql_base.specs.declared.records.Grant.{Grant}
 use Rattle.scql_base.specs.declared.records.RowRecord.{RowRecord}
 use Rattle.scql_model.specs.Records.{row_in, user_in, object_in, grant_in}
 use Rattle.scql_model.specs.Database.{Database}
@@ -28,51 +31,52 @@ use Rattle.row_index.specs.declared.place.RowPlace.{RowPlace}
 use Rattle.row_index.proofs.Changes.{all-push, length-in_order}
 use Rattle.row_index.proofs.Tables.{all-in_order}
 use Rattle.card.specs.Card.{HoldsSome, IsAtRest}
-use Rattle.card.specs.Opening.{gathered, summary_in}
-use Rattle.card.specs.Summary.{as_place, as_row, places_in, row_place, row_summary, stamp_of}
-use Rattle.card.specs.declared.summary.Summary.{Summary}
-use Rattle.card.specs.declared.summary.RowSummary.{RowSummary}
+use Rattle.card.specs.Opening.{gathered, record_in}
+use Rattle.card.specs.KeptRecords.{as_place, places_in, stamp_of}
+use Rattle.card.specs.declared.kept_record.KeptRecord.{KeptRecord}
+use Rattle.card.specs.declared.kept_record.KeptRecord.TheVariants as kept_as
 use Rattle.card.proofs.GatheredSlots.{Gathers}
-use Rattle.card.proofs.HeldKinds.{others, row-parts}
+use Rattle.card.proofs.HeldKinds.{parts, others}
+use Rattle.scql_model.proofs.KindsApart.{given}
 use Rattle.card.proofs.ListsInOrder.{all-filter_map, filter_map-cons_option, filter_map-in_order}
-use Rattle.card.proofs.OfKinds.{row-stamp}
 
--- what is kept of a slot's row stands where the slot's row does
-place-gathered : (slot : ℕ) (v : Option (List ℕ)) → option_and_then as_place (in_slot (summary_in slot) v) ≡ place_in (slot, v)
+-- what is gathered of a slot's row stands where the slot's row does
+place-parts : (slot : ℕ) (u : Option User) (o : Option Object) (g : Option Grant) (r : Option RowRecord) → given u + (given o + (given g + given r)) ≤ 1 → option_and_then as_place (parts slot u o g r) ≡ option_map (place_of slot) r
+place-parts slot (Some u) o g (Some r) one = absurd (omega (arith, one))
+place-parts slot (Some u) o g None one = refl
+place-parts slot None (Some o) g (Some r) one = absurd (omega (arith, one))
+place-parts slot None (Some o) g None one = refl
+place-parts slot None None (Some g) (Some r) one = absurd (omega (arith, one))
+place-parts slot None None (Some g) None one = refl
+place-parts slot None None None (Some r) one = refl
+place-parts slot None None None None one = refl
+
+place-gathered : (slot : ℕ) (v : Option (List ℕ)) → option_and_then as_place (in_slot (record_in slot) v) ≡ place_in (slot, v)
 place-gathered slot None = refl
-place-gathered slot (Some octets) = inside (summary_in slot octets) ∙ ap (option_map row_place) (row-parts slot (user_in octets) (object_in octets) (grant_in octets) (row_in octets) (others octets)) ∙ placed (row_in octets)
-  where
-    inside : (o : Option Summary) → option_and_then as_place o ≡ option_map row_place (option_and_then as_row o)
-    inside None = refl
-    inside (Some s) = refl
-
-    placed : (o : Option RowRecord) → option_map row_place (option_map (row_summary slot) o) ≡ option_map (place_of slot) o
-    placed None = refl
-    placed (Some r) = refl
+place-gathered slot (Some octets) = place-parts slot (user_in octets) (object_in octets) (grant_in octets) (row_in octets) (others octets)
 
 places-gathered : (slot : ℕ) (slots : Slots) → places_in (gathered slot slots) ≡ filter_map place_in (numbered slot slots)
 places-gathered slot [] = refl
 places-gathered slot (v ∷ slots) =
-    filter_map-cons_option as_place (in_slot (summary_in slot) v) (gathered (suc slot) slots)
+    filter_map-cons_option as_place (in_slot (record_in slot) v) (gathered (suc slot) slots)
     ∙ (rw (place-gathered slot v) (ap (cons_option (place_in (slot, v))) (places-gathered (suc slot) slots)))
 
-place-stamp : (s : Summary) (place : RowPlace) → as_place s ≡ Some place → place_stamp place ≡ stamp_of s
-place-stamp s place is = go (as_row s) refl is
-  where
-    go : (o : Option RowSummary) → as_row s ≡ o → option_map row_place o ≡ Some place → place_stamp place ≡ stamp_of s
-    go None row is = absurd (none-some place is)
-    go (Some r) row is = sym (ap place_stamp (same_Some (row_place r) place is)) ∙ row-stamp s r row
+place-stamp : (s : KeptRecord) (place : RowPlace) → as_place s ≡ Some place → place_stamp place ≡ stamp_of s
+place-stamp (kept_as.User u) place is = absurd (none-some place is)
+place-stamp (kept_as.Object o) place is = absurd (none-some place is)
+place-stamp (kept_as.Grant g) place is = absurd (none-some place is)
+place-stamp (kept_as.Row slot r) place is = sym (ap place_stamp (same_Some (place_of slot r) place is))
 
 -- The rows among the records of slots, in rising order of their stamps, stand where those of the slots do.
 pub row_places-gathered : (slots : Slots) → AreApart stamp_of (gathered 0 slots) → row_places slots ≡ places_in (in_order stamp_of (gathered 0 slots))
 row_places-gathered slots apart = ap (in_order place_stamp) (sym (places-gathered 0 slots)) ∙ sym (filter_map-in_order stamp_of place_stamp as_place (gathered 0 slots) place-stamp apart)
 
 -- The rows among these records stand each in a slot of its own before this one.
-pub record StandBefore (slot : ℕ) (records : List Summary) : Type 0 where
+pub record StandBefore (slot : ℕ) (records : List KeptRecord) : Type 0 where
   pub before : AllByRecursion (λ place. place_slot place < slot) (places_in records)
   pub apart : AreApart place_slot (places_in records)
 
-pub stand-none : (records : List Summary) → records ≡ [] → StandBefore 0 records
+pub stand-none : (records : List KeptRecord) → records ≡ [] → StandBefore 0 records
 stand-none records empty = rw empty (record { before = tt; apart = λ k. omega arith })
 
 later : (slot : ℕ) (places : List RowPlace) → AllByRecursion (λ place. place_slot place < slot) places → AllByRecursion (λ place. place_slot place < slot + 1) places
@@ -80,12 +84,12 @@ later slot [] all = tt
 later slot (x ∷ xs) all = (omega (arith, all.0), later slot xs all.1)
 
 -- one slot more
-pub stand-next : (slot : ℕ) (v : Option (List ℕ)) (records next : List Summary) → next ≡ records ++ cons_option (in_slot (summary_in slot) v) [] → StandBefore slot records → StandBefore (slot + 1) next
+pub stand-next : (slot : ℕ) (v : Option (List ℕ)) (records next : List KeptRecord) → next ≡ records ++ cons_option (in_slot (record_in slot) v) [] → StandBefore slot records → StandBefore (slot + 1) next
 stand-next slot v records next is so_far = record { before = subst (AllByRecursion (λ place. place_slot place < slot + 1)) (sym whole) both.0; apart = subst (AreApart place_slot) (sym whole) both.1 }
   where
     whole : places_in next ≡ places_in records ++ cons_option (place_in (slot, v)) []
-    whole = ap places_in is ∙ filter_map-append as_place records (cons_option (in_slot (summary_in slot) v) [])
-        ∙ ap (λ ys. places_in records ++ ys) (filter_map-cons_option as_place (in_slot (summary_in slot) v) [] ∙ ap (λ o. cons_option o []) (place-gathered slot v))
+    whole = ap places_in is ∙ filter_map-append as_place records (cons_option (in_slot (record_in slot) v) [])
+        ∙ ap (λ ys. places_in records ++ ys) (filter_map-cons_option as_place (in_slot (record_in slot) v) [] ∙ ap (λ o. cons_option o []) (place-gathered slot v))
 
     go : (o : Option RowRecord) → AllByRecursion (λ place. place_slot place < slot + 1) (places_in records ++ cons_option (option_map (place_of slot) o) []) × AreApart place_slot (places_in records ++ cons_option (option_map (place_of slot) o) [])
     go None = rw (append-nil (places_in records)) (later slot (places_in records) so_far.before, so_far.apart)
@@ -106,7 +110,7 @@ stand-next slot v records next is so_far = record { before = subst (AllByRecursi
     both : AllByRecursion (λ place. place_slot place < slot + 1) (places_in records ++ cons_option (place_in (slot, v)) []) × AreApart place_slot (places_in records ++ cons_option (place_in (slot, v)) [])
     both = go _
 
-rises-places : (records : List Summary) → Rises stamp_of records → Rises place_stamp (places_in records)
+rises-places : (records : List KeptRecord) → Rises stamp_of records → Rises place_stamp (places_in records)
 rises-places [] rises = tt
 rises-places (s ∷ records) rises = go (as_place s) refl (rises-places records rises.1)
   where
@@ -118,7 +122,7 @@ rises-places (s ∷ records) rises = go (as_place s) refl (rises-places records 
       rest,
     )
 
-few-places : (records : List Summary) → length (places_in records) ≤ length records
+few-places : (records : List KeptRecord) → length (places_in records) ≤ length records
 few-places [] = omega arith
 few-places (s ∷ records) = go (as_place s) (few-places records)
   where
@@ -127,9 +131,9 @@ few-places (s ∷ records) = go (as_place s) (few-places records)
     go (Some place) few = omega arith
 
 -- An index can hold the places of records that stand in its slots, in rising order of their stamps.
-pub ArePlaces-gathered : (cells count : ℕ) (records sorted : List Summary) → StandBefore count records → AreApart stamp_of records → sorted ≡ in_order stamp_of records → length records ≤ count → count ≤ cells
+pub ArePlaces-gathered : (cells count : ℕ) (records sorted : List KeptRecord) → StandBefore count records → AreApart stamp_of records → sorted ≡ in_order stamp_of records → length records ≤ count → count ≤ cells
     → ArePlaces cells (places_in sorted)
-ArePlaces-gathered cells count records sorted stand apart is few within = subst (λ (records : List Summary). ArePlaces cells (places_in records)) (sym is) (record {
+ArePlaces-gathered cells count records sorted stand apart is few within = subst (λ (records : List KeptRecord). ArePlaces cells (places_in records)) (sym is) (record {
   rises = rises-places (in_order stamp_of records) (Rises-in_order stamp_of records apart);
   apart = λ k. subst (λ (n : ℕ). n ≤ 1) (sym (ap (count_by (has place_slot k)) same ∙ count_by-in_order place_stamp (has place_slot k) (places_in records))) (stand.apart k);
   within = subst (AllByRecursion (λ place. place_slot place < cells)) (sym same) (all-in_order place_stamp (λ place. place_slot place < cells) (places_in records) (all (places_in records) stand.before));
@@ -144,7 +148,7 @@ ArePlaces-gathered cells count records sorted stand apart is few within = subst 
     all (x ∷ xs) before = (omega (arith, before.0, within), all xs before.1)
 
 -- Where the committed slots have these records, their rows stand in these places.
-rows_told : (store : Held) (image : Option (List ℕ)) (count next : ℕ) (records sorted : List Summary) → IfSome image (λ image. store_of image ≡ stored store Committed image)
+rows_told : (store : Held) (image : Option (List ℕ)) (count next : ℕ) (records sorted : List KeptRecord) → IfSome image (λ image. store_of image ≡ stored store Committed image)
     → IfSome image (λ image. (was : Stored) → store_of image ≡ Some was → Gathers was.row_limit count was.slots (Some next) records) → AreApart stamp_of records → sorted ≡ in_order stamp_of records
     → IfSome (option_and_then (contents store Committed) image) (HasRows count (places_in sorted))
 rows_told store None count next records sorted opened gathers apart sort = tt
@@ -156,7 +160,7 @@ rows_told store (Some image) count next records sorted opened gathers apart sort
         let g = gathers (record { row_limit = store.row_limit; slots = slots }) (opened ∙ ap (with_limit store.row_limit) is) in
         record {
           all = g.count_is;
-          are = ap places_in sort ∙ ap (λ (records : List Summary). places_in (in_order stamp_of records)) (sym g.records_are)
+          are = ap places_in sort ∙ ap (λ (records : List KeptRecord). places_in (in_order stamp_of records)) (sym g.records_are)
               ∙ sym (row_places-gathered slots (subst (AreApart stamp_of) (sym g.records_are) apart));
         }
 
@@ -166,7 +170,7 @@ idle_sides store None idle = refl
 idle_sides store (Some image) idle = sym (ap (λ (begun : Bool). slots_at image store.chains.cells (if begun then store.working else store.committed)) idle)
 
 -- So an index of them stands for the store.
-pub indexed : (index : Index) (store : Held) (chip : Chip) (cells count next : ℕ) (records sorted : List Summary) → index ≡ record { cells = cells; begun = false; committed = places_in sorted; working = places_in sorted } → cells ≡ count
+pub indexed : (index : Index) (store : Held) (chip : Chip) (cells count next : ℕ) (records sorted : List KeptRecord) → index ≡ record { cells = cells; begun = false; committed = places_in sorted; working = places_in sorted } → cells ≡ count
     → store.begun ≡ false → count ≡ store.chains.cells → IfSome chip.image (λ image. store_of image ≡ stored store Committed image)
     → IfSome chip.image (λ image. (was : Stored) → store_of image ≡ Some was → Gathers was.row_limit count was.slots (Some next) records) → AreApart stamp_of records → sorted ≡ in_order stamp_of records
     → Indexes index store chip
@@ -179,7 +183,7 @@ indexed index store chip cells count next records sorted is all idle claimed ope
     })
 
 -- The store holds the database that its image opens to.
-pub holds-opened : (store : Held) (chip : Chip) (count next : ℕ) (records : List Summary) → count ≡ store.chains.cells → IfSome chip.image (λ image. store_of image ≡ stored store Committed image)
+pub holds-opened : (store : Held) (chip : Chip) (count next : ℕ) (records : List KeptRecord) → count ≡ store.chains.cells → IfSome chip.image (λ image. store_of image ≡ stored store Committed image)
     → IfSome chip.image (λ image. (was : Stored) → store_of image ≡ Some was → Gathers was.row_limit count was.slots (Some next) records) → IfSome chip.image (λ image. (db : Database) × Opens image db) → HoldsSome store chip
 holds-opened store chip count next records cells opened gathers opens = go chip.image refl opened gathers opens
   where

@@ -1,8 +1,7 @@
--- A database is valid exactly where its records are within their limits and what is kept of them passes the test.
-use Rattle.std.proofs.Common.{◌≡◌, ℕ, ◌+◌, ◌<◌, ◌≤◌, ◌==◌, Bool, true, false, cond, not, ◌&&◌, List, [], ◌∷◌, ◌++◌, length, map, filter, Option, Some, None, refl, sym, ap, subst, ◌∙◌, inl, inr, arith}
-use Rattle.std.specs.Prelude.{nat_le, nat_lt, option_map}
-use Rattle.std.specs.Option.{option_map_or}
-use Rattle.std.specs.List.{list_all, list_any, find, count_by, AllByRecursion}
+-- A database is valid exactly where its records are within their limits and pass the test.
+use Rattle.std.proofs.Common.{◌≡◌, ℕ, ◌+◌, ◌≤◌, ◌==◌, Bool, true, false, cond, not, ◌&&◌, List, [], ◌∷◌, ◌++◌, map, filter, refl, sym, ap, subst, ◌∙◌, inl, inr, arith}
+use Rattle.std.specs.Prelude.{nat_le}
+use Rattle.std.specs.List.{list_all, list_any, count_by}
 use Rattle.std.specs.Str.{bytes_eq}
 use Rattle.std.proofs.lemmas.Bool.{cases_Bool, and_parts, and_from, not-true, false≢true, leb-true, le-leb}
 use Rattle.std.proofs.lemmas.List.Folds.{list_all-map, list_all-append}
@@ -11,35 +10,25 @@ use Rattle.eeprom.specs.Slots.{Rises, AreApart, has}
 use Rattle.eeprom.proofs.InOrder.{AreApart-rising, count_by-cons}
 use Rattle.scql_base.specs.declared.records.User.{User}
 use Rattle.scql_base.specs.declared.records.Object.{Object}
-use Rattle.scql_base.specs.declared.records.ObjectKind.{ObjectKind}
-use Rattle.scql_base.specs.declared.records.ObjectKind.TheVariants.{Table, View, Dictionary}
 use Rattle.scql_base.specs.declared.records.Grant.{Grant}
 use Rattle.scql_base.specs.declared.records.RowRecord.{RowRecord}
 use Rattle.scql_base.specs.Name.{is_name}
 use Rattle.scql_model.specs.Records.{user_record, object_fits, grant_record, row_record, is_secret}
 use Rattle.scql_model.specs.Stored.{StoredRecord, IsStored, is_storable, is_given_out}
-use Rattle.scql_model.specs.Objects.{columns_of}
-use Rattle.scql_model.specs.Rules.{AreUsers, AreObjects, AreGrants, AreRows, public_name, are_different, are_apart_by, is_db_o, is_made_by_maker, has_maker, has_all_tries, is_table, is_founded, is_short, has_object_and_grantee, is_of_pair, has_table, is_within_limit}
+use Rattle.scql_model.specs.Rules.{AreUsers, AreObjects, AreGrants, AreRows, public_name, are_different, are_apart_by, is_db_o, is_made_by_maker, has_maker, has_all_tries, is_founded, is_short, has_object_and_grantee, is_of_pair, has_table, is_within_limit}
 use Rattle.scql_model.specs.Database.{Database, IsValid, stored_user, stored_object, stored_grant, stored_row, records_of, counter_cells}
-use Rattle.scql_model.proofs.LongerLists.{all-weaker, all-by_both, any-map, find-all}
-use Rattle.scql_model.proofs.ContentsRise.{Rises-map}
+use Rattle.scql_model.proofs.LongerLists.{all-weaker, all-by_both}
 use Rattle.scql_model.proofs.Creating.{user-short}
-use Rattle.scql_model.proofs.RecordLengths.{short-table, storable-object, storable-grant, storable-row}
-use Rattle.card.specs.declared.summary.Summary.{Summary}
-use Rattle.card.specs.declared.summary.Summary.TheVariants as kept_as
-use Rattle.card.specs.declared.summary.TableSummary.{TableSummary}
-use Rattle.card.specs.declared.summary.RowSummary.{RowSummary}
-use Rattle.card.specs.Summary.{Summarizes, stamp_of, as_user, as_table, as_grant, as_row, users_in, tables_in, grants_in, rows_in, kept_of_table, row_summary, unplaced}
-use Rattle.card.specs.Validity.{HasFittingRecords, is_owner_alone, is_stamp_before, is_right_user, is_right_grant, is_right_row, are_valid_users, are_valid_tables, are_valid_grants, are_valid_rows, is_valid_database}
-use Rattle.card.proofs.OfKinds.{user-stamp, table-stamp, grant-stamp, row-stamp}
+use Rattle.scql_model.proofs.RecordLengths.{storable-object, storable-grant, storable-row}
+use Rattle.card.specs.declared.kept_record.KeptRecord.{KeptRecord}
+use Rattle.card.specs.declared.kept_record.KeptRecord.TheVariants as kept_as
+use Rattle.card.specs.KeptRecords.{AreRecordsOf, stamp_of, as_user, as_object, as_grant, as_row, users_in, objects_in, grants_in, rows_in}
+use Rattle.card.specs.Validity.{HasFittingRecords, is_owner_alone, is_stamp_before, is_right_user, is_right_object, are_valid_users, are_valid_objects, are_valid_grants, are_valid_rows, is_valid_database}
+use Rattle.card.proofs.OfKinds.{user-stamp, object-stamp, grant-stamp, row-stamp}
 use Rattle.card.proofs.OwnerSearch.{owner_alone-is}
 use Rattle.card.proofs.Stamped.{Rises-kind}
 
 -- Lists.
-
-all-alike : {X : Type 0} (p q : X → Bool) (xs : List X) → ((x : X) → p x ≡ q x) → list_all p xs ≡ list_all q xs
-all-alike p q [] alike = refl
-all-alike p q (x ∷ xs) alike = rw (alike x, all-alike p q xs alike) refl
 
 all-both : {X : Type 0} (p q : X → Bool) (xs : List X) → list_all p xs ≡ true → list_all q xs ≡ true → list_all (λ x. p x && q x) xs ≡ true
 all-both p q xs one other = all-by_both p q (λ x. p x && q x) xs (λ x a b. and_from (p x) (q x) a b) one other
@@ -55,78 +44,18 @@ all-none p [] none = refl
 all-none p (x ∷ xs) none =
     elim (cases_Bool (p x)) [ inl t ↦ absurd (false≢true (sym (rw t at none))) | inr f ↦ rw f (all-none p xs (rw f at none)) ]
 
-map-twice : {X Y Z : Type 0} (g : Y → Z) (f : X → Y) (xs : List X) → map g (map f xs) ≡ map (λ x. g (f x)) xs
-map-twice g f [] = refl
-map-twice g f (x ∷ xs) = ap (λ ys. g (f x) ∷ ys) (map-twice g f xs)
-
-find-map : {X Y : Type 0} (p : Y → Bool) (f : X → Y) (xs : List X) → find p (map f xs) ≡ option_map f (find (λ x. p (f x)) xs)
-find-map p f [] = refl
-find-map p f (x ∷ xs) = elim (cases_Bool (p (f x))) [ inl t ↦ rw t refl | inr e ↦ rw e (find-map p f xs) ]
-
-Rises-of : {X Y : Type 0} (key : Y → ℕ) (f : X → Y) (xs : List X) → Rises key (map f xs) → Rises (λ x. key (f x)) xs
-Rises-of key f [] rises = tt
-Rises-of {X = X} key f (x ∷ xs) rises = (above-of (key (f x)) xs rises.0, Rises-of key f xs rises.1)
-  where
-    above-of : (k : ℕ) (xs : List X) → AllByRecursion (λ y. k < key y) (map f xs) → AllByRecursion (λ x. k < key (f x)) xs
-    above-of k [] all = tt
-    above-of k (x ∷ xs) all = (all.0, above-of k xs all.1)
-
--- The rules of each kind, of what is kept and of the records.
-
--- a grant's object is among the tables
-grant-alike : (users : List User) (objects : List Object) (g : Grant) → is_right_grant users (map kept_of_table objects) g ≡ has_object_and_grantee users objects g
-grant-alike users objects g = rw (any-map (λ (t : TableSummary). t.stamp == g.object) kept_of_table objects) refl
-
-row-alike : (objects : List Object) (r : RowRecord) → list_all (λ (o : Object). is_table o.kind) objects ≡ true → is_right_row (map kept_of_table objects) (row_summary 0 r) ≡ has_table objects r
-row-alike objects r alone = rw (find-map (λ (t : TableSummary). t.stamp == r.table) kept_of_table objects) (go (find (λ (o : Object). o.stamp == r.table) objects) refl)
-  where
-    go : (found : Option Object) → find (λ (o : Object). o.stamp == r.table) objects ≡ found
-        → option_map_or (λ (t : TableSummary). nat_lt t.stamp r.stamp && (t.columns == length r.row)) (option_map kept_of_table (find (λ (o : Object). o.stamp == r.table) objects)) false ≡ has_table objects r
-    go None e = rw e refl
-    go (Some o) e = rw (e, find-all (λ (o : Object). is_table o.kind) (λ (o : Object). o.stamp == r.table) objects o alone e) refl
-
-founded-alike : (objects : List Object) (o : Object) → is_table o.kind ≡ true → is_founded objects o ≡ are_different (columns_of o.kind)
-founded-alike objects o is = go o.kind refl
-  where
-    go : (kind : ObjectKind) → o.kind ≡ kind → is_founded objects o ≡ are_different (columns_of o.kind)
-    go (Table columns) e = rw e refl
-    go (View base columns conditions) e = absurd (false≢true (rw e at is))
-    go (Dictionary subject) e = absurd (false≢true (rw e at is))
-
-table-short : (o : Object) → is_table o.kind ≡ true → object_fits o ≡ true → is_short o ≡ true
-table-short o is fits = go o.kind refl
-  where
-    go : (kind : ObjectKind) → o.kind ≡ kind → is_short o ≡ true
-    go (Table columns) e = short-table o columns e fits
-    go (View base columns conditions) e = absurd (false≢true (rw e at is))
-    go (Dictionary subject) e = absurd (false≢true (rw e at is))
-
 user-storable : (u : User) → user_record.fits u ≡ true → is_storable (stored_user u) ≡ true
 user-storable u fits = user-short u (parts u fits).0 (parts u fits).1
   where
     parts : (u : User) → user_record.fits u ≡ true → (is_name u.name ≡ true) × (is_secret u.secret ≡ true)
     parts u fits = grind (arith, and_parts)
 
--- The test, of what is kept of a database's records.
+-- The test, of a database's records.
 abbrev passes : Database → Bool
-passes db = is_valid_database db.next db.users (map kept_of_table db.objects) db.grants (map (row_summary 0) db.rows)
+passes db = is_valid_database db.next db.users db.objects db.grants db.rows
 
-pub tested-database : (db : Database) (records : List Summary) → Summarizes records db → is_valid_database db.next (users_in records) (tables_in records) (grants_in records) (rows_in records) ≡ passes db
-tested-database db records s =
-    lists-alike s.users s.tables s.grants (rows_in records)
-    ∙ ap (λ (b : Bool). nat_le 2 db.next && are_valid_users db.next db.users && are_valid_tables db.next db.users ts && are_valid_grants db.next db.users ts db.grants && b) rows-alike
-  where
-    ts : List TableSummary
-    ts = map kept_of_table db.objects
-
-    right : RowSummary → Bool
-    right r = is_stamp_before db.next r.stamp && is_right_row ts r
-
-    rows-alike : list_all right (rows_in records) ≡ list_all right (map (row_summary 0) db.rows)
-    rows-alike = sym (list_all-map right unplaced (rows_in records)) ∙ ap (list_all right) s.rows
-
-    lists-alike : {us us' : List User} {ts ts' : List TableSummary} {gs gs' : List Grant} → us ≡ us' → ts ≡ ts' → gs ≡ gs' → (rs : List RowSummary) → is_valid_database db.next us ts gs rs ≡ is_valid_database db.next us' ts' gs' rs
-    lists-alike a b c rs = rw (a, b, c) refl
+pub tested-database : (db : Database) (records : List KeptRecord) → AreRecordsOf db records → is_valid_database db.next (users_in records) (objects_in records) (grants_in records) (rows_in records) ≡ passes db
+tested-database db records s = rw (s.users, s.objects, s.grants, s.rows) refl
 
 -- No two records have one stamp.
 pub count-map : {X Y : Type 0} (p : Y → Bool) (f : X → Y) (xs : List X) → count_by p (map f xs) ≡ count_by (λ x. p (f x)) xs
@@ -140,31 +69,25 @@ count-append p xs ys = sum_by-append (λ x. cond (p x) 1 0) xs ys
 abbrev pub users_at : ℕ → List User → ℕ
 users_at k = count_by (λ (u : User). u.stamp == k)
 
-abbrev pub tables_at : ℕ → List TableSummary → ℕ
-tables_at k = count_by (λ (t : TableSummary). t.stamp == k)
-
 abbrev pub objects_at : ℕ → List Object → ℕ
 objects_at k = count_by (λ (o : Object). o.stamp == k)
 
 abbrev pub grants_at : ℕ → List Grant → ℕ
 grants_at k = count_by (λ (g : Grant). g.stamp == k)
 
-abbrev pub summaries_at : ℕ → List RowSummary → ℕ
-summaries_at k = count_by (λ (r : RowSummary). r.stamp == k)
-
 abbrev pub rows_at : ℕ → List RowRecord → ℕ
 rows_at k = count_by (λ (r : RowRecord). r.stamp == k)
 
-count-kinds : (k : ℕ) (records : List Summary) → count_by (has stamp_of k) records ≡ users_at k (users_in records) + (tables_at k (tables_in records) + (grants_at k (grants_in records) + summaries_at k (rows_in records)))
+count-kinds : (k : ℕ) (records : List KeptRecord) → count_by (has stamp_of k) records ≡ users_at k (users_in records) + (objects_at k (objects_in records) + (grants_at k (grants_in records) + rows_at k (rows_in records)))
 count-kinds k [] = refl
 count-kinds k (kept_as.User u ∷ records) =
     let a = count_by-cons (has stamp_of k) (kept_as.User u) records in
     let b = count_by-cons (λ (v : User). v.stamp == k) u (users_in records) in
     let c = count-kinds k records in
     omega arith
-count-kinds k (kept_as.Table t ∷ records) =
-    let a = count_by-cons (has stamp_of k) (kept_as.Table t) records in
-    let b = count_by-cons (λ (v : TableSummary). v.stamp == k) t (tables_in records) in
+count-kinds k (kept_as.Object o ∷ records) =
+    let a = count_by-cons (has stamp_of k) (kept_as.Object o) records in
+    let b = count_by-cons (λ (v : Object). v.stamp == k) o (objects_in records) in
     let c = count-kinds k records in
     omega arith
 count-kinds k (kept_as.Grant g ∷ records) =
@@ -172,9 +95,9 @@ count-kinds k (kept_as.Grant g ∷ records) =
     let b = count_by-cons (λ (v : Grant). v.stamp == k) g (grants_in records) in
     let c = count-kinds k records in
     omega arith
-count-kinds k (kept_as.Row r ∷ records) =
-    let a = count_by-cons (has stamp_of k) (kept_as.Row r) records in
-    let b = count_by-cons (λ (v : RowSummary). v.stamp == k) r (rows_in records) in
+count-kinds k (kept_as.Row slot r ∷ records) =
+    let a = count_by-cons (has stamp_of k) (kept_as.Row slot r) records in
+    let b = count_by-cons (λ (v : RowRecord). v.stamp == k) r (rows_in records) in
     let c = count-kinds k records in
     omega arith
 
@@ -196,16 +119,15 @@ count-stored k db =
     let g : count_by (stored_at k) (map stored_row db.rows) ≡ rows_at k db.rows = count-map (stored_at k) stored_row db.rows in
     omega arith
 
-stored-apart : (db : Database) (records : List Summary) → Summarizes records db → AreApart (λ (r : StoredRecord). r.stamp) (records_of db)
+stored-apart : (db : Database) (records : List KeptRecord) → AreRecordsOf db records → AreApart (λ (r : StoredRecord). r.stamp) (records_of db)
 stored-apart db records s = λ k.
     let few : count_by (has stamp_of k) records ≤ 1 = AreApart-rising stamp_of records s.rises k in
     let kinds = count-kinds k records in
     let all = count-stored k db in
     let users : users_at k (users_in records) ≡ users_at k db.users = ap (users_at k) s.users in
-    let tables : tables_at k (tables_in records) ≡ objects_at k db.objects = ap (tables_at k) s.tables ∙ count-map (λ (t : TableSummary). t.stamp == k) kept_of_table db.objects in
+    let objects : objects_at k (objects_in records) ≡ objects_at k db.objects = ap (objects_at k) s.objects in
     let grants : grants_at k (grants_in records) ≡ grants_at k db.grants = ap (grants_at k) s.grants in
-    let rows : summaries_at k (rows_in records) ≡ rows_at k db.rows =
-    sym (count-map (λ (r : RowSummary). r.stamp == k) unplaced (rows_in records)) ∙ ap (summaries_at k) s.rows ∙ count-map (λ (r : RowSummary). r.stamp == k) (row_summary 0) db.rows in
+    let rows : rows_at k (rows_in records) ≡ rows_at k db.rows = ap (rows_at k) s.rows in
     omega arith
 
 -- A test of all records as they are stored.
@@ -241,12 +163,11 @@ each-stored p db all =
     }
 
 -- the records are stored where each is within its limits
-stored-within : (db : Database) (records : List Summary) → Summarizes records db → HasFittingRecords db → list_all is_short db.objects ≡ true → list_all (is_given_out db.next) (records_of db) ≡ true
-    → IsStored db.cells (counter_cells db) db.next (records_of db)
-stored-within db records s within short given = record {
+stored-within : (db : Database) (records : List KeptRecord) → AreRecordsOf db records → HasFittingRecords db → list_all (is_given_out db.next) (records_of db) ≡ true → IsStored db.cells (counter_cells db) db.next (records_of db)
+stored-within db records s within given = record {
   room = within.room;
   lengths = all-stored is_storable db (all-weaker user_record.fits (λ (u : User). is_storable (stored_user u)) db.users user-storable within.users)
-      (all-weaker is_short (λ (o : Object). is_storable (stored_object o)) db.objects storable-object short)
+      (all-weaker is_short (λ (o : Object). is_storable (stored_object o)) db.objects storable-object within.object_lengths)
       (all-weaker grant_record.fits (λ (g : Grant). is_storable (stored_grant g)) db.grants (λ g fits. storable-grant g) within.grants)
       (all-weaker row_record.fits (λ (r : RowRecord). is_storable (stored_row r)) db.rows storable-row within.rows);
   stamped = given;
@@ -254,22 +175,18 @@ stored-within db records s within short given = record {
 }
 
 -- the records of each kind rise
-users-rise : (db : Database) (records : List Summary) → Summarizes records db → Rises (λ (u : User). u.stamp) db.users
+users-rise : (db : Database) (records : List KeptRecord) → AreRecordsOf db records → Rises (λ (u : User). u.stamp) db.users
 users-rise db records s = subst (Rises (λ (u : User). u.stamp)) s.users (Rises-kind stamp_of (λ (u : User). u.stamp) as_user user-stamp records s.rises)
 
-objects-rise : (db : Database) (records : List Summary) → Summarizes records db → Rises (λ (o : Object). o.stamp) db.objects
-objects-rise db records s =
-    Rises-of (λ (t : TableSummary). t.stamp) kept_of_table db.objects (subst (Rises (λ (t : TableSummary). t.stamp)) s.tables (Rises-kind stamp_of (λ (t : TableSummary). t.stamp) as_table table-stamp records s.rises))
+objects-rise : (db : Database) (records : List KeptRecord) → AreRecordsOf db records → Rises (λ (o : Object). o.stamp) db.objects
+objects-rise db records s = subst (Rises (λ (o : Object). o.stamp)) s.objects (Rises-kind stamp_of (λ (o : Object). o.stamp) as_object object-stamp records s.rises)
 
-grants-rise : (db : Database) (records : List Summary) → Summarizes records db → Rises (λ (g : Grant). g.stamp) db.grants
+grants-rise : (db : Database) (records : List KeptRecord) → AreRecordsOf db records → Rises (λ (g : Grant). g.stamp) db.grants
 grants-rise db records s = subst (Rises (λ (g : Grant). g.stamp)) s.grants (Rises-kind stamp_of (λ (g : Grant). g.stamp) as_grant grant-stamp records s.rises)
 
-rows-rise : (db : Database) (records : List Summary) → Summarizes records db → Rises (λ (r : RowRecord). r.stamp) db.rows
-rows-rise db records s =
-    let kept = Rises-kind stamp_of (λ (r : RowSummary). r.stamp) as_row row-stamp records s.rises in
-    Rises-of (λ (r : RowSummary). r.stamp) (row_summary 0) db.rows (subst (Rises (λ (r : RowSummary). r.stamp)) s.rows (Rises-map (λ (r : RowSummary). r.stamp) unplaced (rows_in records) kept))
+rows-rise : (db : Database) (records : List KeptRecord) → AreRecordsOf db records → Rises (λ (r : RowRecord). r.stamp) db.rows
+rows-rise db records s = subst (Rises (λ (r : RowRecord). r.stamp)) s.rows (Rises-kind stamp_of (λ (r : RowRecord). r.stamp) as_row row-stamp records s.rises)
 
--- The records of each kind.
 users-valid : (next : ℕ) (users : List User) → Rises (λ (u : User). u.stamp) users → list_all user_record.fits users ≡ true → are_valid_users next users ≡ true → AreUsers users
 users-valid next users rises limits valid =
     let a = and_parts (list_all (λ (u : User). is_stamp_before next u.stamp && is_right_user users u) users && is_owner_alone (filter is_db_o users)) (are_different (map (λ (u : User). u.name) users)) valid in
@@ -295,87 +212,70 @@ valid-users next users is stamps =
     let each = all-both (λ (u : User). is_stamp_before next u.stamp) (is_right_user users) users stamps right in
     rw (each, is.owner, is.names) refl
 
-tables-valid : (next : ℕ) (users : List User) (objects : List Object) → Rises (λ (o : Object). o.stamp) objects → list_all (λ (o : Object). is_table o.kind) objects ≡ true → list_all object_fits objects ≡ true
-    → list_all (λ (o : Object). are_different (columns_of o.kind)) objects ≡ true → are_valid_tables next users (map kept_of_table objects) ≡ true → AreObjects users objects
-tables-valid next users objects rises alone limits columns valid =
-    let ts = map kept_of_table objects in
-    let one = λ (t : TableSummary). is_stamp_before next t.stamp && is_made_by_maker users t.owner in
-    let a = and_parts (list_all one ts) (are_different (map (λ (t : TableSummary). t.name) ts)) valid in
-    let each : list_all (λ (o : Object). is_stamp_before next o.stamp && is_made_by_maker users o.owner) objects ≡ true = sym (list_all-map one kept_of_table objects) ∙ a.0 in record {
+objects-valid : (next : ℕ) (users : List User) (objects : List Object) → Rises (λ (o : Object). o.stamp) objects → list_all object_fits objects ≡ true → list_all is_short objects ≡ true → are_valid_objects next users objects ≡ true
+    → AreObjects users objects
+objects-valid next users objects rises limits lengths valid =
+    let one = λ (o : Object). is_stamp_before next o.stamp && is_right_object users objects o in
+    let a = and_parts (list_all one objects) (are_different (map (λ (o : Object). o.name) objects)) valid in
+    let right = λ (o : Object) (h : one o ≡ true). and_parts (is_made_by_maker users o.owner) (is_founded objects o) (and_parts (is_stamp_before next o.stamp) (is_right_object users objects o) h).1 in record {
       rises = rises;
       limits = limits;
-      lengths = all-by_both (λ (o : Object). is_table o.kind) object_fits is_short objects table-short alone limits;
-      names = ap are_different (sym (map-twice (λ (t : TableSummary). t.name) kept_of_table objects)) ∙ a.1;
-      makers = all-weaker (λ (o : Object). is_stamp_before next o.stamp && is_made_by_maker users o.owner) (λ (o : Object). is_made_by_maker users o.owner) objects
-          (λ o h. (and_parts (is_stamp_before next o.stamp) (is_made_by_maker users o.owner) h).1) each;
-      founded = all-by_both (λ (o : Object). is_table o.kind) (λ (o : Object). are_different (columns_of o.kind)) (is_founded objects) objects (λ o is different. founded-alike objects o is ∙ different) alone columns;
+      lengths = lengths;
+      names = a.1;
+      makers = all-weaker one (λ (o : Object). is_made_by_maker users o.owner) objects (λ o h. (right o h).0) a.0;
+      founded = all-weaker one (is_founded objects) objects (λ o h. (right o h).1) a.0;
     }
 
-valid-tables : (next : ℕ) (users : List User) (objects : List Object) → AreObjects users objects → list_all (λ (o : Object). is_stamp_before next o.stamp) objects ≡ true → are_valid_tables next users (map kept_of_table objects) ≡ true
-valid-tables next users objects are stamps =
-    let ts = map kept_of_table objects in
-    let one = λ (t : TableSummary). is_stamp_before next t.stamp && is_made_by_maker users t.owner in
-    let each = all-both (λ (o : Object). is_stamp_before next o.stamp) (λ (o : Object). is_made_by_maker users o.owner) objects stamps are.makers in
-    and_from (list_all one ts) (are_different (map (λ (t : TableSummary). t.name) ts)) (list_all-map one kept_of_table objects ∙ each)
-    (ap are_different (map-twice (λ (t : TableSummary). t.name) kept_of_table objects) ∙ are.names)
+valid-objects : (next : ℕ) (users : List User) (objects : List Object) → AreObjects users objects → list_all (λ (o : Object). is_stamp_before next o.stamp) objects ≡ true → are_valid_objects next users objects ≡ true
+valid-objects next users objects are stamps =
+    let right = all-both (λ (o : Object). is_made_by_maker users o.owner) (is_founded objects) objects are.makers are.founded in
+    and_from (list_all (λ (o : Object). is_stamp_before next o.stamp && is_right_object users objects o) objects) (are_different (map (λ (o : Object). o.name) objects))
+    (all-both (λ (o : Object). is_stamp_before next o.stamp) (is_right_object users objects) objects stamps right) are.names
 
-grants-valid : (next : ℕ) (users : List User) (objects : List Object) (grants : List Grant) → Rises (λ (g : Grant). g.stamp) grants → list_all grant_record.fits grants ≡ true
-    → are_valid_grants next users (map kept_of_table objects) grants ≡ true → AreGrants users objects grants
+grants-valid : (next : ℕ) (users : List User) (objects : List Object) (grants : List Grant) → Rises (λ (g : Grant). g.stamp) grants → list_all grant_record.fits grants ≡ true → are_valid_grants next users objects grants ≡ true
+    → AreGrants users objects grants
 grants-valid next users objects grants rises limits valid =
-    let ts = map kept_of_table objects in
-    let one = λ (g : Grant). is_stamp_before next g.stamp && is_right_grant users ts g in
+    let one = λ (g : Grant). is_stamp_before next g.stamp && has_object_and_grantee users objects g in
     let a = and_parts (list_all one grants) (are_apart_by is_of_pair grants) valid in record {
       rises = rises;
       limits = limits;
-      parties = all-weaker one (has_object_and_grantee users objects) grants (λ g h. sym (grant-alike users objects g) ∙ (and_parts (is_stamp_before next g.stamp) (is_right_grant users ts g) h).1) a.0;
+      parties = all-weaker one (has_object_and_grantee users objects) grants (λ g h. (and_parts (is_stamp_before next g.stamp) (has_object_and_grantee users objects g) h).1) a.0;
       pairs = a.1;
     }
 
 valid-grants : (next : ℕ) (users : List User) (objects : List Object) (grants : List Grant) → AreGrants users objects grants → list_all (λ (g : Grant). is_stamp_before next g.stamp) grants ≡ true
-    → are_valid_grants next users (map kept_of_table objects) grants ≡ true
+    → are_valid_grants next users objects grants ≡ true
 valid-grants next users objects grants are stamps =
-    let ts = map kept_of_table objects in
-    let right = all-alike (is_right_grant users ts) (has_object_and_grantee users objects) grants (grant-alike users objects) ∙ are.parties in
-    and_from (list_all (λ (g : Grant). is_stamp_before next g.stamp && is_right_grant users ts g) grants) (are_apart_by is_of_pair grants)
-    (all-both (λ (g : Grant). is_stamp_before next g.stamp) (is_right_grant users ts) grants stamps right) are.pairs
+    and_from (list_all (λ (g : Grant). is_stamp_before next g.stamp && has_object_and_grantee users objects g) grants) (are_apart_by is_of_pair grants)
+    (all-both (λ (g : Grant). is_stamp_before next g.stamp) (has_object_and_grantee users objects) grants stamps are.parties) are.pairs
 
-rows-valid : (next limit : ℕ) (objects : List Object) (rows : List RowRecord) → list_all (λ (o : Object). is_table o.kind) objects ≡ true → Rises (λ (r : RowRecord). r.stamp) rows → list_all row_record.fits rows ≡ true
-    → list_all (is_within_limit limit) rows ≡ true → are_valid_rows next (map kept_of_table objects) (map (row_summary 0) rows) ≡ true → AreRows limit objects rows
-rows-valid next limit objects rows alone rises limits lengths valid =
-    let ts = map kept_of_table objects in
-    let one = λ (r : RowSummary). is_stamp_before next r.stamp && is_right_row ts r in
-    let each : list_all (λ (r : RowRecord). is_stamp_before next r.stamp && is_right_row ts (row_summary 0 r)) rows ≡ true = sym (list_all-map one (row_summary 0) rows) ∙ valid in record {
-      rises = rises;
-      limits = limits;
-      lengths = lengths;
-      tables = all-weaker (λ (r : RowRecord). is_stamp_before next r.stamp && is_right_row ts (row_summary 0 r)) (has_table objects) rows
-          (λ r h. sym (row-alike objects r alone) ∙ (and_parts (is_stamp_before next r.stamp) (is_right_row ts (row_summary 0 r)) h).1) each;
-    }
+rows-valid : (next limit : ℕ) (objects : List Object) (rows : List RowRecord) → Rises (λ (r : RowRecord). r.stamp) rows → list_all row_record.fits rows ≡ true → list_all (is_within_limit limit) rows ≡ true
+    → are_valid_rows next objects rows ≡ true → AreRows limit objects rows
+rows-valid next limit objects rows rises limits lengths valid = record {
+  rises = rises;
+  limits = limits;
+  lengths = lengths;
+  tables = all-weaker (λ (r : RowRecord). is_stamp_before next r.stamp && has_table objects r) (has_table objects) rows (λ r h. (and_parts (is_stamp_before next r.stamp) (has_table objects r) h).1) valid;
+}
 
-valid-rows : (next limit : ℕ) (objects : List Object) (rows : List RowRecord) → list_all (λ (o : Object). is_table o.kind) objects ≡ true → AreRows limit objects rows
-    → list_all (λ (r : RowRecord). is_stamp_before next r.stamp) rows ≡ true → are_valid_rows next (map kept_of_table objects) (map (row_summary 0) rows) ≡ true
-valid-rows next limit objects rows alone are stamps =
-    let ts = map kept_of_table objects in
-    let right = all-alike (λ (r : RowRecord). is_right_row ts (row_summary 0 r)) (has_table objects) rows (λ r. row-alike objects r alone) ∙ are.tables in
-    list_all-map (λ (r : RowSummary). is_stamp_before next r.stamp && is_right_row ts r) (row_summary 0) rows
-    ∙ all-both (λ (r : RowRecord). is_stamp_before next r.stamp) (λ (r : RowRecord). is_right_row ts (row_summary 0 r)) rows stamps right
+valid-rows : (next limit : ℕ) (objects : List Object) (rows : List RowRecord) → AreRows limit objects rows → list_all (λ (r : RowRecord). is_stamp_before next r.stamp) rows ≡ true → are_valid_rows next objects rows ≡ true
+valid-rows next limit objects rows are stamps = all-both (λ (r : RowRecord). is_stamp_before next r.stamp) (has_table objects) rows stamps are.tables
 
 -- the parts of the test
 record Passes (db : Database) : Type 0 where
   next : nat_le 2 db.next ≡ true
   users : are_valid_users db.next db.users ≡ true
-  tables : are_valid_tables db.next db.users (map kept_of_table db.objects) ≡ true
-  grants : are_valid_grants db.next db.users (map kept_of_table db.objects) db.grants ≡ true
-  rows : are_valid_rows db.next (map kept_of_table db.objects) (map (row_summary 0) db.rows) ≡ true
+  objects : are_valid_objects db.next db.users db.objects ≡ true
+  grants : are_valid_grants db.next db.users db.objects db.grants ≡ true
+  rows : are_valid_rows db.next db.objects db.rows ≡ true
 
 each-passes : (db : Database) → passes db ≡ true → Passes db
 each-passes db passed =
-    let ts = map kept_of_table db.objects in
-    let a = and_parts (nat_le 2 db.next && are_valid_users db.next db.users && are_valid_tables db.next db.users ts && are_valid_grants db.next db.users ts db.grants) (are_valid_rows db.next ts (map (row_summary 0) db.rows)) passed in
-    let b = and_parts (nat_le 2 db.next && are_valid_users db.next db.users && are_valid_tables db.next db.users ts) (are_valid_grants db.next db.users ts db.grants) a.0 in
-    let c = and_parts (nat_le 2 db.next && are_valid_users db.next db.users) (are_valid_tables db.next db.users ts) b.0 in
+    let a = and_parts (nat_le 2 db.next && are_valid_users db.next db.users && are_valid_objects db.next db.users db.objects && are_valid_grants db.next db.users db.objects db.grants) (are_valid_rows db.next db.objects db.rows) passed in
+    let b = and_parts (nat_le 2 db.next && are_valid_users db.next db.users && are_valid_objects db.next db.users db.objects) (are_valid_grants db.next db.users db.objects db.grants) a.0 in
+    let c = and_parts (nat_le 2 db.next && are_valid_users db.next db.users) (are_valid_objects db.next db.users db.objects) b.0 in
     let d = and_parts (nat_le 2 db.next) (are_valid_users db.next db.users) c.0 in
-    record { next = d.0; users = d.1; tables = c.1; grants = b.1; rows = a.1 }
+    record { next = d.0; users = d.1; objects = c.1; grants = b.1; rows = a.1 }
 
 -- all stamps were given out
 first-of-both : {X : Type 0} (p q : X → Bool) (xs : List X) → list_all (λ x. p x && q x) xs ≡ true → list_all p xs ≡ true
@@ -383,68 +283,63 @@ first-of-both p q xs all = all-weaker (λ x. p x && q x) p xs (λ x h. (and_part
 
 stamps-given : (db : Database) → Passes db → list_all (is_given_out db.next) (records_of db) ≡ true
 stamps-given db passed =
-    let ts = map kept_of_table db.objects in
-    let table = λ (t : TableSummary). is_stamp_before db.next t.stamp && is_made_by_maker db.users t.owner in
-    let row = λ (r : RowSummary). is_stamp_before db.next r.stamp && is_right_row ts r in
     let users = and_parts (list_all (λ (u : User). is_stamp_before db.next u.stamp && is_right_user db.users u) db.users && is_owner_alone (filter is_db_o db.users)) (are_different (map (λ (u : User). u.name) db.users)) passed.users in
     let user = and_parts (list_all (λ (u : User). is_stamp_before db.next u.stamp && is_right_user db.users u) db.users) (is_owner_alone (filter is_db_o db.users)) users.0 in
-    let tables = and_parts (list_all table ts) (are_different (map (λ (t : TableSummary). t.name) ts)) passed.tables in
-    let grants = and_parts (list_all (λ (g : Grant). is_stamp_before db.next g.stamp && is_right_grant db.users ts g) db.grants) (are_apart_by is_of_pair db.grants) passed.grants in
+    let objects = and_parts (list_all (λ (o : Object). is_stamp_before db.next o.stamp && is_right_object db.users db.objects o) db.objects) (are_different (map (λ (o : Object). o.name) db.objects)) passed.objects in
+    let grants = and_parts (list_all (λ (g : Grant). is_stamp_before db.next g.stamp && has_object_and_grantee db.users db.objects g) db.grants) (are_apart_by is_of_pair db.grants) passed.grants in
     all-stored (is_given_out db.next) db
     (first-of-both (λ (u : User). is_stamp_before db.next u.stamp) (is_right_user db.users) db.users user.0)
-    (first-of-both (λ (o : Object). is_stamp_before db.next o.stamp) (λ (o : Object). is_made_by_maker db.users o.owner) db.objects (sym (list_all-map table kept_of_table db.objects) ∙ tables.0))
-    (first-of-both (λ (g : Grant). is_stamp_before db.next g.stamp) (is_right_grant db.users ts) db.grants grants.0)
-    (first-of-both (λ (r : RowRecord). is_stamp_before db.next r.stamp) (λ (r : RowRecord). is_right_row ts (row_summary 0 r)) db.rows (sym (list_all-map row (row_summary 0) db.rows) ∙ passed.rows))
+    (first-of-both (λ (o : Object). is_stamp_before db.next o.stamp) (is_right_object db.users db.objects) db.objects objects.0)
+    (first-of-both (λ (g : Grant). is_stamp_before db.next g.stamp) (has_object_and_grantee db.users db.objects) db.grants grants.0)
+    (first-of-both (λ (r : RowRecord). is_stamp_before db.next r.stamp) (has_table db.objects) db.rows passed.rows)
 
 -- Records that are within their limits and pass the test make a valid database.
-pub IsValid-tested : (db : Database) (records : List Summary) → Summarizes records db → HasFittingRecords db
-    → is_valid_database db.next (users_in records) (tables_in records) (grants_in records) (rows_in records) ≡ true → IsValid db
+pub IsValid-tested : (db : Database) (records : List KeptRecord) → AreRecordsOf db records → HasFittingRecords db
+    → is_valid_database db.next (users_in records) (objects_in records) (grants_in records) (rows_in records) ≡ true → IsValid db
 IsValid-tested db records s within tested =
-    let passed = each-passes db (sym (tested-database db records s) ∙ tested) in
-    let objects = tables-valid db.next db.users db.objects (objects-rise db records s) s.tables_alone within.objects within.columns passed.tables in record {
+    let passed = each-passes db (sym (tested-database db records s) ∙ tested) in record {
       cells = within.cells;
       limit = within.limit;
       next = leb-true 2 db.next passed.next;
       counter = within.counter;
-      stored = stored-within db records s within objects.lengths (stamps-given db passed);
+      stored = stored-within db records s within (stamps-given db passed);
       users = users-valid db.next db.users (users-rise db records s) within.users passed.users;
-      objects = objects;
+      objects = objects-valid db.next db.users db.objects (objects-rise db records s) within.objects within.object_lengths passed.objects;
       grants = grants-valid db.next db.users db.objects db.grants (grants-rise db records s) within.grants passed.grants;
-      rows = rows-valid db.next db.limit db.objects db.rows s.tables_alone (rows-rise db records s) within.rows within.lengths passed.rows;
+      rows = rows-valid db.next db.limit db.objects db.rows (rows-rise db records s) within.rows within.lengths passed.rows;
     }
 
 -- The records of a valid database are within their limits and pass the test.
-pub HasFittingRecords-valid : (db : Database) → list_all (λ (o : Object). is_table o.kind) db.objects ≡ true → IsValid db → HasFittingRecords db
-HasFittingRecords-valid db alone valid = record {
+pub HasFittingRecords-valid : (db : Database) → IsValid db → HasFittingRecords db
+HasFittingRecords-valid db valid = record {
   cells = valid.cells;
   limit = valid.limit;
   room = valid.stored.room;
   counter = valid.counter;
   users = valid.users.limits;
   objects = valid.objects.limits;
-  columns = all-by_both (λ (o : Object). is_table o.kind) (is_founded db.objects) (λ (o : Object). are_different (columns_of o.kind)) db.objects (λ o is founded. sym (founded-alike db.objects o is) ∙ founded) alone valid.objects.founded;
+  object_lengths = valid.objects.lengths;
   grants = valid.grants.limits;
   rows = valid.rows.limits;
   lengths = valid.rows.lengths;
 }
 
-pub tested-IsValid : (db : Database) (records : List Summary) → Summarizes records db → IsValid db → is_valid_database db.next (users_in records) (tables_in records) (grants_in records) (rows_in records) ≡ true
+pub tested-IsValid : (db : Database) (records : List KeptRecord) → AreRecordsOf db records → IsValid db → is_valid_database db.next (users_in records) (objects_in records) (grants_in records) (rows_in records) ≡ true
 tested-IsValid db records s valid =
-    let ts = map kept_of_table db.objects in
     let stamps = each-stored (is_given_out db.next) db valid.stored.stamped in
     tested-database db records s
-    ∙ rw (le-leb 2 db.next valid.next, valid-users db.next db.users valid.users stamps.users, valid-tables db.next db.users db.objects valid.objects stamps.objects, valid-grants db.next db.users db.objects db.grants valid.grants stamps.grants)
-    (valid-rows db.next db.limit db.objects db.rows s.tables_alone valid.rows stamps.rows)
+    ∙ rw (le-leb 2 db.next valid.next, valid-users db.next db.users valid.users stamps.users, valid-objects db.next db.users db.objects valid.objects stamps.objects, valid-grants db.next db.users db.objects db.grants valid.grants stamps.grants)
+    (valid-rows db.next db.limit db.objects db.rows valid.rows stamps.rows)
 
--- No two records of a valid database have one stamp, where what is kept of those of each kind has each stamp as often as they have.
-pub valid-apart : (db : Database) (records : List Summary) → IsValid db → ((k : ℕ) → users_at k (users_in records) ≡ users_at k db.users) → ((k : ℕ) → tables_at k (tables_in records) ≡ objects_at k db.objects)
-    → ((k : ℕ) → grants_at k (grants_in records) ≡ grants_at k db.grants) → ((k : ℕ) → summaries_at k (rows_in records) ≡ rows_at k db.rows) → AreApart stamp_of records
-valid-apart db records valid users tables grants rows = λ k.
+-- No two records of a valid database have one stamp, where those of each kind have each stamp as often as its own have.
+pub valid-apart : (db : Database) (records : List KeptRecord) → IsValid db → ((k : ℕ) → users_at k (users_in records) ≡ users_at k db.users) → ((k : ℕ) → objects_at k (objects_in records) ≡ objects_at k db.objects)
+    → ((k : ℕ) → grants_at k (grants_in records) ≡ grants_at k db.grants) → ((k : ℕ) → rows_at k (rows_in records) ≡ rows_at k db.rows) → AreApart stamp_of records
+valid-apart db records valid users objects grants rows = λ k.
     let few : count_by (stored_at k) (records_of db) ≤ 1 = valid.stored.apart k in
     let all = count-stored k db in
     let kinds = count-kinds k records in
     let a = users k in
-    let b = tables k in
+    let b = objects k in
     let c = grants k in
     let d = rows k in
     omega arith

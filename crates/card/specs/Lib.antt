@@ -3,8 +3,10 @@ pub mod Apart
 pub mod Behind
 pub mod Card
 pub mod Changing
+pub mod Founded
+pub mod KeptRecords
 pub mod Making
 pub mod Opening
+pub mod Pool
 pub mod Sessions
-pub mod Summary
 pub mod Validity

@@ -4,27 +4,28 @@ ghost use Rattle.scql_base.specs.Name.{IsName};
 ghost use Rattle.scql_base.specs.declared.name.TheConstants.Name.{LONGEST};
 ghost use Rattle.card.specs.Apart as apart;
 
-use crate::summary::Summary;
+use crate::kept_record::KeptRecord;
+use crate::kept_records::KeptRecords;
 use scql_base::Name;
 
-/// What no two records share: a user's name, a table's, or a grant's object and grantee.
+/// What no two records share: a user's name, an object's, or a grant's object and grantee.
 #[derive(Clone, Copy)]
 pub(crate) enum Label {
     UserName,
-    TableName,
+    ObjectName,
     GrantPair,
 }
 
 impl Label {
     /// Whether no two records share it. The numbers are kept in `numbers`, which has room for one of each record.
-    pub(crate) fn is_never_shared(self, records: &[Summary], numbers: &mut Vec<u64>) -> bool
-        requires room { length records.now ≤ vec_capacity numbers.old }
-        ensures never { result ≡ apart.is_never_shared self records.now }
+    pub(crate) fn is_never_shared(self, records: &KeptRecords, numbers: &mut Vec<u64>) -> bool
+        requires room { length records.now.items ≤ vec_capacity numbers.old }
+        ensures never { result ≡ apart.is_never_shared self records.now.items }
         ensures room { vec_capacity numbers.old ≤ vec_capacity numbers.new }
     {
         numbers.clear();
-        for summary in records {
-            if let Some(number) = self.number(summary) {
+        for index in 0..records.len() {
+            if let Some(number) = self.number(records.at(index)) {
                 let pushed = numbers.push(number).is_ok();
                 prove!(pushed);
             }
@@ -33,15 +34,15 @@ impl Label {
     }
 
     // The number of what a record has of this.
-    fn number(self, summary: &Summary) -> Option<u64>
-        ensures number { result ≡ apart.number_by self summary.now }
-        ensures numbered { apart.is_numbered self summary.now ≡ true }
+    fn number(self, entry: KeptRecord) -> Option<u64>
+        ensures number { result ≡ apart.number_by self entry }
+        ensures numbered { apart.is_numbered self entry ≡ true }
     {
         match self {
-            Label::UserName => Some(name_number(&summary.as_user()?.name)),
-            Label::TableName => Some(name_number(&summary.as_table()?.name)),
+            Label::UserName => Some(name_number(&entry.into_user()?.name)),
+            Label::ObjectName => Some(name_number(&entry.into_object()?.name)),
             Label::GrantPair => {
-                let grant = summary.as_grant()?;
+                let grant = entry.into_grant()?;
                 Some(pair_number(grant.object, grant.grantee))
             }
         }

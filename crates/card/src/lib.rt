@@ -4,11 +4,13 @@
 mod apart;
 mod card;
 mod changing;
+mod founded;
+mod kept_record;
+mod kept_records;
 mod opening;
 mod outcome;
 mod session;
 mod slot_record;
-mod summary;
 mod validity;
 
 pub use card::Card;

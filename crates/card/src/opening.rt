@@ -17,11 +17,12 @@ ghost use Rattle.scql_model.specs.Database.{Database};
 ghost use Rattle.scql_model.specs.Opens.{Opens};
 ghost use Rattle.row_index.specs.Index.{ArePlaces, Indexes};
 ghost use Rattle.card.specs.Card.{HoldsSome};
-ghost use Rattle.card.specs.Opening.{PassTest, ReadsCard, is_admitted, summary_in};
-ghost use Rattle.card.specs.Summary.{places_in, stamp_of};
+ghost use Rattle.scql_base.specs.declared.records.TheConstants.RowRecord.{LONGEST};
+ghost use Rattle.card.specs.KeptRecords.{places_in, stamp_of};
+ghost use Rattle.card.specs.Opening.{PassTest, ReadsCard, is_admitted, record_in};
 
+use crate::kept_records::KeptRecords;
 use crate::slot_record::SlotRecord;
-use crate::summary::Summary;
 use crate::validity::are_valid;
 use eeprom::Eeprom;
 use record_store::{OpenRefusal, Opening, RecordOctets, Store};
@@ -39,10 +40,10 @@ pub(crate) struct Opened {
 #[derive(Drop)]
 struct Gathered {
     counter: Option<u32>,
-    records: Vec<Summary>,
+    records: KeptRecords,
 }
 
-// What is filled once all records were read. Its memory is taken before.
+// What is filled once all records were read. Its memory is taken before the first.
 #[derive(Drop)]
 struct Room {
     index: RowIndex,
@@ -51,8 +52,8 @@ struct Room {
 }
 
 /// Opens the store of an image, where its records are those of a valid database. A journal behind an open gate is replayed first.
-/// All memory is taken before the first record is read: beyond what a card keeps a summary, a place and a number for each cell,
-/// which are at most 2,048 * (64 + 12 + 8) = 172,032 octets.
+/// All memory is taken before the first record is read: beyond what a card keeps, for each cell 30 octets and the place of a record,
+/// the place of a row and a number, which are at most 2,048 * (30 + 12 + 12 + 8) = 126,976 octets.
 pub(crate) fn open_records<B: Eeprom>(alloc: Global, bench: &mut B) -> Result<Opened, OpenRefusal>
     ensures over { IfOk result (λ opened. IsOver opened.store (B.chip bench.new)) }
     ensures told { OnOk result (is_some (B.chip bench.new).image ≡ is_some (B.chip bench.old).image) }
@@ -76,7 +77,7 @@ pub(crate) fn open_records<B: Eeprom>(alloc: Global, bench: &mut B) -> Result<Op
     let mut room = Room::for_cells(alloc, cells)?;
     let mut gathered = Gathered {
         counter: None,
-        records: Vec::with_capacity(alloc, cells as usize)?,
+        records: KeptRecords::for_cells(alloc, cells)?,
     };
     let mut octets = RecordOctets::new();
     for slot in 0..cells {
@@ -87,7 +88,7 @@ pub(crate) fn open_records<B: Eeprom>(alloc: Global, bench: &mut B) -> Result<Op
     let Some(records) = gathered.tested(&mut room.numbers) else {
         return Err(OpenRefusal::NotACard);
     };
-    let index = room.index_of(records.as_slice());
+    let index = room.index_of(&records);
     Ok(Opened { store, index })
 }
 
@@ -106,20 +107,20 @@ impl Room {
     }
 
     // The index of the rows among records.
-    fn index_of(self, records: &[Summary]) -> RowIndex
+    fn index_of(self, records: &KeptRecords) -> RowIndex
         requires idle { self.index.begun ≡ false }
         requires none { self.places.items ≡ [] }
-        requires room { length records.now ≤ vec_capacity self.places }
-        requires kept { ArePlaces self.index.cells (places_in records.now) }
-        ensures { result ≡ record { cells = self.index.cells; begun = false; committed = places_in records.now; working = places_in records.now } }
+        requires room { length records.now.items ≤ vec_capacity self.places }
+        requires kept { ArePlaces self.index.cells (places_in records.now.items) }
+        ensures { result ≡ record { cells = self.index.cells; begun = false; committed = places_in records.now.items; working = places_in records.now.items } }
     {
         let Room {
             mut index,
             mut places,
             numbers: _,
         } = self;
-        for summary in records {
-            if let Some(place) = summary.as_place() {
+        for nth in 0..records.len() {
+            if let Some(place) = records.at(nth).as_place() {
                 places.push_reserved(place);
             }
         }
@@ -131,12 +132,15 @@ impl Room {
 impl Gathered {
     // Adds the record of a slot, where it has one, on a card with this row limit.
     fn add_slot(&mut self, slot: u16, row_limit: u16, octets: &[u8]) -> Result<(), OpenRefusal>
-        requires room { length self.old.records.items < vec_capacity self.old.records }
+        requires short { length octets.now ≤ LONGEST }
+        requires room { length self.old.records.items < self.old.records.cells }
+        requires fits { self.old.records.size + length octets.now ≤ 30 * self.old.records.cells }
         ensures admitted { OnOk result (is_admitted row_limit (slot_with octets.now) ≡ true) }
         ensures counters { OnOk result (cons_option self.new.counter [] ≡ cons_option self.old.counter (cons_option (in_slot counter_in (slot_with octets.now)) [])) }
-        ensures records { OnOk result (self.new.records.items ≡ self.old.records.items ++ cons_option (in_slot (summary_in slot) (slot_with octets.now)) []) }
+        ensures records { OnOk result (self.new.records.items ≡ self.old.records.items ++ cons_option (in_slot (record_in slot) (slot_with octets.now)) []) }
         ensures few { OnOk result (length self.new.records.items ≤ length self.old.records.items + 1) }
-        ensures capacity { OnOk result (vec_capacity self.new.records ≡ vec_capacity self.old.records) }
+        ensures size { OnOk result (self.new.records.size ≤ self.old.records.size + length octets.now) }
+        ensures cells { OnOk result (self.new.records.cells ≡ self.old.records.cells) }
         ensures refused { IsErrOf result OpenRefusal.NotACard
             → (is_admitted row_limit (slot_with octets.now) ≡ false) ⊎ ((self.old.counter ≢ None) × (in_slot counter_in (slot_with octets.now) ≢ None)) }
         ensures refusal { IfErr result (λ refusal. refusal ≡ OpenRefusal.NotACard) }
@@ -147,8 +151,8 @@ impl Gathered {
         match SlotRecord::read(octets, slot, row_limit) {
             None => Err(OpenRefusal::NotACard),
             Some(SlotRecord::Counter(next)) => self.keep_counter(next),
-            Some(SlotRecord::Kept(summary)) => {
-                self.records.push_reserved(summary);
+            Some(SlotRecord::Other(entry)) => {
+                self.records.push(&entry, octets, slot);
                 Ok(())
             }
         }
@@ -169,7 +173,7 @@ impl Gathered {
     }
 
     // The records in rising order of their stamps, where they are those of a valid database.
-    fn tested(self, numbers: &mut Vec<u64>) -> Option<Vec<Summary>>
+    fn tested(self, numbers: &mut Vec<u64>) -> Option<KeptRecords>
         requires room { length self.records.items ≤ vec_capacity numbers.old }
         ensures records { IfSome result (λ records. records.items ≡ in_order stamp_of self.records.items) }
         ensures passed { IfSome result (λ records. (next : ℕ) × (self.counter ≡ Some next) × PassTest next self.records.items) }
@@ -180,20 +184,13 @@ impl Gathered {
             mut records,
         } = self;
         let next = counter?;
-        records.sort_unstable_by_key(|record| record.stamp());
-        if !stamps_rise(records.as_slice()) {
+        records.sort();
+        if !records.do_stamps_rise() {
             return None;
         }
-        if !are_valid(next, records.as_slice(), numbers) {
+        if !are_valid(next, &records, numbers) {
             return None;
         }
         Some(records)
     }
-}
-
-// Whether each stamp is below the next.
-fn stamps_rise(records: &[Summary]) -> bool
-    ensures { IsTrue result ↔ Rises stamp_of records.now }
-{
-    records.is_sorted_by(|earlier, later| earlier.stamp() < later.stamp())
 }

@@ -1,27 +1,29 @@
-// The rules of a valid database, tested on what is kept of its records.
-ghost use Rattle.std.specs.Prelude.{◌≡◌, ◌≤◌, ◌==◌, ◌&&◌, Some, option_copied, is_some, filter, length, vec_capacity};
-ghost use Rattle.std.specs.List.{list_all, list_any, find};
+// The rules of a valid database, tested on its records.
+ghost use Rattle.std.specs.Prelude.{◌≡◌, ◌≤◌, ◌==◌, ◌&&◌, is_some, filter, length, vec_capacity};
+ghost use Rattle.std.specs.List.{list_all, list_any};
 ghost use Rattle.eeprom.specs.Slots.{Rises};
 ghost use Rattle.scql_base.specs.declared.records.User as base;
-ghost use Rattle.card.specs.declared.summary.Summary as kept;
-ghost use Rattle.card.specs.declared.summary.TableSummary as tables;
+ghost use Rattle.scql_base.specs.declared.records.Object as declared;
+ghost use Rattle.scql_model.specs.Objects as objects;
 ghost use Rattle.scql_model.specs.Rules as rules;
 ghost use Rattle.card.specs.Apart as apart;
 ghost use Rattle.card.specs.Validity as validity;
-ghost use Rattle.card.specs.declared.apart.Label.TheVariants.{UserName, TableName, GrantPair};
-ghost use Rattle.card.specs.Summary.{stamp_of, users_in, tables_in, grants_in, rows_in};
+ghost use Rattle.card.specs.declared.apart.Label.TheVariants.{UserName, ObjectName, GrantPair};
+ghost use Rattle.card.specs.KeptRecords.{stamp_of, users_in, objects_in, grants_in, rows_in};
 
 use crate::apart::Label;
-use crate::summary::{RowSummary, Summary, TableSummary};
-use scql_base::{Grant, Name, Profile, User};
+use crate::founded::is_founded;
+use crate::kept_record::KeptRecord;
+use crate::kept_records::KeptRecords;
+use scql_base::{Grant, Name, Object, ObjectKind, Profile, RowRecord, User};
 
 /// Whether records are those of a valid database, where each is within its limits. They stand in rising order of their stamps,
 /// and there is room for as many numbers.
 #[tactic(auto, using(crate::proofs::Grouped::grouped))]
-pub(crate) fn are_valid(next: u32, records: &[Summary], numbers: &mut Vec<u64>) -> bool
-    requires rises { Rises stamp_of records.now }
-    requires room { length records.now ≤ vec_capacity numbers.old }
-    ensures { result ≡ validity.is_valid_database next (users_in records.now) (tables_in records.now) (grants_in records.now) (rows_in records.now) }
+pub(crate) fn are_valid(next: u32, records: &KeptRecords, numbers: &mut Vec<u64>) -> bool
+    requires rises { Rises stamp_of records.now.items }
+    requires room { length records.now.items ≤ vec_capacity numbers.old }
+    ensures { result ≡ validity.is_valid_database next (users_in records.now.items) (objects_in records.now.items) (grants_in records.now.items) (rows_in records.now.items) }
 {
     next >= 2
         && has_owner_alone(records)
@@ -29,25 +31,25 @@ pub(crate) fn are_valid(next: u32, records: &[Summary], numbers: &mut Vec<u64>) 
         && is_nothing_shared(records, numbers)
 }
 
-// Whether no two users have one name, no two tables, and no two grants are of one object to one grantee.
-fn is_nothing_shared(records: &[Summary], numbers: &mut Vec<u64>) -> bool
-    requires room { length records.now ≤ vec_capacity numbers.old }
-    ensures { result ≡ (apart.is_never_shared UserName records.now && apart.is_never_shared TableName records.now && apart.is_never_shared GrantPair records.now) }
+// Whether no two users have one name, no two objects, and no two grants are of one object to one grantee.
+fn is_nothing_shared(records: &KeptRecords, numbers: &mut Vec<u64>) -> bool
+    requires room { length records.now.items ≤ vec_capacity numbers.old }
+    ensures { result ≡ (apart.is_never_shared UserName records.now.items && apart.is_never_shared ObjectName records.now.items && apart.is_never_shared GrantPair records.now.items) }
 {
     Label::UserName.is_never_shared(records, numbers)
-        && Label::TableName.is_never_shared(records, numbers)
+        && Label::ObjectName.is_never_shared(records, numbers)
         && Label::GrantPair.is_never_shared(records, numbers)
 }
 
 // Whether OWNER is the one user of profile 01.
-fn has_owner_alone(records: &[Summary]) -> bool
-    ensures { result ≡ validity.is_owner_alone (filter rules.is_db_o (users_in records.now)) }
+fn has_owner_alone(records: &KeptRecords) -> bool
+    ensures { result ≡ validity.is_owner_alone (filter rules.is_db_o (users_in records.now.items)) }
 {
     let mut found = false;
-    for summary in records {
-        if let Some(user) = summary.as_user() {
-            if is_db_o(user) {
-                if found || !is_owner(user) {
+    for index in 0..records.len() {
+        if let Some(user) = records.at(index).into_user() {
+            if is_db_o(&user) {
+                if found || !is_owner(&user) {
                     return false;
                 }
                 found = true;
@@ -80,12 +82,12 @@ fn is_owner(user: &User) -> bool
 }
 
 // Whether each record is right.
-fn is_each_right(next: u32, records: &[Summary]) -> bool
-    requires rises { Rises stamp_of records.now }
-    ensures { result ≡ list_all (validity.is_right_record next (users_in records.now) (tables_in records.now)) records.now }
+fn is_each_right(next: u32, records: &KeptRecords) -> bool
+    requires rises { Rises stamp_of records.now.items }
+    ensures { result ≡ list_all (validity.is_right_record next (users_in records.now.items) (objects_in records.now.items)) records.now.items }
 {
-    for summary in records {
-        if !is_right(next, records, summary) {
+    for index in 0..records.len() {
+        if !is_right(next, records, &records.at(index)) {
             return false;
         }
     }
@@ -93,33 +95,33 @@ fn is_each_right(next: u32, records: &[Summary]) -> bool
 }
 
 // Whether the stamp of a record was given out, and the rules of its kind hold.
-fn is_right(next: u32, records: &[Summary], summary: &Summary) -> bool
-    requires rises { Rises stamp_of records.now }
-    ensures { result ≡ validity.is_right_record next (users_in records.now) (tables_in records.now) summary.now }
+fn is_right(next: u32, records: &KeptRecords, entry: &KeptRecord) -> bool
+    requires rises { Rises stamp_of records.now.items }
+    ensures { result ≡ validity.is_right_record next (users_in records.now.items) (objects_in records.now.items) entry.now }
 {
-    let stamp = summary.stamp();
+    let stamp = entry.stamp();
     stamp >= 1
         && stamp < next
-        && match summary {
-            Summary::User(user) => is_right_user(records, user),
-            Summary::Table(table) => is_made_by_maker(records, table.owner),
-            Summary::Grant(grant) => is_right_grant(records, grant),
-            Summary::Row(row) => is_right_row(records, row),
+        && match entry {
+            KeptRecord::User(user) => is_right_user(records, user),
+            KeptRecord::Object(object) => is_right_object(records, object),
+            KeptRecord::Grant(grant) => is_right_grant(records, grant),
+            KeptRecord::Row { slot: _, row } => is_right_row(records, row),
         }
 }
 
 // Whether a user's name, owner and tries are right.
-fn is_right_user(records: &[Summary], user: &User) -> bool
-    requires rises { Rises stamp_of records.now }
-    ensures { result ≡ validity.is_right_user (users_in records.now) user.now }
+fn is_right_user(records: &KeptRecords, user: &User) -> bool
+    requires rises { Rises stamp_of records.now.items }
+    ensures { result ≡ validity.is_right_user (users_in records.now.items) user.now }
 {
     Name::PUBLIC != user.name.octets() && has_maker(records, user) && has_all_tries(user)
 }
 
 // Whether the user's owner may have made it.
-fn has_maker(records: &[Summary], user: &User) -> bool
-    requires rises { Rises stamp_of records.now }
-    ensures { result ≡ rules.has_maker (users_in records.now) user.now }
+fn has_maker(records: &KeptRecords, user: &User) -> bool
+    requires rises { Rises stamp_of records.now.items }
+    ensures { result ≡ rules.has_maker (users_in records.now.items) user.now }
 {
     match user.profile {
         Profile::DbO => true,
@@ -129,12 +131,12 @@ fn has_maker(records: &[Summary], user: &User) -> bool
 }
 
 // Whether this owner is a user who makes others.
-fn is_made_by_maker(records: &[Summary], owner: u32) -> bool
-    requires rises { Rises stamp_of records.now }
-    ensures { result ≡ rules.is_made_by_maker (users_in records.now) owner }
+fn is_made_by_maker(records: &KeptRecords, owner: u32) -> bool
+    requires rises { Rises stamp_of records.now.items }
+    ensures { result ≡ rules.is_made_by_maker (users_in records.now.items) owner }
 {
     match find_user(records, owner) {
-        Some(user) => is_maker(user),
+        Some(user) => is_maker(&user),
         None => false,
     }
 }
@@ -156,65 +158,74 @@ fn has_all_tries(user: &User) -> bool
     !user.secret.as_slice().is_empty() || user.tries == User::ALL_TRIES
 }
 
-// Whether what a grant allows is there, and who is allowed it.
-fn is_right_grant(records: &[Summary], grant: &Grant) -> bool
-    requires rises { Rises stamp_of records.now }
-    ensures { result ≡ validity.is_right_grant (users_in records.now) (tables_in records.now) grant.now }
+// Whether an object's owner may own it, and what it rests on is there.
+fn is_right_object(records: &KeptRecords, object: &Object) -> bool
+    requires rises { Rises stamp_of records.now.items }
+    ensures { result ≡ validity.is_right_object (users_in records.now.items) (objects_in records.now.items) object.now }
 {
-    is_table_there(records, grant.object)
+    is_made_by_maker(records, object.owner) && is_founded(records, object)
+}
+
+// Whether what a grant allows is there, and who is allowed it.
+fn is_right_grant(records: &KeptRecords, grant: &Grant) -> bool
+    requires rises { Rises stamp_of records.now.items }
+    ensures { result ≡ rules.has_object_and_grantee (users_in records.now.items) (objects_in records.now.items) grant.now }
+{
+    is_object_there(records, grant.object)
         && (grant.grantee == 0 || is_user_there(records, grant.grantee))
 }
 
 // Whether a row's table is there, older than the row, and has a column for each value.
-fn is_right_row(records: &[Summary], row: &RowSummary) -> bool
-    requires rises { Rises stamp_of records.now }
-    ensures { result ≡ validity.is_right_row (tables_in records.now) row.now }
+fn is_right_row(records: &KeptRecords, row: &RowRecord) -> bool
+    requires rises { Rises stamp_of records.now.items }
+    ensures { result ≡ rules.has_table (objects_in records.now.items) row.now }
 {
-    match find_table(records, row.table) {
-        Some(table) => table.stamp < row.stamp && table.columns == row.values,
+    match find_object(records, row.table) {
+        Some(object) => fits_table(row, &object),
         None => false,
     }
 }
 
+// Whether an object is a table that is older than a row, and has a column for each of its values.
+fn fits_table(row: &RowRecord, object: &Object) -> bool
+    ensures { result ≡ rules.fits_table row.now object.now }
+{
+    match &object.kind {
+        ObjectKind::Table { columns } => {
+            object.stamp < row.stamp && columns.len() == row.row.len()
+        }
+        ObjectKind::View { .. } | ObjectKind::Dictionary { .. } => false,
+    }
+}
+
 // Whether there is a user of a stamp.
-fn is_user_there(records: &[Summary], stamp: u32) -> bool
-    requires rises { Rises stamp_of records.now }
-    ensures { result ≡ list_any (λ (u : base.User). u.stamp == stamp) (users_in records.now) }
+fn is_user_there(records: &KeptRecords, stamp: u32) -> bool
+    requires rises { Rises stamp_of records.now.items }
+    ensures { result ≡ list_any (λ (u : base.User). u.stamp == stamp) (users_in records.now.items) }
 {
     find_user(records, stamp).is_some()
 }
 
-// Whether there is a table of a stamp.
-fn is_table_there(records: &[Summary], stamp: u32) -> bool
-    requires rises { Rises stamp_of records.now }
-    ensures { result ≡ list_any (λ (t : tables.TableSummary). t.stamp == stamp) (tables_in records.now) }
+// Whether there is an object of a stamp.
+fn is_object_there(records: &KeptRecords, stamp: u32) -> bool
+    requires rises { Rises stamp_of records.now.items }
+    ensures { result ≡ list_any (λ (o : declared.Object). o.stamp == stamp) (objects_in records.now.items) }
 {
-    find_table(records, stamp).is_some()
+    find_object(records, stamp).is_some()
 }
 
 // The user of a stamp.
-fn find_user(records: &[Summary], stamp: u32) -> Option<&User>
-    requires rises { Rises stamp_of records.now }
-    ensures { option_copied result ≡ rules.user_stamped (users_in records.now) stamp }
+fn find_user(records: &KeptRecords, stamp: u32) -> Option<User>
+    requires rises { Rises stamp_of records.now.items }
+    ensures { result ≡ rules.user_stamped (users_in records.now.items) stamp }
 {
-    find_stamped(records, stamp)?.as_user()
+    records.find(stamp)?.into_user()
 }
 
-// The table of a stamp.
-fn find_table(records: &[Summary], stamp: u32) -> Option<&TableSummary>
-    requires rises { Rises stamp_of records.now }
-    ensures { option_copied result ≡ validity.table_stamped (tables_in records.now) stamp }
+/// The object of a stamp.
+pub(crate) fn find_object(records: &KeptRecords, stamp: u32) -> Option<Object>
+    requires rises { Rises stamp_of records.now.items }
+    ensures { result ≡ objects.object_stamped (objects_in records.now.items) stamp }
 {
-    find_stamped(records, stamp)?.as_table()
-}
-
-// The record of a stamp. Their stamps rise, so it looks at few.
-fn find_stamped(records: &[Summary], stamp: u32) -> Option<&Summary>
-    requires rises { Rises stamp_of records.now }
-    ensures { option_copied result ≡ find (λ (s : kept.Summary). stamp_of s == stamp) records.now }
-{
-    match records.binary_search_by_key(&stamp, Summary::stamp) {
-        Ok(place) => Some(&records[place]),
-        Err(_) => None,
-    }
+    records.find(stamp)?.into_object()
 }

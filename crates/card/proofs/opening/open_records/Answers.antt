@@ -10,14 +10,16 @@ use Rattle.record_store.specs.Opening.{IsOverSoFar, front_octets, slot_with}
 use Rattle.record_store.specs.Recovery.{KeepsStore}
 use Rattle.row_index.specs.Index.{Index}
 use Rattle.row_index.proofs.Changes.{length-in_order}
-use Rattle.card.specs.Summary.{stamp_of}
-use Rattle.card.specs.declared.summary.Summary.{Summary}
+use Rattle.card.specs.KeptRecords.{stamp_of}
+use Rattle.card.specs.Pool.{Pool}
+use Rattle.card.specs.declared.kept_record.KeptRecord.{KeptRecord}
 use Rattle.record_store.proofs.OpeningSlots.{finished-over, finished-opened, read-told}
 use Rattle.scql_model.specs.Database.{Database}
 use Rattle.scql_model.specs.Opens.{Opens}
-use Rattle.card.proofs.GatheredSlots.{Gathers, GathersSoFar, gathered-next, none-next, none-stored}
+use Rattle.card.proofs.GatheredSlots.{Gathers, GathersSoFar, gathered-next, gathered-none, none-next, none-stored}
 use Rattle.card.proofs.OpenedDatabase.{gathered-all, opens-finished, none-tested_told, opens-kept, reads-card, refused-kept}
-use Rattle.card.proofs.PlacedRows.{ArePlaces-gathered, holds-opened, indexed, most-read, read-next, stand-next}
+use Rattle.card.proofs.PooledSizes.{fits-slot, size-next}
+use Rattle.card.proofs.PlacedRows.{ArePlaces-gathered, holds-opened, indexed, most-read, read-next, stand-next, stand-none}
 use Rattle.card.proofs.opening.open_records.Goals.{After-finish-store, In-Some}
 use Rattle.card.proofs.opening.open_records.Goals as goal
 
@@ -57,7 +59,8 @@ loop-slot-preserved g c = record {
       (rw (c.loop-slot.invariant.same, sym c.deref.ensures.0) at c.in_ok-opening-2.ensures.slots) c.in_ok-opening-2.ensures.rows (rw c.row_limit.ensures at c.in_ok-add_slot.ensures.admitted) c.in_ok-add_slot.ensures.counters c.in_ok-add_slot.ensures.records c.loop-slot.invariant.gathers;
   stand = stand-next c.loop-slot.slot (slot_with c.deref.result.now) c.loop-slot.gathered.records.items c.add_slot.new.self.records.items c.in_ok-add_slot.ensures.records c.loop-slot.invariant.stand;
   few = omega (arith, c.in_ok-add_slot.ensures.few, c.loop-slot.invariant.few);
-  capacity = c.in_ok-add_slot.ensures.capacity ∙ c.loop-slot.invariant.capacity;
+  capacity = c.in_ok-add_slot.ensures.cells ∙ c.loop-slot.invariant.capacity;
+  size = size-next c.deref.result.now c.loop-slot.gathered.records.size c.add_slot.new.self.records.size c.loop-slot.opening.weight c.in_ok-opening-2.opening.weight c.in_ok-add_slot.ensures.size (rw (sym c.deref.ensures.0) at c.in_ok-opening-2.ensures.weight) c.loop-slot.invariant.size;
   same = c.in_ok-opening-2.ensures.frame.same ∙ c.loop-slot.invariant.same;
   faults = c.in_ok-opening-2.ensures.frame.counts.1 ∙ c.loop-slot.invariant.faults;
 }
@@ -106,11 +109,11 @@ opened g c = finished-opened c.loop-slot.opening c.finish-store.result (g.B.Eepr
 
 pub index_of-index-requires-clause-room : goal.index_of-index-requires-clause-room
 index_of-index-requires-clause-room g c =
-    omega (arith, ap (length {A = Summary}) (c.as_slice.ensures.value ∙ c.in-Some.ensures.records), length-in_order stamp_of c.loop-slot.gathered.records.items, c.loop-slot.invariant.few, c.loop-slot.auto.slot-end, c.in_ok-room.ensures.places.1)
+    omega (arith, ap (length {A = KeptRecord}) c.in-Some.ensures.records, length-in_order stamp_of c.loop-slot.gathered.records.items, c.loop-slot.invariant.few, c.loop-slot.auto.slot-end, c.in_ok-room.ensures.places.1)
 
 pub index_of-index-requires-clause-kept : goal.index_of-index-requires-clause-kept
 index_of-index-requires-clause-kept g c =
-    ArePlaces-gathered c.in_ok-room.room.index.cells c.loop-slot.slot c.loop-slot.gathered.records.items c.as_slice.result.now c.loop-slot.invariant.stand c.in-Some.ensures.passed.2.apart (c.as_slice.ensures.value ∙ c.in-Some.ensures.records)
+    ArePlaces-gathered c.in_ok-room.room.index.cells c.loop-slot.slot c.loop-slot.gathered.records.items c.in-Some.records.items c.loop-slot.invariant.stand c.in-Some.ensures.passed.2.apart (c.in-Some.ensures.records)
     c.loop-slot.invariant.few (omega (arith, ap (λ (index : Index). index.cells) c.in_ok-room.ensures.index, c.loop-slot.auto.slot-end))
 
 -- the same of the EEPROM as it is once all slots were claimed
@@ -127,9 +130,9 @@ pub returns-clause-index : goal.returns-clause-index
 returns-clause-index g c =
     let at = goal.at.returns-clause-index g c in
     let all = all_claimed g at.In-Some in
-    indexed c.index_of-index.result c.finish-store.result (g.B.Eeprom.chip c.loop-slot.bench) c.in_ok-room.room.index.cells c.loop-slot.slot c.in-Some.ensures.passed.0 c.loop-slot.gathered.records.items c.as_slice.result.now c.index_of-index.ensures
+    indexed c.index_of-index.result c.finish-store.result (g.B.Eeprom.chip c.loop-slot.bench) c.in_ok-room.room.index.cells c.loop-slot.slot c.in-Some.ensures.passed.0 c.loop-slot.gathered.records.items c.in-Some.records.items c.index_of-index.ensures
     (ap (λ (index : Index). index.cells) c.in_ok-room.ensures.index ∙ (c.cells-cells.ensures.number ∙ (sym c.loop-slot.invariant.opening.cells_are ∙ all))) c.finish-store.ensures.idle (sym (c.finish-store.ensures.cells ∙ all)) (opened g at.After-finish-store)
-    (now g at.In-Some _ (whole g at.In-Some)) c.in-Some.ensures.passed.2.apart (c.as_slice.ensures.value ∙ c.in-Some.ensures.records)
+    (now g at.In-Some _ (whole g at.In-Some)) c.in-Some.ensures.passed.2.apart (c.in-Some.ensures.records)
 
 pub returns-in_default-clause-most_read : goal.returns-in_default-clause-most_read
 returns-in_default-clause-most_read g c =
@@ -162,14 +165,34 @@ returns-clause-octets_read g c =
 pub returns-in_err-room-clause-no_memory : goal.returns-in_err-room-clause-no_memory
 returns-in_err-room-clause-no_memory g c = λ _. (c.in_ok-opening.opening.chains.cells, c.in_ok-opening.ensures.reads_front)
 
-pub returns-in_err-with_capacity-clause-no_memory : goal.returns-in_err-with_capacity-clause-no_memory
-returns-in_err-with_capacity-clause-no_memory g c = λ _. (c.in_ok-opening.opening.chains.cells, c.in_ok-opening.ensures.reads_front)
+pub returns-in_err-for_cells-clause-no_memory : goal.returns-in_err-for_cells-clause-no_memory
+returns-in_err-for_cells-clause-no_memory g c = λ _. (c.in_ok-opening.opening.chains.cells, c.in_ok-opening.ensures.reads_front)
 
-pub returns-in_err-with_capacity-clause-frame : goal.returns-in_err-with_capacity-clause-frame
-returns-in_err-with_capacity-clause-frame g c = record {
+pub returns-in_err-for_cells-clause-frame : goal.returns-in_err-for_cells-clause-frame
+returns-in_err-for_cells-clause-frame g c = record {
   store = c.new.ensures.frame.store;
   counts = first_of (
-    search (rules, c.in_ok-opening.ensures.frame.counts.1, c.from_residual-in_err-with_capacity.ensures),
-    grind (arith, common_steps, c.in_ok-opening.ensures.frame.counts.1, c.from_residual-in_err-with_capacity.ensures),
+    search (rules, c.in_ok-opening.ensures.frame.counts.1, c.from_residual-in_err-for_cells.ensures),
+    grind (arith, common_steps, c.in_ok-opening.ensures.frame.counts.1, c.from_residual-in_err-for_cells.ensures),
   );
 }
+
+pub add_slot-requires-clause-fits : goal.add_slot-requires-clause-fits
+add_slot-requires-clause-fits g c =
+    fits-slot c.deref.result.now c.loop-slot.gathered.records.size c.loop-slot.opening.weight c.in_ok-opening-2.opening.weight c.loop-slot.gathered.records.cells (rw (sym c.deref.ensures.0) at c.in_ok-opening-2.ensures.weight) c.loop-slot.invariant.size
+    (omega (arith, c.in_ok-opening-2.ensures.few, c.in_ok-opening-2.ensures.cells, c.loop-slot.invariant.opening.cells_are, c.loop-slot.invariant.capacity, c.cells-cells.ensures.number))
+
+pub loop-slot-init : goal.loop-slot-init
+loop-slot-init g c =
+    let start = c.in_ok-for_cells.ensures in
+    let none = ap (λ (pool : Pool). pool.items) start in
+    record {
+      opening = search rules;
+      gathers = gathered-none c.in_ok-opening.opening (g.B.Eeprom.chip c.new.new.bench).image c.in_ok-for_cells.field-0.items (search rules) none;
+      stand = stand-none c.in_ok-for_cells.field-0.items none;
+      few = omega (arith, ap (length {A = KeptRecord}) none);
+      capacity = ap (λ (pool : Pool). pool.cells) start;
+      size = omega (arith, ap (λ (pool : Pool). pool.size) start);
+      same = refl;
+      faults = refl;
+    }

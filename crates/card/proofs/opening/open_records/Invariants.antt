@@ -1,5 +1,4 @@
-use Rattle.std.proofs.Common.{◌≡◌, ◌≤◌, length}
-use Rattle.std.specs.Vec.{vec_capacity}
+use Rattle.std.proofs.Common.{◌≡◌, ◌≤◌, ◌*◌, length}
 use Rattle.record_store.proofs.OpeningSlots.{IsOpening}
 use Rattle.card.proofs.GatheredSlots.{GathersSoFar}
 use Rattle.card.proofs.PlacedRows.{StandBefore}
@@ -11,7 +10,8 @@ invariant-loop-slot g l = record {
   gathers : GathersSoFar l.opening l.slot (g.B.Eeprom.chip l.initial.bench).image l.gathered.counter l.gathered.records.items;
   stand : StandBefore l.slot l.gathered.records.items;
   few : length l.gathered.records.items ≤ l.slot;
-  capacity : vec_capacity l.gathered.records ≡ l.cells;
+  capacity : l.gathered.records.cells ≡ l.cells;
+  size : l.gathered.records.size ≤ 30 * l.opening.weight;
   same : g.B.Eeprom.chip l.bench ≡ g.B.Eeprom.chip l.initial.bench;
   faults : g.B.Eeprom.faults l.bench ≡ g.B.Eeprom.faults l.initial.bench;
 }

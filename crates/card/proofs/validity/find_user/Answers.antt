@@ -1,13 +1,10 @@
 -- The user of a stamp is what the record of that stamp is.
-use Rattle.std.proofs.Common.{◌≡◌, None, Some, rules}
-use Rattle.std.specs.Prelude.{option_copied}
+use Rattle.std.proofs.Common.{None, Some, rules}
 use Rattle.card.proofs.OfKinds.{user-found}
 use Rattle.card.proofs.validity.find_user.Goals as goal
 
-pub returns-in_err-find_stamped : goal.returns-in_err-find_stamped
-returns-in_err-find_stamped c =
-    let none : option_copied c.from_residual.result ≡ None = search rules in
-    user-found c.args.records.now c.args.stamp None (option_copied c.from_residual.result) c.requires.rises c.in_err-find_stamped.ensures none
+pub returns-in_err-find : goal.returns-in_err-find
+returns-in_err-find c = user-found c.args.records.now.items c.args.stamp None c.from_residual.result c.requires.rises c.in_err-find.ensures (search rules)
 
 pub returns : goal.returns
-returns c = user-found c.args.records.now c.args.stamp (Some c.in_ok-find_stamped.field-0.now) (option_copied c.as_user.result) c.requires.rises c.in_ok-find_stamped.ensures c.as_user.ensures
+returns c = user-found c.args.records.now.items c.args.stamp (Some c.in_ok-find.field-0) c.into_user.result c.requires.rises c.in_ok-find.ensures c.into_user.ensures
