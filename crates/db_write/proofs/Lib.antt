@@ -1,5 +1,8 @@
 pub mod IndexFollows
+pub mod RowAssigned
+pub mod RowChanged
 pub mod RowDeleted
 pub mod RowInserted
 pub mod RowReached
+pub mod RowUpdated
 pub mod WrittenThrough

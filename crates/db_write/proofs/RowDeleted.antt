@@ -32,7 +32,7 @@ use Rattle.record_table.specs.declared.stop.Stop.{Stop}
 use Rattle.record_table.specs.declared.stop.Stop.TheVariants.{Refused, Fault}
 use Rattle.record_table.proofs.InPlace.{IsEditedTo-removed}
 use Rattle.record_table.proofs.Steps.{StepsTo-told}
-use Rattle.db_write.specs.Reached.{IsStopOf}
+use Rattle.db_write.specs.Reached.{IsStopOf, without_conditions}
 
 same-ok : {A : Type 0} (x y : A) → ◌≡◌ {A = Result A StatusWord} (Ok x) (Ok y) → x ≡ y
 same-ok x y is = cc
@@ -97,3 +97,21 @@ Makes-removed old new chip db slot r held over there with removed cells limit fe
       octets = λ after told. (after, told, omega arith);
       entries = few;
     }
+
+-- the row that was reached is deleted
+pub Ends-deleted : (old new : Held) (before after : Chip) (db : Database) (actor : Actor) (cursor : Option Cursor) (slot : ℕ) (r : RowRecord) → after ≡ before → IsHeld old Working before db → IsOver old before
+    → IfSome (slots_of old Working before) (λ slots. Some r ≡ at_slot row_kind slot slots) → row_deleted db actor cursor ≡ Ok (removing (of_row r) ∷ [])
+    → ((image : List ℕ) → StandsFor old image → Rewrites (IsEmptied slot) old new image image) → new.chains.cells ≡ old.chains.cells → new.row_limit ≡ old.row_limit → entries new ≤ entries old + 1
+    → Ends {T = Unit {0}} db (row_deleted db actor cursor) (Ok tt) old new before after
+Ends-deleted old new before after db actor cursor slot r still held over there is removed cells limit few =
+    let change = removing (of_row r) ∷ [] in
+    let makes = Makes-removed old new before db slot r held over there (valid-deleted db actor cursor change held.valid is) removed cells limit few in
+    (change, is, subst (λ chip. Makes db change old new before chip) (sym still) makes)
+
+-- a cursor that was opened is so without its conditions, and at the end
+pub opened-without_conditions : (cursor : Option Cursor) (c : Cursor) → opened cursor ≡ Ok c → opened (Some (without_conditions c)) ≡ Ok (without_conditions c)
+opened-without_conditions cursor c is =
+    elim (cases_Bool (is_opened c.place)) [
+      | inl t ↦ rw t refl
+      | inr f ↦ absurd (let wrong : Err conditions_not_satisfied ≡ Ok c = rw f at (subst (λ o. opened o ≡ Ok c) (opened-some cursor c is) is) in cc)
+    ]

@@ -2,7 +2,8 @@
 use Rattle.std.proofs.Common.{◌≡◌, ◌==◌, ◌&&◌, ℕ, Bool, true, false, List, [], ◌∷◌, map, Option, Some, None, inl, inr, refl, sym, ap, ◌∙◌, subst}
 use Rattle.std.specs.Prelude.{IfSome, option_and_then, option_map}
 use Rattle.std.specs.List.{filter, find, list_all}
-use Rattle.std.proofs.lemmas.Bool.{and_parts, cases_Bool, eqb-true}
+use Rattle.std.specs.Option.{option_map_or}
+use Rattle.std.proofs.lemmas.Bool.{and_from, and_parts, cases_Bool, eqb-true}
 use Rattle.std.proofs.lemmas.Map.Entries.{option_filter}
 use Rattle.std.proofs.lemmas.Option.{none-some, same_Some}
 use Rattle.eeprom.specs.Chip.{Chip}
@@ -18,13 +19,14 @@ use Rattle.scql_base.specs.declared.cursor.Place.TheVariants.{NotOpen, At, End}
 use Rattle.scql_base.specs.declared.records.Object.{Object}
 use Rattle.scql_base.specs.declared.records.RowRecord.{RowRecord}
 use Rattle.scql_model.specs.Contents.{contents_of, cut_to, of_table}
+use Rattle.scql_model.specs.Cursors.{IsCursorOf}
 use Rattle.scql_model.specs.Database.{Database, IsValid, are_among, are_named_among, object_stamped}
 use Rattle.scql_model.specs.Matching.{Columns, Values, matches}
 use Rattle.scql_model.specs.Moves.{row_at}
 use Rattle.scql_model.specs.Objects.{StampedRow, columns_of}
 use Rattle.scql_model.specs.Resolving as model
 use Rattle.scql_model.specs.Resolving.{passes_filters}
-use Rattle.scql_model.specs.Writing.{record_at_cursor, row_at_place}
+use Rattle.scql_model.specs.Writing.{columns_of_row, record_at_cursor, row_at_place}
 use Rattle.scql_model.proofs.Keeping.{key-found}
 use Rattle.scql_model.proofs.LongerLists.{find-passes}
 use Rattle.scql_model.proofs.SeenThrough.{IsSeenThrough-resolved_of}
@@ -39,7 +41,7 @@ use Rattle.search_cond.specs.declared.placed.Placed.{Placed}
 use Rattle.views.specs.Resolved.{AreBound, AreKnown, Resolves, StandsFor}
 use Rattle.views.specs.declared.resolving.Resolved.{Resolved}
 use Rattle.views.proofs.KnownNames.{IsKnown, IsKnown-resolved_of, among-within, names-valid}
-use Rattle.db_write.specs.Reached.{IsCursorOf, is_reached, stamp_at}
+use Rattle.db_write.specs.Reached.{is_reached, stamp_at, without_conditions}
 
 swap : (a b c : Bool) → (a && (b && c)) ≡ (c && (a && b))
 swap true true true = refl
@@ -118,7 +120,7 @@ reaches-none db c is = go c.place is
 -- the columns and the conditions of a cursor are among those that are shown of its object
 named-shown : (db : Database) (c : Cursor) (r : model.Resolved) → IsCursorOf db c → IsKnown db.objects c.object r → are_named_among r.columns c.columns c.conditions ≡ true
 named-shown db c r of known =
-    let named = subst (λ (o : Option Object). IfSome o (λ (o : Object). are_named_among (columns_of o.kind) c.columns c.conditions ≡ true)) known.found of in
+    let named = subst (λ (o : Option Object). IfSome o (λ (o : Object). are_named_among (columns_of o.kind) c.columns c.conditions ≡ true)) known.found of.named in
     subst (λ (columns : Columns). are_named_among columns c.columns c.conditions ≡ true) known.columns named
 
 -- so its conditions can be bound
@@ -161,3 +163,30 @@ left-none p (Some y) x is fails = let same : x ≡ y = same_Some x y is in let f
 pub left-some : {X : Type 0} (p : X → Bool) (o : Option X) (x : X) → Some x ≡ o → p x ≡ true → Some x ≡ option_filter p o
 left-some p None x is passes = absurd (none-some x (sym is))
 left-some p (Some y) x is passes = let same : x ≡ y = same_Some x y is in let t = subst (λ z. p z ≡ true) same passes in rw t is
+
+-- a cursor without conditions is one of every database
+IsCursorOf-without_conditions : (db : Database) (c : Cursor) → IsCursorOf db (without_conditions c)
+IsCursorOf-without_conditions db c = record { different = refl; named = any (object_stamped db.objects c.object) }
+  where
+    any : (o : Option Object) → IfSome o (λ (o : Object). are_named_among (columns_of o.kind) [] [] ≡ true)
+    any None = tt
+    any (Some o) = refl
+
+-- what a cursor reaches, it reaches without its conditions too
+pub reaches-any : (db : Database) (c : Cursor) (answer : Resolved) (bound : List Placed) (stamp : ℕ) (r : RowRecord) → IsValid db → Resolves db.objects c.object answer → stamp_at c.place ≡ Some stamp → Some r ≡ find (has row_kind.key stamp) db.rows
+    → is_reached answer bound r ≡ true → Some r ≡ record_at_cursor db (without_conditions c)
+reaches-any db c answer bound stamp r valid resolves at found is =
+    let own = and_parts (r.table == answer.table) (passes r.row bound && list_all (passes r.row) answer.filters.items) is in
+    let all = and_parts (passes r.row bound) (list_all (passes r.row) answer.filters.items) own.1 in
+    let any : is_reached answer [] r ≡ true = and_from (r.table == answer.table) (list_all (passes r.row) answer.filters.items) own.0 all.1 in
+    left-some (is_reached answer []) (find (has row_kind.key stamp) db.rows) r found any
+    ∙ reaches db (without_conditions c) answer [] stamp valid (IsCursorOf-without_conditions db c) resolves (λ values. refl) at
+
+-- and it is a row of the table that is resolved
+pub columns-reached : (db : Database) (c : Cursor) (answer : Resolved) (bound : List Placed) (r : RowRecord) → IsValid db → Resolves db.objects c.object answer → is_reached answer bound r ≡ true → columns_of_row db r ≡ answer.all
+columns-reached db c answer bound r valid resolves is =
+    let known = IsKnown-resolved_of db c.object resolves.is valid resolves.resolved in
+    let own = and_parts (r.table == answer.table) (passes r.row bound && list_all (passes r.row) answer.filters.items) is in
+    let table : r.table ≡ resolves.is.table = eqb-true r.table answer.table own.0 ∙ resolves.stands.table in
+    let of : Option Object → Columns = (λ found. option_map_or (λ (o : Object). columns_of o.kind) found []) in
+    ap (λ (stamp : ℕ). of (object_stamped db.objects stamp)) table ∙ (ap of known.found_table ∙ (known.all ∙ sym resolves.stands.all))

@@ -1,15 +1,16 @@
 // DELETE.
-ghost use Rattle.std.specs.Prelude.{◌≡◌, IsTrue, IfSome, IsErrOf, drop};
+ghost use Rattle.std.specs.Prelude.{◌≡◌, Option, IsTrue, IfSome, IsErrOf, drop};
 ghost use Rattle.eeprom.specs.Chip.{Keeps};
 ghost use Rattle.eeprom.specs.Fault.{CountsFaults};
 ghost use Rattle.eeprom.specs.StoreOf.{store_of, image_size};
 ghost use Rattle.record_store.specs.Held.{IsOver};
 ghost use Rattle.record_store.specs.declared.side.Side.TheVariants.{Working};
+ghost use Rattle.scql_base.specs.declared.cursor.Cursor as model;
+ghost use Rattle.scql_model.specs.Cursors.{IsCursorOf};
 ghost use Rattle.scql_model.specs.Database.{Database};
 ghost use Rattle.scql_model.specs.Writing.{row_deleted};
 ghost use Rattle.record_table.specs.Making.{Ends, GoesOn, IsHeld, is_stop_fault};
 ghost use Rattle.row_index.specs.Index.{Indexes};
-ghost use Rattle.db_write.specs.Reached.{IsCursorOf};
 
 use crate::reaching::{find_row, find_written, opened};
 use eeprom::Eeprom;
@@ -33,6 +34,9 @@ pub fn delete<B: Eeprom>(
     requires index { Indexes index.old store.old (B.chip bench.old) }
     ensures ends { (db : Database) → IsHeld store.old Working (B.chip bench.old) db → IfSome cursor.now (IsCursorOf db)
         → Ends db (row_deleted db actor cursor.now) result store.old store.new (B.chip bench.old) (B.chip bench.new) }
+    // Whatever the cursor is, it ends as through some cursor.
+    ensures through { (db : Database) → IsHeld store.old Working (B.chip bench.old) db
+        → (through : Option model.Cursor) × Ends db (row_deleted db actor through) result store.old store.new (B.chip bench.old) (B.chip bench.new) }
     ensures goes_on { ¬ IsErrOf result Stop.Fault → GoesOn store.old store.new (B.chip bench.old) (B.chip bench.new) }
     ensures moments { Keeps store_of (B.chip bench.old) (B.chip bench.new) }
     ensures behind { Keeps (drop (image_size store.old.chains.cells)) (B.chip bench.old) (B.chip bench.new) }
@@ -46,10 +50,10 @@ pub fn delete<B: Eeprom>(
         return refused(StatusWord::CONDITIONS_NOT_SATISFIED);
     };
     let object = find_written(store, bench, actor, cursor, Privilege::Delete)?;
-    let Some(found) = find_row(store, bench, cursor, &object, index)? else {
+    let Some(reached) = find_row(store, bench, cursor, &object, index)? else {
         return refused(StatusWord::RECORD_NOT_FOUND);
     };
-    remove(store, found.slot);
-    index.removed(found.slot);
+    remove(store, reached.slot);
+    index.removed(reached.slot);
     Ok(())
 }

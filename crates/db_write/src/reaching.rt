@@ -6,6 +6,7 @@ ghost use Rattle.eeprom.specs.Frame.{Reads};
 ghost use Rattle.record_store.specs.Held.{IsOver};
 ghost use Rattle.record_store.specs.declared.side.Side.TheVariants.{Working};
 ghost use Rattle.scql_base.specs.Words.{conditions_not_satisfied};
+ghost use Rattle.scql_model.specs.Cursors.{IsCursorOf};
 ghost use Rattle.scql_model.specs.Database.{Database, object_stamped};
 ghost use Rattle.scql_model.specs.Defining as defining;
 ghost use Rattle.scql_model.specs.Moves as moves;
@@ -16,18 +17,26 @@ ghost use Rattle.record_table.specs.Listed.{at_slot, slots_of};
 ghost use Rattle.record_table.specs.Making.{IsHeld, is_stop_fault};
 ghost use Rattle.row_index.specs.Index.{Indexes};
 ghost use Rattle.search_cond.specs.Bound.{passes};
-ghost use Rattle.db_write.specs.Reached.{IsCursorOf, IsStopOf, is_reached};
+ghost use Rattle.db_write.specs.Reached.{IsRowOfObject, IsStopOf, is_reached};
 ghost use Rattle.db_write.specs.Reached as reached;
 
 use eeprom::{Eeprom, EepromFault};
 use object_table::find_stamp;
 use privilege_table::{Privilege, appears, holds};
-use record_store::{Found, Side, Store};
+use record_store::{Side, Store};
 use record_table::{Stop, refused};
 use row_index::RowIndex;
-use scql_base::{Actor, Cursor, Object, ObjectKind, Place, Row, RowRecord, StatusWord};
+use scql_base::{Actor, Cursor, NameList, Object, ObjectKind, Place, Row, RowRecord, StatusWord};
 use search_cond::{Bound, bind};
 use views::{Resolved, resolve};
+
+/// The row of a table that a cursor reaches, its slot, and all columns of the table.
+#[derive(Drop)]
+pub(crate) struct Reached {
+    pub(crate) slot: u16,
+    pub(crate) row: RowRecord,
+    pub(crate) columns: NameList,
+}
 
 /// The cursor, if it was opened.
 pub(crate) fn opened(cursor: &Option<Cursor>) -> Option<&Cursor>
@@ -90,20 +99,22 @@ fn is_table_or_view(kind: &ObjectKind) -> bool
     }
 }
 
-/// The row of a table at which a cursor on this object stands, where it is among the cursor's rows.
+/// The row at which a cursor on this object stands, where it is among the cursor's rows.
 pub(crate) fn find_row<B: Eeprom>(
     store: &Store,
     bench: &mut B,
     cursor: &Cursor,
     object: &Object,
     index: &RowIndex,
-) -> Result<Option<Found<RowRecord>>, EepromFault>
+) -> Result<Option<Reached>, EepromFault>
     requires over { IsOver store.now (B.chip bench.old) }
     requires index { Indexes index.now store.now (B.chip bench.old) }
-    ensures there { IfOk result (λ found. IfSome found (λ found. found.slot < store.now.chains.cells)) }
-    ensures at { IfOk result (λ found. IfSome found (λ found. IfSome (slots_of store.now Working (B.chip bench.old)) (λ slots. Some found.value ≡ at_slot row_kind found.slot slots))) }
+    ensures there { IfOk result (λ reached. IfSome reached (λ reached. reached.slot < store.now.chains.cells)) }
+    ensures at { IfOk result (λ reached. IfSome reached (λ reached. IfSome (slots_of store.now Working (B.chip bench.old)) (λ slots. Some reached.row ≡ at_slot row_kind reached.slot slots))) }
     ensures row { (db : Database) → IsHeld store.now Working (B.chip bench.old) db → IsCursorOf db cursor.now → object_stamped db.objects cursor.now.object ≡ Some object.now
-        → defining.is_table_or_view object.now.kind ≡ true → IfOk result (λ found. option_map (λ found. found.value) found ≡ record_at_cursor db cursor.now) }
+        → defining.is_table_or_view object.now.kind ≡ true → IfOk result (λ reached. option_map (λ reached. reached.row) reached ≡ record_at_cursor db cursor.now) }
+    ensures of_object { (db : Database) → IsHeld store.now Working (B.chip bench.old) db → object_stamped db.objects cursor.now.object ≡ Some object.now
+        → defining.is_table_or_view object.now.kind ≡ true → IfOk result (λ reached. IfSome reached (IsRowOfObject db cursor.now)) }
     ensures frame { Reads each_error B.chip B.faults bench.old bench.new result }
 {
     let Some(stamp) = stamp_at(cursor.place) else {
@@ -120,7 +131,11 @@ pub(crate) fn find_row<B: Eeprom>(
     if !is_row_reached(&resolved, &conditions, &found.value) {
         return Ok(None);
     }
-    Ok(Some(found))
+    Ok(Some(Reached {
+        slot: found.slot,
+        row: found.value,
+        columns: resolved.all,
+    }))
 }
 
 // The stamp of the row at which a cursor stands.

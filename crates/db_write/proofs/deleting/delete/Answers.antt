@@ -1,30 +1,41 @@
 -- The row that the cursor reaches goes, and so does its place in the index.
-use Rattle.std.proofs.Common.{[], ◌∷◌, Option, refl, sym, subst, ◌∙◌}
+use Rattle.std.proofs.Common.{◌≡◌, Option, Some, refl, sym, subst, ◌∙◌}
 use Rattle.std.specs.Prelude.{IfSome}
 use Rattle.record_store.specs.Held.{IsOver}
 use Rattle.record_store.specs.declared.side.Side.TheVariants.{Working}
 use Rattle.scql_base.specs.declared.cursor.Cursor.{Cursor}
-use Rattle.scql_model.specs.Edits.{removing}
-use Rattle.scql_model.specs.Records.{of_row}
-use Rattle.record_table.specs.Making.{IsHeld, Makes}
+use Rattle.scql_base.specs.declared.cursor.Place.TheVariants.{End}
+use Rattle.scql_model.specs.Cursors.{IsCursorOf}
+use Rattle.catalog_codec.specs.Catalog.{row_kind}
+use Rattle.record_table.specs.Listed.{at_slot, slots_of}
+use Rattle.record_table.specs.Making.{IsHeld}
 use Rattle.record_table.proofs.Ending.{Ends-stopped}
 use Rattle.row_index.specs.Index.{Indexes}
 use Rattle.row_table.proofs.Followed.{Indexes-removed}
-use Rattle.db_write.specs.Reached.{IsCursorOf}
-use Rattle.db_write.proofs.RowDeleted.{Makes-removed, deletes, deletes-closed, deletes-none, deletes-stopped, opened-some, valid-deleted}
+use Rattle.db_write.specs.Reached.{without_conditions}
+use Rattle.db_write.proofs.RowDeleted.{Ends-deleted, deletes, deletes-closed, deletes-none, deletes-stopped, opened-some, opened-without_conditions}
 use Rattle.db_write.proofs.deleting.delete.Goals as goal
+
+pub returns-in_default-clause-through : goal.returns-in_default-clause-through
+returns-in_default-clause-through g c = λ db held. (c.args.cursor.now, rw c.refused.ensures (deletes-closed db c.args.actor c.args.cursor.now c.in_default.ensures, refl, refl))
 
 pub returns-in_default-clause-ends : goal.returns-in_default-clause-ends
 returns-in_default-clause-ends g c = λ db held of. rw c.refused.ensures (deletes-closed db c.args.actor c.args.cursor.now c.in_default.ensures, refl, refl)
 
-pub returns-in_err-object-clause-ends : goal.returns-in_err-object-clause-ends
-returns-in_err-object-clause-ends g c = λ db held of.
+pub returns-in_err-object-clause-through : goal.returns-in_err-object-clause-through
+returns-in_err-object-clause-through g c = λ db held.
     let store = c.args.store.now in
     let stop = c.in_err-object.field-0.0 in
     let chip = g.B.Eeprom.chip c.args.bench.now in
-    let after = g.B.Eeprom.chip c.find_written.new.bench in
-    Ends-stopped (Unit {0}) db _ c.from_residual.result stop store store chip after c.from_residual.ensures.1
-    (deletes-stopped db c.args.actor c.args.cursor.now c.in-Some.cursor.now stop store chip after c.in-Some.ensures (c.in_err-object.ensures.refused db held) c.in_err-object.ensures.frame.same)
+    let after = g.B.Eeprom.chip c.find_written.new.bench in (
+      c.args.cursor.now,
+      Ends-stopped (Unit {0}) db _ c.from_residual.result stop store store chip after c.from_residual.ensures.1
+          (deletes-stopped db c.args.actor c.args.cursor.now c.in-Some.cursor.now stop store chip after c.in-Some.ensures (c.in_err-object.ensures.refused db held) c.in_err-object.ensures.frame.same),
+    )
+
+pub returns-in_err-object-clause-ends : goal.returns-in_err-object-clause-ends
+unfolding returns-in_err-object-clause-through
+returns-in_err-object-clause-ends g c = λ db held of. (returns-in_err-object-clause-through g c db held).1
 
 pub returns-in_default-2-clause-ends : goal.returns-in_default-2-clause-ends
 returns-in_default-2-clause-ends g c = λ db held of.
@@ -34,36 +45,58 @@ returns-in_default-2-clause-ends g c = λ db held of.
     let written = c.in_ok-object.ensures.written db held in
     let there = c.in_ok-object.ensures.there db held in
     let own = subst (λ (o : Option Cursor). IfSome o (IsCursorOf db)) (opened-some c.args.cursor.now cursor c.in-Some.ensures) of in
-    let none = rw c.in_default-2.is at (c.in_ok-found.ensures.row db second own there.0 there.1) in
+    let none = rw c.in_default-2.is at (c.in_ok-reached.ensures.row db second own there.0 there.1) in
     rw c.refused-in_default-2.ensures
-    (deletes-none db c.args.actor c.args.cursor.now cursor c.in_ok-object.object c.in-Some.ensures written none, refl, c.in_ok-found.ensures.frame.same ∙ c.in_ok-object.ensures.frame.same)
+    (deletes-none db c.args.actor c.args.cursor.now cursor c.in_ok-object.object c.in-Some.ensures written none, refl, c.in_ok-reached.ensures.frame.same ∙ c.in_ok-object.ensures.frame.same)
+
+-- no row is reached from the end
+pub returns-in_default-2-clause-through : goal.returns-in_default-2-clause-through
+returns-in_default-2-clause-through g c = λ db held.
+    let at_end : Cursor = record c.in-Some.cursor.now { place = End } in
+    let written = c.in_ok-object.ensures.written db held in (
+      Some at_end,
+      rw c.refused-in_default-2.ensures (deletes-none db c.args.actor (Some at_end) at_end c.in_ok-object.object refl written refl, refl, c.in_ok-reached.ensures.frame.same ∙ c.in_ok-object.ensures.frame.same),
+    )
 
 pub returns-clause-ends : goal.returns-clause-ends
 returns-clause-ends g c = λ db held of.
     let store = c.args.store.now in
     let cursor = c.in-Some.cursor.now in
-    let second = subst (λ chip. IsHeld store Working chip db) (sym c.in_ok-object.ensures.frame.same) held in
+    let first = c.in_ok-object.ensures.frame.same in
+    let second = subst (λ chip. IsHeld store Working chip db) (sym first) held in
     let written = c.in_ok-object.ensures.written db held in
     let there = c.in_ok-object.ensures.there db held in
     let own = subst (λ (o : Option Cursor). IfSome o (IsCursorOf db)) (opened-some c.args.cursor.now cursor c.in-Some.ensures) of in
-    let chip = g.B.Eeprom.chip c.find_written.new.bench in
-    let row = c.in-Some-2.found.value in
-    let change = removing (of_row row) ∷ [] in
-    let reached = rw c.in-Some-2.is at (c.in_ok-found.ensures.row db second own there.0 there.1) in
-    let at = rw c.in-Some-2.is at c.in_ok-found.ensures.at in
-    let is = deletes db c.args.actor c.args.cursor.now cursor c.in_ok-object.object row c.in-Some.ensures written reached in
-    let over = subst (λ chip. IsOver store chip) (sym c.in_ok-object.ensures.frame.same) c.requires.over in
-    let makes = Makes-removed store c.remove.new.store chip db c.in-Some-2.found.slot row second over at (valid-deleted db c.args.actor c.args.cursor.now change held.valid is) c.remove.ensures.removed c.remove.ensures.cells
-    c.remove.ensures.rows c.remove.ensures.entries in
-    let from_first = subst (λ before. Makes db change store c.remove.new.store before chip) c.in_ok-object.ensures.frame.same makes in
-    (change, is, subst (λ after. Makes db change store c.remove.new.store (g.B.Eeprom.chip c.args.bench.now) after) (sym c.in_ok-found.ensures.frame.same) from_first)
+    let row = c.in-Some-2.reached.row in
+    let reached = rw c.in-Some-2.is at (c.in_ok-reached.ensures.row db second own there.0 there.1) in
+    let at = rw c.in-Some-2.is at c.in_ok-reached.ensures.at in
+    let before = subst (λ chip. IfSome (slots_of store Working chip) (λ slots. Some row ≡ at_slot row_kind c.in-Some-2.reached.slot slots)) first at in
+    Ends-deleted store c.remove.new.store (g.B.Eeprom.chip c.args.bench.now) (g.B.Eeprom.chip c.find_row.new.bench) db c.args.actor c.args.cursor.now c.in-Some-2.reached.slot row (c.in_ok-reached.ensures.frame.same ∙ first) held c.requires.over before
+    (deletes db c.args.actor c.args.cursor.now cursor c.in_ok-object.object row c.in-Some.ensures written reached) c.remove.ensures.removed c.remove.ensures.cells c.remove.ensures.rows c.remove.ensures.entries
+
+pub returns-clause-through : goal.returns-clause-through
+returns-clause-through g c = λ db held.
+    let store = c.args.store.now in
+    let any = without_conditions c.in-Some.cursor.now in
+    let first = c.in_ok-object.ensures.frame.same in
+    let second = subst (λ chip. IsHeld store Working chip db) (sym first) held in
+    let written = c.in_ok-object.ensures.written db held in
+    let there = c.in_ok-object.ensures.there db held in
+    let row = c.in-Some-2.reached.row in
+    let of_object = rw c.in-Some-2.is at (c.in_ok-reached.ensures.of_object db second there.0 there.1) in
+    let at = rw c.in-Some-2.is at c.in_ok-reached.ensures.at in
+    let before = subst (λ chip. IfSome (slots_of store Working chip) (λ slots. Some row ≡ at_slot row_kind c.in-Some-2.reached.slot slots)) first at in (
+      Some any,
+      Ends-deleted store c.remove.new.store (g.B.Eeprom.chip c.args.bench.now) (g.B.Eeprom.chip c.find_row.new.bench) db c.args.actor (Some any) c.in-Some-2.reached.slot row (c.in_ok-reached.ensures.frame.same ∙ first) held c.requires.over before
+          (deletes db c.args.actor (Some any) any c.in_ok-object.object row (opened-without_conditions c.args.cursor.now c.in-Some.cursor.now c.in-Some.ensures) written of_object.row) c.remove.ensures.removed c.remove.ensures.cells c.remove.ensures.rows c.remove.ensures.entries,
+    )
 
 pub returns-clause-index : goal.returns-clause-index
 returns-clause-index g c =
     let store = c.args.store.now in
-    let still = c.in_ok-found.ensures.frame.same ∙ c.in_ok-object.ensures.frame.same in
-    let there = rw c.in-Some-2.is at c.in_ok-found.ensures.there in
+    let still = c.in_ok-reached.ensures.frame.same ∙ c.in_ok-object.ensures.frame.same in
+    let there = rw c.in-Some-2.is at c.in_ok-reached.ensures.there in
     let over = subst (λ chip. IsOver store chip) (sym still) c.requires.over in
     rw c.removed.ensures.removed
-    (Indexes-removed c.args.index.now store c.remove.new.store (g.B.Eeprom.chip c.find_row.new.bench) c.in-Some-2.found.slot over.stands c.remove.ensures.cells there c.remove.ensures.removed
+    (Indexes-removed c.args.index.now store c.remove.new.store (g.B.Eeprom.chip c.find_row.new.bench) c.in-Some-2.reached.slot over.stands c.remove.ensures.cells there c.remove.ensures.removed
     (subst (λ chip. Indexes c.args.index.now store chip) (sym still) c.requires.index))

@@ -9,7 +9,7 @@ use Rattle.search_cond.specs.Bound.{Binds, first_unknown}
 use Rattle.views.specs.Resolved.{Resolves}
 use Rattle.views.proofs.Bindings.{AreKnown-unknown, err-none, ok-some}
 use Rattle.db_write.specs.Reached.{is_reached}
-use Rattle.db_write.proofs.RowReached.{conditions-known, left-none, left-some, reaches, reaches-none, row-held, stamp-found}
+use Rattle.db_write.proofs.RowReached.{columns-reached, conditions-known, left-none, left-some, reaches, reaches-any, reaches-none, row-held, stamp-found}
 use Rattle.db_write.proofs.reaching.find_row.Goals as goal
 
 pub returns-in_default-clause-row : goal.returns-in_default-clause-row
@@ -69,3 +69,20 @@ returns-clause-row g c = λ db held of there kind.
     let x = c.in-Some-2.found.value in
     let some = row-held c.args.store.now (g.B.Eeprom.chip c.resolve.new.bench) db c.in-Some.stamp (Some x) second (rw c.in-Some-2.is at c.in_ok-found.ensures.found) in
     left-some test _ x some (sym c.is_row_reached.ensures ∙ c.if-not-is_row_reached.false) ∙ reached
+
+pub returns-clause-of_object : goal.returns-clause-of_object
+returns-clause-of_object g c = λ db held there kind.
+    let o = c.args.object.now in
+    let cursor = c.args.cursor.now in
+    let answer = c.in_ok-resolved.resolved in
+    let own = stamp-found db.objects cursor.object o there in
+    let at_own = subst (λ (stamp : ℕ). object_stamped db.objects stamp ≡ Some o) (sym own) there in
+    let resolves = subst (λ (stamp : ℕ). Resolves db.objects stamp answer) own (c.in_ok-resolved.ensures.resolved db held at_own kind) in
+    let second = subst (λ chip. IsHeld c.args.store.now Working chip db) (sym c.in_ok-resolved.ensures.frame.same) held in
+    let x = c.in-Some-2.found.value in
+    let some = row-held c.args.store.now (g.B.Eeprom.chip c.resolve.new.bench) db c.in-Some.stamp (Some x) second (rw c.in-Some-2.is at c.in_ok-found.ensures.found) in
+    let is = sym c.is_row_reached.ensures ∙ c.if-not-is_row_reached.false in
+    record {
+      row = reaches-any db cursor answer c.in-Some-ok.conditions c.in-Some.stamp x held.valid resolves (sym c.stamp_at.ensures ∙ c.in-Some.is) some is;
+      columns = columns-reached db cursor answer c.in-Some-ok.conditions x held.valid resolves is;
+    }

@@ -1,0 +1,51 @@
+// A row after changes to named columns.
+ghost use Rattle.std.specs.Prelude.{◌≡◌, ◌<◌, ◌≤◌, IfSome, MatchOption, length, option_map};
+ghost use Rattle.scql_base.specs.declared.row.TheConstants.Row.{LARGEST, LONGEST_VALUE};
+ghost use Rattle.scql_base.specs.Row.{row_size};
+ghost use Rattle.scql_model.specs.Writing.{all_assigned};
+ghost use Rattle.db_write.specs.Assigned.{value_given, within_limit};
+
+use scql_base::{Changes, Name, NameList, Params, Row};
+
+/// A row of these columns after changes, where it is within a limit of octets.
+pub(crate) fn row_after(columns: &NameList, changes: &Changes, row: &Row, limit: u16) -> Option<Row>
+    requires limit { limit ≤ LARGEST }
+    ensures after { length columns.now ≡ length row.now → result ≡ within_limit limit (all_assigned changes.now columns.now row.now) }
+{
+    let after = assigned(columns, changes, row)?;
+    if after.size() <= usize::from(limit) {
+        Some(after)
+    } else {
+        None
+    }
+}
+
+// The row after changes, where its values are a row.
+fn assigned(columns: &NameList, changes: &Changes, row: &Row) -> Option<Row>
+    ensures after { length columns.now ≡ length row.now
+        → MatchOption result (LARGEST < row_size (all_assigned changes.now columns.now row.now)) (λ after. after ≡ all_assigned changes.now columns.now row.now) }
+{
+    prove!(row.len() <= Row::MOST);
+    let mut after = Row::new();
+    let mut rest = row.octets();
+    for column in columns.as_slice() {
+        let (value, behind) = Params::first_in(rest)?;
+        let Ok(()) = after.push(value_given(changes, column).unwrap_or(value)) else {
+            return None;
+        };
+        rest = behind;
+    }
+    Some(after)
+}
+
+// The value that changes give a column, where they give it one.
+fn value_given<'a>(changes: &'a Changes, column: &Name) -> Option<&'a [u8]>
+    ensures given { option_map (λ value. value.now) result ≡ value_given changes.now column.now }
+    ensures short { IfSome result (λ value. length value.now ≤ LONGEST_VALUE) }
+{
+    let change = changes
+        .as_slice()
+        .iter()
+        .find(|change| column.octets() == change.pair.0.octets())?;
+    Some(change.pair.1.as_slice())
+}
