@@ -108,6 +108,7 @@ leaves-kept old new db more opens keeps = record {
     | inl before ↦ inl before
     | inr at ↦ inr (at.0, inl (opens-same at.1 left (sym at.3) db (opens at.1 at.2)))
   ];
+  stays = keeps.stays;
   now = λ image told. (let at = keeps.image image told in (ap (λ still. still.mark) keeps.still, inl (opens-same at.0 image (sym at.2) db (opens at.0 at.1))));
 }
 

@@ -31,6 +31,7 @@ Keeps-none look old new same = subst (Keeps look old) (sym same) (record {
   image = λ after told. (after, told, refl);
   later = omega arith;
   only = λ t g left since there. inl there;
+  stays = λ t g left since there. there;
 })
 
 -- an opening writes the front alone
@@ -49,5 +50,6 @@ pub unwritten_leaves : (card : Kept) (old new : Chip) (m : Machine) (more : List
 unwritten_leaves card old new m more ready at same = subst (λ (chip : Chip). LeavesOneOf (m.committed ∷ more) old chip) (sym same) (record {
   later = omega arith;
   only = λ t g left since there. inl there;
+  stays = λ t g left since there. there;
   now = λ image told. (refl, inl (Opens-at card old m ready at image told));
 })

@@ -33,6 +33,7 @@ behind-keeps cells old new keeps = record {
     | inl before ↦ inl before
     | inr now ↦ inr (now.1, now.2, now.3)
   ];
+  stays = keeps.stays;
   now = keeps.image;
 }
 
@@ -44,6 +45,7 @@ behind-then first second old mid new alike before after = record {
     | inl earlier ↦ before.only t g left since earlier
     | inr now ↦ inr (both left now.0 now.1 now.2)
   ];
+  stays = λ t g left since there. after.stays t g left (omega (arith, since, before.later)) (before.stays t g left since there);
   now = λ image told. let now = after.now image told in both image now.0 now.1 now.2;
 }
   where

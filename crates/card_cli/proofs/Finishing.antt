@@ -119,7 +119,7 @@ outside-then was mid left first second =
 -- nothing happens, or more is done
 pub keeps_same : (chip : Chip) → KeepsStore chip chip
 keeps_same chip = record {
-  keeps = record { still = refl; image = λ now told. (now, told, refl); later = omega arith; only = λ t g left since there. inl there };
+  keeps = record { still = refl; image = λ now told. (now, told, refl); later = omega arith; only = λ t g left since there. inl there; stays = λ t g left since there. there };
   rest = leaves-same KeepsOutside chip chip refl (λ was. keeps-none (number_at was 6) was);
   closed = nothing chip.image;
 }
@@ -155,6 +155,7 @@ made_then n old mid new made keeps = throughout-then old mid new _ made (record 
     | inl before ↦ inl before
     | inr at ↦ inr (let here = made.now at.1 at.2 in (at.0 ∙ here.0, made_alike n old left at.1 at.3 here.1))
   ];
+  stays = keeps.keeps.stays;
   now = λ image told.
       let at = keeps.keeps.image image told in
       let here = made.now at.0 at.1 in

@@ -87,6 +87,7 @@ leaves-opening old mid db opens keeps = record {
     | inl before ↦ inl before
     | inr at ↦ inr (at.0, inl (opens-same at.1 left (sym at.3) db (opens-told old db at.1 opens at.2)))
   ];
+  stays = keeps.keeps.stays;
   now = λ image told.
       let at = keeps.keeps.image image told in
       (ap (λ (s : Still). s.mark) keeps.keeps.still, inl (opens-same at.0 image (sym at.2) db (opens-told old db at.0 opens at.1)));

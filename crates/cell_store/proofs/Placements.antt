@@ -42,6 +42,7 @@ keeps-start marks n chip = record {
   moments = record {
     later = omega arith;
     only = λ t g left since there. inl there;
+    stays = λ t g left since there. there;
     now = λ image told. (refl, image, told, Keeping-same marks n image);
   };
 }

@@ -21,6 +21,7 @@ leaves-weaker old new P R weaker all = record {
     | inl before ↦ inl before
     | inr now ↦ inr (now.0, now.1, now.2, weaker now.1 left now.2 now.3)
   ];
+  stays = all.stays;
   now = λ image told. (let now = all.now image told in (now.0, now.1, now.2, weaker now.1 image now.2 now.3));
 }
 
@@ -35,6 +36,7 @@ leaves-then old mid new M Q R still between glue first second =
         | inl before ↦ first.only t g left since before
         | inr now ↦ (let from = between now.1 now.2 in inr (now.0 ∙ mark, from.0, from.1, glue from.0 now.1 left from.2 now.3))
       ];
+      stays = λ t g left since there. second.stays t g left (omega (arith, since, first.later)) (first.stays t g left since there);
       now = λ image told.
           let now = second.now image told in
           let from = between now.1 now.2 in

@@ -1,7 +1,9 @@
 -- The moments of writes: what a power loss may leave from one on.
-use Rattle.std.proofs.Common.{◌≡◌, ◌⊎◌, inl, inr, ℕ, zero, suc, ◌≤◌, List, [], ◌∷◌, ◌++◌, length, drop, Option, Some, None, MatchOption, IfSome, sym, refl, ap, ◌∙◌, arith, subst}
-use Rattle.eeprom.specs.Chip.{Chip, Stretch, writing, MayLeave, LeftIn, LeftSince, Writes, Throughout}
+use Rattle.std.proofs.Common.{◌≡◌, ◌⊎◌, inl, inr, ℕ, zero, suc, ◌+◌, ◌≤◌, List, [], ◌∷◌, ◌++◌, length, drop, Option, Some, None, MatchOption, IfSome, sym, refl, ap, ◌∙◌, arith, subst}
+use Rattle.std.proofs.lemmas.Option.{same_Some}
+use Rattle.eeprom.specs.Chip.{Chip, Stretch, writing, MayLeave, LeftIn, LeftSince, MayBeLeftSince, Writes, Throughout}
 use Rattle.eeprom.specs.Image.{IsTorn}
+use Rattle.eeprom.proofs.Replayed.{overwrite-own}
 
 pub left-in-more : (past : List Stretch) (stretch : Stretch) (g : ℕ) (left : List ℕ) → LeftIn (past ++ stretch ∷ []) g left → LeftIn past g left ⊎ MayLeave stretch g left
 left-in-more [] stretch g left (inl there) = inr there
@@ -30,6 +32,57 @@ left-cases chip t g left there = left-match chip.past refl there
     left-match None told there = absurd there
     left-match (Some past) told there = (past, told, there)
 
+-- what may be left in stretches, or in one more behind them
+pub left-in-longer : (past : List Stretch) (stretch : Stretch) (g : ℕ) (left : List ℕ) → LeftIn past g left ⊎ MayLeave stretch g left → LeftIn (past ++ stretch ∷ []) g left
+left-in-longer [] stretch g left (inl none) = absurd none
+left-in-longer [] stretch g left (inr there) = inl there
+left-in-longer (first ∷ past) stretch g left (inl (inl there)) = inl there
+left-in-longer (first ∷ past) stretch g left (inl (inr there)) = inr (left-in-longer past stretch g left (inl there))
+left-in-longer (first ∷ past) stretch g left (inr there) = inr (left-in-longer past stretch g left (inr there))
+
+-- what may be left, as far as the moments are told
+pub may-be-left : (chip : Chip) (t g : ℕ) (left : List ℕ) → ((past : List Stretch) → chip.past ≡ Some past → ((chip.image ≡ Some left) × (g ≡ chip.still.mark)) ⊎ LeftIn (drop t past) g left) → MayBeLeftSince chip t g left
+unfolding MayBeLeftSince
+may-be-left chip t g left each = of chip.past refl
+  where
+    of : (past : Option (List Stretch)) → chip.past ≡ past → IfSome past (λ past. ((chip.image ≡ Some left) × (g ≡ chip.still.mark)) ⊎ LeftIn (drop t past) g left)
+    of None told = tt
+    of (Some past) told = each past told
+
+pub may-be-cases : (chip : Chip) (t g : ℕ) (left : List ℕ) → MayBeLeftSince chip t g left → (past : List Stretch) → chip.past ≡ Some past → ((chip.image ≡ Some left) × (g ≡ chip.still.mark)) ⊎ LeftIn (drop t past) g left
+unfolding MayBeLeftSince
+may-be-cases chip t g left there past told = subst (λ (o : Option (List Stretch)). IfSome o (λ past. ((chip.image ≡ Some left) × (g ≡ chip.still.mark)) ⊎ LeftIn (drop t past) g left)) told there
+
+-- the image that is there is one moment
+pub left-now : (chip : Chip) (t : ℕ) (left : List ℕ) → chip.image ≡ Some left → MayBeLeftSince chip t chip.still.mark left
+left-now chip t left told = may-be-left chip t chip.still.mark left (λ past is. inl (told, refl))
+
+-- a moment before a write that was done or failed stays one: the write may have left the image as it was
+pub write-stays : (at : ℕ) (octets : List ℕ) (old new : Chip) → IfSome old.past (λ past. length past ≡ old.clock) → Writes at octets old new
+    → (t g : ℕ) (left : List ℕ) → t ≤ old.clock → MayBeLeftSince old t g left → MayBeLeftSince new t g left
+write-stays at octets old new clocked w t g left since there = may-be-left new t g left (λ past told.
+    let from = w.past past told in
+    let was = may-be-cases old t g left there from.0 from.1 in
+    let within : t ≤ length from.0 = omega (arith, since, rw (from.1) at clocked) in
+    elim (from.2) [
+      | inl more ↦
+          let stretch = writing (record { image = more.0; at = at; count = length octets; mark = old.still.mark }) in
+          let longer : LeftIn (drop t from.0 ++ stretch ∷ []) g left = left-in-longer (drop t from.0) stretch g left (elim was [
+            | inl now ↦ inr (now.1, torn more.0 left more.1 now.0)
+            | inr before ↦ inl before
+          ]) in
+          inr (subst (λ (past : List Stretch). LeftIn (drop t past) g left) (sym more.2) (subst (λ (past : List Stretch). LeftIn past g left) (sym (drop-more t from.0 stretch within)) longer))
+      | inr none ↦ elim was [
+          | inl now ↦ inl (none.1 ∙ now.0, now.1 ∙ sym none.2)
+          | inr before ↦ inr (subst (λ (past : List Stretch). LeftIn (drop t past) g left) (sym none.0) before)
+        ]
+    ])
+  where
+    torn : (image left : List ℕ) → old.image ≡ Some image → old.image ≡ Some left → IsTorn image at (length octets) left
+    torn image left is told =
+        let within : at + length octets ≤ length left = subst (λ (o : Option (List ℕ)). IfSome o (λ image. at + length octets ≤ length image)) told w.within in
+        subst (λ (image : List ℕ). IsTorn image at (length octets) left) (same_Some left image (sym told ∙ is)) (overwrite-own left at (length octets) within)
+
 -- what a write that was done or failed may leave, where each torn image has P
 pub write-throughout : (at : ℕ) (octets : List ℕ) (old new : Chip) (P : ℕ → List ℕ → Type 0) → IfSome old.past (λ past. length past ≡ old.clock) → Writes at octets old new
     → ((image left : List ℕ) → old.image ≡ Some image → IsTorn image at (length octets) left → P old.still.mark left) → Throughout old new P
@@ -55,6 +108,7 @@ write-throughout at octets old new P clocked w torn = record {
           | inr none ↦ inl (left-told old told.0 t g left told.1 (rw (none.0) at past))
         ]
       ];
+  stays = write-stays at octets old new clocked w;
   now = λ image told.
       let was = w.image image told in
       let mark : new.still.mark ≡ old.still.mark = ap (λ still. still.mark) w.still in
@@ -69,6 +123,7 @@ throughout-then old mid new P first second = record {
     | inl before ↦ first.only t g left since before
     | inr now ↦ inr now
   ];
+  stays = λ t g left since there. second.stays t g left (omega (arith, since, first.later)) (first.stays t g left since there);
   now = second.now;
 }
 
@@ -79,5 +134,6 @@ throughout-weaker old new P Q all weaker = record {
     | inl before ↦ inl before
     | inr now ↦ inr (weaker g left now)
   ];
+  stays = all.stays;
   now = λ image told. weaker new.still.mark image (all.now image told);
 }

@@ -83,10 +83,10 @@ stretches_of-give steps replaced image from to whole =
     ap (λ replaced. stretches_of (steps ++ Give from to ∷ []) replaced image) (sym (append-nil replaced)) ∙ stretches_of-append steps (Give from to ∷ []) replaced [] image whole
 
 -- a stretch that is told is one of the two ways in which time may go on
-pub goes_on : (stretch : List ℕ → Stretch) (was now : Option (List ℕ)) (old new : Option (List Stretch)) →
+pub goes_on : (stretch : List ℕ → Stretch) (was now : Option (List ℕ)) (mark mark2 : ℕ) (old new : Option (List Stretch)) →
     Becomes (λ before after. (image : List ℕ) × (was ≡ Some image) × (after ≡ before ++ stretch image ∷ [])) old new →
-    Becomes (λ before after. ((image : List ℕ) × (was ≡ Some image) × (after ≡ before ++ stretch image ∷ [])) ⊎ ((after ≡ before) × (now ≡ was))) old new
-goes_on stretch was now old new tells after told = let before = tells after told in (before.0, before.1, inl before.2)
+    Becomes (λ before after. ((image : List ℕ) × (was ≡ Some image) × (after ≡ before ++ stretch image ∷ [])) ⊎ ((after ≡ before) × (now ≡ was) × (mark2 ≡ mark))) old new
+goes_on stretch was now mark mark2 old new tells after told = let before = tells after told in (before.0, before.1, inl before.2)
 
 -- the moments after a write, whether what it replaced was kept or found no room
 pub past-write : (output_overrun output_overrun2 overrun overrun2 fits : Bool) (steps steps2 : List Step) (replaced replaced2 was now octets : List ℕ) (at mark : ℕ) →

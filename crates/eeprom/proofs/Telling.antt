@@ -33,6 +33,7 @@ counted-more before more after e now told =
 writes_recorded : (at : ℕ) (octets wrote : List ℕ) (old new : Told) (written written2 sink_faults : ℕ) → new ≡ with_write at wrote old → length wrote ≡ length octets → at + length octets ≤ length old.image →
     written2 ≡ min (written + length octets) 340282366920938463463374607431768211455 → Writes at octets (chip_from old written sink_faults) (chip_from new written2 sink_faults)
 writes_recorded at octets wrote old new written written2 sink_faults is same fits e = rw is (record {
+  within = fits;
   still = rw (length-overwrite old.image at wrote (rw same fits)) refl;
   written = counted-more written (length octets) written2 e;
   image = becomes_told _ old.image (overwrite old.image at wrote) (record { octets = wrote; count_is = same; is = refl });
@@ -43,11 +44,12 @@ writes_recorded at octets wrote old new written written2 sink_faults is same fit
 writes_nothing : (at : ℕ) (octets : List ℕ) (old new : Told) (written written2 sink_faults : ℕ) → new ≡ old → at + length octets ≤ length old.image →
     written2 ≡ min (written + length octets) 340282366920938463463374607431768211455 → Writes at octets (chip_from old written sink_faults) (chip_from new written2 sink_faults)
 writes_nothing at octets old new written written2 sink_faults is fits e = rw is (record {
+  within = fits;
   still = refl;
   written = counted-more written (length octets) written2 e;
   image = becomes_told _ old.image old.image (overwrite-own old.image at (length octets) fits);
   later = omega arith;
-  past = becomes_told _ old.past old.past (inr (refl, refl));
+  past = becomes_told _ old.past old.past (inr (refl, refl, refl));
 })
 
 pub writes-chip : (result : Result (Unit {0}) AllocError) (at : ℕ) (octets wrote : List ℕ) (old new : Told) (written written2 sink_faults : ℕ) → OnOk result (new ≡ with_write at wrote old) → OnErr result (new ≡ old) →

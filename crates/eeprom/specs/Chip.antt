@@ -1,5 +1,5 @@
 -- What an EEPROM has become: its image, its output, and each stretch of time in which a power loss may have come.
-use Rattle.std.specs.Prelude.{◌≡◌, ◌⊎◌, ℕ, ◌+◌, ◌≤◌, List, [], ◌∷◌, ◌++◌, length, drop, Option, Some, MatchOption}
+use Rattle.std.specs.Prelude.{◌≡◌, ◌⊎◌, ℕ, ◌+◌, ◌≤◌, List, [], ◌∷◌, ◌++◌, length, drop, Option, Some, IfSome, MatchOption}
 use Rattle.eeprom.specs.Image.{IsTorn}
 
 -- the time of a write of so many octets at a place of an image
@@ -45,6 +45,10 @@ unfoldable pub LeftSince : Chip → ℕ → ℕ → List ℕ → Type 0
 LeftSince chip t g left =
     MatchOption chip.past ⊥ (λ past. ((chip.image ≡ Some left) × (g ≡ chip.still.mark)) ⊎ LeftIn (drop t past) g left)
 
+-- the same, as far as the moments are told: where they aren't, nothing is said
+unfoldable pub MayBeLeftSince : Chip → ℕ → ℕ → List ℕ → Type 0
+MayBeLeftSince chip t g left = IfSome chip.past (λ past. ((chip.image ≡ Some left) × (g ≡ chip.still.mark)) ⊎ LeftIn (drop t past) g left)
+
 -- what is told afterwards was told before, and is this of it
 abbrev pub Becomes : {A B : Type 0} → (A → B → Type 0) → Option A → Option B → Type 0
 Becomes {A} {B} step old new = (after : B) → new ≡ Some after → (before : A) × (old ≡ Some before) × step before after
@@ -61,10 +65,11 @@ RisesAtMost most before after = after ≤ before + most
 abbrev pub GoesOn : (List ℕ → Stretch) → Chip → Chip → Type 0
 GoesOn stretch old new =
     Becomes (λ before after.
-    ((image : List ℕ) × (old.image ≡ Some image) × (after ≡ before ++ stretch image ∷ [])) ⊎ ((after ≡ before) × (new.image ≡ old.image))) old.past new.past
+    ((image : List ℕ) × (old.image ≡ Some image) × (after ≡ before ++ stretch image ∷ [])) ⊎ ((after ≡ before) × (new.image ≡ old.image) × (new.still.mark ≡ old.still.mark))) old.past new.past
 
--- a write of these octets at this place, whether it was done or failed
+-- a write of these octets at this place, which lies within the image, whether it was done or failed
 pub record Writes (at : ℕ) (octets : List ℕ) (old new : Chip) : Type 0 where
+  pub within : IfSome old.image (λ image. at + length octets ≤ length image)
   pub still : new.still ≡ old.still
   pub written : Becomes (RisesBy (length octets)) old.written new.written
   pub image : Becomes (λ was now. IsTorn was at (length octets) now) old.image new.image
@@ -80,10 +85,11 @@ pub record Gives (old new : Chip) : Type 0 where
   pub later : old.clock ≤ new.clock
   pub past : GoesOn (λ image. giving image old.still.mark new.still.mark) old new
 
--- from old on to new, each image that a power loss may leave has P
+-- from old on to new, each image that a power loss may leave has P; and each moment that was stays one
 pub record Throughout (old new : Chip) (P : ℕ → List ℕ → Type 0) : Type 0 where
   pub later : old.clock ≤ new.clock
   pub only : (t g : ℕ) (left : List ℕ) → t ≤ old.clock → LeftSince new t g left → LeftSince old t g left ⊎ P g left
+  pub stays : (t g : ℕ) (left : List ℕ) → t ≤ old.clock → MayBeLeftSince old t g left → MayBeLeftSince new t g left
   pub now : (image : List ℕ) → new.image ≡ Some image → P new.still.mark image
 
 -- from old on to new nothing is given, and each image that a power loss may leave has P
@@ -94,10 +100,11 @@ Leaves P old new = Throughout old new (λ g left. (g ≡ old.still.mark) × P le
 abbrev pub LeavesOf : (List ℕ → List ℕ → Type 0) → Chip → Chip → Type 0
 LeavesOf P old new = Throughout old new (λ g left. (g ≡ old.still.mark) × (was : List ℕ) × (old.image ≡ Some was) × P was left)
 
--- from old on to new, each image that a power loss may leave looks as the old one did; nothing is given
+-- from old on to new, each image that a power loss may leave looks as the old one did, and each moment that was stays one; nothing is given
 pub record Keeps {A : Type 0} (look : List ℕ → A) (old new : Chip) : Type 0 where
   pub still : new.still ≡ old.still
   pub image : Becomes (λ was now. look now ≡ look was) old.image new.image
   pub later : old.clock ≤ new.clock
   pub only : (t g : ℕ) (left : List ℕ) → t ≤ old.clock → LeftSince new t g left
       → LeftSince old t g left ⊎ ((g ≡ old.still.mark) × (was : List ℕ) × (old.image ≡ Some was) × (look left ≡ look was))
+  pub stays : (t g : ℕ) (left : List ℕ) → t ≤ old.clock → MayBeLeftSince old t g left → MayBeLeftSince new t g left

@@ -24,6 +24,7 @@ pub leaves-same : (P : List ℕ → List ℕ → Type 0) (old new : Chip) → ne
 leaves-same P old new same holds = subst (λ (chip : Chip). LeavesOf P old chip) (sym same) (record {
   later = omega arith;
   only = λ t g left since there. inl there;
+  stays = λ t g left since there. there;
   now = λ image told. (refl, image, told, holds image);
 })
 

@@ -55,6 +55,7 @@ pub leaves-none : (old new : Chip) → new ≡ old → LeavesOf IsBetweenVersion
 leaves-none old new same = subst (λ (new : Chip). LeavesOf IsBetweenVersions old new) (sym same) (record {
   later = omega arith;
   only = λ t g left since there. inl there;
+  stays = λ t g left since there. there;
   now = λ image told. (refl, image, told, between-none image);
 })
 

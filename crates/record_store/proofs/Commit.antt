@@ -89,6 +89,7 @@ commits-from held entries old new ready stands still leaves = record {
       | inl before ↦ inl before
       | inr at ↦ inr (at.0, at.1, at.2, one left at.1 at.2 at.3)
     ];
+    stays = leaves.stays;
     now = λ image told. (let at = leaves.now image told in (at.0, at.1, at.2, one image at.1 at.2 at.3));
   };
 }

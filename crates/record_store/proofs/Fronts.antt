@@ -22,6 +22,7 @@ Keeps-then look old mid new first second = record {
     | inl before ↦ first.only t g left since before
     | inr now ↦ (let a = first.image now.1 now.2 in inr (now.0 ∙ ap (λ still. still.mark) first.still, a.0, a.1, now.3 ∙ a.2))
   ];
+  stays = λ t g left since there. second.stays t g left (omega (arith, since, first.later)) (first.stays t g left since there);
 }
 
 -- a write behind the front
@@ -118,6 +119,7 @@ body_moments n first second old mid new still cleared before keeps =
         | inl was ↦ inl was
         | inr now ↦ inr (now.0 ∙ ap (λ still. still.mark) still, inr (inl (no_store-kept left now.1 now.3 (none now.1 now.2))))
       ];
+      stays = keeps.stays;
       now = λ image told. (let from = keeps.image image told in
           (ap (λ still. still.mark) (keeps.still ∙ still), inr (inl (no_store-kept image from.0 from.2 (none from.0 from.1)))));
     })

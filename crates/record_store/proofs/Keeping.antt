@@ -22,6 +22,7 @@ keeps-leaves look P old new still same leaves = record {
     | inl before ↦ inl before
     | inr at ↦ inr (at.0, at.1, at.2, same at.1 left at.2 at.3)
   ];
+  stays = leaves.stays;
 }
 
 -- what lies behind a write

@@ -1,4 +1,5 @@
 pub mod Asked
+pub mod AtRest
 pub mod ChangedDatabase
 pub mod Ending
 pub mod InPlace

@@ -46,7 +46,8 @@ told-image store side chip slots told = go chip.image refl told
     go None is none = absurd (none-some slots none)
     go (Some image) is there = (image, is, there)
 
-some-told : {A : Type 0} (o : Option A) → IsSome o → (x : A) × (o ≡ Some x)
+-- what is told
+pub some-told : {A : Type 0} (o : Option A) → IsSome o → (x : A) × (o ≡ Some x)
 some-told None is = absurd (false≢true is)
 some-told (Some x) is = (x, refl)
 

@@ -1,3 +1,4 @@
+pub mod AtRest
 pub mod Changed
 pub mod Editable
 pub mod EditableLaws

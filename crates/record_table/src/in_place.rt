@@ -1,5 +1,5 @@
 // A record of a database changed in its place, or taken out.
-ghost use Rattle.std.specs.Prelude.{◌≡◌, ◌<◌, [], ◌∷◌, Some, Ok, IsTrue, IfSome, IsErrOf, OnOk, drop};
+ghost use Rattle.std.specs.Prelude.{◌≡◌, ◌<◌, [], ◌∷◌, Some, Ok, true, IsTrue, IfSome, IsErrOf, OnOk, drop};
 ghost use Rattle.eeprom.specs.Chip.{Chip, Keeps};
 ghost use Rattle.eeprom.specs.Fault.{CountsFaults};
 ghost use Rattle.eeprom.specs.StoreOf.{store_of, image_size};
@@ -31,6 +31,8 @@ pub fn change_in_place<R: Editable, B: Eeprom>(
     ensures ends { (db : Database) (was : R) → IsHeld store.old Working (B.chip bench.old) db → IfSome (slots_of store.old Working (B.chip bench.old)) (λ slots. Some was ≡ at_slot R.kind slot slots)
         → R.kind.key was ≡ R.kind.key value.now → IsValidWith db (changing (R.any value.now) ∷ [])
         → Ends db (Ok (changing (R.any value.now) ∷ [])) result store.old store.new (B.chip bench.old) (B.chip bench.new) }
+    ensures at { (was : R) → R.kind.form.fits value.now ≡ true → IfSome (slots_of store.old Working (B.chip bench.old)) (λ slots. Some was ≡ at_slot R.kind slot slots)
+        → OnOk result (IfSome (slots_of store.new Working (B.chip bench.new)) (λ slots. Some value.now ≡ at_slot R.kind slot slots)) }
     ensures goes_on { ¬ IsErrOf result Stop.Fault → GoesOn store.old store.new (B.chip bench.old) (B.chip bench.new) }
     ensures rows { (was : R) → HaveOtherMarks R.kind row_kind → IfSome (slots_of store.old Working (B.chip bench.old)) (λ slots. Some was ≡ at_slot R.kind slot slots)
         → OnOk result (KeepsRows (slots_of store.old Working (B.chip bench.old)) (slots_of store.new Working (B.chip bench.new))) }

@@ -2,6 +2,7 @@
 #![tactic(auto)]
 
 mod changing;
+mod committing;
 mod editable;
 mod entry;
 mod finding;
@@ -13,6 +14,7 @@ mod sweeping;
 mod wanted;
 
 pub use changing::{add, change, remove};
+pub use committing::commit_in_place;
 pub use editable::Editable;
 pub use entry::read_entry;
 pub use finding::{find_by, find_stamp};

@@ -22,9 +22,10 @@ returns-clause-writes c =
     written_over old.image c.keep.new.self.image c.args.at octets c.deref_mut.result.now c.write_over.new.image c.keep.ensures.image c.deref_mut.ensures.value c.write_over.ensures c.requires in
     let some : 0 < length octets = search rules in
     record {
+      within = c.requires;
       still = rw (now, length-overwrite old.image.items c.args.at octets c.requires, c.keep.ensures.output) refl;
       written = rw (c.keep.ensures.counts.1) (counted-more old.octets_written (length octets) c.saturating_add-self.result c.saturating_add-self.ensures);
       image = becomes_told _ old.image.items _ (record { octets = octets; count_is = refl; is = now });
       later = longer-if (nat_le (length octets) old.replaced.left) old.steps.items c.keep.new.self.steps.items _ c.keep.ensures.steps;
-      past = goes_on _ _ _ _ _ (returns-clause-moment c some);
+      past = goes_on _ _ _ _ _ _ _ (returns-clause-moment c some);
     }

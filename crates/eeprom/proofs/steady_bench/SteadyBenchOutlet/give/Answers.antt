@@ -21,7 +21,7 @@ returns-then-add-clause-rest c =
         written = refl;
         mark = longer c.args.self.now.output.octets.items c.add.new.self.octets.items _ c.if-add.ensures.octets;
         later = longer c.args.self.now.steps.items c.push_reserved.new.self.items _ c.push_reserved.ensures.items;
-        past = goes_on _ _ _ _ _ (returns-then-add-clause-moment c some);
+        past = goes_on _ _ _ _ _ _ _ (returns-then-add-clause-moment c some);
       },
       refl,
     )

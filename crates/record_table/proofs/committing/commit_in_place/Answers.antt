@@ -1,0 +1,89 @@
+-- The record is changed in a transaction of its own, and the store holds the database with it.
+use Rattle.std.proofs.Common.{◌≡◌, [], ◌∷◌, Some, Ok, refl, sym, ◌∙◌}
+use Rattle.std.specs.Prelude.{IfSome}
+use Rattle.record_store.specs.declared.side.Side.TheVariants.{Committed, Working}
+use Rattle.scql_model.specs.Database.{Database, IsValid}
+use Rattle.scql_model.specs.Edits.{applied, changing, octets_for}
+use Rattle.record_table.specs.AtRest.{IsAtRest}
+use Rattle.record_table.specs.Listed.{at_slot, slots_of}
+use Rattle.record_table.specs.Making.{Ends}
+use Rattle.record_table.proofs.AtRest.{Replaces-done, Replaces-failed, Replaces-fault, Replaces-half, behind-changed, held-begun, made-edits, not-refused, over-begun, same-slots, slots-committed}
+use Rattle.record_table.proofs.Ending.{KeepsRows-same}
+use Rattle.record_table.proofs.committing.commit_in_place.Given.{Over}
+use Rattle.record_table.proofs.committing.commit_in_place.Goals as goal
+use Rattle.record_table.proofs.committing.commit_in_place.Goals.{After-change_in_place}
+
+pub change_in_place-requires-clause-over : goal.change_in_place-requires-clause-over
+change_in_place-requires-clause-over g c = over-begun c.args.store.now c.begin.new.self (g.B.Eeprom.chip c.args.bench.now) (g.B.Eeprom.chip c.args.bench.now) c.requires.over refl c.begin.ensures.begun c.begin.ensures.stands
+
+-- the slots with which the transaction begins are those that are committed
+begun_slots : (g : Over) (c : After-change_in_place g) → slots_of c.args.store.now Committed (g.B.Eeprom.chip c.args.bench.now) ≡ slots_of c.begin.new.self Working (g.B.Eeprom.chip c.args.bench.now)
+begun_slots g c = sym (same-slots c.begin.new.self c.args.store.now Working Committed (g.B.Eeprom.chip c.args.bench.now) c.begin.ensures.starts)
+
+-- how the change ended
+ended : (g : Over) (c : After-change_in_place g) (db : Database) (was : g.row.R.Denot) → IsAtRest c.args.store.now (g.B.Eeprom.chip c.args.bench.now) db
+    → IfSome (slots_of c.args.store.now Committed (g.B.Eeprom.chip c.args.bench.now)) (λ slots. Some was ≡ at_slot g.R.Record.kind c.args.slot slots) → g.R.Record.kind.key was ≡ g.R.Record.kind.key c.args.value.now
+    → IsValid (applied db (changing (g.R.Editable.any c.args.value.now) ∷ []))
+    → Ends db (Ok (changing (g.R.Editable.any c.args.value.now) ∷ [])) c.change_in_place.result c.begin.new.self c.change_in_place.new.store (g.B.Eeprom.chip c.args.bench.now) (g.B.Eeprom.chip c.change_in_place.new.bench)
+ended g c db was rest there key valid =
+    let old = g.B.Eeprom.chip c.args.bench.now in
+    c.change_in_place.ensures.ends db was (held-begun c.args.store.now c.begin.new.self old old db rest.held refl c.begin.ensures.begun c.begin.ensures.starts)
+    (rw (begun_slots g c) at there) key (λ room. valid)
+
+pub returns-in_ok-commit-in-Ok-clause-replaces : goal.returns-in_ok-commit-in-Ok-clause-replaces
+returns-in_ok-commit-in-Ok-clause-replaces g c = λ db was rest there key room valid tables.
+    let w = (goal.at.returns-in_ok-commit-in-Ok-clause-replaces g c).After-change_in_place in
+    let old = g.B.Eeprom.chip c.args.bench.now in
+    let mid = g.B.Eeprom.chip c.change_in_place.new.bench in
+    let edits = changing (g.R.Editable.any c.args.value.now) ∷ [] in
+    let makes = made-edits db edits (Ok edits) c.begin.new.self c.change_in_place.new.store old mid refl (rw c.in-Ok.is at (ended g w db was rest there key valid)) in
+    Replaces-done _ db edits c.args.store.now c.begin.new.self c.change_in_place.new.store old mid c.requires.over rest tables c.begin.ensures.begun c.begin.ensures.committed c.change_in_place.ensures.moments makes
+    (c.in-Ok.ensures.goes_on (λ wrong. cc)) (g.B.Eeprom.chip c.commit.new.bench) c.commit.ensures.moments _ c.commit.new.self c.in_ok-commit-in-Ok.ensures.done c.in_ok-commit-in-Ok.ensures.told c.in_ok-commit-in-Ok.ensures.cells
+    c.in_ok-commit-in-Ok.ensures.rows c.begin.ensures.no_entries c.in_ok-commit-in-Ok.ensures.octets_written
+
+pub returns-in_err-commit-in-Ok-clause-replaces : goal.returns-in_err-commit-in-Ok-clause-replaces
+returns-in_err-commit-in-Ok-clause-replaces g c = λ db was rest there key room valid tables.
+    let w = (goal.at.returns-in_err-commit-in-Ok-clause-replaces g c).After-change_in_place in
+    let old = g.B.Eeprom.chip c.args.bench.now in
+    let mid = g.B.Eeprom.chip c.change_in_place.new.bench in
+    let edits = changing (g.R.Editable.any c.args.value.now) ∷ [] in
+    let makes = made-edits db edits (Ok edits) c.begin.new.self c.change_in_place.new.store old mid refl (rw c.in-Ok.is at (ended g w db was rest there key valid)) in
+    Replaces-fault db (applied db edits) (octets_for edits) c.from_residual.result c.commit.new.self old (g.B.Eeprom.chip c.commit.new.bench) c.from_residual.ensures.1
+    (Replaces-half _ db edits c.args.store.now c.begin.new.self c.change_in_place.new.store old mid c.requires.over rest tables c.begin.ensures.begun c.begin.ensures.committed c.change_in_place.ensures.moments makes
+    (c.in-Ok.ensures.goes_on (λ wrong. cc)) (g.B.Eeprom.chip c.commit.new.bench) c.commit.ensures.moments c.commit.new.self)
+
+pub returns-in-Err-Refused-clause-replaces : goal.returns-in-Err-Refused-clause-replaces
+returns-in-Err-Refused-clause-replaces g c = λ db was rest there key room valid tables.
+    let w = (goal.at.returns-in-Err-Refused-clause-replaces g c).After-change_in_place in
+    absurd (not-refused db (changing (g.R.Editable.any c.args.value.now) ∷ []) c.in-Err-Refused.word room (rw (c.in-Err-Refused.is, c.in-Err-Refused.field-0-is) at (ended g w db was rest there key valid)).0)
+
+pub returns-in-Err-Fault-clause-replaces : goal.returns-in-Err-Fault-clause-replaces
+returns-in-Err-Fault-clause-replaces g c = λ db was rest there key room valid tables.
+    Replaces-failed _ db (changing (g.R.Editable.any c.args.value.now) ∷ []) c.args.store.now c.begin.new.self c.change_in_place.new.store (g.B.Eeprom.chip c.args.bench.now) (g.B.Eeprom.chip c.change_in_place.new.bench) c.requires.over rest tables
+    c.begin.ensures.begun c.begin.ensures.committed c.change_in_place.ensures.moments c.change_in_place.new.store
+
+pub returns-in_ok-commit-in-Ok-clause-at : goal.returns-in_ok-commit-in-Ok-clause-at
+returns-in_ok-commit-in-Ok-clause-at g c = λ was fits there.
+    let w = (goal.at.returns-in_ok-commit-in-Ok-clause-at g c).After-change_in_place in
+    let stays = slots-committed c.change_in_place.new.store c.commit.new.self (g.B.Eeprom.chip c.change_in_place.new.bench) (g.B.Eeprom.chip c.commit.new.bench) (c.in-Ok.ensures.goes_on (λ wrong. cc)).over
+    c.in_ok-commit-in-Ok.ensures.done c.in_ok-commit-in-Ok.ensures.told in
+    rw stays (c.in-Ok.ensures.at was fits (rw (begun_slots g w) at there))
+
+pub returns-in_ok-commit-in-Ok-clause-rows : goal.returns-in_ok-commit-in-Ok-clause-rows
+returns-in_ok-commit-in-Ok-clause-rows g c = λ was apart there no_fault.
+    let w = (goal.at.returns-in_ok-commit-in-Ok-clause-rows g c).After-change_in_place in
+    let stays = slots-committed c.change_in_place.new.store c.commit.new.self (g.B.Eeprom.chip c.change_in_place.new.bench) (g.B.Eeprom.chip c.commit.new.bench) (c.in-Ok.ensures.goes_on (λ wrong. cc)).over
+    c.in_ok-commit-in-Ok.ensures.done c.in_ok-commit-in-Ok.ensures.told in
+    rw (begun_slots g w, stays) (c.in-Ok.ensures.rows was apart (rw (begun_slots g w) at there))
+
+pub returns-in-Err-Refused-clause-rows : goal.returns-in-Err-Refused-clause-rows
+returns-in-Err-Refused-clause-rows g c = λ was apart there no_fault.
+    let old = g.B.Eeprom.chip c.args.bench.now in
+    KeepsRows-same (slots_of c.args.store.now Committed old) _
+    (same-slots c.rollback.new.self c.change_in_place.new.store Committed Committed (g.B.Eeprom.chip c.change_in_place.new.bench) c.rollback.ensures.committed
+    ∙ (c.in-Err-Refused.ensures.committed (λ wrong. cc) ∙ same-slots c.begin.new.self c.args.store.now Committed Committed old c.begin.ensures.committed))
+
+pub returns-in_err-commit-in-Ok-clause-behind : goal.returns-in_err-commit-in-Ok-clause-behind
+returns-in_err-commit-in-Ok-clause-behind g c =
+    behind-changed (g.B.Eeprom.chip c.args.bench.now) (g.B.Eeprom.chip c.args.bench.now) (g.B.Eeprom.chip c.change_in_place.new.bench) (g.B.Eeprom.chip c.commit.new.bench) c.args.store.now c.begin.new.self c.change_in_place.new.store
+    refl c.begin.ensures.begun (c.in-Ok.ensures.goes_on (λ wrong. cc)).cells c.change_in_place.ensures.behind c.commit.ensures.behind
