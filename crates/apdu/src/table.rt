@@ -24,10 +24,10 @@ macro_rules! operation {
 // All operations. The number of a channel to open or to close is P2.
 static OPERATIONS: [Line; 31] = [
     operation!(built 0x10 0x00 0x80 CreateTable, DataField),
-    operation!(planned 0x10 0x00 0x81 CreateView, DataField),
-    operation!(planned 0x10 0x00 0x82 CreateDictionary, DataField),
+    operation!(built 0x10 0x00 0x81 CreateView, DataField),
+    operation!(built 0x10 0x00 0x82 CreateDictionary, DataField),
     operation!(built 0x10 0x00 0x83 DropTable, DataField),
-    operation!(planned 0x10 0x00 0x84 DropView, DataField),
+    operation!(built 0x10 0x00 0x84 DropView, DataField),
     operation!(built 0x10 0x00 0x85 Grant, DataField),
     operation!(built 0x10 0x00 0x86 Revoke, DataField),
     operation!(built 0x10 0x00 0x87 DeclareCursor, DataField),

@@ -8,7 +8,7 @@ use Rattle.scql_model.specs.Machine.{Machine, start}
 use Rattle.scql_model.specs.Form.{form_of}
 use Rattle.scql_model.specs.Step.{step, step_by}
 use Rattle.scql_model.specs.Changing.{edits_of}
-use Rattle.scql_model.specs.Defining.{object_created, table_dropped}
+use Rattle.scql_model.specs.Defining.{object_created, table_dropped, view_created, view_dropped}
 use Rattle.scql_model.specs.Rights.{appears, holds}
 use Rattle.scql_model.specs.Granting.{privileges_granted, privileges_revoked}
 use Rattle.scql_model.specs.Writing.{row_inserted, row_updated, row_deleted}
@@ -67,9 +67,14 @@ unfolding line_text line_step step step_by form_of edits_of move_of user_deleted
 nothing_yet = refl
 
 -- operations that aren't built yet
-not_built : run_text card (lines (codes "00100081080156015401010141\n00100082050154014F\n00100084020156\n0010008F\n00120080\n00120081\n00120082\n") true) ≡ codes "6A86\n6A86\n6A86\n6A86\n6D00\n6D00\n6D00\n"
+not_built : run_text card (lines (codes "0010008F\n00120080\n00120081\n00120082\n") true) ≡ codes "6A86\n6D00\n6D00\n6D00\n"
 unfolding line_text line_step step step_by form_of edits_of params_of pieces_of hex_on_literals
 not_built = refl
+
+-- nobody makes or drops a view or a dictionary
+nobody_shows : run_text card (lines (codes "00100081080156015401010141\n00100082040154014F\n00100084020156\n") true) ≡ codes "6982\n6982\n6A88\n"
+unfolding line_text line_step step step_by form_of edits_of view_created object_created view_dropped appears holds params_of pieces_of hex_on_literals
+nobody_shows = refl
 
 -- a table is made once, and dropped once; nothing is dropped without a data field
 table_made : run_text card (lines (codes "0014008006054F574E4552\n00100080040154 0141\n00100080040154 0141\n00100083\n00100083020154\n00100083020154\n") true) ≡ codes "9000\n9000\n6A89\n6700\n9000\n6A88\n"
