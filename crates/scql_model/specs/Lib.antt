@@ -22,6 +22,7 @@ pub mod Objects
 pub mod Opens
 pub mod Operations
 pub mod Parameters
+pub mod ReadBound
 pub mod ReadingCommands
 pub mod ReadingLaws
 pub mod Reads
