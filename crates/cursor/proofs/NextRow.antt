@@ -13,11 +13,12 @@ use Rattle.scql_model.specs.Machine.{Reading}
 use Rattle.scql_model.specs.Matching.{Values}
 use Rattle.scql_model.specs.Moves.{gave, gave_next, giving, row_at, row_behind}
 use Rattle.scql_model.specs.Objects.{StampedRow}
+use Rattle.scql_model.specs.ReadBound.{place_reached}
 use Rattle.scql_model.specs.ReadingCommands.{Move, fitting, row_octets}
 use Rattle.scql_model.specs.Refusals.{◌>>=◌, or_refused}
 use Rattle.scql_model.proofs.LongerLists.{find-passes}
 use Rattle.cursor.specs.Costs.{Cost, RisesBetween, cost_at, cost_behind, cost_between, cost_of}
-use Rattle.cursor.specs.Moved.{fetched, place_reached, refuses}
+use Rattle.cursor.specs.Moved.{fetched, refuses}
 
 -- the first row above a stamp is the first of its own stamp
 there : (stamp : ℕ) (rows : List StampedRow) (r : StampedRow) → find (λ (x : StampedRow). nat_lt stamp x.stamp) rows ≡ Some r → row_at r.stamp rows ≡ Some r
@@ -53,16 +54,13 @@ fetched-now : (now reached : Place) (c : Cursor) (le : ℕ) (word : StatusWord) 
 fetched-now now reached c le word values (inl same) = ap (λ place. fetched place c le word values) same
 fetched-now now reached c le word values (inr refused) = fetched-refused now reached c le word values refused
 
--- the two calls of FETCH NEXT, where the rows are told
-pub fetched-behind : (before between : Option (List StampedRow)) (place reached now : Place) (le : ℕ) (word : StatusWord) (values : Values) → between ≡ before
-    → IfSome before (λ rows. reached ≡ place_reached (row_behind place rows)) → IfSome between (λ rows. (c : Cursor) → fetched reached c le word values ≡ gave c le reached rows)
+-- the two calls of FETCH NEXT
+pub fetched-behind : (before between : List StampedRow → Type 0) (place reached now : Place) (le : ℕ) (word : StatusWord) (values : Values) → ((rows : List StampedRow) → before rows → between rows)
+    → ((rows : List StampedRow) → before rows → reached ≡ place_reached (row_behind place rows)) → ((rows : List StampedRow) → between rows → (c : Cursor) → fetched reached c le word values ≡ gave c le reached rows)
     → (now ≡ reached) ⊎ (refuses word ≡ true)
-    → IfSome before (λ rows. (c : Cursor) → fetched now c le word values ≡ gave_next c le (row_behind place rows))
-fetched-behind None between place reached now le word values same behind fetch stands = tt
-fetched-behind (Some rows) between place reached now le word values same behind fetch stands =
-    let P : Option (List StampedRow) → Type 0 = λ told. IfSome told (λ rows. (c : Cursor) → fetched reached c le word values ≡ gave c le reached rows) in
-    let given = subst P same fetch in
-    λ c. fetched-now now reached c le word values stands ∙ given c ∙ ap (λ at. gave c le at rows) behind ∙ gave-behind c le place rows
+    → (rows : List StampedRow) → before rows → (c : Cursor) → fetched now c le word values ≡ gave_next c le (row_behind place rows)
+fetched-behind before between place reached now le word values still behind fetch stands rows told c =
+    fetched-now now reached c le word values stands ∙ (fetch rows (still rows told) c ∙ (ap (λ at. gave c le at rows) (behind rows told) ∙ gave-behind c le place rows))
 
 -- the cost of the next row is among those behind a place
 within : (test other : Bool) (octets : ℕ) → (test ≡ true → other ≡ true) → (if test then octets else 0) ≤ (if other then octets else 0)
@@ -90,15 +88,14 @@ both least most own a b c fewer first second = λ after told.
     let earlier = first later.0 later.1 in
     (earlier.0, earlier.1, (omega (arith, earlier.2.0, later.2.0), omega (arith, earlier.2.1, later.2.1, fewer)))
 
-pub read-behind : (rows : Option (List StampedRow)) (before between : Option (List Cost)) (place reached : Place) (least : ℕ) (a b c : Option ℕ) → between ≡ before
-    → IfSome rows (λ rows. reached ≡ place_reached (row_behind place rows)) → IfSome before (λ costs. Becomes (RisesBetween 0 (cost_between place reached costs)) a b)
+pub read-behind : (tells : List StampedRow → Type 0) (before between : Option (List Cost)) (place reached : Place) (least : ℕ) (a b c : Option ℕ) → between ≡ before
+    → ((rows : List StampedRow) → tells rows → reached ≡ place_reached (row_behind place rows)) → IfSome before (λ costs. Becomes (RisesBetween 0 (cost_between place reached costs)) a b)
     → IfSome between (λ costs. Becomes (RisesBetween least (cost_at reached costs)) b c)
-    → IfSome rows (λ rows. IfSome before (λ costs. Becomes (RisesBetween least (2 * cost_between place (place_reached (row_behind place rows)) costs)) a c))
-read-behind None before between place reached least a b c same behind first second = tt
-read-behind (Some rows) None between place reached least a b c same behind first second = tt
-read-behind (Some rows) (Some costs) between place reached least a b c same behind first second =
-    let P : Option (List Cost) → Type 0 = λ told. IfSome told (λ costs. Becomes (RisesBetween least (cost_at reached costs)) b c) in
+    → (rows : List StampedRow) → tells rows → IfSome before (λ costs. Becomes (RisesBetween least (2 * cost_between place (place_reached (row_behind place rows)) costs)) a c)
+read-behind tells None between place reached least a b c same behind first second = λ rows told. tt
+read-behind tells (Some costs) between place reached least a b c same behind first second = λ rows told.
+    let P : Option (List Cost) → Type 0 = λ o. IfSome o (λ costs. Becomes (RisesBetween least (cost_at reached costs)) b c) in
     let second_told = subst P same second in
     let Q : Place → Type 0 = λ at. Becomes (RisesBetween 0 (cost_between place at costs)) a b in
     let R : Place → Type 0 = λ at. Becomes (RisesBetween least (cost_at at costs)) b c in
-    both least _ _ a b c (cost-behind place rows costs) (subst Q behind first) (subst R behind second_told)
+    both least _ _ a b c (cost-behind place rows costs) (subst Q (behind rows told) first) (subst R (behind rows told) second_told)

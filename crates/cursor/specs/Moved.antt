@@ -21,10 +21,6 @@ abbrev pub place_at : Option ℕ → Place
 place_at None = End
 place_at (Some stamp) = At stamp
 
-abbrev pub place_reached : Option StampedRow → Place
-place_reached None = End
-place_reached (Some r) = At r.stamp
-
 -- the word of a move to a place
 abbrev pub word_at : Place → StatusWord
 word_at NotOpen = end_reached

@@ -16,10 +16,10 @@ use scql_base::Row;
 
 /// Rows in rising order of their stamps, which are read one at a time.
 pub trait RowFeed {
-    /// The rows, where told.
-    ghost rows: { Self → Option (List StampedRow) };
+    /// These are the rows.
+    ghost tells: { Self → List StampedRow → Type 0 };
 
-    /// Stamps in rising order with what reading the rows there may cost, where told.
+    /// Stamps with what reading the rows there may cost, where told.
     ghost costs: { Self → Option (List Cost) };
 
     /// When the feed may be read.
@@ -42,17 +42,17 @@ pub trait RowFeed {
     /// The least stamp above this one, if there is one.
     fn next_after(&mut self, stamp: u32) -> Result<Option<u32>, EepromFault>
         requires { can_read self.old }
-        ensures next { IfOk result (λ next. IfSome (rows self.old) (λ rows. next ≡ option_map (λ row. row.stamp) (moves.row_behind (Place.At stamp) rows))) }
+        ensures next { IfOk result (λ next. (rows : List StampedRow) → tells self.old rows → next ≡ option_map (λ row. row.stamp) (moves.row_behind (Place.At stamp) rows)) }
         ensures read { IfOk result (λ next. IfSome (costs self.old) (λ costs. Becomes (RisesBetween 0 (cost_behind stamp next costs)) (octets_read self.old) (octets_read self.new))) }
-        ensures stays { Stays rows costs kept can_read self.old self.new }
+        ensures stays { Stays tells costs kept can_read self.old self.new }
         ensures frame { Reads each_error chip faults self.old self.new result };
 
     /// Hands out the row of a stamp, and answers whether there is one. Where there is one, at least its octets are read.
     fn row_at(&mut self, stamp: u32, out: &mut Row) -> Result<bool, EepromFault>
         requires { can_read self.old }
-        ensures there { IfOk result (λ there. IfSome (rows self.old) (λ rows. handed there out.new ≡ option_map (λ row. row.values) (moves.row_at stamp rows))) }
+        ensures there { IfOk result (λ there. (rows : List StampedRow) → tells self.old rows → handed there out.new ≡ option_map (λ row. row.values) (moves.row_at stamp rows)) }
         ensures read { IfOk result (λ there. IfSome (costs self.old)
             (λ costs. Becomes (RisesBetween (if there then row_size out.new else 0) (cost_of stamp costs)) (octets_read self.old) (octets_read self.new))) }
-        ensures stays { Stays rows costs kept can_read self.old self.new }
+        ensures stays { Stays tells costs kept can_read self.old self.new }
         ensures frame { Reads each_error chip faults self.old self.new result };
 }

@@ -1,11 +1,13 @@
 // The moves that hand out a row.
-ghost use Rattle.std.specs.Prelude.{◌≡◌, ◌*◌, IfOk, IfSome, IsTrue, OnErr};
+ghost use Rattle.std.specs.Prelude.{◌≡◌, ◌*◌, List, IfOk, IfSome, IsTrue, OnErr};
 ghost use Rattle.eeprom.specs.Chip.{Becomes};
 ghost use Rattle.eeprom.specs.Fault.{each_error};
 ghost use Rattle.eeprom.specs.Frame.{Reads};
 ghost use Rattle.scql_base.specs.Words as words;
 ghost use Rattle.scql_base.specs.declared.cursor.Cursor.{Cursor};
 ghost use Rattle.scql_model.specs.Moves.{gave, gave_next, row_behind};
+ghost use Rattle.scql_model.specs.Objects.{StampedRow};
+ghost use Rattle.scql_model.specs.ReadBound.{place_reached};
 ghost use Rattle.cursor.specs.Costs.{RisesBetween, cost_at, cost_between, least_read};
 ghost use Rattle.cursor.specs.Feed.{Stays};
 ghost use Rattle.cursor.specs.Moved as moved;
@@ -23,11 +25,11 @@ pub fn fetch<F: RowFeed>(
     out: &mut Row,
 ) -> Result<StatusWord, EepromFault>
     requires { F.can_read feed.old }
-    ensures fetched { IfOk result (λ word. IfSome (F.rows feed.old)
-        (λ rows. (c : Cursor) → moved.fetched place.now c le word out.new ≡ gave c le place.now rows)) }
+    ensures fetched { IfOk result (λ word. (rows : List StampedRow) → F.tells feed.old rows
+        → (c : Cursor) → moved.fetched place.now c le word out.new ≡ gave c le place.now rows) }
     ensures read { IfOk result (λ word. IfSome (F.costs feed.old)
         (λ costs. Becomes (RisesBetween (least_read word out.new) (cost_at place.now costs)) (F.octets_read feed.old) (F.octets_read feed.new))) }
-    ensures stays { Stays F.rows F.costs F.kept F.can_read feed.old feed.new }
+    ensures stays { Stays F.tells F.costs F.kept F.can_read feed.old feed.new }
     ensures frame { Reads each_error F.chip F.faults feed.old feed.new result }
 {
     match *place {
@@ -49,14 +51,14 @@ pub fn fetch_step<F: RowFeed>(
     out: &mut Row,
 ) -> Result<StatusWord, EepromFault>
     requires { F.can_read feed.old }
-    ensures fetched { IfOk result (λ word. IfSome (F.rows feed.old)
-        (λ rows. (c : Cursor) → moved.fetched place.new c le word out.new ≡ gave_next c le (row_behind place.old rows))) }
+    ensures fetched { IfOk result (λ word. (rows : List StampedRow) → F.tells feed.old rows
+        → (c : Cursor) → moved.fetched place.new c le word out.new ≡ gave_next c le (row_behind place.old rows)) }
     ensures refused { IfOk result (λ word. IsTrue (moved.refuses word) → place.new ≡ place.old) }
     ensures fault { OnErr result (place.new ≡ place.old) }
-    ensures read { IfOk result (λ word. IfSome (F.rows feed.old) (λ rows. IfSome (F.costs feed.old)
-        (λ costs. Becomes (RisesBetween (least_read word out.new) (2 * cost_between place.old (moved.place_reached (row_behind place.old rows)) costs))
-        (F.octets_read feed.old) (F.octets_read feed.new)))) }
-    ensures stays { Stays F.rows F.costs F.kept F.can_read feed.old feed.new }
+    ensures read { IfOk result (λ word. (rows : List StampedRow) → F.tells feed.old rows → IfSome (F.costs feed.old)
+        (λ costs. Becomes (RisesBetween (least_read word out.new) (2 * cost_between place.old (place_reached (row_behind place.old rows)) costs))
+        (F.octets_read feed.old) (F.octets_read feed.new))) }
+    ensures stays { Stays F.tells F.costs F.kept F.can_read feed.old feed.new }
     ensures frame { Reads each_error F.chip F.faults feed.old feed.new result }
 {
     let reached = place_behind(feed, *place)?;

@@ -18,7 +18,7 @@ struct Single<'a, B: Eeprom> {
 impl<'a, B: Eeprom> RowFeed for Single<'a, B> {
     ghost use Rattle.std.specs.Prelude.{◌≡◌, ◌≤◌, ◌∷◌, [], ℕ, Some, option_map, slice_range};
 
-    ghost rows = { λ f. option_map (λ image. record { stamp = 7; values = slice_range image 0 1 ∷ [] } ∷ []) (B.chip f.bench.now).image };
+    ghost tells = { λ f rows. option_map (λ image. record { stamp = 7; values = slice_range image 0 1 ∷ [] } ∷ []) (B.chip f.bench.now).image ≡ Some rows };
 
     ghost costs = { λ _. Some (record { stamp = 7; octets = 2 } ∷ []) };
 

@@ -1,44 +1,86 @@
--- What the searches for an object and a move of its cursor cost together.
-use Rattle.std.proofs.Common.{◌≡◌, ℕ, ◌+◌, false, List, Option, Some, None, Result, sym, subst, ◌∙◌, inl, inr, arith}
+-- What the searches for an object and a move of its cursor read together.
+use Rattle.std.proofs.Common.{◌≡◌, ℕ, ◌+◌, ◌*◌, ◌≤◌, nat_le, nat_lt, ◌&&◌, Bool, true, false, if◌then◌else◌, List, [], ◌∷◌, Option, Some, None, Result, Ok, Err, refl, sym, ap, subst, ◌∙◌, inl, inr, arith}
 use Rattle.std.specs.Prelude.{IfOk, IfSome}
-use Rattle.std.proofs.lemmas.Bool.{cases_Bool, false≢true}
-use Rattle.std.proofs.lemmas.Option.{none-some}
-use Rattle.eeprom.specs.Chip.{Becomes, RisesAtMost}
-use Rattle.eeprom.specs.StoreOf.{Slots}
+use Rattle.std.specs.List.{list_all}
+use Rattle.std.proofs.lemmas.Bool.{and_parts}
+use Rattle.eeprom.specs.Chip.{Becomes, Chip, RisesAtMost}
+use Rattle.eeprom.specs.StoreOf.{Slots, cell_size}
 use Rattle.eeprom.specs.declared.fault.EepromFault.{EepromFault}
+use Rattle.record_store.specs.Held.{Held}
+use Rattle.record_store.specs.declared.side.Side.{Side}
 use Rattle.scql_base.specs.declared.cursor.Cursor.{Cursor}
+use Rattle.scql_base.specs.declared.cursor.Place.{Place}
+use Rattle.scql_base.specs.declared.cursor.Place.TheVariants.{NotOpen, At, End}
 use Rattle.scql_base.specs.declared.words.StatusWord.{StatusWord}
+use Rattle.scql_model.specs.Database.{Database}
+use Rattle.scql_model.specs.Moves.{first_row, row_behind}
 use Rattle.scql_model.specs.Objects.{StampedRow}
-use Rattle.catalog_codec.specs.Catalog.{row_kind}
-use Rattle.record_table.specs.Listed.{listed}
+use Rattle.scql_model.specs.ReadBound.{is_at, is_passed, octets_of_searches, place_reached, row_cells}
+use Rattle.catalog_codec.specs.Catalog.{grant_kind, object_kind}
+use Rattle.privilege_table.proofs.Seen.{told-held}
+use Rattle.record_table.specs.Listed.{cells_marked, slots_of}
+use Rattle.record_table.specs.Making.{IsHeld}
 use Rattle.record_table.specs.declared.stop.Stop.{Stop}
 use Rattle.record_table.specs.declared.stop.Stop.TheVariants.{Refused, Fault}
-use Rattle.cursor.specs.Costs.{Cost, RisesBetween}
-use Rattle.cursor.specs.Moved.{refuses}
-use Rattle.db_read.specs.Answered.{Stops, stop_answer}
-use Rattle.db_read.specs.Chosen.{can_show, costs_shown, rows_shown}
-use Rattle.db_read.specs.Costs.{catalogue_cost, row_costs}
-use Rattle.db_read.specs.declared.choosing.Chosen.{Chosen}
+use Rattle.cursor.specs.Costs.{Cost, RisesBetween, cost_at, cost_between, cost_where}
+use Rattle.cursor.specs.Moved.{AreStamped}
+use Rattle.db_read.specs.Answered.{AreCostsOf, WhereStopped, stop_answer}
+use Rattle.db_read.specs.Costs.{catalogue_cost}
+use Rattle.db_read.proofs.HeldCosts.{catalogue-searched, object-searched}
 
-pub reads-both : (chosen : Chosen) (slots : Option Slots) (rows : List StampedRow) (least : ℕ) (cost : List Cost → ℕ) (a b c : Option ℕ) → rows_shown chosen slots ≡ Some rows → IfSome slots (λ slots. Becomes (RisesAtMost (catalogue_cost slots)) a b)
-    → IfSome (costs_shown chosen slots) (λ costs. Becomes (RisesBetween least (cost costs)) b c) → IfSome slots (λ slots. Becomes (RisesAtMost (catalogue_cost slots + cost (row_costs chosen.table slots))) a c)
-reads-both chosen None rows least cost a b c shown first then = tt
-reads-both chosen (Some slots) rows least cost a b c shown first then =
-    elim (cases_Bool (can_show chosen (listed row_kind slots))) [
-      | inl t ↦ (let moves = rw t at then in λ after told. (let h = moves after told in let s = first h.0 h.1 in (s.0, s.1, omega (arith, h.2.1, s.2))))
-      | inr f ↦ absurd (none-some rows (rw f at shown))
-    ]
+-- where nothing was read
+pub nothing-read : (most : ℕ) (a : Option ℕ) → Becomes (RisesAtMost most) a a
+nothing-read most a = λ after told. (after, told, omega arith)
 
--- a refusal says nothing of costs
-pub reads-refused : {U : Type 0} (P : StatusWord → Cursor → Type 0) (outcome : Result U StatusWord) (stop : Stop) (result : Result StatusWord EepromFault) (cursor : Option Cursor) → result ≡ stop_answer stop → Stops outcome stop
-    → IfOk result (λ word. IfSome cursor (λ c. refuses word ≡ false → P word c))
-reads-refused P outcome (Refused word) result cursor is stops = subst (λ r. IfOk r (λ word. IfSome cursor (λ c. refuses word ≡ false → P word c))) (sym is) (none cursor)
-  where
-    none : (cursor : Option Cursor) → IfSome cursor (λ c. refuses word ≡ false → P word c)
-    none None = tt
-    none (Some c) = λ goes. absurd (false≢true (sym goes ∙ stops.1))
-reads-refused P outcome Fault result cursor is stops = subst (λ r. IfOk r (λ word. IfSome cursor (λ c. refuses word ≡ false → P word c))) (sym is) tt
+-- what is passed between two places, and what is at a place
+pub between-passed : (from to : Place) (costs : List Cost) → cost_between from to costs ≤ cost_where (λ stamp. is_passed from to stamp) costs
+between-passed (At from) (At to) costs = omega arith
+between-passed (At from) NotOpen costs = omega arith
+between-passed (At from) End costs = omega arith
+between-passed NotOpen to costs = omega arith
+between-passed End to costs = omega arith
 
-pub none-refused : {U : Type 0} (P : Type 0) (outcome : Result U StatusWord) (stop : Stop) (result : Result StatusWord EepromFault) → result ≡ stop_answer stop → Stops outcome stop → IfOk result (λ word. refuses word ≡ false → P)
-none-refused P outcome (Refused word) result is stops = subst (λ r. IfOk r (λ word. refuses word ≡ false → P)) (sym is) (λ goes. absurd (false≢true (sym goes ∙ stops.1)))
-none-refused P outcome Fault result is stops = subst (λ r. IfOk r (λ word. refuses word ≡ false → P)) (sym is) tt
+pub at-place : (place : Place) (costs : List Cost) → cost_at place costs ≤ cost_where (λ stamp. is_at place stamp) costs
+at-place NotOpen costs = omega arith
+at-place (At stamp) costs = omega arith
+at-place End costs = omega arith
+
+-- the first row is the first behind 0
+pub first-behind : (rows : List StampedRow) → AreStamped rows → first_row rows ≡ row_behind (At 0) rows
+first-behind [] stamped = refl
+first-behind (r ∷ rows) stamped = (let first = (and_parts (nat_lt 0 r.stamp) (list_all (λ (x : StampedRow). nat_lt 0 x.stamp) rows) stamped).0 in rw first refl)
+
+module _ (store : Held) (side : Side) (chip : Chip) (db : Database) (held : IsHeld store side chip db) where
+  -- the searches alone
+  pub reads-searches : (rows : ℕ) (a b : Option ℕ) → IfSome (slots_of store side chip) (λ slots. Becomes (RisesAtMost (catalogue_cost slots)) a b) → Becomes (RisesAtMost (rows + octets_of_searches 7 db)) a b
+  reads-searches rows a b first = λ after told.
+      let s = told-held store side chip db (λ slots. Becomes (RisesAtMost (catalogue_cost slots)) a b) held first after told in
+      let searches = catalogue-searched held.slots db held.holds in
+      (s.0, s.1, omega (arith, s.2, searches))
+
+  -- the search for one object and the grants on it
+  pub declare-read : (rows : ℕ) (a b : Option ℕ) → IfSome (slots_of store side chip) (λ slots. Becomes (RisesAtMost (cell_size * cells_marked object_kind slots + cell_size * cells_marked grant_kind slots)) a b)
+      → Becomes (RisesAtMost (rows + octets_of_searches 7 db)) a b
+  declare-read rows a b first = λ after told.
+      let s = told-held store side chip db (λ slots. Becomes (RisesAtMost (cell_size * cells_marked object_kind slots + cell_size * cells_marked grant_kind slots)) a b) held first after told in
+      let searches = object-searched held.slots db held.holds in
+      (s.0, s.1, omega (arith, s.2, searches))
+
+  -- and then a move
+  pub reads-move : (object : ℕ) (costs : Option (List Cost)) (least : ℕ) (cost : List Cost → ℕ) (passes : ℕ → Bool) (a b c : Option ℕ) → AreCostsOf db object costs
+      → ((list : List Cost) → cost list ≤ 2 * cost_where passes list) → IfSome (slots_of store side chip) (λ slots. Becomes (RisesAtMost (catalogue_cost slots)) a b)
+      → IfSome costs (λ list. Becomes (RisesBetween least (cost list)) b c) → Becomes (RisesAtMost (64 * row_cells db object passes + octets_of_searches 7 db)) a c
+  reads-move object costs least cost passes a b c are few first second = λ after told.
+      let P : Option (List Cost) → Type 0 = λ o. IfSome o (λ list. Becomes (RisesBetween least (cost list)) b c) in
+      let moves : Becomes (RisesBetween least (cost are.list)) b c = subst P are.told second in
+      let h = moves after told in
+      let s = told-held store side chip db (λ slots. Becomes (RisesAtMost (catalogue_cost slots)) a b) held first h.0 h.1 in
+      let searches = catalogue-searched held.slots db held.holds in
+      let most = few are.list in
+      let cells = are.cells passes in
+      (s.0, s.1, omega (arith, h.2.1, s.2, searches, most, cells))
+
+-- what holds of an operation that stopped by a refusal, if it holds where its parts were read
+pub where-read : (said P : Type 0) (stop : Stop) (result : Result StatusWord EepromFault) → result ≡ stop_answer stop → WhereStopped stop said → (said → P) → IfOk result (λ _. P)
+where-read said P (Refused word) result is read gives = subst (λ r. IfOk r (λ _. P)) (sym is) (gives read)
+where-read said P Fault result is read gives = subst (λ r. IfOk r (λ _. P)) (sym is) tt

@@ -16,6 +16,7 @@ use Rattle.scql_base.specs.declared.records.Object.{Object}
 use Rattle.scql_base.specs.declared.records.RowRecord.{RowRecord}
 use Rattle.scql_base.specs.declared.words.Actor.{Actor}
 use Rattle.scql_model.specs.Contents.{Contents, contents_of, narrowed}
+use Rattle.scql_model.specs.Cursors.{IsCursorOf}
 use Rattle.scql_model.specs.Database.{Database, are_among, are_named_among, is_table, object_stamped}
 use Rattle.scql_model.specs.Matching.{Columns}
 use Rattle.scql_model.specs.Moves as moves
@@ -24,7 +25,6 @@ use Rattle.scql_model.specs.Records.{is_count_of_columns, is_row, row_record}
 use Rattle.scql_model.specs.Resolving as model
 use Rattle.scql_model.specs.Rights.{seen_stamped}
 use Rattle.scql_model.specs.Rules.{fits_table, has_table}
-use Rattle.scql_model.proofs.LongerLists.{find-passes}
 use Rattle.scql_model.proofs.SeenThrough.{IsSeenThrough-resolved_of}
 use Rattle.record_table.specs.Listed.{slots_of}
 use Rattle.record_table.specs.Making.{IsHeld}
@@ -32,14 +32,18 @@ use Rattle.search_cond.specs.Bound.{Binds}
 use Rattle.views.specs.Resolved.{AreKnown, ArePlaces, Resolves}
 use Rattle.views.specs.declared.resolving.Resolved.{Resolved}
 use Rattle.views.proofs.KnownNames.{IsKnown, IsKnown-resolved_of, among-within, names-valid}
-use Rattle.db_read.specs.Answered.{Chooses, IsCursorOf, selectable}
-use Rattle.db_read.specs.Chosen.{are_rising, can_cut, can_show, chosen_rows, is_chosen, is_shown, rows_shown, shown_row}
+use Rattle.db_read.specs.Answered.{AreCostsOf, Chooses, selectable}
+use Rattle.db_read.specs.Chosen.{are_rising, can_cut, can_show, chosen_rows, costs_shown, is_chosen, is_shown, rows_shown, shown_row}
+use Rattle.db_read.specs.Costs.{row_costs}
+use Rattle.db_read.specs.Told.{Tells, costs_of}
+use Rattle.db_read.specs.declared.choosing.Choice.TheVariants.{OfTable}
 use Rattle.db_read.specs.declared.choosing.Chosen.{Chosen}
-use Rattle.db_read.proofs.Sighted.{asked-Ok, object-stamped, selectable-parts}
+use Rattle.db_read.proofs.HeldCosts.{costs-held}
+use Rattle.db_read.proofs.Sighted.{asked-Ok, object-stamped, own-stamp, selectable-parts}
 use Rattle.db_read.proofs.Through.{are_rising-rises, chosen-through, cut-fits}
 
 -- what holds of each element for two reasons, if a test passes it, holds of those that pass
-all-kept : {X : Type 0} (p q c r : X → Bool) (xs : List X) → list_all p xs ≡ true → list_all q xs ≡ true → ((x : X) → p x ≡ true → q x ≡ true → c x ≡ true → r x ≡ true) → list_all r (filter c xs) ≡ true
+pub all-kept : {X : Type 0} (p q c r : X → Bool) (xs : List X) → list_all p xs ≡ true → list_all q xs ≡ true → ((x : X) → p x ≡ true → q x ≡ true → c x ≡ true → r x ≡ true) → list_all r (filter c xs) ≡ true
 all-kept p q c r [] one other gives = refl
 all-kept p q c r (x ∷ xs) one other gives =
     let a = and_parts (p x) (list_all p xs) one in
@@ -69,12 +73,12 @@ module _ (store : Held) (side : Side) (chip : Chip) (db : Database) (actor : Act
   pub at-object : object_stamped db.objects c.object ≡ Some o
   at-object = object-stamped db actor c.object o held.valid (selectable-parts db actor (seen_stamped db actor c.object) o selects).0
 
-  own-stamp : o.stamp ≡ c.object
-  own-stamp = eqb-true o.stamp c.object (find-passes (λ (x : Object). x.stamp == c.object) db.objects o at-object)
+  own : o.stamp ≡ c.object
+  own = own-stamp db c.object o at-object
 
   -- the object stands under its own stamp
   pub at-stamp : object_stamped db.objects o.stamp ≡ Some o
-  at-stamp = ap (object_stamped db.objects) own-stamp ∙ at-object
+  at-stamp = ap (object_stamped db.objects) own ∙ at-object
 
   module _ (resolves : Resolves db.objects o.stamp answer) where
     known : IsKnown db.objects o.stamp resolves.is
@@ -131,12 +135,22 @@ module _ (store : Held) (side : Side) (chip : Chip) (db : Database) (actor : Act
           ∙ sym (chosen-through chosen resolves.is c.columns c.conditions of_model placed (subst (λ (all : Columns). Binds chosen.conditions all c.conditions) resolves.stands.all binds)
           (rw filters resolves.stands.filters) db.rows)
 
-      pub Chooses-chosen : Chooses db actor c chosen.table (rows_shown chosen (slots_of store side chip))
+      base : model.resolved_of db.objects c.object ≡ Some resolves.is
+      base = ap (model.resolved_of db.objects) (sym own) ∙ resolves.resolved
+
+      costs-are : AreCostsOf db c.object (costs_shown chosen (slots_of store side chip))
+      costs-are = record {
+        list = row_costs chosen.table held.slots;
+        told = rw (held.told, held.holds.rows, can) refl;
+        cells = λ passes. costs-held chosen.table passes held.slots db held.holds ∙ rw (base, of_model) refl;
+      }
+
+      pub Chooses-chosen : Chooses db actor c (Tells (OfTable chosen) store side chip) (costs_of (OfTable chosen) (slots_of store side chip))
       Chooses-chosen = record {
-        resolved = ap (option_map (λ (r : model.Resolved). r.table)) (ap (model.resolved_of db.objects) (sym own-stamp) ∙ resolves.resolved) ∙ ap Some (sym of_model);
         rows = chosen_rows chosen db.rows;
         under = asked-Ok db actor (seen_stamped db actor c.object) (λ (x : Object) (contents : Contents). Ok (moves.chosen contents c)) o selects ∙ ap Ok through;
-        shown = told;
+        told = told;
         stamped = list_all-map (λ (x : StampedRow). nat_lt 0 x.stamp) (shown_row chosen) (filter (is_chosen chosen) db.rows)
             ∙ all-kept row_record.fits (has_table db.objects) (is_chosen chosen) (λ (x : RowRecord). nat_lt 0 x.stamp) db.rows held.valid.rows.limits held.valid.rows.tables stamped;
+        costs_are = λ on_table. costs-are;
       }

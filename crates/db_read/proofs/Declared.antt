@@ -9,7 +9,6 @@ use Rattle.scql_base.specs.declared.words.Actor.{Actor}
 use Rattle.scql_base.specs.declared.words.StatusWord.{StatusWord}
 use Rattle.scql_model.specs.Contents.{Contents}
 use Rattle.scql_model.specs.Database.{Database, IsValid, are_named_among}
-use Rattle.scql_model.specs.Defining.{is_table_or_view}
 use Rattle.scql_model.specs.Machine.{Reading}
 use Rattle.scql_model.specs.Matching.{Columns}
 use Rattle.scql_model.specs.Moves.{moved, moved_to}
@@ -24,10 +23,6 @@ use Rattle.db_read.proofs.Sighted.{asked-Ok, contents-columns, object-named, sel
 abbrev pub on_object : Columns → List Condition → Object → Contents → Result (Move Reading) StatusWord
 on_object columns conditions o contents =
     named_among contents.columns columns conditions >>= λ _. Ok (moved_to NotOpen (record { object = o.stamp; columns = wanted_of contents.columns columns; conditions = conditions; place = NotOpen }) done)
-
--- what was found is a table or a view, if what is seen is one
-pub kind-seen : (db : Database) (actor : Actor) (seen : Option Object) (o : Object) → selectable db actor seen ≡ Ok o → IfSome seen (λ o. is_table_or_view o.kind ≡ true) → is_table_or_view o.kind ≡ true
-kind-seen db actor seen o is kind = subst (λ (s : Option Object). IfSome s (λ o. is_table_or_view o.kind ≡ true)) (selectable-parts db actor seen o is).0 kind
 
 pub declares-unnamed : (db : Database) (actor : Actor) (before : Reading) (name : List ℕ) (columns : Columns) (conditions : List Condition) (o : Object) (all : Columns) → IsValid db → selectable db actor (seen_named db actor name) ≡ Ok o
     → all ≡ columns_of o.kind → false ≡ are_named_among all columns conditions → moved db actor before (declare name columns conditions) ≡ Err not_found

@@ -1,8 +1,11 @@
 pub mod Adding
 pub mod Chooses
+pub mod ChoosesTold
 pub mod CutRows
 pub mod Declared
+pub mod DictionaryRows
 pub mod Going
+pub mod HeldCosts
 pub mod RowReads
 pub mod ShownRows
 pub mod Sighted

@@ -21,6 +21,7 @@ use Rattle.scql_model.specs.Objects.{columns_of}
 use Rattle.scql_model.specs.Refusals.{◌>>=◌, or_refused}
 use Rattle.scql_model.specs.Rights.{all_privileges, appears, has_bit, holds, select_privilege, seen_named, seen_stamped}
 use Rattle.scql_model.proofs.FoundAgain.{seen_stamped-named}
+use Rattle.scql_model.proofs.LongerLists.{find-passes}
 use Rattle.scql_model.proofs.ReadingIsShown.{IsReadable-valid}
 use Rattle.record_table.specs.Listed.{slots_of}
 use Rattle.record_table.specs.Making.{IsHeld}
@@ -95,6 +96,9 @@ filtered-some p (Some y) x is =
 
 pub object-stamped : (db : Database) (actor : Actor) (stamp : ℕ) (o : Object) → IsValid db → seen_stamped db actor stamp ≡ Some o → object_stamped db.objects stamp ≡ Some o
 object-stamped db actor stamp o valid seen = filtered-some (appears db actor) (object_stamped db.objects stamp) o (sym (seen-stamped db actor stamp valid) ∙ seen)
+
+pub own-stamp : (db : Database) (stamp : ℕ) (o : Object) → object_stamped db.objects stamp ≡ Some o → o.stamp ≡ stamp
+own-stamp db stamp o is = eqb-true o.stamp stamp (find-passes (λ (x : Object). x.stamp == stamp) db.objects o is)
 
 pub object-named : (db : Database) (actor : Actor) (name : List ℕ) (o : Object) → IsValid db → seen_named db actor name ≡ Some o → object_stamped db.objects o.stamp ≡ Some o
 object-named db actor name o valid seen = object-stamped db actor o.stamp o valid (seen_stamped-named db actor name o (IsReadable-valid db valid) seen)

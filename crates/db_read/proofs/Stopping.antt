@@ -1,6 +1,8 @@
 -- How the stop of a part of an operation is one of the operation.
-use Rattle.std.proofs.Common.{◌≡◌, true, Option, Result, Ok, Err, sym, subst}
-use Rattle.std.specs.Prelude.{IfOk, IfErr, IsErrAnd}
+use Rattle.std.proofs.Common.{◌≡◌, ℕ, ◌+◌, ◌≤◌, true, Option, Some, None, Result, Ok, Err, sym, subst, arith}
+use Rattle.std.specs.Prelude.{IfOk, IfErr, IfSome, IsErrAnd}
+use Rattle.eeprom.specs.Chip.{Becomes, RisesAtMost}
+use Rattle.eeprom.specs.StoreOf.{Slots}
 use Rattle.eeprom.specs.declared.fault.EepromFault.{EepromFault}
 use Rattle.scql_base.specs.declared.cursor.Cursor.{Cursor}
 use Rattle.scql_base.specs.declared.words.Actor.{Actor}
@@ -13,7 +15,7 @@ use Rattle.scql_model.specs.ReadingCommands.{Move}
 use Rattle.record_table.specs.declared.stop.Stop.{Stop}
 use Rattle.record_table.specs.declared.stop.Stop.TheVariants.{Refused, Fault}
 use Rattle.cursor.specs.Moved.{refuses}
-use Rattle.db_read.specs.Answered.{Stops, answered, selectable, stop_answer}
+use Rattle.db_read.specs.Answered.{Stops, WhereRead, WhereStopped, answered, selectable, stop_answer}
 use Rattle.db_read.proofs.Sighted.{asked, asked-Err}
 
 -- a stop is handed on
@@ -35,3 +37,32 @@ pub answered-stop : (outcome : Result (Move Reading) StatusWord) (stop : Stop) (
     → IfOk result (λ word. outcome ≡ answered word cursor)
 answered-stop outcome (Refused word) result cursor is stops = subst (λ r. IfOk r (λ word. outcome ≡ answered word cursor)) (sym is) (rw stops.1 stops.0)
 answered-stop outcome Fault result cursor is stops = subst (λ r. IfOk r (λ word. outcome ≡ answered word cursor)) (sym is) tt
+
+-- What was read where a part stopped or didn't.
+where-stopped : (said more : Type 0) (stop : Stop) → (said → more) → WhereStopped stop said → WhereStopped stop more
+where-stopped said more (Refused word) weaker read = weaker read
+where-stopped said more Fault weaker read = tt
+
+pub where-on : {T U : Type 0} (said more : Type 0) (from : Result T Stop) (to : Result U Stop) (stop : Stop) → from ≡ Err stop → IsErrAnd to (λ given. given ≡ stop) → (said → more) → WhereRead from said → WhereRead to more
+where-on said more from (Ok x) stop is gives weaker read = absurd gives
+where-on said more from (Err given) stop is gives weaker read =
+    let here : WhereStopped stop said = subst (λ r. WhereRead r said) is read in
+    where-stopped said more given weaker (subst (λ (s : Stop). WhereStopped s said) (sym gives) here)
+
+pub where-refused : {T : Type 0} (said : Type 0) (result : Result T Stop) (word : StatusWord) → result ≡ Err (Refused word) → said → WhereRead result said
+where-refused said result word is read = subst (λ r. WhereRead r said) (sym is) read
+
+-- more may be read
+pub reads-less : (most more : Slots → ℕ) (slots : Option Slots) (a b : Option ℕ) → ((slots : Slots) → most slots ≤ more slots) → IfSome slots (λ slots. Becomes (RisesAtMost (most slots)) a b)
+    → IfSome slots (λ slots. Becomes (RisesAtMost (more slots)) a b)
+reads-less most more None a b few read = tt
+reads-less most more (Some slots) a b few read = λ after told. (let h = read after told in let less = few slots in (h.0, h.1, omega (arith, h.2, less)))
+
+pub reads-two : (most next more : Slots → ℕ) (slots : Option Slots) (a b c : Option ℕ) → ((slots : Slots) → most slots + next slots ≤ more slots) → IfSome slots (λ slots. Becomes (RisesAtMost (most slots)) a b)
+    → IfSome slots (λ slots. Becomes (RisesAtMost (next slots)) b c) → IfSome slots (λ slots. Becomes (RisesAtMost (more slots)) a c)
+reads-two most next more None a b c few first second = tt
+reads-two most next more (Some slots) a b c few first second = λ after told.
+    let h = second after told in
+    let s = first h.0 h.1 in
+    let less = few slots in
+    (s.0, s.1, omega (arith, h.2, s.2, less))

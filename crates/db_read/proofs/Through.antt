@@ -35,7 +35,7 @@ value-index (c ∷ all) (v ∷ values) name (suc i) hit misses within = rw (miss
 value-at : (all : Columns) (values : Values) (name : List ℕ) (i : ℕ) → position (bytes_eq name) all ≡ Some i → get_or values i [] ≡ value_of all values name
 value-at all values name i found = (let there = position-Some (bytes_eq name) all i [] found in value-index all values name i there.1 there.2 there.0)
 
-values-placed : (places : List ℕ) (all wanted : Columns) (values : Values) → ArePlaces places all wanted → values_at places values ≡ cut_to all wanted values
+pub values-placed : (places : List ℕ) (all wanted : Columns) (values : Values) → ArePlaces places all wanted → values_at places values ≡ cut_to all wanted values
 values-placed [] all [] values are = refl
 values-placed [] all (w ∷ wanted) values are = absurd (cc)
 values-placed (p ∷ places) all [] values are = absurd (cc)

@@ -1,24 +1,20 @@
--- What the answers of reading operations mean: the word, the cursor and the row as a move of the model; and of which cursors they speak.
-use Rattle.std.specs.Prelude.{◌≡◌, ℕ, ◌==◌, true, List, [], Option, Some, Result, Ok, Err, IfSome, option_map, ◌+◌, if◌then◌else◌}
+-- What the answers of reading operations mean: the word, the cursor and the row as a move of the model; and what a cursor chooses.
+use Rattle.std.specs.Prelude.{◌≡◌, ℕ, ◌*◌, ◌==◌, Bool, true, List, [], Option, Some, Result, Ok, Err, if◌then◌else◌}
 use Rattle.eeprom.specs.declared.fault.EepromFault.{EepromFault}
 use Rattle.scql_base.specs.Words.{done, not_found, security_not_satisfied}
 use Rattle.scql_base.specs.declared.words.Actor.{Actor}
 use Rattle.scql_base.specs.declared.cursor.Cursor.{Cursor}
 use Rattle.scql_base.specs.declared.records.Object.{Object}
 use Rattle.scql_base.specs.declared.words.StatusWord.{StatusWord}
-use Rattle.scql_model.specs.Database.{Database, are_different, are_named_among, object_stamped}
-use Rattle.scql_model.specs.Defining.{is_table_or_view}
+use Rattle.scql_model.specs.Database.{Database}
 use Rattle.scql_model.specs.Machine.{Reading}
-use Rattle.scql_model.specs.Resolving.{Resolved, resolved_of}
-use Rattle.eeprom.specs.Chip.{Becomes, RisesAtMost}
-use Rattle.eeprom.specs.StoreOf.{Slots}
-use Rattle.cursor.specs.Costs.{Cost}
-use Rattle.db_read.specs.Costs.{catalogue_cost, row_costs}
+use Rattle.cursor.specs.Costs.{Cost, cost_where}
 use Rattle.scql_model.specs.Moves as moves
 use Rattle.scql_model.specs.Refusals.{◌>>=◌, or_refused, provided}
 use Rattle.scql_model.specs.Rights.{holds, select_privilege}
 use Rattle.scql_model.specs.Matching.{Values}
-use Rattle.scql_model.specs.Objects.{StampedRow, columns_of}
+use Rattle.scql_model.specs.Objects.{StampedRow}
+use Rattle.scql_model.specs.ReadBound.{IsOnTableOrView, row_cells}
 use Rattle.scql_model.specs.ReadingCommands.{Move, cut, row_octets}
 use Rattle.scql_model.specs.Replies.{said}
 use Rattle.record_table.specs.declared.stop.Stop.{Stop}
@@ -53,25 +49,25 @@ selectable db actor seen = do
   _ ← provided (holds db actor o select_privilege) security_not_satisfied
   Ok o
 
--- A cursor's columns are different. Where its object is there, they and those of its conditions are the object's columns.
-pub record IsCursorOf (db : Database) (c : Cursor) : Type 0 where
-  pub different : are_different c.columns ≡ true
-  pub named : IfSome (object_stamped db.objects c.object) (λ o. are_named_among (columns_of o.kind) c.columns c.conditions ≡ true)
+-- what is said of a part of an operation, unless the EEPROM failed in it
+abbrev pub WhereStopped : Stop → Type 0 → Type 0
+WhereStopped (Refused word) said = said
+WhereStopped Fault said = Unit {0}
 
--- and the object is a table or a view
-abbrev pub IsOnTableOrView : Database → Cursor → Type 0
-IsOnTableOrView db c = IfSome (object_stamped db.objects c.object) (λ (o : Object). is_table_or_view o.kind ≡ true)
+abbrev pub WhereRead : {T : Type 0} → Result T Stop → Type 0 → Type 0
+WhereRead {T} (Ok x) said = said
+WhereRead {T} (Err stop) said = WhereStopped stop said
 
--- the rows under a cursor are those of this table that are told
-pub record Chooses (db : Database) (actor : Actor) (c : Cursor) (table : ℕ) (told : Option (List StampedRow)) : Type 0 where
-  pub resolved : option_map (λ (r : Resolved). r.table) (resolved_of db.objects c.object) ≡ Some table
+-- what is told of reading the rows of the table under an object: for stamps that pass a test 32 octets for each cell of the rows there
+pub record AreCostsOf (db : Database) (object : ℕ) (costs : Option (List Cost)) : Type 0 where
+  pub list : List Cost
+  pub told : costs ≡ Some list
+  pub cells : (passes : ℕ → Bool) → cost_where passes list ≡ 32 * row_cells db object passes
+
+-- the rows under a cursor are those that are told, and so is what reading those of a table or a view costs
+pub record Chooses (db : Database) (actor : Actor) (c : Cursor) (tells : List StampedRow → Type 0) (costs : Option (List Cost)) : Type 0 where
   pub rows : List StampedRow
   pub under : moves.rows_under db actor c ≡ Ok rows
-  pub shown : told ≡ Some rows
+  pub told : tells rows
   pub stamped : AreStamped rows
-
--- what is read through a cursor costs at most the searches for its object and so much of the rows of its table
-pub record ReadsThrough (db : Database) (c : Cursor) (slots : Option Slots) (cost : List Cost → ℕ) (before after : Option ℕ) : Type 0 where
-  pub table : ℕ
-  pub resolved : option_map (λ (r : Resolved). r.table) (resolved_of db.objects c.object) ≡ Some table
-  pub reads : IfSome slots (λ slots. Becomes (RisesAtMost (catalogue_cost slots + cost (row_costs table slots))) before after)
+  pub costs_are : IsOnTableOrView db c → AreCostsOf db c.object costs

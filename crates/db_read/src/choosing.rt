@@ -1,4 +1,4 @@
-// What a cursor chooses of its table.
+// What a cursor chooses of its object.
 ghost use Rattle.std.specs.Prelude.{◌≡◌, ◌≤◌, IfSome, IsSome, length, true};
 ghost use Rattle.scql_base.specs.declared.name_list.TheConstants.NameList.{MOST};
 ghost use Rattle.search_cond.specs.Bound.{Binds};
@@ -8,10 +8,20 @@ ghost use Rattle.views.specs.Resolved.{ArePlaces};
 ghost use Rattle.db_read.specs.Chosen as specs;
 ghost use Rattle.db_read.specs.Chosen.{values_at};
 
+use crate::telling::Told;
 use arrayvec::ArrayVec;
 use scql_base::{Conditions, NameList, Row};
 use search_cond::{Bound, bind};
 use views::{DEEPEST, Places, Resolved, places_of};
+
+/// The rows that a cursor chooses, by where they come from.
+#[derive(Drop)]
+pub(crate) enum Choice {
+    /// Rows of a table.
+    OfTable(Chosen),
+    /// Rows of a dictionary.
+    OfDictionary(Told),
+}
 
 /// The rows of a table that a cursor chooses, and their values that it shows.
 #[derive(Drop)]
@@ -38,18 +48,18 @@ impl Chosen {
                 .iter()
                 .all(|filter| filter.matches(row))
     }
+}
 
-    /// The values of a row that are shown. What isn't a row is cut short.
-    pub(crate) fn cut(&self, row: &Row) -> Row
-        ensures { are_a_row (values_at self.now.places.items row.now) ≡ true → result ≡ values_at self.now.places.items row.now }
-    {
-        let mut cut = Row::new();
-        for place in self.places.as_slice() {
-            let value = row.get(usize::from(*place)).unwrap_or(&[]);
-            let _ = cut.push(value);
-        }
-        cut
+/// The values at places of a row. What isn't a row is cut short.
+pub(crate) fn cut(places: &Places, row: &Row) -> Row
+    ensures { are_a_row (values_at places.now.items row.now) ≡ true → result ≡ values_at places.now.items row.now }
+{
+    let mut cut = Row::new();
+    for place in places.as_slice() {
+        let value = row.get(usize::from(*place)).unwrap_or(&[]);
+        let _ = cut.push(value);
     }
+    cut
 }
 
 /// What columns and conditions choose of a table or a view. None where one of them isn't on its columns.

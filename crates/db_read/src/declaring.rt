@@ -10,25 +10,24 @@ ghost use Rattle.record_store.specs.Held.{IsOver};
 ghost use Rattle.scql_base.specs.Words.{done};
 ghost use Rattle.scql_base.specs.declared.cursor.Place.TheVariants.{NotOpen};
 ghost use Rattle.scql_model.specs.Database.{Database, are_among, are_named_among};
-ghost use Rattle.scql_model.specs.Defining.{is_table_or_view};
 ghost use Rattle.scql_model.specs.Machine.{Reading};
 ghost use Rattle.scql_model.specs.Moves.{moved, moved_to};
-ghost use Rattle.scql_model.specs.Objects.{columns_of};
+ghost use Rattle.scql_model.specs.ReadBound.{octets_for_operation};
 ghost use Rattle.scql_model.specs.ReadingCommands as commands;
 ghost use Rattle.scql_model.specs.ReadingCommands.{wanted_of};
-ghost use Rattle.scql_model.specs.Rights.{seen_named};
 ghost use Rattle.catalog_codec.specs.Catalog.{grant_kind, object_kind};
 ghost use Rattle.record_table.specs.Listed.{cells_marked, slots_of};
 ghost use Rattle.record_table.specs.Making.{IsHeld, is_stop_fault};
 ghost use Rattle.cursor.specs.Moved.{refuses};
-ghost use Rattle.db_read.specs.Answered.{Stops, answered};
+ghost use Rattle.db_read.specs.Answered.{Stops, WhereRead, answered};
 
+use crate::columns::columns_of;
 use crate::finding::{find_named, stopped};
 use eeprom::{Eeprom, EepromFault};
 use record_store::{Side, Store};
 use record_table::{Stop, refused};
 use row_index::RowIndex;
-use scql_base::{Actor, Conditions, Cursor, Name, NameList, ObjectKind, Place, StatusWord};
+use scql_base::{Actor, Conditions, Cursor, Name, NameList, Place, StatusWord};
 
 /// DECLARE CURSOR: the cursor is on an object, shows these columns or all, and chooses rows by these conditions.
 pub fn declare<B: Eeprom>(
@@ -43,13 +42,12 @@ pub fn declare<B: Eeprom>(
     _index: &RowIndex,
 ) -> Result<StatusWord, EepromFault>
     requires over { IsOver store.now (B.chip bench.old) }
-    ensures moved { (db : Database) → IsHeld store.now side (B.chip bench.old) db → IfSome (seen_named db actor object) (λ o. is_table_or_view o.kind ≡ true) → (pending : List ℕ)
+    ensures moved { (db : Database) → IsHeld store.now side (B.chip bench.old) db → (pending : List ℕ)
         → IfOk result (λ word. moved db actor (record { cursor = cursor.old; pending = pending }) (commands.declare object columns.now conditions.now) ≡ answered word cursor.new) }
     ensures refused { IfOk result (λ word. IsTrue (refuses word) → cursor.new ≡ cursor.old) }
     ensures fault { OnErr result (cursor.new ≡ cursor.old) }
-    ensures octets_read { (db : Database) → IsHeld store.now side (B.chip bench.old) db → IfSome (seen_named db actor object) (λ o. is_table_or_view o.kind ≡ true)
-        → IfOk result (λ word. refuses word ≡ false → IfSome (slots_of store.now side (B.chip bench.old))
-        (λ slots. Becomes (RisesAtMost (cell_size * cells_marked object_kind slots + cell_size * cells_marked grant_kind slots)) (B.octets_read bench.old) (B.octets_read bench.new))) }
+    ensures octets_read { (db : Database) → IsHeld store.now side (B.chip bench.old) db → IfOk result (λ _. Becomes
+        (RisesAtMost (octets_for_operation db actor cursor.old (commands.declare object columns.now conditions.now))) (B.octets_read bench.old) (B.octets_read bench.new)) }
     ensures frame { Reads each_error B.chip B.faults bench.old bench.new result }
 {
     match cursor_on(store, bench, side, actor, object, columns, conditions) {
@@ -72,38 +70,26 @@ fn cursor_on<B: Eeprom>(
     conditions: &Conditions,
 ) -> Result<Cursor, Stop>
     requires over { IsOver store.now (B.chip bench.old) }
-    ensures declared { (db : Database) → IsHeld store.now side (B.chip bench.old) db → IfSome (seen_named db actor object) (λ o. is_table_or_view o.kind ≡ true) → (before : Reading)
+    ensures declared { (db : Database) → IsHeld store.now side (B.chip bench.old) db → (before : Reading)
         → IfOk result (λ cursor. moved db actor before (commands.declare object columns.now conditions.now) ≡ Ok (moved_to NotOpen cursor done)) }
     ensures new { IfOk result (λ cursor. cursor.place ≡ NotOpen) }
-    ensures refused { (db : Database) → IsHeld store.now side (B.chip bench.old) db → IfSome (seen_named db actor object) (λ o. is_table_or_view o.kind ≡ true) → (before : Reading)
+    ensures refused { (db : Database) → IsHeld store.now side (B.chip bench.old) db → (before : Reading)
         → IfErr result (Stops (moved db actor before (commands.declare object columns.now conditions.now))) }
-    ensures octets_read { IfOk result (λ _. IfSome (slots_of store.now side (B.chip bench.old))
+    ensures octets_read { WhereRead result (IfSome (slots_of store.now side (B.chip bench.old))
         (λ slots. Becomes (RisesAtMost (cell_size * cells_marked object_kind slots + cell_size * cells_marked grant_kind slots)) (B.octets_read bench.old) (B.octets_read bench.new))) }
     ensures frame { Reads is_stop_fault B.chip B.faults bench.old bench.new result }
 {
     let object = find_named(store, bench, side, actor, object)?;
-    let Some(all) = columns_in(&object.kind) else {
-        return refused(StatusWord::NOT_FOUND);
-    };
-    if !are_named(all, columns, conditions) {
+    let all = columns_of(&object.kind);
+    if !are_named(&all, columns, conditions) {
         return refused(StatusWord::NOT_FOUND);
     }
     Ok(Cursor {
         object: object.stamp,
-        columns: wanted(all, columns),
+        columns: wanted(&all, columns),
         conditions: conditions.copy(),
         place: Place::NotOpen,
     })
-}
-
-// The columns of a table or a view.
-fn columns_in(kind: &ObjectKind) -> Option<&NameList>
-    ensures { is_table_or_view kind.now ≡ true → option_map (λ columns. columns.now) result ≡ Some (columns_of kind.now) }
-{
-    match kind {
-        ObjectKind::Table { columns } | ObjectKind::View { columns, .. } => Some(columns),
-        ObjectKind::Dictionary { .. } => None,
-    }
 }
 
 // Whether the columns and those of the conditions are among all.

@@ -1,6 +1,7 @@
-// The chosen rows of a table, as a feed.
-use crate::choosing::Chosen;
+// The rows that a cursor chooses, as a feed.
+use crate::choosing::Choice;
 use crate::rows::{chosen_row, next_chosen};
+use crate::telling::{next_told, told_row};
 use cursor::RowFeed;
 use eeprom::{Eeprom, EepromFault};
 use record_store::{Side, Store};
@@ -13,7 +14,7 @@ pub(crate) struct ChosenRows<'a, B: Eeprom> {
     pub(crate) store: &'a Store,
     pub(crate) bench: &'a mut B,
     pub(crate) side: Side,
-    pub(crate) chosen: &'a Chosen,
+    pub(crate) choice: &'a Choice,
     pub(crate) index: &'a RowIndex,
 }
 
@@ -22,11 +23,11 @@ impl<'a, B: Eeprom> RowFeed for ChosenRows<'a, B> {
     ghost use Rattle.record_store.specs.Held.{IsOver};
     ghost use Rattle.record_table.specs.Listed.{slots_of};
     ghost use Rattle.row_index.specs.Index.{Indexes};
-    ghost use Rattle.db_read.specs.Chosen.{costs_shown, rows_shown};
+    ghost use Rattle.db_read.specs.Told.{Tells, costs_of};
 
-    ghost rows = { λ f. rows_shown f.chosen.now (slots_of f.store.now f.side (B.chip f.bench.now)) };
+    ghost tells = { λ f rows. Tells f.choice.now f.store.now f.side (B.chip f.bench.now) rows };
 
-    ghost costs = { λ f. costs_shown f.chosen.now (slots_of f.store.now f.side (B.chip f.bench.now)) };
+    ghost costs = { λ f. costs_of f.choice.now (slots_of f.store.now f.side (B.chip f.bench.now)) };
 
     ghost can_read = { λ f. IsOver f.store.now (B.chip f.bench.now) × Indexes f.index.now f.store.now (B.chip f.bench.now) };
 
@@ -41,25 +42,24 @@ impl<'a, B: Eeprom> RowFeed for ChosenRows<'a, B> {
     ghost faults = { λ f. B.faults f.bench.now };
 
     fn next_after(&mut self, stamp: u32) -> Result<Option<u32>, EepromFault> {
-        next_chosen(
-            self.store,
-            self.bench,
-            self.side,
-            self.chosen,
-            stamp,
-            self.index,
-        )
+        match self.choice {
+            Choice::OfTable(chosen) => next_chosen(
+                self.store, self.bench, self.side, chosen, stamp, self.index,
+            ),
+            Choice::OfDictionary(told) => {
+                next_told(self.store, self.bench, self.side, told, stamp)
+            }
+        }
     }
 
     fn row_at(&mut self, stamp: u32, out: &mut Row) -> Result<bool, EepromFault> {
-        chosen_row(
-            self.store,
-            self.bench,
-            self.side,
-            self.chosen,
-            stamp,
-            out,
-            self.index,
-        )
+        match self.choice {
+            Choice::OfTable(chosen) => chosen_row(
+                self.store, self.bench, self.side, chosen, stamp, out, self.index,
+            ),
+            Choice::OfDictionary(told) => {
+                told_row(self.store, self.bench, self.side, told, stamp, out)
+            }
+        }
     }
 }

@@ -5,18 +5,21 @@ ghost use Rattle.eeprom.specs.Chip.{Becomes, RisesAtMost};
 ghost use Rattle.eeprom.specs.Frame.{Reads};
 ghost use Rattle.eeprom.specs.StoreOf.{cell_size};
 ghost use Rattle.record_store.specs.Held.{IsOver};
+ghost use Rattle.scql_model.specs.Cursors.{IsCursorOf};
 ghost use Rattle.scql_model.specs.Database.{Database};
 ghost use Rattle.scql_model.specs.Rights as model;
 ghost use Rattle.scql_model.specs.Rights.{seen_named, seen_stamped};
 ghost use Rattle.catalog_codec.specs.Catalog.{grant_kind, object_kind};
 ghost use Rattle.record_table.specs.Listed.{cells_marked, slots_of};
 ghost use Rattle.record_table.specs.Making.{IsHeld, is_stop_fault};
-ghost use Rattle.db_read.specs.Answered.{Chooses, IsCursorOf, IsOnTableOrView, Stops, rows_under, selectable, stop_answer};
-ghost use Rattle.db_read.specs.Chosen.{rows_shown};
+ghost use Rattle.db_read.specs.Answered.{Chooses, Stops, WhereRead, rows_under, selectable, stop_answer};
 ghost use Rattle.db_read.specs.Costs.{catalogue_cost};
+ghost use Rattle.db_read.specs.Told.{Tells, costs_of};
 
-use crate::choosing::{Chosen, choose};
+use crate::choosing::{Choice, choose};
+use crate::columns::is_table_or_view;
 use crate::sight::{Sight, see};
+use crate::telling::tell;
 use eeprom::{Eeprom, EepromFault};
 use object_table::{find_name, find_stamp};
 use record_store::{Found, Side, Store};
@@ -25,26 +28,31 @@ use scql_base::{Actor, Cursor, Name, Object, StatusWord};
 use views::resolve;
 
 /// What a cursor chooses of its object, or the first refusal.
-pub(crate) fn find_chosen<B: Eeprom>(
+pub(crate) fn find_choice<B: Eeprom>(
     store: &Store,
     bench: &mut B,
     side: Side,
     actor: Actor,
     cursor: &Cursor,
-) -> Result<Chosen, Stop>
+) -> Result<Choice, Stop>
     requires over { IsOver store.now (B.chip bench.old) }
-    ensures chosen { (db : Database) → IsHeld store.now side (B.chip bench.old) db → IsCursorOf db cursor.now → IsOnTableOrView db cursor.now
-        → IfOk result (λ chosen. Chooses db actor cursor.now chosen.table (rows_shown chosen (slots_of store.now side (B.chip bench.old)))) }
-    ensures refused { (db : Database) → IsHeld store.now side (B.chip bench.old) db → IsCursorOf db cursor.now → IsOnTableOrView db cursor.now
-        → IfErr result (Stops (rows_under db actor cursor.now)) }
-    ensures octets_read { IfOk result (λ _. IfSome (slots_of store.now side (B.chip bench.old))
+    ensures chosen { (db : Database) → IsHeld store.now side (B.chip bench.old) db → IsCursorOf db cursor.now
+        → IfOk result (λ choice. Chooses db actor cursor.now (Tells choice store.now side (B.chip bench.old)) (costs_of choice (slots_of store.now side (B.chip bench.old)))) }
+    ensures refused { (db : Database) → IsHeld store.now side (B.chip bench.old) db → IsCursorOf db cursor.now → IfErr result (Stops (rows_under db actor cursor.now)) }
+    ensures octets_read { WhereRead result (IfSome (slots_of store.now side (B.chip bench.old))
         (λ slots. Becomes (RisesAtMost (catalogue_cost slots)) (B.octets_read bench.old) (B.octets_read bench.new))) }
     ensures frame { Reads is_stop_fault B.chip B.faults bench.old bench.new result }
 {
     let object = find_selected(store, bench, side, actor, cursor.object)?;
+    if !is_table_or_view(&object.kind) {
+        return match tell(object, &cursor.columns, &cursor.conditions) {
+            Some(told) => Ok(Choice::OfDictionary(told)),
+            None => refused(StatusWord::NOT_FOUND),
+        };
+    }
     let resolved = resolve(store, bench, side, &object)?;
     match choose(resolved, &cursor.columns, &cursor.conditions) {
-        Some(chosen) => Ok(chosen),
+        Some(chosen) => Ok(Choice::OfTable(chosen)),
         None => refused(StatusWord::NOT_FOUND),
     }
 }
@@ -60,7 +68,7 @@ fn find_selected<B: Eeprom>(
     requires over { IsOver store.now (B.chip bench.old) }
     ensures found { (db : Database) → IsHeld store.now side (B.chip bench.old) db → IfOk result (λ object. selectable db actor (seen_stamped db actor stamp) ≡ Ok object) }
     ensures refused { (db : Database) → IsHeld store.now side (B.chip bench.old) db → IfErr result (Stops (selectable db actor (seen_stamped db actor stamp))) }
-    ensures octets_read { IfOk result (λ _. IfSome (slots_of store.now side (B.chip bench.old))
+    ensures octets_read { WhereRead result (IfSome (slots_of store.now side (B.chip bench.old))
         (λ slots. Becomes (RisesAtMost (cell_size * cells_marked object_kind slots + cell_size * cells_marked grant_kind slots)) (B.octets_read bench.old) (B.octets_read bench.new))) }
     ensures frame { Reads is_stop_fault B.chip B.faults bench.old bench.new result }
 {
@@ -79,7 +87,7 @@ pub(crate) fn find_named<B: Eeprom>(
     requires over { IsOver store.now (B.chip bench.old) }
     ensures found { (db : Database) → IsHeld store.now side (B.chip bench.old) db → IfOk result (λ object. selectable db actor (seen_named db actor name) ≡ Ok object) }
     ensures refused { (db : Database) → IsHeld store.now side (B.chip bench.old) db → IfErr result (Stops (selectable db actor (seen_named db actor name))) }
-    ensures octets_read { IfOk result (λ _. IfSome (slots_of store.now side (B.chip bench.old))
+    ensures octets_read { WhereRead result (IfSome (slots_of store.now side (B.chip bench.old))
         (λ slots. Becomes (RisesAtMost (cell_size * cells_marked object_kind slots + cell_size * cells_marked grant_kind slots)) (B.octets_read bench.old) (B.octets_read bench.new))) }
     ensures frame { Reads is_stop_fault B.chip B.faults bench.old bench.new result }
 {
@@ -100,7 +108,7 @@ fn select<B: Eeprom>(
         → IfOk result (λ object. selectable db actor (option_filter (model.appears db actor) (option_map (λ found. found.value) found)) ≡ Ok object) }
     ensures refused { (db : Database) → IsHeld store.now side (B.chip bench.old) db
         → IfErr result (Stops (selectable db actor (option_filter (model.appears db actor) (option_map (λ found. found.value) found)))) }
-    ensures octets_read { IfOk result (λ _. IfSome (slots_of store.now side (B.chip bench.old))
+    ensures octets_read { WhereRead result (IfSome (slots_of store.now side (B.chip bench.old))
         (λ slots. Becomes (RisesAtMost (cell_size * cells_marked grant_kind slots)) (B.octets_read bench.old) (B.octets_read bench.new))) }
     ensures frame { Reads is_stop_fault B.chip B.faults bench.old bench.new result }
 {

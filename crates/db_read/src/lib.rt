@@ -2,6 +2,7 @@
 #![tactic(auto)]
 
 mod choosing;
+mod columns;
 mod declaring;
 mod feed;
 mod fetching;
@@ -9,6 +10,7 @@ mod finding;
 mod moving;
 mod rows;
 mod sight;
+mod telling;
 
 pub use declaring::declare;
 pub use fetching::{fetch_next_row, fetch_row};

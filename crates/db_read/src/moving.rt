@@ -1,26 +1,29 @@
 // OPEN and NEXT.
-ghost use Rattle.std.specs.Prelude.{◌≡◌, ℕ, List, IfOk, IfSome, IsTrue, OnErr, Some, false};
+ghost use Rattle.std.specs.Prelude.{◌≡◌, ℕ, List, IfOk, IfSome, IsTrue, OnErr};
 ghost use Rattle.eeprom.specs.Fault.{each_error};
 ghost use Rattle.eeprom.specs.Frame.{Reads};
 ghost use Rattle.record_store.specs.Held.{IsOver};
 ghost use Rattle.scql_base.specs.declared.cursor.Cursor.{Cursor};
+ghost use Rattle.scql_model.specs.Cursors.{IsCursorOf};
 ghost use Rattle.scql_model.specs.Database.{Database};
 ghost use Rattle.scql_model.specs.Moves as moves;
 ghost use Rattle.scql_model.specs.Moves.{first_row, moved, moved_to, row_behind, went_to};
+ghost use Rattle.scql_model.specs.Objects.{StampedRow};
+ghost use Rattle.scql_model.specs.ReadBound.{IsOnTableOrView, octets_for_operation};
 ghost use Rattle.scql_model.specs.ReadingCommands as commands;
 ghost use Rattle.record_table.specs.Listed.{slots_of};
 ghost use Rattle.record_table.specs.Making.{IsHeld};
 ghost use Rattle.row_index.specs.Index.{Indexes};
 ghost use Rattle.cursor.specs.Moved.{AreStamped, refuses};
-ghost use Rattle.db_read.specs.Answered.{IsCursorOf, IsOnTableOrView, ReadsThrough, answered};
-ghost use Rattle.db_read.specs.Chosen.{costs_shown, rows_shown};
+ghost use Rattle.db_read.specs.Answered.{answered};
+ghost use Rattle.db_read.specs.Told.{Tells, costs_of};
 ghost use Rattle.scql_base.specs.declared.cursor.Place.{Place};
 ghost use Rattle.cursor.specs.Costs.{RisesBetween, cost_between};
-ghost use Rattle.eeprom.specs.Chip.{Becomes};
+ghost use Rattle.eeprom.specs.Chip.{Becomes, RisesAtMost};
 
-use crate::choosing::Chosen;
+use crate::choosing::Choice;
 use crate::feed::ChosenRows;
-use crate::finding::{find_chosen, stopped};
+use crate::finding::{find_choice, stopped};
 use cursor::{first, step};
 use eeprom::{Eeprom, EepromFault};
 use record_store::{Side, Store};
@@ -38,24 +41,24 @@ pub fn open_cursor<B: Eeprom>(
 ) -> Result<StatusWord, EepromFault>
     requires over { IsOver store.now (B.chip bench.old) }
     requires index { Indexes index.now store.now (B.chip bench.old) }
-    ensures moved { (db : Database) → IsHeld store.now side (B.chip bench.old) db → IfSome cursor.old (IsCursorOf db) → IfSome cursor.old (IsOnTableOrView db) → (pending : List ℕ)
+    ensures moved { (db : Database) → IsHeld store.now side (B.chip bench.old) db → IfSome cursor.old (IsCursorOf db) → (pending : List ℕ)
         → IfOk result (λ word. moved db actor (record { cursor = cursor.old; pending = pending }) commands.open_cursor ≡ answered word cursor.new) }
-    ensures refused { (db : Database) → IsHeld store.now side (B.chip bench.old) db → IfSome cursor.old (IsCursorOf db) → IfSome cursor.old (IsOnTableOrView db)
+    ensures refused { (db : Database) → IsHeld store.now side (B.chip bench.old) db → IfSome cursor.old (IsCursorOf db)
         → IfOk result (λ word. IsTrue (refuses word) → cursor.new ≡ cursor.old) }
     ensures fault { OnErr result (cursor.new ≡ cursor.old) }
     ensures octets_read { (db : Database) → IsHeld store.now side (B.chip bench.old) db → IfSome cursor.old (IsCursorOf db) → IfSome cursor.old (IsOnTableOrView db)
-        → IfOk result (λ word. IfSome cursor.new (λ c. refuses word ≡ false → ReadsThrough db c (slots_of store.now side (B.chip bench.old)) (cost_between (Place.At 0) c.place) (B.octets_read bench.old) (B.octets_read bench.new))) }
+        → IfOk result (λ _. Becomes (RisesAtMost (octets_for_operation db actor cursor.old commands.open_cursor)) (B.octets_read bench.old) (B.octets_read bench.new)) }
     ensures frame { Reads each_error B.chip B.faults bench.old bench.new result }
 {
     let Some(held) = cursor else {
         return Ok(StatusWord::CONDITIONS_NOT_SATISFIED);
     };
-    let chosen = match find_chosen(store, bench, side, actor, held) {
-        Ok(chosen) => chosen,
+    let choice = match find_choice(store, bench, side, actor, held) {
+        Ok(choice) => choice,
         Err(stop) => return stopped(stop),
     };
     let mut place = held.place;
-    let word = to_first(store, bench, side, &chosen, &mut place, index)?;
+    let word = to_first(store, bench, side, &choice, &mut place, index)?;
     held.place = place;
     Ok(word)
 }
@@ -71,14 +74,13 @@ pub fn next_row<B: Eeprom>(
 ) -> Result<StatusWord, EepromFault>
     requires over { IsOver store.now (B.chip bench.old) }
     requires index { Indexes index.now store.now (B.chip bench.old) }
-    ensures moved { (db : Database) → IsHeld store.now side (B.chip bench.old) db → IfSome cursor.old (IsCursorOf db) → IfSome cursor.old (IsOnTableOrView db) → (pending : List ℕ)
+    ensures moved { (db : Database) → IsHeld store.now side (B.chip bench.old) db → IfSome cursor.old (IsCursorOf db) → (pending : List ℕ)
         → IfOk result (λ word. moved db actor (record { cursor = cursor.old; pending = pending }) commands.next ≡ answered word cursor.new) }
-    ensures refused { (db : Database) → IsHeld store.now side (B.chip bench.old) db → IfSome cursor.old (IsCursorOf db) → IfSome cursor.old (IsOnTableOrView db)
+    ensures refused { (db : Database) → IsHeld store.now side (B.chip bench.old) db → IfSome cursor.old (IsCursorOf db)
         → IfOk result (λ word. IsTrue (refuses word) → cursor.new ≡ cursor.old) }
     ensures fault { OnErr result (cursor.new ≡ cursor.old) }
     ensures octets_read { (db : Database) → IsHeld store.now side (B.chip bench.old) db → IfSome cursor.old (IsCursorOf db) → IfSome cursor.old (IsOnTableOrView db)
-        → (was : Cursor) → cursor.old ≡ Some was → IfOk result (λ word. IfSome cursor.new (λ c. refuses word ≡ false
-        → ReadsThrough db c (slots_of store.now side (B.chip bench.old)) (cost_between was.place c.place) (B.octets_read bench.old) (B.octets_read bench.new))) }
+        → IfOk result (λ _. Becomes (RisesAtMost (octets_for_operation db actor cursor.old commands.next)) (B.octets_read bench.old) (B.octets_read bench.new)) }
     ensures frame { Reads each_error B.chip B.faults bench.old bench.new result }
 {
     let Some(held) = cursor else {
@@ -87,12 +89,12 @@ pub fn next_row<B: Eeprom>(
     if !is_opened(held.place) {
         return Ok(StatusWord::CONDITIONS_NOT_SATISFIED);
     }
-    let chosen = match find_chosen(store, bench, side, actor, held) {
-        Ok(chosen) => chosen,
+    let choice = match find_choice(store, bench, side, actor, held) {
+        Ok(choice) => choice,
         Err(stop) => return stopped(stop),
     };
     let mut place = held.place;
-    let word = to_next(store, bench, side, &chosen, &mut place, index)?;
+    let word = to_next(store, bench, side, &choice, &mut place, index)?;
     held.place = place;
     Ok(word)
 }
@@ -109,15 +111,15 @@ fn to_first<B: Eeprom>(
     store: &Store,
     bench: &mut B,
     side: Side,
-    chosen: &Chosen,
+    choice: &Choice,
     place: &mut Place,
     index: &RowIndex,
 ) -> Result<StatusWord, EepromFault>
     requires over { IsOver store.now (B.chip bench.old) }
     requires index { Indexes index.now store.now (B.chip bench.old) }
-    ensures moved { IfOk result (λ word. IfSome (rows_shown chosen.now (slots_of store.now side (B.chip bench.old)))
-        (λ rows. AreStamped rows → (c : Cursor) → moved_to place.new c word ≡ went_to c (first_row rows))) }
-    ensures read { IfOk result (λ _. IfSome (costs_shown chosen.now (slots_of store.now side (B.chip bench.old)))
+    ensures moved { IfOk result (λ word. (rows : List StampedRow) → Tells choice.now store.now side (B.chip bench.old) rows
+        → AreStamped rows → (c : Cursor) → moved_to place.new c word ≡ went_to c (first_row rows)) }
+    ensures read { IfOk result (λ _. IfSome (costs_of choice.now (slots_of store.now side (B.chip bench.old)))
         (λ costs. Becomes (RisesBetween 0 (cost_between (Place.At 0) place.new costs)) (B.octets_read bench.old) (B.octets_read bench.new))) }
     ensures frame { Reads each_error B.chip B.faults bench.old bench.new result }
 {
@@ -125,7 +127,7 @@ fn to_first<B: Eeprom>(
         store,
         bench,
         side,
-        chosen,
+        choice,
         index,
     };
     first(&mut feed, place)
@@ -136,15 +138,15 @@ fn to_next<B: Eeprom>(
     store: &Store,
     bench: &mut B,
     side: Side,
-    chosen: &Chosen,
+    choice: &Choice,
     place: &mut Place,
     index: &RowIndex,
 ) -> Result<StatusWord, EepromFault>
     requires over { IsOver store.now (B.chip bench.old) }
     requires index { Indexes index.now store.now (B.chip bench.old) }
-    ensures moved { IfOk result (λ word. IfSome (rows_shown chosen.now (slots_of store.now side (B.chip bench.old)))
-        (λ rows. (c : Cursor) → moved_to place.new c word ≡ went_to c (row_behind place.old rows))) }
-    ensures read { IfOk result (λ _. IfSome (costs_shown chosen.now (slots_of store.now side (B.chip bench.old)))
+    ensures moved { IfOk result (λ word. (rows : List StampedRow) → Tells choice.now store.now side (B.chip bench.old) rows
+        → (c : Cursor) → moved_to place.new c word ≡ went_to c (row_behind place.old rows)) }
+    ensures read { IfOk result (λ _. IfSome (costs_of choice.now (slots_of store.now side (B.chip bench.old)))
         (λ costs. Becomes (RisesBetween 0 (cost_between place.old place.new costs)) (B.octets_read bench.old) (B.octets_read bench.new))) }
     ensures frame { Reads each_error B.chip B.faults bench.old bench.new result }
 {
@@ -152,7 +154,7 @@ fn to_next<B: Eeprom>(
         store,
         bench,
         side,
-        chosen,
+        choice,
         index,
     };
     step(&mut feed, place)

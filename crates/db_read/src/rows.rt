@@ -20,7 +20,7 @@ ghost use Rattle.cursor.specs.Moved.{handed};
 ghost use Rattle.db_read.specs.Chosen.{costs_shown, rows_shown};
 ghost use Rattle.db_read.specs.Costs.{cost_reached, least_of, row_costs};
 
-use crate::choosing::Chosen;
+use crate::choosing::{Chosen, cut};
 use catalog_codec::Record;
 use eeprom::{Eeprom, EepromFault};
 use record_store::{RecordOctets, Side, Store};
@@ -78,7 +78,7 @@ pub(crate) fn chosen_row<B: Eeprom>(
     if !chosen.shows(&record.row) {
         return Ok(false);
     }
-    *out = chosen.cut(&record.row);
+    *out = cut(&chosen.places, &record.row);
     Ok(true)
 }
 

@@ -8,7 +8,7 @@ returns-then-not-refuses-clause-fetched g c =
 
 pub returns-then-not-refuses-clause-read : goal.returns-then-not-refuses-clause-read
 returns-then-not-refuses-clause-read g c =
-    read-behind (g.F.RowFeed.rows c.args.feed.now) _ _ c.args.place.now c.in_ok-reached.reached _ _ _ _ c.in_ok-reached.ensures.stays.same_costs c.in_ok-reached.ensures.reached c.in_ok-reached.ensures.read c.in_ok-word.ensures.read
+    read-behind (g.F.RowFeed.tells c.args.feed.now) _ _ c.args.place.now c.in_ok-reached.reached _ _ _ _ c.in_ok-reached.ensures.stays.same_costs c.in_ok-reached.ensures.reached c.in_ok-reached.ensures.read c.in_ok-word.ensures.read
 
 pub returns-else-not-refuses-clause-fetched : goal.returns-else-not-refuses-clause-fetched
 returns-else-not-refuses-clause-fetched g c =
@@ -16,4 +16,4 @@ returns-else-not-refuses-clause-fetched g c =
 
 pub returns-else-not-refuses-clause-read : goal.returns-else-not-refuses-clause-read
 returns-else-not-refuses-clause-read g c =
-    read-behind (g.F.RowFeed.rows c.args.feed.now) _ _ c.args.place.now c.in_ok-reached.reached _ _ _ _ c.in_ok-reached.ensures.stays.same_costs c.in_ok-reached.ensures.reached c.in_ok-reached.ensures.read c.in_ok-word.ensures.read
+    read-behind (g.F.RowFeed.tells c.args.feed.now) _ _ c.args.place.now c.in_ok-reached.reached _ _ _ _ c.in_ok-reached.ensures.stays.same_costs c.in_ok-reached.ensures.reached c.in_ok-reached.ensures.read c.in_ok-word.ensures.read

@@ -1,30 +1,39 @@
 -- What is read is read of the table under the cursor.
-use Rattle.std.proofs.Common.{Option, Some}
+use Rattle.std.proofs.Common.{◌≡◌, ℕ, ◌+◌, ◌*◌, Option, Some, sym, subst, arith}
 use Rattle.std.specs.Prelude.{IfSome}
 use Rattle.std.proofs.lemmas.Result.{IfOk-weaker}
-use Rattle.eeprom.specs.Chip.{Becomes}
-use Rattle.eeprom.specs.StoreOf.{Slots}
+use Rattle.eeprom.specs.Chip.{Becomes, RisesAtMost}
+use Rattle.scql_base.specs.declared.cursor.Cursor.{Cursor}
+use Rattle.scql_model.specs.ReadBound.{is_at, octets_for_operation, octets_of_rows, octets_of_searches, row_cells}
+use Rattle.scql_model.specs.ReadingCommands.{fetch}
 use Rattle.record_table.specs.Listed.{slots_of}
 use Rattle.cursor.specs.Costs.{RisesBetween, cost_at, least_read}
-use Rattle.db_read.specs.Answered.{ReadsThrough, rows_under}
-use Rattle.db_read.specs.Chosen.{costs_shown}
-use Rattle.db_read.proofs.Adding.{reads-both, reads-refused}
+use Rattle.db_read.specs.Costs.{catalogue_cost}
+use Rattle.db_read.specs.Told.{costs_of}
+use Rattle.db_read.proofs.Adding.{at-place, reads-move, reads-searches, where-read}
 use Rattle.db_read.proofs.fetching.fetch_row.Goals as goal
-
-pub returns-in-Err-clause-octets_read : goal.returns-in-Err-clause-octets_read
-returns-in-Err-clause-octets_read g c = λ db held cursor kind.
-    reads-refused (λ word x. ReadsThrough db x (slots_of c.args.store.now c.args.side (g.B.Eeprom.chip c.args.bench.now)) (cost_at x.place) (g.B.Eeprom.octets_read c.args.bench.now) (g.B.Eeprom.octets_read c.find_chosen.new.bench))
-    (rows_under db c.args.actor c.in-Some.held) c.in-Err.stop c.stopped.result (Some c.in-Some.held) c.stopped.ensures (c.in-Err.ensures.refused db held (rw c.in-Some.is at cursor) (rw c.in-Some.is at kind))
 
 pub returns-clause-octets_read : goal.returns-clause-octets_read
 returns-clause-octets_read g c = λ db held cursor kind.
-    let slots : Option Slots = slots_of c.args.store.now c.args.side (g.B.Eeprom.chip c.args.bench.now) in
-    let chooses = c.in-Ok.ensures.chosen db held (rw c.in-Some.is at cursor) (rw c.in-Some.is at kind) in
+    let chip = g.B.Eeprom.chip c.args.bench.now in
+    let on = c.in-Some.held in
+    let a : Option ℕ = g.B.Eeprom.octets_read c.args.bench.now in
+    let b : Option ℕ = g.B.Eeprom.octets_read c.find_choice.new.bench in
+    let after : Option ℕ = g.B.Eeprom.octets_read c.give.new.bench in
+    let chooses = c.in-Ok.ensures.chosen db held (rw c.in-Some.is at cursor) in
     IfOk-weaker c.give.result
-    (λ word. IfSome (costs_shown c.in-Ok.chosen slots) (λ costs. Becomes (RisesBetween (least_read word c.give.new.out) (cost_at c.in-Some.held.place costs)) (g.B.Eeprom.octets_read c.find_chosen.new.bench) (g.B.Eeprom.octets_read c.give.new.bench))) _
-    (λ word reads goes. record {
-      table = c.in-Ok.chosen.table;
-      resolved = chooses.resolved;
-      reads = reads-both c.in-Ok.chosen slots chooses.rows (least_read word c.give.new.out) (cost_at c.in-Some.held.place) _ _ _ chooses.shown c.in-Ok.ensures.octets_read reads;
-    })
+    (λ word. IfSome (costs_of c.in-Ok.choice (slots_of c.args.store.now c.args.side chip)) (λ costs. Becomes (RisesBetween (least_read word c.give.new.out) (cost_at on.place costs)) b after)) _
+    (λ word reads.
+    subst (λ (x : Option Cursor). Becomes (RisesAtMost (octets_for_operation db c.args.actor x (fetch c.args.le))) a after) (sym c.in-Some.is)
+    (rw chooses.under
+    (reads-move c.args.store.now c.args.side chip db held on.object (costs_of c.in-Ok.choice (slots_of c.args.store.now c.args.side chip)) (least_read word c.give.new.out) (λ list. cost_at on.place list) (λ stamp. is_at on.place stamp) a b after
+    (chooses.costs_are (rw c.in-Some.is at kind)) (λ list. let here = at-place on.place list in omega (arith, here)) c.in-Ok.ensures.octets_read reads)))
     (rw c.in-Ok.ensures.frame.same at c.give.ensures.read)
+
+pub returns-in-Err-clause-octets_read : goal.returns-in-Err-clause-octets_read
+returns-in-Err-clause-octets_read g c = λ db held cursor kind.
+    let chip = g.B.Eeprom.chip c.args.bench.now in
+    let a : Option ℕ = g.B.Eeprom.octets_read c.args.bench.now in
+    let b : Option ℕ = g.B.Eeprom.octets_read c.find_choice.new.bench in
+    where-read (IfSome (slots_of c.args.store.now c.args.side chip) (λ slots. Becomes (RisesAtMost (catalogue_cost slots)) a b)) (Becomes (RisesAtMost (octets_for_operation db c.args.actor c.args.cursor.now (fetch c.args.le))) a b)
+    c.in-Err.stop c.stopped.result c.stopped.ensures c.in-Err.ensures.octets_read (reads-searches c.args.store.now c.args.side chip db held (octets_of_rows db c.args.actor c.args.cursor.now (fetch c.args.le)) a b)

@@ -4,11 +4,11 @@ use Rattle.std.proofs.lemmas.List.{get_or_default, take_all}
 use Rattle.search_cond.proofs.Binding.{value_there}
 use Rattle.db_read.specs.Chosen.{values_at}
 use Rattle.db_read.proofs.CutRows.{cut-more}
-use Rattle.db_read.proofs.choosing.Chosen.cut.Goals as goal
+use Rattle.db_read.proofs.choosing.cut.Goals as goal
 
 pub loop-place-preserved : goal.loop-place-preserved
 loop-place-preserved c =
-    let places : List ℕ = c.args.self.now.places.items in
+    let places : List ℕ = c.args.places.now.items in
     let values = c.args.row.now in
     let i : ℕ = c.loop-place.place-index in
     let within : i < length places = rw c.as_slice-place-items.ensures.value at c.loop-place-test.true in
@@ -18,7 +18,7 @@ loop-place-preserved c =
 
 pub returns : goal.returns
 returns c = λ row.
-    let places : List ℕ = c.args.self.now.places.items in
+    let places : List ℕ = c.args.places.now.items in
     let values = c.args.row.now in
     let whole : length places ≤ c.loop-place.place-index = rw c.as_slice-place-items.ensures.value at c.loop-place-test.false in
     c.loop-place.invariant row ∙ ap (λ (ps : List ℕ). values_at ps values) (take_all c.loop-place.place-index places whole)

@@ -1,0 +1,111 @@
+// What a cursor chooses of a dictionary.
+ghost use Rattle.std.specs.Prelude.{◌≡◌, ◌≤◌, ℕ, List, IfOk, IfSome, IsSome, length, option_map, true};
+ghost use Rattle.eeprom.specs.Fault.{each_error};
+ghost use Rattle.eeprom.specs.Frame.{Reads};
+ghost use Rattle.record_store.specs.Held.{IsOver};
+ghost use Rattle.scql_base.specs.declared.cursor.Place.{Place};
+ghost use Rattle.scql_base.specs.declared.name_list.TheConstants.NameList.{MOST};
+ghost use Rattle.scql_model.specs.Database.{are_named_among};
+ghost use Rattle.scql_model.specs.Moves as moves;
+ghost use Rattle.scql_model.specs.Objects as objects;
+ghost use Rattle.scql_model.specs.Objects.{StampedRow};
+ghost use Rattle.search_cond.specs.Bound.{Binds};
+ghost use Rattle.views.specs.Resolved.{ArePlaces};
+ghost use Rattle.cursor.specs.Moved.{handed};
+ghost use Rattle.db_read.specs.Told.{TellsRows};
+
+use crate::choosing::cut;
+use crate::columns::columns_of;
+use dictionaries::next_after;
+use eeprom::{Eeprom, EepromFault};
+use record_store::{Side, Store};
+use scql_base::{Conditions, NameList, Object, Row};
+use search_cond::{Bound, bind};
+use views::{Places, places_of};
+
+/// The rows of a dictionary that a cursor chooses, and their values that it shows.
+#[derive(Drop)]
+pub(crate) struct Told {
+    /// The dictionary.
+    pub(crate) dictionary: Object,
+    /// The places of the cursor's columns among the dictionary's.
+    pub(crate) places: Places,
+    /// The cursor's conditions.
+    pub(crate) conditions: Bound,
+}
+
+/// What columns and conditions choose of a dictionary. None where one of them isn't on its columns.
+pub(crate) fn tell(dictionary: Object, columns: &NameList, conditions: &Conditions) -> Option<Told>
+    ensures told { IfSome result (λ told. (told.dictionary ≡ dictionary)
+        × ArePlaces told.places.items (objects.columns_of dictionary.kind) columns.now × Binds told.conditions (objects.columns_of dictionary.kind) conditions.now) }
+    ensures few { IfSome result (λ _. length columns.now ≤ MOST) }
+    ensures there { are_named_among (objects.columns_of dictionary.kind) columns.now conditions.now ≡ true → IsSome result }
+{
+    prove!(columns.len() <= NameList::MOST);
+    let all = columns_of(&dictionary.kind);
+    Some(Told {
+        places: places_of(&all, columns)?,
+        conditions: bind(&all, conditions).ok()?,
+        dictionary,
+    })
+}
+
+/// The stamp of the next chosen row behind a stamp.
+pub(crate) fn next_told<B: Eeprom>(
+    store: &Store,
+    bench: &mut B,
+    side: Side,
+    told: &Told,
+    stamp: u32,
+) -> Result<Option<u32>, EepromFault>
+    requires over { IsOver store.now (B.chip bench.old) }
+    ensures next { IfOk result (λ next. (rows : List StampedRow) → TellsRows told.now store.now side (B.chip bench.old) rows
+        → next ≡ option_map (λ row. row.stamp) (moves.row_behind (Place.At stamp) rows)) }
+    ensures frame { Reads each_error B.chip B.faults bench.old bench.new result }
+{
+    let mut row = Row::new();
+    let mut passed = stamp;
+    while let Some(next) = next_after(store, bench, side, &told.dictionary, passed, &mut row)? {
+        // No stamp is passed twice, whatever an image tells that isn't a valid one.
+        if next <= passed {
+            return Ok(None);
+        }
+        if told.conditions.matches(&row) {
+            return Ok(Some(next));
+        }
+        passed = next;
+    }
+    Ok(None)
+}
+
+/// Hands out what is shown of the row of a stamp, and answers whether it is chosen. The row is the one that comes next behind the stamp before.
+pub(crate) fn told_row<B: Eeprom>(
+    store: &Store,
+    bench: &mut B,
+    side: Side,
+    told: &Told,
+    stamp: u32,
+    out: &mut Row,
+) -> Result<bool, EepromFault>
+    requires over { IsOver store.now (B.chip bench.old) }
+    ensures there { IfOk result (λ there. (rows : List StampedRow) → TellsRows told.now store.now side (B.chip bench.old) rows
+        → handed there out.new ≡ option_map (λ row. row.values) (moves.row_at stamp rows)) }
+    ensures frame { Reads each_error B.chip B.faults bench.old bench.new result }
+{
+    if stamp == 0 {
+        return Ok(false);
+    }
+    let mut row = Row::new();
+    let Some(next) = next_after(store, bench, side, &told.dictionary, stamp - 1, &mut row)? else {
+        return Ok(false);
+    };
+    if next != stamp {
+        return Ok(false);
+    }
+    if !told.conditions.matches(&row) {
+        return Ok(false);
+    }
+    prove!(row.len() <= Row::MOST);
+    *out = cut(&told.places, &row);
+    Ok(true)
+}
