@@ -35,6 +35,12 @@ is_changing Delete = true
 is_changing CreateUser = true
 is_changing kind = false
 
+-- those of them that change the row at a cursor
+abbrev pub goes_through_cursor : OperationKind → Bool
+goes_through_cursor Update = true
+goes_through_cursor Delete = true
+goes_through_cursor kind = false
+
 -- one of them, which is built
 abbrev pub IsChange : Operation → Type 0
 IsChange operation = IsBuilt (kind_of operation) × (is_changing (kind_of operation) ≡ true)

@@ -295,7 +295,14 @@ impl Card {
         ensures behind { Keeps (drop (image_size self.old.store.chains.cells)) (B.chip bench.old) (B.chip bench.new) }
     {
         let user = self.proved_user(channel);
-        change(&mut self.store, bench, &mut self.index, user, operation)
+        change(
+            &mut self.store,
+            bench,
+            &mut self.index,
+            user,
+            &None,
+            operation,
+        )
     }
 
     // The stamp of a channel's user, where that one is proved.

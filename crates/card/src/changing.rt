@@ -6,33 +6,36 @@ ghost use Rattle.eeprom.specs.Frame.{Reads};
 ghost use Rattle.eeprom.specs.StoreOf.{store_of, image_size};
 ghost use Rattle.record_store.specs.Held.{IsOver};
 ghost use Rattle.record_store.specs.declared.side.Side.TheVariants.{Working};
-ghost use Rattle.scql_base.specs.declared.cursor.Cursor.{Cursor};
+ghost use Rattle.scql_base.specs.declared.cursor.Cursor as model;
 ghost use Rattle.scql_model.specs.Changing.{edits_of};
 ghost use Rattle.scql_model.specs.Creating.{IsActorOf};
+ghost use Rattle.scql_model.specs.Cursors.{IsCursorOf};
 ghost use Rattle.scql_model.specs.Database.{Database};
+ghost use Rattle.scql_model.specs.Operations.{kind_of};
 ghost use Rattle.scql_model.specs.WellFormed.{HasForm, FitsCard};
 ghost use Rattle.record_table.specs.Making.{IsHeld, Ends, GoesOn, is_stop_fault};
 ghost use Rattle.row_index.specs.Index.{Indexes, is_above};
 ghost use Rattle.card.specs.Card.{HoldsSome, IsAtRest};
-ghost use Rattle.card.specs.Changing.{IsChange, Changes, acting};
+ghost use Rattle.card.specs.Changing.{IsChange, Changes, acting, goes_through_cursor};
 
 use db_access::{create_user, grant, revoke};
 use db_define::{create_table, drop_table};
-use db_write::insert;
+use db_write::{delete, insert, update};
 use eeprom::{Eeprom, EepromFault};
 use record_store::{Side, Store};
 use record_table::Stop;
 use row_index::RowIndex;
-use scql_base::{Actor, Operation, StatusWord};
+use scql_base::{Actor, Cursor, Operation, StatusWord};
 use user_table::find_stamp;
 
-/// Changes the database by an operation, for the user of this stamp or for the public, and commits it. Where the operation is refused
-/// nothing is written, and the word of the refusal is answered.
+/// Changes the database by an operation, for the user of this stamp or for the public, through a cursor where it is UPDATE or DELETE,
+/// and commits it. Where the operation is refused nothing is written, and the word of the refusal is answered.
 pub(crate) fn change<B: Eeprom>(
     store: &mut Store,
     bench: &mut B,
     index: &mut RowIndex,
     user: Option<u32>,
+    cursor: &Option<Cursor>,
     operation: &Operation,
 ) -> Result<StatusWord, EepromFault>
     requires idle { store.old.begun ≡ false }
@@ -43,8 +46,8 @@ pub(crate) fn change<B: Eeprom>(
     requires changes { IsChange operation.now }
     requires formed { HasForm operation.now }
     requires fits { FitsCard store.old.row_limit operation.now }
-    ensures changes { (db : Database) (cursor : Option Cursor) → IsAtRest store.old (B.chip bench.old) db
-        → Changes db (edits_of db (acting db user) cursor operation.now) result store.new (B.chip bench.old) (B.chip bench.new) }
+    ensures changes { (db : Database) → IsAtRest store.old (B.chip bench.old) db → IfSome cursor.now (IsCursorOf db)
+        → Changes db (edits_of db (acting db user) cursor.now operation.now) result store.new (B.chip bench.old) (B.chip bench.new) }
     ensures over { OnOk result (IsOver store.new (B.chip bench.new)) }
     ensures idle { OnOk result (store.new.begun ≡ false) }
     ensures holds { OnOk result (HoldsSome store.new (B.chip bench.new)) }
@@ -57,7 +60,7 @@ pub(crate) fn change<B: Eeprom>(
     let actor = actor_of(store, bench, Side::Committed, user)?;
     store.begin();
     index.begin();
-    match make(store, bench, index, actor, operation) {
+    match make(store, bench, index, actor, cursor, operation) {
         Ok(()) => {
             store.commit(bench)?;
             index.commit();
@@ -78,6 +81,7 @@ fn make<B: Eeprom>(
     bench: &mut B,
     index: &mut RowIndex,
     actor: Actor,
+    cursor: &Option<Cursor>,
     operation: &Operation,
 ) -> Result<(), Stop>
     requires begun { IsTrue store.old.begun }
@@ -86,7 +90,44 @@ fn make<B: Eeprom>(
     requires index { Indexes index.old store.old (B.chip bench.old) }
     requires last { (db : Database) → IsHeld store.old Working (B.chip bench.old) db → is_above db.next index.old.committed ≡ true }
     requires changes { IsChange operation.now }
-    ensures ends { (db : Database) (cursor : Option Cursor) → IsHeld store.old Working (B.chip bench.old) db → IsActorOf db actor → HasForm operation.now → FitsCard db.limit operation.now
+    ensures ends { (db : Database) → IsHeld store.old Working (B.chip bench.old) db → IfSome cursor.now (IsCursorOf db) → IsActorOf db actor → HasForm operation.now → FitsCard db.limit operation.now
+        → Ends db (edits_of db actor cursor.now operation.now) result store.old store.new (B.chip bench.old) (B.chip bench.new) }
+    // Whatever the cursor is, it ends as through some cursor.
+    ensures through { (db : Database) → IsHeld store.old Working (B.chip bench.old) db → IsActorOf db actor → HasForm operation.now → FitsCard db.limit operation.now
+        → (through : Option model.Cursor) × Ends db (edits_of db actor through operation.now) result store.old store.new (B.chip bench.old) (B.chip bench.new) }
+    ensures goes_on { ¬ IsErrOf result Stop.Fault → GoesOn store.old store.new (B.chip bench.old) (B.chip bench.new) }
+    ensures index { (db : Database) → IsHeld store.old Working (B.chip bench.old) db → IsActorOf db actor → HasForm operation.now → FitsCard db.limit operation.now
+        → ¬ IsErrOf result Stop.Fault → Indexes index.new store.new (B.chip bench.new) }
+    ensures index_cells { index.new.cells ≡ index.old.cells }
+    ensures index_committed { index.new.committed ≡ index.old.committed }
+    ensures index_begun { IsTrue index.new.begun }
+    ensures moments { Keeps store_of (B.chip bench.old) (B.chip bench.new) }
+    ensures behind { Keeps (drop (image_size store.old.chains.cells)) (B.chip bench.old) (B.chip bench.new) }
+    ensures cause { CountsFaults is_stop_fault (B.faults bench.old) (B.faults bench.new) result }
+{
+    match operation {
+        Operation::Update { changes } => update(store, bench, actor, cursor, changes, index),
+        Operation::Delete => delete(store, bench, actor, cursor, index),
+        operation => make_without_cursor(store, bench, index, actor, operation),
+    }
+}
+
+// Makes a change that goes through no cursor.
+fn make_without_cursor<B: Eeprom>(
+    store: &mut Store,
+    bench: &mut B,
+    index: &mut RowIndex,
+    actor: Actor,
+    operation: &Operation,
+) -> Result<(), Stop>
+    requires begun { IsTrue store.old.begun }
+    requires over { IsOver store.old (B.chip bench.old) }
+    requires index_begun { IsTrue index.old.begun }
+    requires index { Indexes index.old store.old (B.chip bench.old) }
+    requires last { (db : Database) → IsHeld store.old Working (B.chip bench.old) db → is_above db.next index.old.committed ≡ true }
+    requires changes { IsChange operation.now }
+    requires no_cursor { goes_through_cursor (kind_of operation.now) ≡ false }
+    ensures ends { (db : Database) (cursor : Option model.Cursor) → IsHeld store.old Working (B.chip bench.old) db → IsActorOf db actor → HasForm operation.now → FitsCard db.limit operation.now
         → Ends db (edits_of db actor cursor operation.now) result store.old store.new (B.chip bench.old) (B.chip bench.new) }
     ensures goes_on { ¬ IsErrOf result Stop.Fault → GoesOn store.old store.new (B.chip bench.old) (B.chip bench.new) }
     ensures index { (db : Database) → IsHeld store.old Working (B.chip bench.old) db → IsActorOf db actor → HasForm operation.now → FitsCard db.limit operation.now
@@ -137,8 +178,8 @@ fn make<B: Eeprom>(
     }
 }
 
-// For whom the user of a stamp acts: for itself, with its profile, or for the public where a side has no such user.
-fn actor_of<B: Eeprom>(
+/// For whom the user of a stamp acts: for itself, with its profile, or for the public where a side has no such user.
+pub(crate) fn actor_of<B: Eeprom>(
     store: &Store,
     bench: &mut B,
     side: Side,

@@ -1,5 +1,5 @@
 -- Each way in which a change ends.
-use Rattle.std.proofs.Common.{◌≡◌, ℕ, true, false, Option, None, is_some, refl, sym, ap, subst, ◌∙◌, rules}
+use Rattle.std.proofs.Common.{◌≡◌, ℕ, true, false, Option, is_some, refl, sym, ap, subst, ◌∙◌, rules}
 use Rattle.eeprom.specs.Chip.{Chip, Keeps}
 use Rattle.eeprom.specs.StoreOf.{store_of}
 use Rattle.record_store.specs.Held.{Held}
@@ -7,13 +7,15 @@ use Rattle.record_store.specs.declared.side.Side.TheVariants.{Committed, Working
 use Rattle.scql_base.specs.declared.cursor.Cursor.{Cursor}
 use Rattle.scql_model.specs.Changing.{edits_of}
 use Rattle.scql_model.specs.Creating.{IsActorOf}
+use Rattle.scql_model.specs.Cursors.{IsCursorOf}
 use Rattle.scql_model.specs.Database.{Database}
 use Rattle.scql_model.specs.WellFormed.{FitsCard}
 use Rattle.record_table.specs.Making.{IsHeld, Ends}
 use Rattle.record_table.specs.declared.stop.Stop.TheVariants.{Fault}
-use Rattle.std.specs.Prelude.{IsErrOf}
+use Rattle.std.specs.Prelude.{IfSome, IsErrOf, Ok}
+use Rattle.scql_base.specs.Words.{done}
 use Rattle.card.specs.Card.{IsAtRest}
-use Rattle.card.specs.Changing.{acting}
+use Rattle.card.specs.Changing.{Changes, acting}
 use Rattle.row_index.specs.Index.{Index, Indexes, is_above}
 use Rattle.card.proofs.IndexedStore.{HoldsSome-changed, Indexes-begun, Indexes-ended, Indexes-held, last-held, rest-concluded}
 use Rattle.card.proofs.ChangedStore.{held-begun, held-before, slots-committed, slots-rolled_back, over-begun, opens-rest, committed-begun, behind-changed, rest-rolled_back, Changes-failed, Changes-refused, Changes-half_committed, Changes-committed}
@@ -21,27 +23,51 @@ use Rattle.card.proofs.BuiltLines.{makes_view-built}
 use Rattle.card.proofs.ChangingOperations.{IsActorOf-acting}
 use Rattle.card.proofs.TableEdits.{are_tables-edited}
 use Rattle.card.proofs.Leaving.{Keeps-none}
-use Rattle.card.proofs.changing.change.Goals.{After-make, After-commit}
+use Rattle.card.proofs.changing.change.Goals.{After-commit-in-Ok, After-make, After-rollback-in-Err-Refused}
 use Rattle.card.proofs.changing.change.Goals as goal
 
 pub returns-in_err-actor-clause-changes : goal.returns-in_err-actor-clause-changes
-returns-in_err-actor-clause-changes g c = λ db cursor rest.
-    Changes-failed db (edits_of db (acting db c.args.user) cursor c.args.operation.now) (g.B.Eeprom.chip c.args.bench.now) (opens-rest c.args.store.now (g.B.Eeprom.chip c.args.bench.now) db c.requires.over rest)
+returns-in_err-actor-clause-changes g c = λ db rest of.
+    Changes-failed db (edits_of db (acting db c.args.user) c.args.cursor.now c.args.operation.now) (g.B.Eeprom.chip c.args.bench.now) (opens-rest c.args.store.now (g.B.Eeprom.chip c.args.bench.now) db c.requires.over rest)
     c.from_residual.result c.args.store.now (g.B.Eeprom.chip c.actor_of.new.bench) (search rules)
     (Keeps-none store_of (g.B.Eeprom.chip c.args.bench.now) (g.B.Eeprom.chip c.actor_of.new.bench) c.in_err-actor.ensures.frame.same)
 
 pub make-requires-clause-over : goal.make-requires-clause-over
 make-requires-clause-over g c = over-begun c.args.store.now c.begin.new.self (g.B.Eeprom.chip c.args.bench.now) (g.B.Eeprom.chip c.actor_of.new.bench) c.requires.over c.in_ok-actor.ensures.frame.same c.begin.ensures.begun c.begin.ensures.stands
 
--- how the operation ended that was made
-ended : (g : _) (c : After-make g) (db : Database) (cursor : Option Cursor) → IsAtRest c.args.store.now (g.B.Eeprom.chip c.args.bench.now) db
-    → Ends db (edits_of db (acting db c.args.user) cursor c.args.operation.now) c.make.result c.begin.new.self c.make.new.store (g.B.Eeprom.chip c.actor_of.new.bench) (g.B.Eeprom.chip c.make.new.bench)
-ended g c db cursor rest =
-    let held = held-begun c.args.store.now c.begin.new.self (g.B.Eeprom.chip c.args.bench.now) (g.B.Eeprom.chip c.actor_of.new.bench) db rest.held c.in_ok-actor.ensures.frame.same c.begin.ensures.begun c.begin.ensures.starts in
-    let before : IsHeld c.args.store.now Committed (g.B.Eeprom.chip c.args.bench.now) db = rest.held in
-    let who = c.in_ok-actor.ensures.actor db before in
-    subst (λ actor. Ends db (edits_of db actor cursor c.args.operation.now) c.make.result c.begin.new.self c.make.new.store (g.B.Eeprom.chip c.actor_of.new.bench) (g.B.Eeprom.chip c.make.new.bench)) who
-    (c.make.ensures.ends db cursor held (subst (IsActorOf db) (sym who) (IsActorOf-acting db c.args.user)) c.requires.formed (subst (λ (limit : ℕ). FitsCard limit c.args.operation.now) (sym rest.held.limit) c.requires.fits))
+-- the operation that was made ended as through a cursor
+abbrev EndsThrough : (g : _) (c : After-make g) → Database → Option Cursor → Type 0
+EndsThrough g c db cursor =
+    Ends db (edits_of db (acting db c.args.user) cursor c.args.operation.now) c.make.result c.begin.new.self c.make.new.store (g.B.Eeprom.chip c.actor_of.new.bench) (g.B.Eeprom.chip c.make.new.bench)
+
+-- what is held when it is made
+held-made : (g : _) (c : After-make g) (db : Database) → IsAtRest c.args.store.now (g.B.Eeprom.chip c.args.bench.now) db → IsHeld c.begin.new.self Working (g.B.Eeprom.chip c.actor_of.new.bench) db
+held-made g c db rest =
+    held-begun c.args.store.now c.begin.new.self (g.B.Eeprom.chip c.args.bench.now) (g.B.Eeprom.chip c.actor_of.new.bench) db rest.held c.in_ok-actor.ensures.frame.same c.begin.ensures.begun c.begin.ensures.starts
+
+-- and for whom
+actor-made : (g : _) (c : After-make g) (db : Database) → IsAtRest c.args.store.now (g.B.Eeprom.chip c.args.bench.now) db → c.in_ok-actor.actor ≡ acting db c.args.user
+actor-made g c db rest = let before : IsHeld c.args.store.now Committed (g.B.Eeprom.chip c.args.bench.now) db = rest.held in c.in_ok-actor.ensures.actor db before
+
+acts-made : (g : _) (c : After-make g) (db : Database) → IsAtRest c.args.store.now (g.B.Eeprom.chip c.args.bench.now) db → IsActorOf db c.in_ok-actor.actor
+acts-made g c db rest = subst (IsActorOf db) (sym (actor-made g c db rest)) (IsActorOf-acting db c.args.user)
+
+fits-made : (g : _) (c : After-make g) (db : Database) → IsAtRest c.args.store.now (g.B.Eeprom.chip c.args.bench.now) db → FitsCard db.limit c.args.operation.now
+fits-made g c db rest = subst (λ (limit : ℕ). FitsCard limit c.args.operation.now) (sym rest.held.limit) c.requires.fits
+
+-- It ended as through the cursor that it was given, where that is one of the database.
+ended : (g : _) (c : After-make g) (db : Database) → IsAtRest c.args.store.now (g.B.Eeprom.chip c.args.bench.now) db → IfSome c.args.cursor.now (IsCursorOf db) → EndsThrough g c db c.args.cursor.now
+ended g c db rest of =
+    let who = actor-made g c db rest in
+    subst (λ actor. Ends db (edits_of db actor c.args.cursor.now c.args.operation.now) c.make.result c.begin.new.self c.make.new.store (g.B.Eeprom.chip c.actor_of.new.bench) (g.B.Eeprom.chip c.make.new.bench)) who
+    (c.make.ensures.ends db (held-made g c db rest) of (acts-made g c db rest) c.requires.formed (fits-made g c db rest))
+
+-- It ended as through some cursor in any case.
+through : (g : _) (c : After-make g) (db : Database) → IsAtRest c.args.store.now (g.B.Eeprom.chip c.args.bench.now) db → (cursor : Option Cursor) × EndsThrough g c db cursor
+through g c db rest =
+    let who = actor-made g c db rest in
+    let ends = c.make.ensures.through db (held-made g c db rest) (acts-made g c db rest) c.requires.formed (fits-made g c db rest) in
+    (ends.0, subst (λ actor. Ends db (edits_of db actor ends.0 c.args.operation.now) c.make.result c.begin.new.self c.make.new.store (g.B.Eeprom.chip c.actor_of.new.bench) (g.B.Eeprom.chip c.make.new.bench)) who ends.1)
 
 -- The index stands for what was made, where nothing failed.
 followed : (g : _) (c : After-make g) → ¬ IsErrOf c.make.result Fault → Indexes c.make.new.index c.make.new.store (g.B.Eeprom.chip c.make.new.bench)
@@ -51,31 +77,37 @@ followed g c whole =
     Indexes-held c.make.new.index c.make.new.store c.args.store.now old (g.B.Eeprom.chip c.make.new.bench) c.requires.holds
     (goes_on.told ∙ ap (λ (chip : Chip). is_some chip.image) c.in_ok-actor.ensures.frame.same)
     (c.make.ensures.index_cells ∙ (ap (λ (i : Index). i.cells) c.begin-2.ensures.begun ∙ (c.requires.index.cells ∙ sym (goes_on.cells ∙ ap (λ (h : Held). h.chains.cells) c.begin.ensures.begun)))) (λ db rest.
-    let before : IsHeld c.args.store.now Committed old db = rest.held in
-    let acts = subst (IsActorOf db) (sym (c.in_ok-actor.ensures.actor db before)) (IsActorOf-acting db c.args.user) in
-    c.make.ensures.index db (held-begun c.args.store.now c.begin.new.self old (g.B.Eeprom.chip c.actor_of.new.bench) db rest.held c.in_ok-actor.ensures.frame.same c.begin.ensures.begun c.begin.ensures.starts)
-    acts c.requires.formed (subst (λ (limit : ℕ). FitsCard limit c.args.operation.now) (sym rest.held.limit) c.requires.fits) whole)
+    c.make.ensures.index db (held-made g c db rest) (acts-made g c db rest) c.requires.formed (fits-made g c db rest) whole)
 
 -- the store of the image stayed so far
 kept : (g : _) (c : After-make g) → Keeps store_of (g.B.Eeprom.chip c.args.bench.now) (g.B.Eeprom.chip c.make.new.bench)
 kept g c = subst (λ (chip : Chip). Keeps store_of chip (g.B.Eeprom.chip c.make.new.bench)) c.in_ok-actor.ensures.frame.same c.make.ensures.moments
 
-pub returns-in-Err-Refused-clause-changes : goal.returns-in-Err-Refused-clause-changes
-returns-in-Err-Refused-clause-changes g c = λ db cursor rest.
-    let w = (goal.at.returns-in-Err-Refused-clause-changes g c).After-make in
+-- a refusal did nothing
+refused-still : (g : _) (c : After-rollback-in-Err-Refused g) (db : Database) (cursor : Option Cursor) → EndsThrough g (goal.at.returns-in-Err-Refused-clause-changes g c).After-make db cursor
+    → (c.make.new.store ≡ c.begin.new.self) × (g.B.Eeprom.chip c.make.new.bench ≡ g.B.Eeprom.chip c.actor_of.new.bench)
+refused-still g c db cursor ends = let refused = rw (c.in-Err-Refused.is, c.in-Err-Refused.field-0-is) at ends in (refused.1, refused.2)
+
+refused-through : (g : _) (c : After-rollback-in-Err-Refused g) (db : Database) (cursor : Option Cursor) → IsAtRest c.args.store.now (g.B.Eeprom.chip c.args.bench.now) db → EndsThrough g (goal.at.returns-in-Err-Refused-clause-changes g c).After-make db cursor
+    → Changes db (edits_of db (acting db c.args.user) cursor c.args.operation.now) (Ok c.in-Err-Refused.word) c.rollback.new.self (g.B.Eeprom.chip c.args.bench.now) (g.B.Eeprom.chip c.make.new.bench)
+refused-through g c db cursor rest ends =
     let old = g.B.Eeprom.chip c.args.bench.now in
-    let refused = rw (c.in-Err-Refused.is, c.in-Err-Refused.field-0-is) at (ended g w db cursor rest) in
+    let refused = rw (c.in-Err-Refused.is, c.in-Err-Refused.field-0-is) at ends in
     Changes-refused db (edits_of db (acting db c.args.user) cursor c.args.operation.now) old (opens-rest c.args.store.now old db c.requires.over rest) c.in-Err-Refused.word c.rollback.new.self (g.B.Eeprom.chip c.make.new.bench)
     (refused.2 ∙ c.in_ok-actor.ensures.frame.same) refused.0
     (rest-rolled_back c.args.store.now c.begin.new.self c.make.new.store c.rollback.new.self old (g.B.Eeprom.chip c.actor_of.new.bench) (g.B.Eeprom.chip c.make.new.bench) db rest
     c.in_ok-actor.ensures.frame.same c.begin.ensures.begun c.begin.ensures.committed refused.1 refused.2 c.rollback.ensures.committed c.rollback.ensures.cells c.rollback.ensures.rows)
 
+pub returns-in-Err-Refused-clause-changes : goal.returns-in-Err-Refused-clause-changes
+returns-in-Err-Refused-clause-changes g c = λ db rest of. refused-through g c db c.args.cursor.now rest (ended g (goal.at.returns-in-Err-Refused-clause-changes g c).After-make db rest of)
+
 pub returns-in_err-commit-in-Ok-clause-changes : goal.returns-in_err-commit-in-Ok-clause-changes
-returns-in_err-commit-in-Ok-clause-changes g c = λ db cursor rest.
+returns-in_err-commit-in-Ok-clause-changes g c = λ db rest of.
     let w = (goal.at.returns-in_err-commit-in-Ok-clause-changes g c).After-make in
     let old = g.B.Eeprom.chip c.args.bench.now in
+    let cursor = c.args.cursor.now in
     let edited = edits_of db (acting db c.args.user) cursor c.args.operation.now in
-    let made = rw c.in-Ok.is at (ended g w db cursor rest) in
+    let made = rw c.in-Ok.is at (ended g w db rest of) in
     let goes_on = c.in-Ok.ensures.goes_on (λ wrong. cc) in
     Changes-half_committed db edited old (opens-rest c.args.store.now old db c.requires.over rest) made.0 made.1 c.begin.new.self c.make.new.store (g.B.Eeprom.chip c.actor_of.new.bench) (g.B.Eeprom.chip c.make.new.bench) made.2
     (are_tables-edited db (acting db c.args.user) cursor c.args.operation.now made.0 (makes_view-built c.args.operation.now c.requires.changes.0) made.1 rest.tables)
@@ -83,12 +115,13 @@ returns-in_err-commit-in-Ok-clause-changes g c = λ db cursor rest.
     (committed-begun c.args.store.now c.begin.new.self c.make.new.store old (g.B.Eeprom.chip c.actor_of.new.bench) (g.B.Eeprom.chip c.make.new.bench) db rest.held c.in_ok-actor.ensures.frame.same c.begin.ensures.begun c.begin.ensures.committed made.2.committed goes_on.cells goes_on.rows)
     rest.tables c.commit.ensures.moments
 
-pub returns-in_ok-commit-in-Ok-clause-changes : goal.returns-in_ok-commit-in-Ok-clause-changes
-returns-in_ok-commit-in-Ok-clause-changes g c = λ db cursor rest.
+done-through : (g : _) (c : After-commit-in-Ok g) (db : Database) (cursor : Option Cursor) → IsAtRest c.args.store.now (g.B.Eeprom.chip c.args.bench.now) db → EndsThrough g (goal.at.returns-in_ok-commit-in-Ok-clause-changes g c).After-make db cursor
+    → Changes db (edits_of db (acting db c.args.user) cursor c.args.operation.now) (Ok done) c.commit.new.self (g.B.Eeprom.chip c.args.bench.now) (g.B.Eeprom.chip c.commit.new.bench)
+done-through g c db cursor rest ends =
     let w = (goal.at.returns-in_ok-commit-in-Ok-clause-changes g c).After-make in
     let old = g.B.Eeprom.chip c.args.bench.now in
     let edited = edits_of db (acting db c.args.user) cursor c.args.operation.now in
-    let made = rw c.in-Ok.is at (ended g w db cursor rest) in
+    let made = rw c.in-Ok.is at ends in
     let goes_on = c.in-Ok.ensures.goes_on (λ wrong. cc) in
     Changes-committed db edited old (opens-rest c.args.store.now old db c.requires.over rest) made.0 made.1 c.begin.new.self c.make.new.store (g.B.Eeprom.chip c.actor_of.new.bench) (g.B.Eeprom.chip c.make.new.bench) made.2
     (are_tables-edited db (acting db c.args.user) cursor c.args.operation.now made.0 (makes_view-built c.args.operation.now c.requires.changes.0) made.1 rest.tables)
@@ -96,6 +129,9 @@ returns-in_ok-commit-in-Ok-clause-changes g c = λ db cursor rest.
     (committed-begun c.args.store.now c.begin.new.self c.make.new.store old (g.B.Eeprom.chip c.actor_of.new.bench) (g.B.Eeprom.chip c.make.new.bench) db rest.held c.in_ok-actor.ensures.frame.same c.begin.ensures.begun c.begin.ensures.committed made.2.committed goes_on.cells goes_on.rows)
     rest.tables c.commit.ensures.moments c.in_ok-commit-in-Ok.ensures.done c.in_ok-commit-in-Ok.ensures.told c.in_ok-commit-in-Ok.ensures.cells c.in_ok-commit-in-Ok.ensures.rows
     (ap (λ (chip : Chip). chip.written) c.in_ok-actor.ensures.frame.same) c.begin.ensures.no_entries c.in_ok-commit-in-Ok.ensures.octets_written
+
+pub returns-in_ok-commit-in-Ok-clause-changes : goal.returns-in_ok-commit-in-Ok-clause-changes
+returns-in_ok-commit-in-Ok-clause-changes g c = λ db rest of. done-through g c db c.args.cursor.now rest (ended g (goal.at.returns-in_ok-commit-in-Ok-clause-changes g c).After-make db rest of)
 
 pub returns-in_err-commit-in-Ok-clause-behind : goal.returns-in_err-commit-in-Ok-clause-behind
 returns-in_err-commit-in-Ok-clause-behind g c =
@@ -108,9 +144,9 @@ returns-in_ok-commit-in-Ok-clause-behind g c =
     c.in_ok-actor.ensures.frame.same c.begin.ensures.begun (c.in-Ok.ensures.goes_on (λ wrong. cc)).cells c.make.ensures.behind c.commit.ensures.behind
 
 pub returns-in-Err-Fault-clause-changes : goal.returns-in-Err-Fault-clause-changes
-returns-in-Err-Fault-clause-changes g c = λ db cursor rest.
+returns-in-Err-Fault-clause-changes g c = λ db rest of.
     let old = g.B.Eeprom.chip c.args.bench.now in
-    Changes-failed db (edits_of db (acting db c.args.user) cursor c.args.operation.now) old (opens-rest c.args.store.now old db c.requires.over rest) _ c.make.new.store (g.B.Eeprom.chip c.make.new.bench) tt
+    Changes-failed db (edits_of db (acting db c.args.user) c.args.cursor.now c.args.operation.now) old (opens-rest c.args.store.now old db c.requires.over rest) _ c.make.new.store (g.B.Eeprom.chip c.make.new.bench) tt
     (kept g (goal.at.returns-in-Err-Fault-clause-changes g c).After-make)
 
 pub make-requires-clause-index : goal.make-requires-clause-index
@@ -128,7 +164,9 @@ pub returns-in_ok-commit-in-Ok-clause-holds : goal.returns-in_ok-commit-in-Ok-cl
 returns-in_ok-commit-in-Ok-clause-holds g c =
     HoldsSome-changed c.commit.new.self c.args.store.now (g.B.Eeprom.chip c.args.bench.now) (g.B.Eeprom.chip c.commit.new.bench) c.requires.holds
     (c.in_ok-commit-in-Ok.ensures.told ∙ ((c.in-Ok.ensures.goes_on (λ wrong. cc)).told ∙ ap (λ (chip : Chip). is_some chip.image) c.in_ok-actor.ensures.frame.same))
-    (λ db rest. rest-concluded db _ _ _ _ (returns-in_ok-commit-in-Ok-clause-changes g c db None rest).step)
+    (λ db rest.
+    let ends = through g (goal.at.returns-in_ok-commit-in-Ok-clause-changes g c).After-make db rest in
+    rest-concluded db _ _ _ _ (done-through g c db ends.0 rest ends.1).step)
 
 pub returns-in_ok-commit-in-Ok-clause-index : goal.returns-in_ok-commit-in-Ok-clause-index
 returns-in_ok-commit-in-Ok-clause-index g c =
@@ -141,20 +179,23 @@ pub returns-in-Err-Refused-clause-holds : goal.returns-in-Err-Refused-clause-hol
 returns-in-Err-Refused-clause-holds g c =
     HoldsSome-changed c.rollback.new.self c.args.store.now (g.B.Eeprom.chip c.args.bench.now) (g.B.Eeprom.chip c.make.new.bench) c.requires.holds
     ((c.in-Err-Refused.ensures.goes_on (λ wrong. cc)).told ∙ ap (λ (chip : Chip). is_some chip.image) c.in_ok-actor.ensures.frame.same)
-    (λ db rest. rest-concluded db _ _ _ _ (returns-in-Err-Refused-clause-changes g c db None rest).step)
+    (λ db rest.
+    let ends = through g (goal.at.returns-in-Err-Refused-clause-changes g c).After-make db rest in
+    rest-concluded db _ _ _ _ (refused-through g c db ends.0 rest ends.1).step)
 
 pub returns-in-Err-Refused-clause-index : goal.returns-in-Err-Refused-clause-index
 returns-in-Err-Refused-clause-index g c =
     let goes_on = c.in-Err-Refused.ensures.goes_on (λ wrong. cc) in
     let old = g.B.Eeprom.chip c.args.bench.now in
-    let w = (goal.at.returns-in-Err-Refused-clause-index g c).After-make in
+    let w = (goal.at.returns-in-Err-Refused-clause-changes g c).After-make in
     let cells : c.rollback.new.self.chains.cells ≡ c.args.store.now.chains.cells = c.rollback.ensures.cells ∙ (goes_on.cells ∙ ap (λ (h : Held). h.chains.cells) c.begin.ensures.begun) in
     let is : c.rollback-in-Err-Refused.new.self ≡ record { cells = c.args.index.now.cells; begun = false; committed = c.args.index.now.committed; working = c.args.index.now.committed }
     = c.rollback-in-Err-Refused.ensures.rolled_back ∙ rw (c.make.ensures.index_cells, c.make.ensures.index_committed, c.begin-2.ensures.begun) refl in
     Indexes-held c.rollback-in-Err-Refused.new.self c.rollback.new.self c.args.store.now old (g.B.Eeprom.chip c.make.new.bench) c.requires.holds
     (goes_on.told ∙ ap (λ (chip : Chip). is_some chip.image) c.in_ok-actor.ensures.frame.same)
     (ap (λ (i : Index). i.cells) is ∙ (c.requires.index.cells ∙ sym cells)) (λ db rest.
-    let refused = rw (c.in-Err-Refused.is, c.in-Err-Refused.field-0-is) at (ended g w db None rest) in
+    let ends = through g w db rest in
+    let refused = refused-still g c db ends.0 ends.1 in
     Indexes-ended c.args.index.now c.rollback-in-Err-Refused.new.self Committed c.args.store.now c.rollback.new.self old (g.B.Eeprom.chip c.make.new.bench) c.requires.index is c.rollback.ensures.ended cells
     (slots-rolled_back c.args.store.now c.begin.new.self c.make.new.store c.rollback.new.self old (g.B.Eeprom.chip c.actor_of.new.bench) (g.B.Eeprom.chip c.make.new.bench) c.in_ok-actor.ensures.frame.same
-    c.begin.ensures.committed refused.1 refused.2 c.rollback.ensures.committed))
+    c.begin.ensures.committed refused.0 refused.1 c.rollback.ensures.committed))

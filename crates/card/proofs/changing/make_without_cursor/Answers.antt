@@ -1,29 +1,32 @@
 -- Each operation ends as its edits say, and the index goes on with it.
-use Rattle.std.proofs.Common.{◌≡◌, ℕ, true, List, refl}
+use Rattle.std.proofs.Common.{◌≡◌, ℕ, false, true, List, refl}
 use Rattle.scql_base.specs.declared.operation.Operation.{Operation}
-use Rattle.scql_base.specs.declared.operation.Operation.TheVariants.{CreateTable, DropTable, Grant, Revoke, Insert, CreateUser}
+use Rattle.scql_base.specs.declared.operation.Operation.TheVariants.{CreateTable, DropTable, Grant, Revoke, Insert, Update, Delete, CreateUser}
 use Rattle.scql_base.specs.declared.words.Profile.{Profile}
 use Rattle.scql_model.specs.Changing.{edits_of}
 use Rattle.scql_model.specs.Operations.{kind_of}
+use Rattle.card.specs.Changing.{goes_through_cursor}
 use Rattle.card.proofs.BuiltLines.{is_change, is_change-IsChange}
 use Rattle.card.proofs.IndexedStore.{Indexes-ends}
-use Rattle.card.proofs.changing.make.Goals as goal
+use Rattle.card.proofs.changing.make_without_cursor.Goals as goal
 
 -- each change that is built has an arm
-no-other : (operation : Operation) → is_change (kind_of operation) ≡ true → ((name : List ℕ) (columns : List (List ℕ)) → operation ≡ CreateTable name columns → ⊥) → ((name : List ℕ) → operation ≡ DropTable name → ⊥)
+no-other : (operation : Operation) → is_change (kind_of operation) ≡ true → goes_through_cursor (kind_of operation) ≡ false → ((name : List ℕ) (columns : List (List ℕ)) → operation ≡ CreateTable name columns → ⊥) → ((name : List ℕ) → operation ≡ DropTable name → ⊥)
     → ((privileges : ℕ) (object grantee : List ℕ) → operation ≡ Grant privileges object grantee → ⊥) → ((privileges : ℕ) (object grantee : List ℕ) → operation ≡ Revoke privileges object grantee → ⊥)
     → ((table : List ℕ) (row : List (List ℕ)) → operation ≡ Insert table row → ⊥) → ((name : List ℕ) (profile : Profile) (secret : List ℕ) → operation ≡ CreateUser name profile secret → ⊥) → ⊥
-no-other (CreateTable name columns) change table drop grant revoke row user = table name columns refl
-no-other (DropTable name) change table drop grant revoke row user = drop name refl
-no-other (Grant privileges object grantee) change table drop grant revoke row user = grant privileges object grantee refl
-no-other (Revoke privileges object grantee) change table drop grant revoke row user = revoke privileges object grantee refl
-no-other (Insert name values) change table drop grant revoke row user = row name values refl
-no-other (CreateUser name profile secret) change table drop grant revoke row user = user name profile secret refl
-no-other operation change table drop grant revoke row user = cc
+no-other (CreateTable name columns) change without table drop grant revoke row user = table name columns refl
+no-other (DropTable name) change without table drop grant revoke row user = drop name refl
+no-other (Grant privileges object grantee) change without table drop grant revoke row user = grant privileges object grantee refl
+no-other (Revoke privileges object grantee) change without table drop grant revoke row user = revoke privileges object grantee refl
+no-other (Insert name values) change without table drop grant revoke row user = row name values refl
+no-other (Update changes) change without table drop grant revoke row user = absurd (cc)
+no-other Delete change without table drop grant revoke row user = absurd (cc)
+no-other (CreateUser name profile secret) change without table drop grant revoke row user = user name profile secret refl
+no-other operation change without table drop grant revoke row user = cc
 
 pub unreachable-requires : goal.unreachable-requires
 unreachable-requires g c =
-    no-other c.args.operation.now (is_change-IsChange c.args.operation.now c.requires.changes) c.in_default.not-CreateTable c.in_default.not-DropTable c.in_default.not-Grant c.in_default.not-Revoke
+    no-other c.args.operation.now (is_change-IsChange c.args.operation.now c.requires.changes) c.requires.no_cursor c.in_default.not-CreateTable c.in_default.not-DropTable c.in_default.not-Grant c.in_default.not-Revoke
     c.in_default.not-Insert c.in_default.not-CreateUser
 
 pub returns-in-CreateTable-clause-ends : goal.returns-in-CreateTable-clause-ends
