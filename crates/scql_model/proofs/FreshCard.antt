@@ -56,5 +56,4 @@ Opens-fresh n image few many stored = record {
   limit = refl;
   holds = Holds-fresh n few;
   valid = IsValid-fresh n few many;
-  tables = refl;
 }

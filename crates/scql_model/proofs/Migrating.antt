@@ -55,7 +55,6 @@ Opens-migrated was left db opens stored = record {
     rows = opens.holds.rows;
   };
   valid = IsValid-migrated db opens.valid;
-  tables = opens.tables;
 }
 
 -- the row limit of a store is that of its image

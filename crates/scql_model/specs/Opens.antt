@@ -8,7 +8,6 @@ use Rattle.scql_base.specs.declared.records.Object.{Object}
 use Rattle.scql_base.specs.declared.records.Grant.{Grant}
 use Rattle.scql_base.specs.declared.records.RowRecord.{RowRecord}
 use Rattle.scql_model.specs.Records.{counter_in, user_in, object_in, grant_in, row_in}
-use Rattle.scql_model.specs.Rules.{is_table}
 use Rattle.scql_model.specs.Database.{Database, IsValid}
 
 -- an empty slot, or the spelling of a record of some kind
@@ -30,10 +29,6 @@ pub record Holds (slots : Slots) (db : Database) : Type 0 where
   pub grants : kept (λ (g : Grant). g.stamp) grant_in slots ≡ db.grants
   pub rows : kept (λ (r : RowRecord). r.stamp) row_in slots ≡ db.rows
 
--- all objects are tables
-abbrev pub are_tables : List Object → Bool
-are_tables objects = list_all (λ (o : Object). is_table o.kind) objects
-
 -- The image has a store whose slots hold a valid database with its row limit.
 pub record Opens (image : List ℕ) (db : Database) : Type 0 where
   pub store : Stored
@@ -41,8 +36,6 @@ pub record Opens (image : List ℕ) (db : Database) : Type 0 where
   pub limit : db.limit ≡ store.row_limit
   pub holds : Holds store.slots db
   pub valid : IsValid db
-  -- a card that can't read views and dictionaries yet doesn't open with one
-  pub tables : are_tables db.objects ≡ true
 
 -- The image opens to one of these databases.
 abbrev pub OpensToOneOf : List Database → List ℕ → Type 0

@@ -17,9 +17,7 @@ use Rattle.card.specs.Changing.{acting}
 use Rattle.row_index.specs.Index.{Index, Indexes, is_above}
 use Rattle.card.proofs.IndexedStore.{HoldsSome-changed, Indexes-begun, Indexes-ended, Indexes-held, last-held, rest-concluded}
 use Rattle.card.proofs.ChangedStore.{held-begun, held-before, slots-committed, slots-rolled_back, over-begun, opens-rest, committed-begun, behind-changed, rest-rolled_back, Changes-failed, Changes-refused, Changes-half_committed, Changes-committed}
-use Rattle.card.proofs.BuiltLines.{makes_view-built}
 use Rattle.card.proofs.ChangingOperations.{IsActorOf-acting}
-use Rattle.card.proofs.TableEdits.{are_tables-edited}
 use Rattle.card.proofs.Leaving.{Keeps-none}
 use Rattle.card.proofs.changing.change.Goals.{After-make, After-commit}
 use Rattle.card.proofs.changing.change.Goals as goal
@@ -37,11 +35,11 @@ make-requires-clause-over g c = over-begun c.args.store.now c.begin.new.self (g.
 ended : (g : _) (c : After-make g) (db : Database) (cursor : Option Cursor) → IsAtRest c.args.store.now (g.B.Eeprom.chip c.args.bench.now) db
     → Ends db (edits_of db (acting db c.args.user) cursor c.args.operation.now) c.make.result c.begin.new.self c.make.new.store (g.B.Eeprom.chip c.actor_of.new.bench) (g.B.Eeprom.chip c.make.new.bench)
 ended g c db cursor rest =
-    let held = held-begun c.args.store.now c.begin.new.self (g.B.Eeprom.chip c.args.bench.now) (g.B.Eeprom.chip c.actor_of.new.bench) db rest.held c.in_ok-actor.ensures.frame.same c.begin.ensures.begun c.begin.ensures.starts in
-    let before : IsHeld c.args.store.now Committed (g.B.Eeprom.chip c.args.bench.now) db = rest.held in
+    let held = held-begun c.args.store.now c.begin.new.self (g.B.Eeprom.chip c.args.bench.now) (g.B.Eeprom.chip c.actor_of.new.bench) db rest c.in_ok-actor.ensures.frame.same c.begin.ensures.begun c.begin.ensures.starts in
+    let before : IsHeld c.args.store.now Committed (g.B.Eeprom.chip c.args.bench.now) db = rest in
     let who = c.in_ok-actor.ensures.actor db before in
     subst (λ actor. Ends db (edits_of db actor cursor c.args.operation.now) c.make.result c.begin.new.self c.make.new.store (g.B.Eeprom.chip c.actor_of.new.bench) (g.B.Eeprom.chip c.make.new.bench)) who
-    (c.make.ensures.ends db cursor held (subst (IsActorOf db) (sym who) (IsActorOf-acting db c.args.user)) c.requires.formed (subst (λ (limit : ℕ). FitsCard limit c.args.operation.now) (sym rest.held.limit) c.requires.fits))
+    (c.make.ensures.ends db cursor held (subst (IsActorOf db) (sym who) (IsActorOf-acting db c.args.user)) c.requires.formed (subst (λ (limit : ℕ). FitsCard limit c.args.operation.now) (sym rest.limit) c.requires.fits))
 
 -- The index stands for what was made, where nothing failed.
 followed : (g : _) (c : After-make g) → ¬ IsErrOf c.make.result Fault → Indexes c.make.new.index c.make.new.store (g.B.Eeprom.chip c.make.new.bench)
@@ -51,10 +49,10 @@ followed g c whole =
     Indexes-held c.make.new.index c.make.new.store c.args.store.now old (g.B.Eeprom.chip c.make.new.bench) c.requires.holds
     (goes_on.told ∙ ap (λ (chip : Chip). is_some chip.image) c.in_ok-actor.ensures.frame.same)
     (c.make.ensures.index_cells ∙ (ap (λ (i : Index). i.cells) c.begin-2.ensures.begun ∙ (c.requires.index.cells ∙ sym (goes_on.cells ∙ ap (λ (h : Held). h.chains.cells) c.begin.ensures.begun)))) (λ db rest.
-    let before : IsHeld c.args.store.now Committed old db = rest.held in
+    let before : IsHeld c.args.store.now Committed old db = rest in
     let acts = subst (IsActorOf db) (sym (c.in_ok-actor.ensures.actor db before)) (IsActorOf-acting db c.args.user) in
-    c.make.ensures.index db (held-begun c.args.store.now c.begin.new.self old (g.B.Eeprom.chip c.actor_of.new.bench) db rest.held c.in_ok-actor.ensures.frame.same c.begin.ensures.begun c.begin.ensures.starts)
-    acts c.requires.formed (subst (λ (limit : ℕ). FitsCard limit c.args.operation.now) (sym rest.held.limit) c.requires.fits) whole)
+    c.make.ensures.index db (held-begun c.args.store.now c.begin.new.self old (g.B.Eeprom.chip c.actor_of.new.bench) db rest c.in_ok-actor.ensures.frame.same c.begin.ensures.begun c.begin.ensures.starts)
+    acts c.requires.formed (subst (λ (limit : ℕ). FitsCard limit c.args.operation.now) (sym rest.limit) c.requires.fits) whole)
 
 -- the store of the image stayed so far
 kept : (g : _) (c : After-make g) → Keeps store_of (g.B.Eeprom.chip c.args.bench.now) (g.B.Eeprom.chip c.make.new.bench)
@@ -78,10 +76,9 @@ returns-in_err-commit-in-Ok-clause-changes g c = λ db cursor rest.
     let made = rw c.in-Ok.is at (ended g w db cursor rest) in
     let goes_on = c.in-Ok.ensures.goes_on (λ wrong. cc) in
     Changes-half_committed db edited old (opens-rest c.args.store.now old db c.requires.over rest) made.0 made.1 c.begin.new.self c.make.new.store (g.B.Eeprom.chip c.actor_of.new.bench) (g.B.Eeprom.chip c.make.new.bench) made.2
-    (are_tables-edited db (acting db c.args.user) cursor c.args.operation.now made.0 (makes_view-built c.args.operation.now c.requires.changes.0) made.1 rest.tables)
     c.from_residual-in_err-commit-in-Ok.result c.commit.new.self (g.B.Eeprom.chip c.commit.new.bench) (search rules) (kept g w)
-    (committed-begun c.args.store.now c.begin.new.self c.make.new.store old (g.B.Eeprom.chip c.actor_of.new.bench) (g.B.Eeprom.chip c.make.new.bench) db rest.held c.in_ok-actor.ensures.frame.same c.begin.ensures.begun c.begin.ensures.committed made.2.committed goes_on.cells goes_on.rows)
-    rest.tables c.commit.ensures.moments
+    (committed-begun c.args.store.now c.begin.new.self c.make.new.store old (g.B.Eeprom.chip c.actor_of.new.bench) (g.B.Eeprom.chip c.make.new.bench) db rest c.in_ok-actor.ensures.frame.same c.begin.ensures.begun c.begin.ensures.committed made.2.committed goes_on.cells goes_on.rows)
+    c.commit.ensures.moments
 
 pub returns-in_ok-commit-in-Ok-clause-changes : goal.returns-in_ok-commit-in-Ok-clause-changes
 returns-in_ok-commit-in-Ok-clause-changes g c = λ db cursor rest.
@@ -91,10 +88,9 @@ returns-in_ok-commit-in-Ok-clause-changes g c = λ db cursor rest.
     let made = rw c.in-Ok.is at (ended g w db cursor rest) in
     let goes_on = c.in-Ok.ensures.goes_on (λ wrong. cc) in
     Changes-committed db edited old (opens-rest c.args.store.now old db c.requires.over rest) made.0 made.1 c.begin.new.self c.make.new.store (g.B.Eeprom.chip c.actor_of.new.bench) (g.B.Eeprom.chip c.make.new.bench) made.2
-    (are_tables-edited db (acting db c.args.user) cursor c.args.operation.now made.0 (makes_view-built c.args.operation.now c.requires.changes.0) made.1 rest.tables)
     c.commit.new.self (g.B.Eeprom.chip c.commit.new.bench) goes_on.over (kept g w)
-    (committed-begun c.args.store.now c.begin.new.self c.make.new.store old (g.B.Eeprom.chip c.actor_of.new.bench) (g.B.Eeprom.chip c.make.new.bench) db rest.held c.in_ok-actor.ensures.frame.same c.begin.ensures.begun c.begin.ensures.committed made.2.committed goes_on.cells goes_on.rows)
-    rest.tables c.commit.ensures.moments c.in_ok-commit-in-Ok.ensures.done c.in_ok-commit-in-Ok.ensures.told c.in_ok-commit-in-Ok.ensures.cells c.in_ok-commit-in-Ok.ensures.rows
+    (committed-begun c.args.store.now c.begin.new.self c.make.new.store old (g.B.Eeprom.chip c.actor_of.new.bench) (g.B.Eeprom.chip c.make.new.bench) db rest c.in_ok-actor.ensures.frame.same c.begin.ensures.begun c.begin.ensures.committed made.2.committed goes_on.cells goes_on.rows)
+    c.commit.ensures.moments c.in_ok-commit-in-Ok.ensures.done c.in_ok-commit-in-Ok.ensures.told c.in_ok-commit-in-Ok.ensures.cells c.in_ok-commit-in-Ok.ensures.rows
     (ap (λ (chip : Chip). chip.written) c.in_ok-actor.ensures.frame.same) c.begin.ensures.no_entries c.in_ok-commit-in-Ok.ensures.octets_written
 
 pub returns-in_err-commit-in-Ok-clause-behind : goal.returns-in_err-commit-in-Ok-clause-behind
