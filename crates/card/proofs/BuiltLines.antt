@@ -10,7 +10,6 @@ use Rattle.scql_base.specs.declared.operation.OperationKind.TheVariants.{Present
 use Rattle.scql_model.specs.Operations.{IsBuilt, built_operations, kind_of}
 use Rattle.scql_model.specs.Spelling.{is_same}
 use Rattle.card.specs.Changing.{IsChange, is_changing}
-use Rattle.card.proofs.TableEdits.{makes_view}
 
 -- what all of a list pass, each that it contains passes
 all-Contains : {X : Type 0} (p : X → Bool) (xs : List X) (x : X) → list_all p xs ≡ true → Contains xs x → p x ≡ true
@@ -53,7 +52,3 @@ IsChange-built operation built not_presents not_opens not_closes =
     of (asks.OpenChannel number) not_presents not_opens not_closes is = absurd (not_opens number refl)
     of (asks.CloseChannel number) not_presents not_opens not_closes is = absurd (not_closes number refl)
     of operation not_presents not_opens not_closes is = is
-
--- and makes no view or dictionary yet
-pub makes_view-built : (operation : Operation) → IsBuilt (kind_of operation) → makes_view (kind_of operation) ≡ false
-makes_view-built operation built = not-true (makes_view (kind_of operation)) (all-Contains (λ kind. not (makes_view kind)) kinds_built (kind_of operation) refl built)

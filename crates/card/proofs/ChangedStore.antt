@@ -18,7 +18,7 @@ use Rattle.scql_base.specs.declared.words.StatusWord.{StatusWord}
 use Rattle.scql_base.specs.Words.{done}
 use Rattle.scql_model.specs.Database.{Database}
 use Rattle.scql_model.specs.Edits.{Edit, applied, octets_for}
-use Rattle.scql_model.specs.Opens.{Opens, are_tables}
+use Rattle.scql_model.specs.Opens.{Opens}
 use Rattle.record_table.specs.Listed.{slots_of}
 use Rattle.record_table.specs.Making.{IsHeld, Makes}
 use Rattle.card.specs.Answering.{LeavesOneOf}
@@ -84,21 +84,20 @@ over-begun store begun old chip over same is stands = subst (IsOver begun) (sym 
     told (Some image) there = stands image there
 
 -- an image whose store is that of a side that holds a database opens to it
-opens-side : (store : Held) (side : Side) (chip : Chip) (db : Database) → IsHeld store side chip db → are_tables db.objects ≡ true → (was left : List ℕ) → chip.image ≡ Some was → store_of left ≡ stored store side was
+opens-side : (store : Held) (side : Side) (chip : Chip) (db : Database) → IsHeld store side chip db → (was left : List ℕ) → chip.image ≡ Some was → store_of left ≡ stored store side was
     → Opens left db
-opens-side store side chip db held tables was left told is = record {
+opens-side store side chip db held was left told is = record {
   store = record { row_limit = store.row_limit; slots = held.slots };
   stored = is ∙ ap (with_limit store.row_limit) (contents-told store side chip held.slots held.told was told);
   limit = held.limit;
   holds = held.holds;
   valid = held.valid;
-  tables = tables;
 }
 
 pub opens-rest : (store : Held) (chip : Chip) (db : Database) → IsOver store chip → IsAtRest store chip db → (was : List ℕ) → chip.image ≡ Some was → Opens was db
 opens-rest store chip db over rest was told =
     let stands : StandsFor store was = subst (λ (o : Option (List ℕ)). IfSome o (StandsFor store)) told over.stands in
-    opens-side store Committed chip db rest.held rest.tables was was told (store_of-stands store was stands)
+    opens-side store Committed chip db rest was was told (store_of-stands store was stands)
 
 -- where the store of the image stays at each moment, so does the database
 leaves-kept : (old new : Chip) (db : Database) (more : List Database) → ((was : List ℕ) → old.image ≡ Some was → Opens was db) → Keeps store_of old new → LeavesOneOf (db ∷ more) old new
@@ -114,13 +113,13 @@ leaves-kept old new db more opens keeps = record {
 
 -- and a commit leaves it, or what the working side holds
 leaves-committed : (mid : Held) (old between new : Chip) (db next : Database) → ((was : List ℕ) → old.image ≡ Some was → Opens was db) → Keeps store_of old between
-    → IsHeld mid Committed between db → are_tables db.objects ≡ true → IsHeld mid Working between next → are_tables next.objects ≡ true → Commits mid between new → LeavesOneOf (db ∷ next ∷ []) old new
-leaves-committed mid old between new db next opens keeps committed tables working next_tables commits =
+    → IsHeld mid Committed between db → IsHeld mid Working between next → Commits mid between new → LeavesOneOf (db ∷ next ∷ []) old new
+leaves-committed mid old between new db next opens keeps committed working commits =
     throughout-then old between new _ (leaves-kept old between db (next ∷ []) opens keeps) (throughout-weaker between new _ _ commits.moments (λ g left at. (
       at.0 ∙ ap (λ still. still.mark) keeps.still,
       elim at.3 [
-        | inl was ↦ inl (opens-side mid Committed between db committed tables at.1 left at.2 was)
-        | inr now ↦ inr (inl (opens-side mid Working between next working next_tables at.1 left at.2 now))
+        | inl was ↦ inl (opens-side mid Committed between db committed at.1 left at.2 was)
+        | inr now ↦ inr (inl (opens-side mid Working between next working at.1 left at.2 now))
       ],
     )))
 
@@ -173,24 +172,24 @@ module _ (db : Database) (edited : Result (List Edit) StatusWord) (old : Chip) (
   }
 
   -- its edits were made, and are committed
-  module _ (edits : List Edit) (is : edited ≡ Ok edits) (begun mid : Held) (start between : Chip) (makes : Makes db edits begun mid start between) (tables : are_tables (applied db edits).objects ≡ true) where
+  module _ (edits : List Edit) (is : edited ≡ Ok edits) (begun mid : Held) (start between : Chip) (makes : Makes db edits begun mid start between) where
     new_is : new_of db edited ≡ Ok (applied db edits)
     new_is = rw (is, makes.room) refl
 
     octets_are : octets_of db edited ≡ octets_for edits
     octets_are = rw (is, makes.room) refl
 
-    committing : (new : Chip) → Keeps store_of old between → IsHeld mid Committed between db → are_tables db.objects ≡ true → Commits mid between new → LeavesOneOf (db ∷ commits_of (new_of db edited)) old new
-    committing new keeps committed db_tables commits =
+    committing : (new : Chip) → Keeps store_of old between → IsHeld mid Committed between db → Commits mid between new → LeavesOneOf (db ∷ commits_of (new_of db edited)) old new
+    committing new keeps committed commits =
         subst (λ (o : Result Database StatusWord). LeavesOneOf (db ∷ commits_of o) old new) (sym new_is)
-        (leaves-committed mid old between new db (applied db edits) opens keeps committed db_tables makes.held tables commits)
+        (leaves-committed mid old between new db (applied db edits) opens keeps committed makes.held commits)
 
-    pub Changes-half_committed : (result : Result StatusWord EepromFault) (store : Held) (new : Chip) → IfOk result (λ _. ⊥) → Keeps store_of old between → IsHeld mid Committed between db → are_tables db.objects ≡ true
+    pub Changes-half_committed : (result : Result StatusWord EepromFault) (store : Held) (new : Chip) → IfOk result (λ _. ⊥) → Keeps store_of old between → IsHeld mid Committed between db
         → Commits mid between new → Changes db edited result store old new
-    Changes-half_committed (Ok word) store new failed keeps committed db_tables commits = absurd failed
-    Changes-half_committed (Err fault) store new failed keeps committed db_tables commits = record {
+    Changes-half_committed (Ok word) store new failed keeps committed commits = absurd failed
+    Changes-half_committed (Err fault) store new failed keeps committed commits = record {
       step = tt;
-      moments = committing new keeps committed db_tables commits;
+      moments = committing new keeps committed commits;
       unwritten = tt;
       octets = tt;
     }
@@ -202,12 +201,12 @@ module _ (db : Database) (edited : Result (List Edit) StatusWord) (old : Chip) (
         is_some_there [] = false
         is_some_there (next ∷ dbs) = true
 
-    pub Changes-committed : (store : Held) (new : Chip) → IsOver mid between → Keeps store_of old between → IsHeld mid Committed between db → are_tables db.objects ≡ true → Commits mid between new
+    pub Changes-committed : (store : Held) (new : Chip) → IsOver mid between → Keeps store_of old between → IsHeld mid Committed between db → Commits mid between new
         → Becomes (IsCommitted mid store) between.image new.image → is_some new.image ≡ is_some between.image → store.chains.cells ≡ mid.chains.cells → store.row_limit ≡ mid.row_limit
         → start.written ≡ old.written → entries begun ≡ 0 → Becomes (RisesBy (4 + 6 * entries mid)) between.written new.written → Changes db edited (Ok done) store old new
-    Changes-committed store new over keeps committed db_tables commits done_now told cells rows same_written none rises = record {
-      step = subst (λ (o : Result Database StatusWord). Concludes db o done store new) (sym new_is) (refl, record { held = held-committed mid store between new (applied db edits) over makes.held done_now told cells rows; tables = tables });
-      moments = committing new keeps committed db_tables commits;
+    Changes-committed store new over keeps committed commits done_now told cells rows same_written none rises = record {
+      step = subst (λ (o : Result Database StatusWord). Concludes db o done store new) (sym new_is) (refl, held-committed mid store between new (applied db edits) over makes.held done_now told cells rows);
+      moments = committing new keeps committed commits;
       unwritten = λ idle. absurd (some_committed idle);
       octets = subst (λ (most : ℕ). Becomes (RisesAtMost most) old.written new.written) (sym octets_are) (λ after told.
           let last = rises after told in
@@ -242,8 +241,6 @@ slots-rolled_back store begun mid back old c1 c2 same starts stays still ended =
 pub rest-rolled_back : (store begun mid back : Held) (old c1 c2 : Chip) (db : Database) → IsAtRest store old db → c1 ≡ old → begun ≡ begun_from store
     → ((image : List ℕ) → contents begun Committed image ≡ contents store Committed image) → mid ≡ begun → c2 ≡ c1
     → ((image : List ℕ) → contents back Committed image ≡ contents mid Committed image) → back.chains.cells ≡ mid.chains.cells → back.row_limit ≡ mid.row_limit → IsAtRest back c2 db
-rest-rolled_back store begun mid back old c1 c2 db rest same is starts stays still ended cells rows = record {
-  held = held-same store back Committed Committed old c2 db rest.held (slots-rolled_back store begun mid back old c1 c2 same starts stays still ended)
-      (cells ∙ (ap (λ (h : Held). h.chains.cells) stays ∙ ap (λ (h : Held). h.chains.cells) is)) (rows ∙ (ap (λ (h : Held). h.row_limit) stays ∙ ap (λ (h : Held). h.row_limit) is));
-  tables = rest.tables;
-}
+rest-rolled_back store begun mid back old c1 c2 db rest same is starts stays still ended cells rows =
+    held-same store back Committed Committed old c2 db rest (slots-rolled_back store begun mid back old c1 c2 same starts stays still ended)
+    (cells ∙ (ap (λ (h : Held). h.chains.cells) stays ∙ ap (λ (h : Held). h.chains.cells) is)) (rows ∙ (ap (λ (h : Held). h.row_limit) stays ∙ ap (λ (h : Held). h.row_limit) is))

@@ -16,7 +16,7 @@ use Rattle.record_store.proofs.OpeningSlots.{so_far-first}
 use Rattle.record_store.proofs.Weights.{limited, store-begins}
 use Rattle.scql_model.specs.Records.{counter_in}
 use Rattle.scql_model.specs.Database.{Database, IsValid}
-use Rattle.scql_model.specs.Opens.{Holds, are_tables, counter_stamp}
+use Rattle.scql_model.specs.Opens.{Holds, counter_stamp}
 use Rattle.card.specs.Opening.{gathered, is_admitted, record_in}
 use Rattle.card.specs.declared.kept_record.KeptRecord.{KeptRecord}
 use Rattle.card.proofs.HeldKinds.{are_admitted, admitted-held, admitted-valid}
@@ -28,9 +28,9 @@ pub record Gathers (limit count : ℕ) (slots : Slots) (counter : Option ℕ) (r
   pub counters : filter_map (in_slot counter_in) slots ≡ cons_option counter []
   pub records_are : gathered 0 slots ≡ records
 
--- the store holds no valid database of tables
+-- the store holds no valid database
 abbrev pub HoldsNone : Stored → Type 0
-HoldsNone was = (db : Database) → db.limit ≡ was.row_limit → Holds was.slots db → IsValid db → are_tables db.objects ≡ true → ⊥
+HoldsNone was = (db : Database) → db.limit ≡ was.row_limit → Holds was.slots db → IsValid db → ⊥
 
 -- these were found in the slots so far
 abbrev pub GathersSoFar : HeldSoFar → ℕ → Option (List ℕ) → Option ℕ → List KeptRecord → Type 0
@@ -92,8 +92,8 @@ abbrev pub IsRefused : ℕ → Option ℕ → Option (List ℕ) → Type 0
 IsRefused limit counter v = (is_admitted limit v ≡ false) ⊎ ((counter ≢ None) × (in_slot counter_in v ≢ None))
 
 none-unadmitted : (limit : ℕ) (before : Slots) (v : Option (List ℕ)) (more : Slots) → is_admitted limit v ≡ false → HoldsNone (record { row_limit = limit; slots = before ++ v ∷ more })
-none-unadmitted limit before v more unadmitted = λ db limited holds valid tables.
-    let all = admitted-held limit (before ++ v ∷ more) db holds ∙ ap (λ (n : ℕ). are_admitted n db) (sym limited) ∙ admitted-valid db valid tables in
+none-unadmitted limit before v more unadmitted = λ db limited holds valid.
+    let all = admitted-held limit (before ++ v ∷ more) db holds ∙ ap (λ (n : ℕ). are_admitted n db) (sym limited) ∙ admitted-valid db valid in
     let parts = and_parts (list_all (is_admitted limit) before) (list_all (is_admitted limit) (v ∷ more)) (sym (list_all-append (is_admitted limit) before (v ∷ more)) ∙ all) in
     false≢true (sym unadmitted ∙ (and_parts (is_admitted limit v) (list_all (is_admitted limit) more) parts.1).0)
 
@@ -102,7 +102,7 @@ one n = 1
 
 none-two : (limit : ℕ) (slots : Slots) (a b : ℕ) (rest : List ℕ) → filter_map (in_slot counter_in) slots ≡ a ∷ b ∷ rest → HoldsNone (record { row_limit = limit; slots = slots })
 unfolding one
-none-two limit slots a b rest two = λ db limited holds valid tables.
+none-two limit slots a b rest two = λ db limited holds valid.
     let c = ap (sum_by one) (sym holds.counter ∙ ap (in_order counter_stamp) two) in
     let d = sum_by-in_order counter_stamp one (a ∷ b ∷ rest) in
     let e = sum_by-cons one a (b ∷ rest) in

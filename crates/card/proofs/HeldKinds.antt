@@ -12,9 +12,9 @@ use Rattle.scql_base.specs.declared.records.Object.{Object}
 use Rattle.scql_base.specs.declared.records.Grant.{Grant}
 use Rattle.scql_base.specs.declared.records.RowRecord.{RowRecord}
 use Rattle.scql_model.specs.Records.{counter_record, user_record, grant_record, row_record, object_fits, counter_in, user_in, object_in, grant_in, row_in}
-use Rattle.scql_model.specs.Rules.{is_short, is_table, is_within_limit}
+use Rattle.scql_model.specs.Rules.{is_short, is_within_limit}
 use Rattle.scql_model.specs.Database.{Database, IsValid, weight}
-use Rattle.scql_model.specs.Opens.{Holds, is_spelled, counter_stamp, are_tables}
+use Rattle.scql_model.specs.Opens.{Holds, is_spelled, counter_stamp}
 use Rattle.scql_model.proofs.KindsApart.{given, one_kind}
 use Rattle.card.specs.Opening.{gives_only, is_sound_object, is_sound_row, is_admitted, record_in, gathered}
 use Rattle.card.specs.KeptRecords.{as_user, as_object, as_grant, as_row, users_in, objects_in, grants_in, rows_in}
@@ -66,40 +66,36 @@ admitted-held limit slots db holds =
     list_all-both (gives_only user_record.fits user_in) _ slots ∙ and-same users (list_all-both (gives_only is_sound_object object_in) _ slots ∙ and-same objects (
     list_all-both (gives_only grant_record.fits grant_in) (gives_only (is_sound_row limit) row_in) slots ∙ and-same grants rows))))
 
--- A valid database of tables is admitted.
-pub admitted-valid : (db : Database) → IsValid db → are_tables db.objects ≡ true → are_admitted db.limit db ≡ true
-admitted-valid db valid tables =
+-- A valid database is admitted.
+pub admitted-valid : (db : Database) → IsValid db → are_admitted db.limit db ≡ true
+admitted-valid db valid =
     let within = HasFittingRecords-valid db valid in
-    let plain = list_all-both is_short (λ (o : Object). is_table o.kind) db.objects ∙ and-same within.object_lengths tables in
-    let objects = list_all-both object_fits (λ (o : Object). is_short o && is_table o.kind) db.objects ∙ and-same within.objects plain in
+    let objects = list_all-both object_fits is_short db.objects ∙ and-same within.objects within.object_lengths in
     let rows = list_all-both row_record.fits (is_within_limit db.limit) db.rows ∙ and-same within.rows within.lengths in
     and-same (and-same within.counter refl) (and-same within.users (and-same objects (and-same within.grants rows)))
 
--- A database that is admitted has tables alone, and is within its limits.
+-- A database that is admitted is within its limits.
 pub admitted-parts : (db : Database) → are_admitted db.limit db ≡ true
-    → (are_tables db.objects ≡ true) × ((16 ≤ db.cells) × (db.cells ≤ 2048) → (db.limit == LARGEST_UNMIGRATED || db.limit == LARGEST) ≡ true → weight db ≤ db.cells → HasFittingRecords db)
+    → (16 ≤ db.cells) × (db.cells ≤ 2048) → (db.limit == LARGEST_UNMIGRATED || db.limit == LARGEST) ≡ true → weight db ≤ db.cells → HasFittingRecords db
 admitted-parts db admitted =
     let a = and_parts (list_all counter_record.fits (db.next ∷ [])) _ admitted in
     let b = and_parts (list_all user_record.fits db.users) _ a.1 in
     let c = and_parts (list_all is_sound_object db.objects) _ b.1 in
     let d = and_parts (list_all grant_record.fits db.grants) _ c.1 in
-    let o = and_parts (list_all object_fits db.objects) (list_all (λ (o : Object). is_short o && is_table o.kind) db.objects) (sym (list_all-both object_fits (λ (o : Object). is_short o && is_table o.kind) db.objects) ∙ c.0) in
-    let p = and_parts (list_all is_short db.objects) (are_tables db.objects) (sym (list_all-both is_short (λ (o : Object). is_table o.kind) db.objects) ∙ o.1) in
-    let r = and_parts (list_all row_record.fits db.rows) (list_all (is_within_limit db.limit) db.rows) (sym (list_all-both row_record.fits (is_within_limit db.limit) db.rows) ∙ d.1) in (
-      p.1,
-      λ cells limit room. record {
-        cells = cells;
-        limit = limit;
-        room = room;
-        counter = (and_parts (counter_record.fits db.next) true a.0).0;
-        users = b.0;
-        objects = o.0;
-        object_lengths = p.0;
-        grants = d.0;
-        rows = r.0;
-        lengths = r.1;
-      },
-    )
+    let o = and_parts (list_all object_fits db.objects) (list_all is_short db.objects) (sym (list_all-both object_fits is_short db.objects) ∙ c.0) in
+    let r = and_parts (list_all row_record.fits db.rows) (list_all (is_within_limit db.limit) db.rows) (sym (list_all-both row_record.fits (is_within_limit db.limit) db.rows) ∙ d.1) in
+    λ cells limit room. record {
+      cells = cells;
+      limit = limit;
+      room = room;
+      counter = (and_parts (counter_record.fits db.next) true a.0).0;
+      users = b.0;
+      objects = o.0;
+      object_lengths = o.1;
+      grants = d.0;
+      rows = r.0;
+      lengths = r.1;
+    }
 
 -- The record of a slot is, of each kind, what its reader gives.
 abbrev pub parts : ℕ → Option User → Option Object → Option Grant → Option RowRecord → Option KeptRecord

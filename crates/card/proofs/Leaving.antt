@@ -22,7 +22,7 @@ unfolding committed_slots
 Opens-at card chip m ready at image told =
     let stands : StandsFor card.store image = subst (λ (o : Option (List ℕ)). IfSome o (StandsFor card.store)) told ready.over.stands in
     let stored : contents card.store Committed image ≡ Some at.slots = subst (λ (o : Option (List ℕ)). committed_slots card.store o ≡ Some at.slots) told at.committed in
-    record { store = record { row_limit = card.store.row_limit; slots = at.slots }; stored = store_of-stands card.store image stands ∙ ap (with_limit card.store.row_limit) stored; limit = at.limit; holds = at.holds; valid = at.valid; tables = at.tables }
+    record { store = record { row_limit = card.store.row_limit; slots = at.slots }; stored = store_of-stands card.store image stands ∙ ap (with_limit card.store.row_limit) stored; limit = at.limit; holds = at.holds; valid = at.valid }
 
 -- where nothing is written, all stays
 pub Keeps-none : {A : Type 0} (look : List ℕ → A) (old new : Chip) → new ≡ old → Keeps look old new

@@ -27,7 +27,6 @@ mod Sorting
 pub mod Stamped
 pub mod Starting
 mod TakenForms
-mod TableEdits
 pub mod Tested
 pub mod Told
 mod UnreadSteps

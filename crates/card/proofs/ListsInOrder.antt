@@ -1,5 +1,5 @@
 -- Lists in rising order of a key, and what is made of their elements.
-use Rattle.std.proofs.Common.{◌≡◌, ℕ, ◌<◌, Bool, true, false, ◌&&◌, ltb, List, [], ◌∷◌, map, Option, Some, None, option_map, refl, sym, ap, ◌∙◌, inl, inr, arith}
+use Rattle.std.proofs.Common.{◌≡◌, ℕ, ◌<◌, Bool, true, false, ◌&&◌, ltb, List, [], ◌∷◌, Option, Some, None, refl, sym, ap, ◌∙◌, inl, inr, arith}
 use Rattle.std.specs.List.{list_all, filter_map, cons_option, AllByRecursion}
 use Rattle.std.specs.Option.{option_and_then}
 use Rattle.std.proofs.lemmas.Bool.{cases_Bool, ltb-true}
@@ -59,33 +59,9 @@ filter_map-in_order {X} {Y} key key' h (x ∷ xs) same apart =
     go None = refl
     go (Some y) = refl
 
-map-put_in_order : {X Y : Type 0} (key : X → ℕ) (key' : Y → ℕ) (f : X → Y) (x : X) (xs : List X) → ((x : X) → key' (f x) ≡ key x) → map f (put_in_order key x xs) ≡ put_in_order key' (f x) (map f xs)
-map-put_in_order key key' f x [] same = refl
-map-put_in_order key key' f x (y ∷ ys) same =
-    elim (cases_Bool (ltb (key x) (key y))) [
-      | inl t ↦ rw (same x, same y, t) refl
-      | inr e ↦ rw (same x, same y, e) (ap (λ rest. f y ∷ rest) (map-put_in_order key key' f x ys same))
-    ]
-
-pub map-in_order : {X Y : Type 0} (key : X → ℕ) (key' : Y → ℕ) (f : X → Y) (xs : List X) → ((x : X) → key' (f x) ≡ key x) → map f (in_order key xs) ≡ in_order key' (map f xs)
-map-in_order key key' f [] same = refl
-map-in_order key key' f (x ∷ xs) same = map-put_in_order key key' f x (in_order key xs) same ∙ ap (put_in_order key' (f x)) (map-in_order key key' f xs same)
-
-pub filter_map-option_map : {X Y Z : Type 0} (f : Y → Z) (h : X → Option Y) (xs : List X) → filter_map (λ x. option_map f (h x)) xs ≡ map f (filter_map h xs)
-filter_map-option_map f h [] = refl
-filter_map-option_map {X} {Y} {Z} f h (x ∷ xs) = go (h x) (filter_map-option_map f h xs)
-  where
-    go : (o : Option Y) → filter_map (λ x. option_map f (h x)) xs ≡ map f (filter_map h xs) → cons_option (option_map f o) (filter_map (λ x. option_map f (h x)) xs) ≡ map f (cons_option o (filter_map h xs))
-    go None rest = rest
-    go (Some y) rest = ap (λ rest. f y ∷ rest) rest
-
 pub filter_map-cons_option : {X Y : Type 0} (h : X → Option Y) (o : Option X) (xs : List X) → filter_map h (cons_option o xs) ≡ cons_option (option_and_then h o) (filter_map h xs)
 filter_map-cons_option h None xs = refl
 filter_map-cons_option h (Some x) xs = refl
-
-pub filter_map-same : {X Y : Type 0} (g h : X → Option Y) (xs : List X) → ((x : X) → g x ≡ h x) → filter_map g xs ≡ filter_map h xs
-filter_map-same g h [] same = refl
-filter_map-same g h (x ∷ xs) same = rw (same x, filter_map-same g h xs same) refl
 
 and-swap : (a b c d : Bool) → ((a && b) && (c && d)) ≡ ((a && c) && (b && d))
 and-swap true b true d = refl

@@ -80,8 +80,7 @@ opens-tested image was count next records there cells limit room g passed =
         stored = there;
         limit = refl;
         holds = holds;
-        valid = IsValid-tested db sorted (records-held was.slots db holds apart) (admitted.1 cells limit room') valid;
-        tables = admitted.0;
+        valid = IsValid-tested db sorted (records-held was.slots db holds apart) (admitted cells limit room') valid;
       },
     )
 
@@ -91,7 +90,7 @@ counter-held (Some n) next is = ap Some (cc)
 
 -- slots that don't pass the test hold none
 pub none-tested : (was : Stored) (count : ℕ) (counter : Option ℕ) (records : List KeptRecord) → Gathers was.row_limit count was.slots counter records → ((next : ℕ) → counter ≡ Some next → PassTest next records → ⊥) → HoldsNone was
-none-tested was count counter records g failed = λ db limit holds valid tables.
+none-tested was count counter records g failed = λ db limit holds valid.
     let apart = apart-held was.slots db holds valid in
     let passes = tested-IsValid db (in_order stamp_of (gathered 0 was.slots)) (records-held was.slots db holds apart) valid in
     failed db.next (counter-held counter db.next (sym (ap (in_order counter_stamp) g.counters) ∙ holds.counter))
@@ -134,7 +133,7 @@ none-tested_told (Some image) count counter records g failed = λ was there. non
 
 -- an image with the same store opens to the same database
 opens-same : (left was : List ℕ) → store_of left ≡ store_of was → (db : Database) → Opens left db → Opens was db
-opens-same left was same db opens = record { store = opens.store; stored = sym same ∙ opens.stored; limit = opens.limit; holds = opens.holds; valid = opens.valid; tables = opens.tables }
+opens-same left was same db opens = record { store = opens.store; stored = sym same ∙ opens.stored; limit = opens.limit; holds = opens.holds; valid = opens.valid }
 
 pub opens-kept : (old new : Chip) → Keeps store_of old new → is_some new.image ≡ is_some old.image → IfSome new.image (λ image. (db : Database) × Opens image db) → IfSome old.image (λ image. (db : Database) × Opens image db)
 opens-kept old new keeps told opens =
@@ -143,7 +142,7 @@ opens-kept old new keeps told opens =
 -- where the store holds none, neither does an image before with the same store
 refused_told : (image : Option (List ℕ)) → IfSome image (λ image. (was : Stored) → store_of image ≡ Some was → HoldsNone was) → IfSome image (λ image. (db : Database) → Opens image db → ⊥)
 refused_told None none = tt
-refused_told (Some image) none = λ db opens. none opens.store opens.stored db opens.limit opens.holds opens.valid opens.tables
+refused_told (Some image) none = λ db opens. none opens.store opens.stored db opens.limit opens.holds opens.valid
 
 pub refused-kept : (old new : Chip) → Keeps store_of old new → is_some new.image ≡ is_some old.image → IfSome new.image (λ image. (was : Stored) → store_of image ≡ Some was → HoldsNone was)
     → IfSome old.image (λ image. (db : Database) → Opens image db → ⊥)

@@ -67,21 +67,17 @@ unfolding committed_slots
 IsAtRest-at card chip m ready at =
     let counted : length at.slots ≡ card.store.chains.cells =
     if_some-at (λ slots. length slots ≡ card.store.chains.cells) (committed_slots card.store chip.image) at.slots at.committed (length-committed_slots card.store chip.image ready.over.stands) in
-    record {
-      held = record { slots = at.slots; told = at.committed; cells = sym at.holds.cells ∙ counted; limit = at.limit; holds = at.holds; valid = at.valid };
-      tables = at.tables;
-    }
+    record { slots = at.slots; told = at.committed; cells = sym at.holds.cells ∙ counted; limit = at.limit; holds = at.holds; valid = at.valid }
 
 -- and one that holds it is at the machine.
 IsAt-rest : (card : Kept) (store : Held) (index : Index) (chip : Chip) (m : Machine) (db : Database) → m.transaction ≡ None → m.sessions ≡ card.sessions → IsAtRest store chip db → IsAt (record card { store = store; index = index }) chip (record m { committed = db })
 unfolding committed_slots
 IsAt-rest card store index chip m db none sessions rest = record {
-  slots = rest.held.slots;
-  committed = rest.held.told;
-  limit = rest.held.limit;
-  holds = rest.held.holds;
-  valid = rest.held.valid;
-  tables = rest.tables;
+  slots = rest.slots;
+  committed = rest.told;
+  limit = rest.limit;
+  holds = rest.holds;
+  valid = rest.valid;
   transaction = none;
   sessions = sessions;
 }
@@ -147,7 +143,6 @@ IsAt-set card chip m channel session at = record {
   limit = at.limit;
   holds = at.holds;
   valid = at.valid;
-  tables = at.tables;
   transaction = at.transaction;
   sessions = ap (λ (others : List (Option Session)). slice_set others channel session) at.sessions;
 }

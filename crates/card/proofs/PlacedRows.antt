@@ -196,15 +196,12 @@ holds-opened store chip count next records cells opened gathers opens = go chip.
         let there = limited store.row_limit (contents store Committed image) o.store (sym opened ∙ o.stored) in (
           opens.0,
           record {
-            held = record {
-              slots = o.store.slots;
-              told = ap (option_and_then (contents store Committed)) told ∙ there.0;
-              cells = sym o.holds.cells ∙ (gathers o.store o.stored).count_is ∙ cells;
-              limit = o.limit ∙ sym there.1;
-              holds = o.holds;
-              valid = o.valid;
-            };
-            tables = o.tables;
+            slots = o.store.slots;
+            told = ap (option_and_then (contents store Committed)) told ∙ there.0;
+            cells = sym o.holds.cells ∙ (gathers o.store o.stored).count_is ∙ cells;
+            limit = o.limit ∙ sym there.1;
+            holds = o.holds;
+            valid = o.valid;
           },
         )
 

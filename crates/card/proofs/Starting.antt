@@ -32,7 +32,6 @@ starts_at store index sessions chip (Some image) first same has = λ db opens.
       limit = opens.limit ∙ sym of.1;
       holds = opens.holds;
       valid = opens.valid;
-      tables = opens.tables;
       transaction = refl;
       sessions = sym (first db);
     }
@@ -51,7 +50,7 @@ opens_fresh (Ok x) (Some image) n first second few many counter user formatted =
 
 -- an image with the same store opens to the same database
 pub opens-same : (left was : List ℕ) → store_of left ≡ store_of was → (db : Database) → Opens left db → Opens was db
-opens-same left was same db opens = record { store = opens.store; stored = sym same ∙ opens.stored; limit = opens.limit; holds = opens.holds; valid = opens.valid; tables = opens.tables }
+opens-same left was same db opens = record { store = opens.store; stored = sym same ∙ opens.stored; limit = opens.limit; holds = opens.holds; valid = opens.valid }
 
 pub made_moments : (n : ℕ) (first second : List ℕ) (old new : Chip) → 16 ≤ n → n ≤ 2048 → first ≡ counter_record.spell 2 → second ≡ user_record.spell owner → LeavesFormatted n first second old new → LeavesMade n old new
 made_moments n first second old new few many counter user moments = throughout-weaker old new _ _ moments (λ g left now. (

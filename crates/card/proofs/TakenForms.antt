@@ -14,7 +14,7 @@ use Rattle.scql_model.specs.Form.{Form, refused, refused_on, part_on, a_command,
 use Rattle.scql_model.specs.Accepting.{channel_named, IsAsBefore}
 use Rattle.scql_model.specs.Bound.{octets_bound, octets_bound_by, octets_carried_out, octets_stepped, or_nothing}
 use Rattle.scql_model.specs.Database.{Database, IsValid}
-use Rattle.scql_model.specs.Opens.{Holds, are_tables}
+use Rattle.scql_model.specs.Opens.{Holds}
 use Rattle.scql_model.specs.Replies.{said}
 use Rattle.scql_model.specs.Step.{Answer, answered, done_with, carried_out, stepped, step_by, step}
 use Rattle.scql_model.proofs.FormedCommands.{bound, refused-not, kind-form_of, sound-built_operations}
@@ -95,7 +95,6 @@ IsAt-taken store index live sessions chains after card chip m form at seen is =
       limit = ap (λ (db : Database). db.limit) (taken-committed m form) ∙ was.limit;
       holds = subst (Holds was.slots) (sym (taken-committed m form)) was.holds;
       valid = subst IsValid (sym (taken-committed m form)) was.valid;
-      tables = ap (λ (db : Database). are_tables db.objects) (taken-committed m form) ∙ was.tables;
       transaction = taken-transaction m form ∙ was.transaction;
       sessions = taken-sessions sessions chains m form was.sessions ∙ ap (sessions_of sessions) (sym is);
     }

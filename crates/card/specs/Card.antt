@@ -10,7 +10,7 @@ use Rattle.record_store.specs.FreshImage.{fresh_image}
 use Rattle.record_table.specs.Making.{IsHeld}
 use Rattle.row_index.specs.Index.{Index, Indexes}
 use Rattle.scql_model.specs.Machine.{Machine, Session}
-use Rattle.scql_model.specs.Opens.{Holds, are_tables}
+use Rattle.scql_model.specs.Opens.{Holds}
 
 -- its store, the index of its rows, a session or none for each channel, and whether it answers
 pub record Kept : Type 0 where
@@ -23,10 +23,9 @@ pub record Kept : Type 0 where
 unfoldable pub committed_slots : Held → Option (List ℕ) → Option Slots
 committed_slots store image = option_and_then (contents store Committed) image
 
--- outside of a transaction the store holds the database, one that today's card opens with
-pub record IsAtRest (store : Held) (chip : Chip) (db : Database) : Type 0 where
-  pub held : IsHeld store Committed chip db
-  pub tables : are_tables db.objects ≡ true
+-- outside of a transaction the store holds the database
+abbrev pub IsAtRest : Held → Chip → Database → Type 0
+IsAtRest store chip db = IsHeld store Committed chip db
 
 -- where the image is told, the store holds some database so
 abbrev pub HoldsSome : Held → Chip → Type 0
@@ -48,8 +47,6 @@ pub record IsAt (card : Kept) (chip : Chip) (m : Machine) : Type 0 where
   pub limit : m.committed.limit ≡ card.store.row_limit
   pub holds : Holds slots m.committed
   pub valid : IsValid m.committed
-  -- today's card opens with tables alone
-  pub tables : are_tables m.committed.objects ≡ true
   pub transaction : m.transaction ≡ None
   pub sessions : m.sessions ≡ card.sessions
 

@@ -9,7 +9,7 @@ use Rattle.record_store.specs.Opening.{front_octets}
 use Rattle.scql_base.specs.declared.records.Object.{Object}
 use Rattle.scql_base.specs.declared.records.RowRecord.{RowRecord}
 use Rattle.scql_model.specs.Records.{counter_record, user_record, grant_record, row_record, object_fits, counter_in, user_in, object_in, grant_in, row_in}
-use Rattle.scql_model.specs.Rules.{is_short, is_table, is_within_limit}
+use Rattle.scql_model.specs.Rules.{is_short, is_within_limit}
 use Rattle.scql_model.specs.Database.{Database, weight}
 use Rattle.scql_model.specs.Opens.{is_spelled}
 use Rattle.card.specs.declared.kept_record.KeptRecord.{KeptRecord}
@@ -23,9 +23,9 @@ use Rattle.card.specs.Validity.{is_valid_database}
 abbrev pub gives_only : {X : Type 0} → (X → Bool) → (List ℕ → Option X) → Option (List ℕ) → Bool
 gives_only test read v = option_map_or test (in_slot read v) true
 
--- a table within its limits whose record isn't too long: views and dictionaries aren't opened yet
+-- an object within its limits whose record isn't too long
 abbrev pub is_sound_object : Object → Bool
-is_sound_object o = object_fits o && (is_short o && is_table o.kind)
+is_sound_object o = object_fits o && is_short o
 
 -- a row within the limits of rows and those of a card with this row limit
 abbrev pub is_sound_row : ℕ → RowRecord → Bool

@@ -1,12 +1,11 @@
 // The record in a slot, as a card is opened.
 ghost use Rattle.std.specs.Prelude.{◌≡◌, None, Some, true, false, IfSome};
 ghost use Rattle.scql_model.specs.Records.{counter_in};
-ghost use Rattle.scql_model.specs.Rules as rules;
 ghost use Rattle.card.specs.Opening.{is_admitted, counter_of, other_of, record_in};
 
 use crate::kept_record::KeptRecord;
 use catalog_codec::{Counter, Record};
-use scql_base::{Grant, Object, ObjectKind, RowRecord, User};
+use scql_base::{Grant, Object, RowRecord, User};
 
 /// The stamp that the counter gives next, or another record.
 #[derive(Drop)]
@@ -42,8 +41,7 @@ fn read_other(octets: &[u8], slot: u16, row_limit: u16) -> Option<KeptRecord>
         return Some(KeptRecord::User(user));
     }
     if let Some(object) = Object::decode(octets) {
-        // Views and dictionaries aren't opened yet.
-        if octets.len() > Object::LONGEST || !is_table(&object.kind) {
+        if octets.len() > Object::LONGEST {
             return None;
         }
         return Some(KeptRecord::Object(object));
@@ -56,13 +54,4 @@ fn read_other(octets: &[u8], slot: u16, row_limit: u16) -> Option<KeptRecord>
         return None;
     }
     Some(KeptRecord::Row { slot, row })
-}
-
-fn is_table(kind: &ObjectKind) -> bool
-    ensures { result ≡ rules.is_table kind.now }
-{
-    match kind {
-        ObjectKind::Table { .. } => true,
-        ObjectKind::View { .. } | ObjectKind::Dictionary { .. } => false,
-    }
 }

@@ -19,9 +19,7 @@ use Rattle.card.specs.Changing.{Changes, acting}
 use Rattle.row_index.specs.Index.{Index, Indexes, is_above}
 use Rattle.card.proofs.IndexedStore.{HoldsSome-changed, Indexes-begun, Indexes-ended, Indexes-held, last-held, rest-concluded}
 use Rattle.card.proofs.ChangedStore.{held-begun, held-before, slots-committed, slots-rolled_back, over-begun, opens-rest, committed-begun, behind-changed, rest-rolled_back, Changes-failed, Changes-refused, Changes-half_committed, Changes-committed}
-use Rattle.card.proofs.BuiltLines.{makes_view-built}
 use Rattle.card.proofs.ChangingOperations.{IsActorOf-acting}
-use Rattle.card.proofs.TableEdits.{are_tables-edited}
 use Rattle.card.proofs.Leaving.{Keeps-none}
 use Rattle.card.proofs.changing.change.Goals.{After-commit-in-Ok, After-make, After-rollback-in-Err-Refused}
 use Rattle.card.proofs.changing.change.Goals as goal
@@ -43,17 +41,17 @@ EndsThrough g c db cursor =
 -- what is held when it is made
 held-made : (g : _) (c : After-make g) (db : Database) → IsAtRest c.args.store.now (g.B.Eeprom.chip c.args.bench.now) db → IsHeld c.begin.new.self Working (g.B.Eeprom.chip c.actor_of.new.bench) db
 held-made g c db rest =
-    held-begun c.args.store.now c.begin.new.self (g.B.Eeprom.chip c.args.bench.now) (g.B.Eeprom.chip c.actor_of.new.bench) db rest.held c.in_ok-actor.ensures.frame.same c.begin.ensures.begun c.begin.ensures.starts
+    held-begun c.args.store.now c.begin.new.self (g.B.Eeprom.chip c.args.bench.now) (g.B.Eeprom.chip c.actor_of.new.bench) db rest c.in_ok-actor.ensures.frame.same c.begin.ensures.begun c.begin.ensures.starts
 
 -- and for whom
 actor-made : (g : _) (c : After-make g) (db : Database) → IsAtRest c.args.store.now (g.B.Eeprom.chip c.args.bench.now) db → c.in_ok-actor.actor ≡ acting db c.args.user
-actor-made g c db rest = let before : IsHeld c.args.store.now Committed (g.B.Eeprom.chip c.args.bench.now) db = rest.held in c.in_ok-actor.ensures.actor db before
+actor-made g c db rest = let before : IsHeld c.args.store.now Committed (g.B.Eeprom.chip c.args.bench.now) db = rest in c.in_ok-actor.ensures.actor db before
 
 acts-made : (g : _) (c : After-make g) (db : Database) → IsAtRest c.args.store.now (g.B.Eeprom.chip c.args.bench.now) db → IsActorOf db c.in_ok-actor.actor
 acts-made g c db rest = subst (IsActorOf db) (sym (actor-made g c db rest)) (IsActorOf-acting db c.args.user)
 
 fits-made : (g : _) (c : After-make g) (db : Database) → IsAtRest c.args.store.now (g.B.Eeprom.chip c.args.bench.now) db → FitsCard db.limit c.args.operation.now
-fits-made g c db rest = subst (λ (limit : ℕ). FitsCard limit c.args.operation.now) (sym rest.held.limit) c.requires.fits
+fits-made g c db rest = subst (λ (limit : ℕ). FitsCard limit c.args.operation.now) (sym rest.limit) c.requires.fits
 
 -- It ended as through the cursor that it was given, where that is one of the database.
 ended : (g : _) (c : After-make g) (db : Database) → IsAtRest c.args.store.now (g.B.Eeprom.chip c.args.bench.now) db → IfSome c.args.cursor.now (IsCursorOf db) → EndsThrough g c db c.args.cursor.now
@@ -110,10 +108,9 @@ returns-in_err-commit-in-Ok-clause-changes g c = λ db rest of.
     let made = rw c.in-Ok.is at (ended g w db rest of) in
     let goes_on = c.in-Ok.ensures.goes_on (λ wrong. cc) in
     Changes-half_committed db edited old (opens-rest c.args.store.now old db c.requires.over rest) made.0 made.1 c.begin.new.self c.make.new.store (g.B.Eeprom.chip c.actor_of.new.bench) (g.B.Eeprom.chip c.make.new.bench) made.2
-    (are_tables-edited db (acting db c.args.user) cursor c.args.operation.now made.0 (makes_view-built c.args.operation.now c.requires.changes.0) made.1 rest.tables)
     c.from_residual-in_err-commit-in-Ok.result c.commit.new.self (g.B.Eeprom.chip c.commit.new.bench) (search rules) (kept g w)
-    (committed-begun c.args.store.now c.begin.new.self c.make.new.store old (g.B.Eeprom.chip c.actor_of.new.bench) (g.B.Eeprom.chip c.make.new.bench) db rest.held c.in_ok-actor.ensures.frame.same c.begin.ensures.begun c.begin.ensures.committed made.2.committed goes_on.cells goes_on.rows)
-    rest.tables c.commit.ensures.moments
+    (committed-begun c.args.store.now c.begin.new.self c.make.new.store old (g.B.Eeprom.chip c.actor_of.new.bench) (g.B.Eeprom.chip c.make.new.bench) db rest c.in_ok-actor.ensures.frame.same c.begin.ensures.begun c.begin.ensures.committed made.2.committed goes_on.cells goes_on.rows)
+    c.commit.ensures.moments
 
 done-through : (g : _) (c : After-commit-in-Ok g) (db : Database) (cursor : Option Cursor) → IsAtRest c.args.store.now (g.B.Eeprom.chip c.args.bench.now) db → EndsThrough g (goal.at.returns-in_ok-commit-in-Ok-clause-changes g c).After-make db cursor
     → Changes db (edits_of db (acting db c.args.user) cursor c.args.operation.now) (Ok done) c.commit.new.self (g.B.Eeprom.chip c.args.bench.now) (g.B.Eeprom.chip c.commit.new.bench)
@@ -124,10 +121,9 @@ done-through g c db cursor rest ends =
     let made = rw c.in-Ok.is at ends in
     let goes_on = c.in-Ok.ensures.goes_on (λ wrong. cc) in
     Changes-committed db edited old (opens-rest c.args.store.now old db c.requires.over rest) made.0 made.1 c.begin.new.self c.make.new.store (g.B.Eeprom.chip c.actor_of.new.bench) (g.B.Eeprom.chip c.make.new.bench) made.2
-    (are_tables-edited db (acting db c.args.user) cursor c.args.operation.now made.0 (makes_view-built c.args.operation.now c.requires.changes.0) made.1 rest.tables)
     c.commit.new.self (g.B.Eeprom.chip c.commit.new.bench) goes_on.over (kept g w)
-    (committed-begun c.args.store.now c.begin.new.self c.make.new.store old (g.B.Eeprom.chip c.actor_of.new.bench) (g.B.Eeprom.chip c.make.new.bench) db rest.held c.in_ok-actor.ensures.frame.same c.begin.ensures.begun c.begin.ensures.committed made.2.committed goes_on.cells goes_on.rows)
-    rest.tables c.commit.ensures.moments c.in_ok-commit-in-Ok.ensures.done c.in_ok-commit-in-Ok.ensures.told c.in_ok-commit-in-Ok.ensures.cells c.in_ok-commit-in-Ok.ensures.rows
+    (committed-begun c.args.store.now c.begin.new.self c.make.new.store old (g.B.Eeprom.chip c.actor_of.new.bench) (g.B.Eeprom.chip c.make.new.bench) db rest c.in_ok-actor.ensures.frame.same c.begin.ensures.begun c.begin.ensures.committed made.2.committed goes_on.cells goes_on.rows)
+    c.commit.ensures.moments c.in_ok-commit-in-Ok.ensures.done c.in_ok-commit-in-Ok.ensures.told c.in_ok-commit-in-Ok.ensures.cells c.in_ok-commit-in-Ok.ensures.rows
     (ap (λ (chip : Chip). chip.written) c.in_ok-actor.ensures.frame.same) c.begin.ensures.no_entries c.in_ok-commit-in-Ok.ensures.octets_written
 
 pub returns-in_ok-commit-in-Ok-clause-changes : goal.returns-in_ok-commit-in-Ok-clause-changes

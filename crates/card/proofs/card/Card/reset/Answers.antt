@@ -11,7 +11,6 @@ returns-clause-at c = λ chip m at. record {
   limit = at.limit ∙ ap (λ (kept : Kept). kept.store.row_limit) (sym c.self.view_is);
   holds = at.holds;
   valid = at.valid;
-  tables = at.tables;
   transaction = refl;
   sessions = sym (c.first_sessions-self-inside.ensures m.committed) ∙ ap (sessions_of c.first_sessions-self-inside.result) (sym c.clear.ensures);
 }
