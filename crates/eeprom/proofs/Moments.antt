@@ -73,9 +73,9 @@ write-stays at octets old new clocked w t g left since there = may-be-left new t
           ]) in
           inr (subst (λ (past : List Stretch). LeftIn (drop t past) g left) (sym more.2) (subst (λ (past : List Stretch). LeftIn past g left) (sym (drop-more t from.0 stretch within)) longer))
       | inr none ↦ elim was [
-          | inl now ↦ inl (none.1 ∙ now.0, now.1 ∙ sym none.2)
-          | inr before ↦ inr (subst (λ (past : List Stretch). LeftIn (drop t past) g left) (sym none.0) before)
-        ]
+        | inl now ↦ inl (none.1 ∙ now.0, now.1 ∙ sym none.2)
+        | inr before ↦ inr (subst (λ (past : List Stretch). LeftIn (drop t past) g left) (sym none.0) before)
+      ]
     ])
   where
     torn : (image left : List ℕ) → old.image ≡ Some image → old.image ≡ Some left → IsTorn image at (length octets) left
