@@ -17,6 +17,8 @@ mod OwnerSearch
 mod Passing
 mod Performing
 mod PlacedRows
+mod ReadingCard
+mod ReadingMoves
 mod SeenSessions
 mod SlotCount
 mod SortedTest

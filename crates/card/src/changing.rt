@@ -137,8 +137,8 @@ fn make<B: Eeprom>(
     }
 }
 
-// For whom the user of a stamp acts: for itself, with its profile, or for the public where a side has no such user.
-fn actor_of<B: Eeprom>(
+/// For whom the user of a stamp acts: for itself, with its profile, or for the public where a side has no such user.
+pub(crate) fn actor_of<B: Eeprom>(
     store: &Store,
     bench: &mut B,
     side: Side,

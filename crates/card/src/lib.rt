@@ -6,6 +6,7 @@ mod card;
 mod changing;
 mod opening;
 mod outcome;
+mod reading;
 mod session;
 mod slot_record;
 mod summary;

@@ -1,10 +1,10 @@
 -- Refusals have other words than 6282 and 63CX, and so has what neither reads nor compares a secret.
-use Rattle.std.proofs.Common.{◌≡◌, ◌≤◌, ◌<◌, ◌+◌, ◌==◌, ◌/◌, ◌%◌, ℕ, zero, suc, Bool, true, false, ◌&&◌, ◌||◌, nat_le, nat_lt, List, [], ◌∷◌, ◌++◌, length, map, Option, Some, None, Result, Ok, Err, not, is_some, if◌then◌else◌, refl, ap, arith, lit≤}
+use Rattle.std.proofs.Common.{◌≡◌, ◌≤◌, ◌<◌, ◌+◌, ◌==◌, ◌/◌, ◌%◌, ℕ, zero, suc, Bool, true, false, ◌&&◌, ◌||◌, nat_le, nat_lt, List, [], ◌∷◌, ◌++◌, length, map, Option, Some, None, Result, Ok, Err, not, is_some, if◌then◌else◌, refl, ap, arith, lit≤, inl, inr}
 use Rattle.std.specs.Prelude.{slice_get}
 use Rattle.std.specs.List.{list_any, concat}
 use Rattle.std.specs.Result.{result_ok}
 use Rattle.std.specs.Str.{bytes_eq}
-use Rattle.std.proofs.lemmas.Bool.{leb-true, ltb-true, le-leb}
+use Rattle.std.proofs.lemmas.Bool.{and_from, and_parts, cases_Bool, eqb-true, leb-true, ltb-true, le-leb, lt-ltb}
 use Rattle.scql_base.specs.declared.words.StatusWord.{StatusWord}
 use Rattle.scql_base.specs.declared.words.Actor.{Actor}
 use Rattle.scql_base.specs.declared.cursor.Cursor.{Cursor}
@@ -82,15 +82,23 @@ plain-rest (octet ∷ octets) = plain-low (more_left (length (octet ∷ octets))
 pub end-not_try : (n : ℕ) → end_reached ≡ tries_left n → ⊥
 end-not_try n is = omega (arith, ap number is)
 
--- the words of refusals
+-- the words of refusals, all of which are below 9000
 abbrev pub Refuses : StatusWord → Type 0
-Refuses w = nat_le 25600 w.word ≡ true
+Refuses w = (nat_le 25600 w.word && nat_lt w.word done.word) ≡ true
 
 pub plain-refusal : (w : StatusWord) → Refuses w → IsPlain w
-plain-refusal w is = plain-high w (omega (arith, leb-true 25600 w.word is))
+plain-refusal w is = plain-high w (omega (arith, leb-true 25600 w.word (and_parts (nat_le 25600 w.word) (nat_lt w.word done.word) is).0))
+
+pub not_done-refusal : (w : StatusWord) → Refuses w → (w.word == done.word) ≡ false
+not_done-refusal w is =
+    let below = ltb-true w.word done.word (and_parts (nat_le 25600 w.word) (nat_lt w.word done.word) is).1 in
+    elim (cases_Bool (w.word == done.word)) [
+      | inl same ↦ absurd (let here = eqb-true w.word done.word same in omega (arith, below, here))
+      | inr other ↦ other
+    ]
 
 pub refuses-wrong_le : (n : ℕ) → Refuses (wrong_le n)
-refuses-wrong_le n = le-leb 25600 (27648 + in_sw2 n) (omega arith)
+refuses-wrong_le n = and_from (nat_le 25600 (27648 + in_sw2 n)) (nat_lt (27648 + in_sw2 n) done.word) (le-leb 25600 (27648 + in_sw2 n) (omega arith)) (lt-ltb (27648 + in_sw2 n) done.word (omega (arith, one_octet n)))
 
 -- An outcome is so, or a refusal.
 abbrev pub Gives : {A : Type 0} → (A → Type 0) → Result A StatusWord → Type 0
