@@ -6,10 +6,11 @@ use Rattle.scql_base.specs.declared.operation.Line.{Line}
 use Rattle.scql_base.specs.declared.operation.Operation.{Operation}
 use Rattle.scql_base.specs.declared.operation.Operation.TheVariants as asks
 use Rattle.scql_base.specs.declared.operation.OperationKind.{OperationKind}
-use Rattle.scql_base.specs.declared.operation.OperationKind.TheVariants.{PresentUser, OpenChannel, CloseChannel}
+use Rattle.scql_base.specs.declared.operation.OperationKind.TheVariants.{PresentUser, DeleteUser, Verify, OpenChannel, CloseChannel}
 use Rattle.scql_model.specs.Operations.{IsBuilt, built_operations, kind_of}
 use Rattle.scql_model.specs.Spelling.{is_same}
 use Rattle.card.specs.Changing.{IsChange, is_changing}
+use Rattle.card.specs.Reading.{is_reading}
 
 -- what all of a list pass, each that it contains passes
 all-Contains : {X : Type 0} (p : X → Bool) (xs : List X) (x : X) → list_all p xs ≡ true → Contains xs x → p x ≡ true
@@ -34,21 +35,32 @@ is_change kind = is_changing kind && is_built kind
 pub is_change-IsChange : (operation : Operation) → IsChange operation → is_change (kind_of operation) ≡ true
 is_change-IsChange operation change = and_from (is_changing (kind_of operation)) (is_built (kind_of operation)) change.1 (all-Contains is_built kinds_built (kind_of operation) refl change.0)
 
--- an operation that is built changes the database, or the session of a channel: it is PRESENT USER, or MANAGE CHANNEL
-abbrev is_of_sessions : OperationKind → Bool
-is_of_sessions PresentUser = true
-is_of_sessions (OpenChannel number) = true
-is_of_sessions (CloseChannel number) = true
-is_of_sessions kind = false
+-- an operation that is built changes the database, reads, or is one of those with an arm of their own
+abbrev is_of_its_own : OperationKind → Bool
+is_of_its_own PresentUser = true
+is_of_its_own DeleteUser = true
+is_of_its_own Verify = true
+is_of_its_own (OpenChannel number) = true
+is_of_its_own (CloseChannel number) = true
+is_of_its_own kind = false
 
-pub IsChange-built : (operation : Operation) → IsBuilt (kind_of operation) → ((name : List ℕ) → operation ≡ asks.PresentUser name → ⊥) → ((number : ℕ) → operation ≡ asks.OpenChannel number → ⊥)
-    → ((number : ℕ) → operation ≡ asks.CloseChannel number → ⊥) → IsChange operation
-IsChange-built operation built not_presents not_opens not_closes =
-    (built, of operation not_presents not_opens not_closes (all-Contains (λ kind. is_changing kind || is_of_sessions kind) kinds_built (kind_of operation) refl built))
+-- an operation that is none of those
+pub record IsNoneOfThose (operation : Operation) : Type 0 where
+  pub not_reading : is_reading (kind_of operation) ≡ false
+  pub not_presents : (name : List ℕ) → operation ≡ asks.PresentUser name → ⊥
+  pub not_opens : (number : ℕ) → operation ≡ asks.OpenChannel number → ⊥
+  pub not_closes : (number : ℕ) → operation ≡ asks.CloseChannel number → ⊥
+  pub not_deletes : (name : List ℕ) → operation ≡ asks.DeleteUser name → ⊥
+  pub not_verifies : (secret : List ℕ) → operation ≡ asks.Verify secret → ⊥
+
+pub IsChange-built : (operation : Operation) → IsBuilt (kind_of operation) → IsNoneOfThose operation → IsChange operation
+IsChange-built operation built others =
+    (built, of operation others (all-Contains (λ kind. is_changing kind || is_reading kind || is_of_its_own kind) kinds_built (kind_of operation) refl built))
   where
-    of : (operation : Operation) → ((name : List ℕ) → operation ≡ asks.PresentUser name → ⊥) → ((number : ℕ) → operation ≡ asks.OpenChannel number → ⊥) → ((number : ℕ) → operation ≡ asks.CloseChannel number → ⊥)
-        → (is_changing (kind_of operation) || is_of_sessions (kind_of operation)) ≡ true → is_changing (kind_of operation) ≡ true
-    of (asks.PresentUser name) not_presents not_opens not_closes is = absurd (not_presents name refl)
-    of (asks.OpenChannel number) not_presents not_opens not_closes is = absurd (not_opens number refl)
-    of (asks.CloseChannel number) not_presents not_opens not_closes is = absurd (not_closes number refl)
-    of operation not_presents not_opens not_closes is = is
+    of : (operation : Operation) → IsNoneOfThose operation → (is_changing (kind_of operation) || is_reading (kind_of operation) || is_of_its_own (kind_of operation)) ≡ true → is_changing (kind_of operation) ≡ true
+    of (asks.PresentUser name) others is = absurd (others.not_presents name refl)
+    of (asks.OpenChannel number) others is = absurd (others.not_opens number refl)
+    of (asks.CloseChannel number) others is = absurd (others.not_closes number refl)
+    of (asks.DeleteUser name) others is = absurd (others.not_deletes name refl)
+    of (asks.Verify secret) others is = absurd (others.not_verifies secret refl)
+    of operation others is = (let reads = others.not_reading in cc)

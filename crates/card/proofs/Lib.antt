@@ -20,6 +20,8 @@ mod Pooled
 mod PooledSizes
 mod Performing
 mod PlacedRows
+mod ReadingCard
+mod ReadingMoves
 mod SeenSessions
 mod SlotCount
 mod SortedTest

@@ -1,36 +1,22 @@
--- What opening and closing a channel does to a card at a machine.
+-- What opening and closing a channel does to a card that holds a machine.
 use Rattle.std.proofs.Common.{◌≡◌, ◌<◌, ℕ, zero, suc, Bool, true, false, not, List, [], ◌∷◌, Option, Some, None, is_some, Result, Ok, Err, refl, sym, ap, subst, ◌∙◌, arith}
-use Rattle.std.specs.Prelude.{IfSome, slice_set}
 use Rattle.eeprom.specs.Chip.{Chip}
 use Rattle.scql_base.specs.declared.words.StatusWord.{StatusWord}
 use Rattle.scql_base.specs.Words.{done, channel_not_supported, conditions_not_satisfied, function_not_supported}
 use Rattle.scql_model.specs.Machine.{Machine, Session, Transaction, new_session}
 use Rattle.scql_model.specs.Refusals.{◌>>=◌, or_refused, provided}
 use Rattle.scql_model.specs.Replies.{said}
-use Rattle.scql_model.specs.Sessions.{with_session, is_channel_open}
+use Rattle.scql_model.specs.Sessions.{with_session, is_channel_open, without_pending}
 use Rattle.scql_model.specs.Sessions as sessions
 use Rattle.scql_model.specs.Step.{Answer, answered, done_with, channel_opened, channel_closed}
 use Rattle.scql_model.specs.Transactions.{own_transaction}
 use Rattle.card.specs.Answering as answering
-use Rattle.card.specs.Answering.{Answers, replied}
-use Rattle.card.specs.Card.{Kept, IsAt}
-use Rattle.card.specs.Sessions.{IsUnread, AreUnread, is_open, least_closed}
-use Rattle.card.proofs.Performing.{IsAt-set}
-use Rattle.card.proofs.UnreadSteps.{done_with-unread}
+use Rattle.card.specs.Answering.{HoldsAnswer, changing_session, replied}
+use Rattle.card.specs.Card.{Kept, HoldsMachine}
+use Rattle.card.specs.Sessions.{is_open, least_closed}
+use Rattle.card.proofs.Performing.{HoldsMachine-changing, HoldsMachine-set}
 
--- sessions of which one is set read nothing still
-AreUnread-set : (sessions : List (Option Session)) (channel : ℕ) (session : Option Session) → AreUnread sessions → IfSome session IsUnread → AreUnread (slice_set sessions channel session)
-AreUnread-set [] channel session are is = tt
-AreUnread-set (s ∷ sessions) zero session are is = (is, are.1)
-AreUnread-set (s ∷ sessions) (suc channel) session are is = (are.0, AreUnread-set sessions channel session are.1 is)
-
-module _ (card : Kept) (chip : Chip) (m : Machine) (asking : ℕ) (unread : AreUnread card.sessions) (at : IsAt card chip m) where
-  -- once the session of a channel is set, nothing is pending on the one that asks
-  done-set : (number : ℕ) (session : Option Session) → IfSome session IsUnread
-      → done_with (with_session m number session) asking [] ≡ record { reply = said done; machine = with_session m number session; commits = [] }
-  done-set number session is =
-      done_with-unread (with_session m number session) asking [] (AreUnread-set m.sessions number session (subst AreUnread (sym at.sessions) unread) is)
-
+module _ (card : Kept) (chip : Chip) (m : Machine) (asking : ℕ) (at : HoldsMachine card chip m) where
   -- the card and the machine have the same open channels
   open-at : (number : ℕ) → is_channel_open m number ≡ is_open card.sessions number
   open-at number = ap (λ (sessions : List (Option Session)). is_open sessions number) at.sessions
@@ -38,17 +24,17 @@ module _ (card : Kept) (chip : Chip) (m : Machine) (asking : ℕ) (unread : AreU
   least-at : sessions.least_closed m ≡ least_closed card.sessions
   least-at = ap least_closed at.sessions
 
-  -- what is done answers so
-  answers : (after : Kept) (outcome : Result Answer StatusWord) (body : List ℕ) (number : ℕ) (session : Option Session) → after ≡ answering.with_session card number session
-      → outcome ≡ Ok (record { reply = replied body done; machine = with_session m number session; commits = [] }) → Answers (answered m outcome) (replied body done) after chip
+  -- Once the session of a channel is set, nothing is pending on the one that asks. What is done answers so
+  answers : (after : Kept) (outcome : Result Answer StatusWord) (body : List ℕ) (number : ℕ) (session : Option Session) → after ≡ changing_session without_pending (answering.with_session card number session) asking
+      → outcome ≡ Ok (record (done_with (with_session m number session) asking []) { reply = replied body done }) → HoldsAnswer (answered m outcome) (replied body done) after chip
   answers after outcome body number session set is =
-      subst (λ (kept : Kept). Answers (answered m outcome) (replied body done) kept chip) (sym set)
-      (subst (λ (o : Result Answer StatusWord). Answers (answered m o) (replied body done) (answering.with_session card number session) chip) (sym is)
-      (record { reply = refl; at = IsAt-set card chip m number session at }))
+      subst (λ (kept : Kept). HoldsAnswer (answered m outcome) (replied body done) kept chip) (sym set)
+      (subst (λ (o : Result Answer StatusWord). HoldsAnswer (answered m o) (replied body done) (changing_session without_pending (answering.with_session card number session) asking) chip) (sym is)
+      (record { reply = refl; held = HoldsMachine-changing without_pending (answering.with_session card number session) chip (with_session m number session) asking (HoldsMachine-set card chip m number session at) }))
 
   -- and a refusal so
-  refuses : (outcome : Result Answer StatusWord) (word : StatusWord) → outcome ≡ Err word → Answers (answered m outcome) (said word) card chip
-  refuses outcome word is = subst (λ (o : Result Answer StatusWord). Answers (answered m o) (said word) card chip) (sym is) (record { reply = refl; at = at })
+  refuses : (outcome : Result Answer StatusWord) (word : StatusWord) → outcome ≡ Err word → HoldsAnswer (answered m outcome) (said word) card chip
+  refuses outcome word is = subst (λ (o : Result Answer StatusWord). HoldsAnswer (answered m o) (said word) card chip) (sym is) (record { reply = refl; held = at })
 
   -- the least closed channel is opened,
   opened-least : (least : Option ℕ) → least_closed card.sessions ≡ least
@@ -56,14 +42,12 @@ module _ (card : Kept) (chip : Chip) (m : Machine) (asking : ℕ) (unread : AreU
   opened-least least is =
       ap (λ (o : Option ℕ). or_refused o function_not_supported >>= λ number. Ok (record (done_with (with_session m number (Some new_session)) asking []) { reply = replied (number ∷ []) done })) (least-at ∙ is)
 
-  pub Answers-least : (after : Kept) (number : ℕ) → least_closed card.sessions ≡ Some number → after ≡ answering.with_session card number (Some new_session)
-      → Answers (answered m (channel_opened m asking 0)) (replied (number ∷ []) done) after chip
-  Answers-least after number least set =
-      answers after (channel_opened m asking 0) (number ∷ []) number (Some new_session) set
-      (opened-least (Some number) least ∙ ap (λ (answer : Answer). Ok (record answer { reply = replied (number ∷ []) done })) (done-set number (Some new_session) refl))
+  pub HoldsAnswer-least : (after : Kept) (number : ℕ) → least_closed card.sessions ≡ Some number → after ≡ changing_session without_pending (answering.with_session card number (Some new_session)) asking
+      → HoldsAnswer (answered m (channel_opened m asking 0)) (replied (number ∷ []) done) after chip
+  HoldsAnswer-least after number least set = answers after (channel_opened m asking 0) (number ∷ []) number (Some new_session) set (opened-least (Some number) least)
 
-  pub Answers-no_least : least_closed card.sessions ≡ None → Answers (answered m (channel_opened m asking 0)) (said function_not_supported) card chip
-  Answers-no_least none = refuses (channel_opened m asking 0) function_not_supported (opened-least None none)
+  pub HoldsAnswer-no_least : least_closed card.sessions ≡ None → HoldsAnswer (answered m (channel_opened m asking 0)) (said function_not_supported) card chip
+  HoldsAnswer-no_least none = refuses (channel_opened m asking 0) function_not_supported (opened-least None none)
 
   -- or the one that is named,
   opened-named : (number : ℕ) (open' : Bool) → 0 < number → is_open card.sessions number ≡ open'
@@ -72,13 +56,12 @@ module _ (card : Kept) (chip : Chip) (m : Machine) (asking : ℕ) (unread : AreU
   opened-named (suc n) open' named is =
       ap (λ (b : Bool). provided (not b) conditions_not_satisfied >>= λ _. Ok (done_with (with_session m (suc n) (Some new_session)) asking [])) (open-at (suc n) ∙ is)
 
-  pub Answers-named : (after : Kept) (number : ℕ) → 0 < number → is_open card.sessions number ≡ false → after ≡ answering.with_session card number (Some new_session)
-      → Answers (answered m (channel_opened m asking number)) (said done) after chip
-  Answers-named after number named closed set =
-      answers after (channel_opened m asking number) [] number (Some new_session) set (opened-named number false named closed ∙ ap Ok (done-set number (Some new_session) refl))
+  pub HoldsAnswer-named : (after : Kept) (number : ℕ) → 0 < number → is_open card.sessions number ≡ false → after ≡ changing_session without_pending (answering.with_session card number (Some new_session)) asking
+      → HoldsAnswer (answered m (channel_opened m asking number)) (said done) after chip
+  HoldsAnswer-named after number named closed set = answers after (channel_opened m asking number) [] number (Some new_session) set (opened-named number false named closed)
 
-  pub Answers-open_already : (number : ℕ) → 0 < number → is_open card.sessions number ≡ true → Answers (answered m (channel_opened m asking number)) (said conditions_not_satisfied) card chip
-  Answers-open_already number named is = refuses (channel_opened m asking number) conditions_not_satisfied (opened-named number true named is)
+  pub HoldsAnswer-open_already : (number : ℕ) → 0 < number → is_open card.sessions number ≡ true → HoldsAnswer (answered m (channel_opened m asking number)) (said conditions_not_satisfied) card chip
+  HoldsAnswer-open_already number named is = refuses (channel_opened m asking number) conditions_not_satisfied (opened-named number true named is)
 
   -- and one is closed.
   closed-named : (number : ℕ) (open' : Bool) → is_open card.sessions number ≡ open'
@@ -87,10 +70,9 @@ module _ (card : Kept) (chip : Chip) (m : Machine) (asking : ℕ) (unread : AreU
       ap (λ (b : Bool). provided b channel_not_supported >>= λ _. provided (not (is_some (own_transaction m.transaction number))) conditions_not_satisfied >>= λ _. Ok (done_with (with_session m number None) asking [])) (open-at number ∙ is)
       ∙ ap (λ (t : Option Transaction). provided open' channel_not_supported >>= λ _. provided (not (is_some (own_transaction t number))) conditions_not_satisfied >>= λ _. Ok (done_with (with_session m number None) asking [])) at.transaction
 
-  pub Answers-closed : (after : Kept) (number : ℕ) → is_open card.sessions number ≡ true → after ≡ answering.with_session card number None
-      → Answers (answered m (channel_closed m asking number)) (said done) after chip
-  Answers-closed after number open' set =
-      answers after (channel_closed m asking number) [] number None set (closed-named number true open' ∙ ap Ok (done-set number None tt))
+  pub HoldsAnswer-closed : (after : Kept) (number : ℕ) → is_open card.sessions number ≡ true → after ≡ changing_session without_pending (answering.with_session card number None) asking
+      → HoldsAnswer (answered m (channel_closed m asking number)) (said done) after chip
+  HoldsAnswer-closed after number open' set = answers after (channel_closed m asking number) [] number None set (closed-named number true open')
 
-  pub Answers-closed_already : (number : ℕ) → is_open card.sessions number ≡ false → Answers (answered m (channel_closed m asking number)) (said channel_not_supported) card chip
-  Answers-closed_already number closed = refuses (channel_closed m asking number) channel_not_supported (closed-named number false closed)
+  pub HoldsAnswer-closed_already : (number : ℕ) → is_open card.sessions number ≡ false → HoldsAnswer (answered m (channel_closed m asking number)) (said channel_not_supported) card chip
+  HoldsAnswer-closed_already number closed = refuses (channel_closed m asking number) channel_not_supported (closed-named number false closed)

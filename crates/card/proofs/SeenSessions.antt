@@ -10,8 +10,8 @@ use Rattle.scql_model.specs.Machine as machine
 use Rattle.scql_model.specs.Machine.{Chain}
 use Rattle.row_index.specs.Index.{Index}
 use Rattle.card.specs.Card.{Kept}
-use Rattle.card.specs.Sessions.{session_seen, sessions_of, AreUnread, proved_stamp, proved_user}
-use Rattle.card.specs.Answering.{with_session}
+use Rattle.card.specs.Sessions.{is_open, session_seen, sessions_of, proved_stamp, proved_user}
+use Rattle.card.specs.Answering.{changing_session, with_session}
 use Rattle.card.specs.declared.session.Session.{Session}
 
 -- which of four channels have a session
@@ -33,13 +33,6 @@ open-sessions (session ∷ sessions) [] same = absurd cc
 open-sessions (None ∷ sessions) (chain ∷ chains) same = ap (λ rest. false ∷ rest) (open-sessions sessions chains cc)
 open-sessions (Some session ∷ sessions) (chain ∷ chains) same = ap (λ rest. true ∷ rest) (open-sessions sessions chains cc)
 
--- nothing is read yet
-pub unread-sessions : (sessions : List (Option Session)) (chains : List (Option Chain)) → AreUnread (sessions_of sessions chains)
-unread-sessions [] chains = tt
-unread-sessions (session ∷ sessions) [] = tt
-unread-sessions (None ∷ sessions) (chain ∷ chains) = (tt, unread-sessions sessions chains)
-unread-sessions (Some session ∷ sessions) (chain ∷ chains) = (refl, unread-sessions sessions chains)
-
 -- the user of a session is the program's
 user-seen : (sessions : List (Option Session)) (chains : List (Option Chain)) (channel : ℕ) → length sessions ≡ length chains
     → proved_user (option_flatten (slice_get (sessions_of sessions chains) channel)) ≡ option_and_then proved_stamp (option_and_then (λ (s : Session). s.user) (slice_index_or sessions channel None))
@@ -60,9 +53,6 @@ module _ (store : Held) (index : Index) (live : Bool) (sessions : List (Option S
       ap (λ (kept : Kept). proved_user (option_flatten (slice_get kept.sessions channel))) (sym is)
       ∙ (user-seen sessions chains channel same
       ∙ ap (λ (s : Option Session). option_and_then proved_stamp (option_and_then (λ (s : Session). s.user) s)) there)
-
-  pub unread-card : AreUnread card.sessions
-  unread-card = subst (λ (kept : Kept). AreUnread kept.sessions) is (unread-sessions sessions chains)
 
 -- an open channel's session has the parts of its channel
 pub chain-seen : (sessions : List (Option Session)) (chains : List (Option Chain)) (channel : ℕ)
@@ -96,6 +86,59 @@ sessions_of-new (session ∷ sessions) [] (suc channel) set = refl
 sessions_of-new (session ∷ sessions) (chain ∷ chains) zero set = refl
 sessions_of-new (session ∷ sessions) (chain ∷ chains) (suc channel) set =
     ap (λ rest. option_map (session_seen chain) session ∷ rest) (sessions_of-new sessions chains channel set)
+
+-- whose parts change, has its session still
+pub open-parts : (sessions : List (Option Session)) (chains after : List (Option Chain)) (channel : ℕ) → length after ≡ length chains
+    → slice_get (map (λ (s : Option machine.Session). is_some s) (sessions_of sessions chains)) channel ≡ Some true → is_open (sessions_of sessions after) channel ≡ true
+open-parts [] chains after channel same is = absurd (none-some true is)
+open-parts (session ∷ sessions) [] after channel same is = absurd (none-some true is)
+open-parts (session ∷ sessions) (chain ∷ chains) [] channel same is = absurd cc
+open-parts (None ∷ sessions) (chain ∷ chains) (next ∷ after) zero same is = absurd (false≢true (same_Some _ true is))
+open-parts (Some session ∷ sessions) (chain ∷ chains) (next ∷ after) zero same is = refl
+open-parts (session ∷ sessions) (chain ∷ chains) (next ∷ after) (suc channel) same is = open-parts sessions chains after channel cc is
+
+-- What changes a session of the program, and not its parts, changes the session that is seen.
+sessions_of-changed : (change : machine.Session → machine.Session) (new : Session) (sessions : List (Option Session)) (chains : List (Option Chain)) (channel : ℕ) (old : Session)
+    → ((chain : Option Chain) → session_seen chain new ≡ change (session_seen chain old)) → slice_index_or sessions channel None ≡ Some old
+    → sessions_of (slice_set sessions channel (Some new)) chains ≡ slice_set (sessions_of sessions chains) channel (option_map change (option_flatten (slice_get (sessions_of sessions chains) channel)))
+sessions_of-changed change new [] chains channel old seen there = absurd cc
+sessions_of-changed change new (session ∷ sessions) [] zero old seen there = refl
+sessions_of-changed change new (session ∷ sessions) [] (suc channel) old seen there = refl
+sessions_of-changed change new (session ∷ sessions) (chain ∷ chains) zero old seen there =
+    ap (λ (s : machine.Session). Some s ∷ sessions_of sessions chains) (seen chain)
+    ∙ ap (λ (s : Option Session). option_map change (option_map (session_seen chain) s) ∷ sessions_of sessions chains) (sym there)
+sessions_of-changed change new (session ∷ sessions) (chain ∷ chains) (suc channel) old seen there =
+    ap (λ rest. option_map (session_seen chain) session ∷ rest) (sessions_of-changed change new sessions chains channel old seen there)
+
+-- where a channel is closed, nothing changes
+sessions_of-none : (change : machine.Session → machine.Session) (sessions : List (Option Session)) (chains : List (Option Chain)) (channel : ℕ) → slice_index_or sessions channel None ≡ None
+    → sessions_of sessions chains ≡ slice_set (sessions_of sessions chains) channel (option_map change (option_flatten (slice_get (sessions_of sessions chains) channel)))
+sessions_of-none change [] chains channel there = refl
+sessions_of-none change (session ∷ sessions) [] channel there = refl
+sessions_of-none change (session ∷ sessions) (chain ∷ chains) zero there =
+    ap (λ (s : Option Session). option_map (session_seen chain) s ∷ sessions_of sessions chains) there
+    ∙ ap (λ (s : Option Session). option_map change (option_map (session_seen chain) s) ∷ sessions_of sessions chains) (sym there)
+sessions_of-none change (session ∷ sessions) (chain ∷ chains) (suc channel) there =
+    ap (λ rest. option_map (session_seen chain) session ∷ rest) (sessions_of-none change sessions chains channel there)
+
+-- the same of a card
+pub card-changed : (change : machine.Session → machine.Session) (store : Held) (index : Index) (live : Bool) (sessions : List (Option Session)) (chains : List (Option Chain)) (channel : ℕ) (old new : Session) (card : Kept)
+    → record { store = store; index = index; sessions = sessions_of sessions chains; live = live } ≡ card
+    → ((chain : Option Chain) → session_seen chain new ≡ change (session_seen chain old)) → slice_index_or sessions channel None ≡ Some old
+    → record { store = store; index = index; sessions = sessions_of (slice_set sessions channel (Some new)) chains; live = live } ≡ changing_session change card channel
+card-changed change store index live sessions chains channel old new card is seen there =
+    ap (λ (changed : List (Option machine.Session)). let kept : Kept = record { store = store; index = index; sessions = changed; live = live } in kept)
+    (sessions_of-changed change new sessions chains channel old seen there)
+    ∙ ap (λ (kept : Kept). changing_session change kept channel) is
+
+pub card-none : (change : machine.Session → machine.Session) (store : Held) (index : Index) (live : Bool) (sessions : List (Option Session)) (chains : List (Option Chain)) (channel : ℕ) (card : Kept)
+    → record { store = store; index = index; sessions = sessions_of sessions chains; live = live } ≡ card → slice_index_or sessions channel None ≡ None
+    → card ≡ changing_session change card channel
+card-none change store index live sessions chains channel card is there =
+    sym is
+    ∙ (ap (λ (changed : List (Option machine.Session)). let kept : Kept = record { store = store; index = index; sessions = changed; live = live } in kept)
+    (sessions_of-none change sessions chains channel there)
+    ∙ ap (λ (kept : Kept). changing_session change kept channel) is)
 
 pub sessions_of-set : (store : Held) (index : Index) (live : Bool) (sessions : List (Option Session)) (chains left : List (Option Chain)) (channel : ℕ) (set : Option Session) → (card : Kept)
     → record { store = store; index = index; sessions = sessions_of sessions chains; live = live } ≡ card → left ≡ slice_set chains channel None

@@ -9,6 +9,7 @@ use Rattle.record_store.specs.declared.side.Side.TheVariants.{Committed}
 use Rattle.scql_model.specs.Database.{Database, fresh, owner}
 use Rattle.scql_model.specs.Records.{counter_record, user_record}
 use Rattle.scql_model.proofs.FreshCard.{Opens-fresh}
+use Rattle.scql_model.proofs.ValidSteps.{IsValidMachine-start}
 use Rattle.scql_model.specs.Machine.{Session, start}
 use Rattle.scql_model.specs.Opens.{Opens}
 use Rattle.record_store.specs.FreshImage.{LeavesFormatted}
@@ -27,13 +28,15 @@ unfolding committed_slots
 starts_at store index sessions chip None first same has = tt
 starts_at store index sessions chip (Some image) first same has = λ db opens.
     let of = limited store.row_limit (contents store Committed image) opens.store (sym has ∙ opens.stored) in record {
-      slots = opens.store.slots;
-      committed = subst (λ (i : Option (List ℕ)). committed_slots store i ≡ Some opens.store.slots) same of.0;
-      limit = opens.limit ∙ sym of.1;
-      holds = opens.holds;
-      valid = opens.valid;
-      transaction = refl;
-      sessions = sym (first db);
+      held = record {
+        slots = opens.store.slots;
+        committed = subst (λ (i : Option (List ℕ)). committed_slots store i ≡ Some opens.store.slots) same of.0;
+        limit = opens.limit ∙ sym of.1;
+        holds = opens.holds;
+        transaction = refl;
+        sessions = sym (first db);
+      };
+      valid = IsValidMachine-start db opens.valid;
     }
 
 -- a new store of the two first records opens to a fresh database

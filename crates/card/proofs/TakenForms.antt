@@ -1,24 +1,26 @@
 -- What becomes of a card and its machine by what was taken of octets, before a command is carried out.
-use Rattle.std.proofs.Common.{◌≡◌, ℕ, ◌%◌, Bool, true, false, List, [], ◌∷◌, ◌++◌, Option, Some, None, is_some, Result, Ok, Err, ◌≤◌, refl, sym, ap, subst, ◌∙◌, if◌then◌else◌, inl, inr}
-use Rattle.std.specs.Prelude.{IfSome, map, slice_get, slice_set}
+use Rattle.std.proofs.Common.{◌≡◌, ℕ, zero, suc, ◌%◌, Bool, true, false, List, [], ◌∷◌, ◌++◌, length, Option, Some, None, is_some, Result, Ok, Err, ◌≤◌, refl, sym, ap, subst, ◌∙◌, if◌then◌else◌}
+use Rattle.std.specs.Prelude.{IfSome, map, option_map, slice_get, slice_set}
+use Rattle.std.specs.Option.{option_flatten, option_map_or}
+use Rattle.std.proofs.lemmas.List.{length-set}
 use Rattle.eeprom.specs.Chip.{Chip}
 use Rattle.scql_base.specs.declared.words.StatusWord.{StatusWord}
-use Rattle.scql_base.specs.Words.{done, instruction_not_supported, channel_not_supported}
+use Rattle.scql_base.specs.Words.{instruction_not_supported, channel_not_supported}
 use Rattle.scql_base.specs.declared.operation.Command.{Command}
 use Rattle.scql_base.specs.declared.operation.Line.{Line}
 use Rattle.scql_model.specs.Refusals.{◌>>=◌, provided}
-use Rattle.scql_model.specs.Machine.{Machine, Session as Seen, Chain, open_channels}
-use Rattle.scql_model.specs.Sessions.{changing_session, command_chain, without_chain, with_part}
+use Rattle.scql_model.specs.Machine.{Machine, Session as Seen, Chain, no_reading, open_channels}
+use Rattle.scql_model.specs.Sessions.{changing_session, command_chain, reading_of, without_chain, with_part}
 use Rattle.scql_model.specs.Operations.{IsBuilt, built_operations, has_instruction, has_secrets, kind_of}
 use Rattle.scql_model.specs.Form.{Form, refused, refused_on, part_on, a_command, form_of, formed, formed_on, class_of, is_open, channel_asked, line_on, taken_in, is_chained, part_in, command_in, parts_of}
-use Rattle.scql_model.specs.Accepting.{channel_named, IsAsBefore}
+use Rattle.scql_model.specs.Accepting.{channel_named}
+use Rattle.scql_model.specs.ValidMachine.{IsReadingOf, IsValidMachine}
 use Rattle.scql_model.specs.Bound.{octets_bound, octets_bound_by, octets_carried_out, octets_stepped, or_nothing}
 use Rattle.scql_model.specs.Database.{Database, IsValid}
 use Rattle.scql_model.specs.Opens.{Holds}
-use Rattle.scql_model.specs.Replies.{said}
 use Rattle.scql_model.specs.Step.{Answer, answered, done_with, carried_out, stepped, step_by, step}
 use Rattle.scql_model.proofs.FormedCommands.{bound, refused-not, kind-form_of, sound-built_operations}
-use Rattle.scql_model.proofs.FormedParts.{IfSome-read_on-named, read_on}
+use Rattle.scql_model.proofs.FormedParts.{IfSome-read_on, IfSome-read_on-named, read_on}
 use Rattle.scql_model.proofs.FieldLaws.{AreOctets}
 use Rattle.scql_model.proofs.ReadFits.{FitsCard-form_of}
 use Rattle.scql_model.specs.WellFormed.{FitsCard}
@@ -26,12 +28,12 @@ use Rattle.apdu_chain.specs.declared.chains.Taken.TheVariants as taken
 use Rattle.apdu_chain.specs.Chaining.{chain_on, chains_after, taken_of}
 use Rattle.record_store.specs.Held.{Held}
 use Rattle.row_index.specs.Index.{Index}
-use Rattle.card.specs.Card.{Kept, IsAt}
-use Rattle.card.specs.Sessions.{sessions_of, AreUnread}
-use Rattle.card.specs.Answering.{IsDoneOrStays}
+use Rattle.card.specs.Card.{Kept, HoldsMachine, IsAt, StepsFrom}
+use Rattle.card.specs.Sessions as opened
+use Rattle.card.specs.Sessions.{sessions_of}
 use Rattle.card.specs.declared.session.Session.{Session}
-use Rattle.card.proofs.SeenSessions.{chain-seen, sessions_of-chain}
-use Rattle.card.proofs.UnreadSteps.{done_with-unread, DoneOrStays}
+use Rattle.card.proofs.SeenSessions.{chain-seen, open-parts, sessions_of-chain}
+use Rattle.card.proofs.UnreadSteps.{committed-base}
 
 -- the machine once octets were taken
 abbrev pub taken_at : Machine → Form → Machine
@@ -83,20 +85,46 @@ taken-sessions sessions chains m form is = by_form form
         let next = λ (chain : Option Chain). let more : Chain = record { operation = kind; parts = parts_of kind chain ++ octets ∷ [] } in Some more in
         seen (with_part kind octets) next channel (sessions_of-chain (with_part kind octets) next (λ chain s. refl) sessions chains channel)
 
--- a card at a machine is at the next one once octets were taken
-pub IsAt-taken : (store : Held) (index : Index) (live : Bool) (sessions : List (Option Session)) (chains after : List (Option Chain)) (card : Kept) (chip : Chip) (m : Machine) (form : Form) → IsAt card chip m
+-- what a channel reads stays where a session changes that reads the same
+reading-changed : (change : Seen → Seen) → ((s : Seen) → (change s).reading ≡ s.reading) → (sessions : List (Option Seen)) (i j : ℕ)
+    → option_map_or (λ (s : Seen). s.reading) (option_flatten (slice_get (slice_set sessions i (option_map change (option_flatten (slice_get sessions i)))) j)) no_reading
+    ≡ option_map_or (λ (s : Seen). s.reading) (option_flatten (slice_get sessions j)) no_reading
+reading-changed change same [] i j = refl
+reading-changed change same (None ∷ sessions) zero zero = refl
+reading-changed change same (Some s ∷ sessions) zero zero = same s
+reading-changed change same (s ∷ sessions) zero (suc j) = refl
+reading-changed change same (s ∷ sessions) (suc i) zero = refl
+reading-changed change same (s ∷ sessions) (suc i) (suc j) = reading-changed change same sessions i j
+
+taken-reading : (m : Machine) (form : Form) (channel : ℕ) → reading_of (taken_at m form) channel ≡ reading_of m channel
+taken-reading m (refused word) channel = refl
+taken-reading m (refused_on on word) channel = reading-changed without_chain (λ s. refl) m.sessions on channel
+taken-reading m (part_on on kind octets) channel = reading-changed (with_part kind octets) (λ s. refl) m.sessions on channel
+taken-reading m (a_command c) channel = reading-changed without_chain (λ s. refl) m.sessions c.channel channel
+
+-- outside of a transaction each channel of a valid machine reads what is committed
+readings-committed : (m : Machine) (channel : ℕ) → IsValidMachine m → m.transaction ≡ None → IsReadingOf m.committed (reading_of m channel)
+readings-committed m channel valid none = subst (λ (db : Database). IsReadingOf db (reading_of m channel)) (committed-base m channel none) (valid.readings channel)
+
+-- from the next machine, once octets were taken, a command can be carried out
+pub StepsFrom-taken : (store : Held) (index : Index) (live : Bool) (sessions : List (Option Session)) (chains after : List (Option Chain)) (card : Kept) (chip : Chip) (m : Machine) (form : Form) → IsAt card chip m
     → record { store = store; index = index; sessions = sessions_of sessions chains; live = live } ≡ card → after ≡ chains_after chains form
-    → IsAt (record { store = store; index = index; sessions = sessions_of sessions after; live = live }) chip (taken_at m form)
-IsAt-taken store index live sessions chains after card chip m form at seen is =
-    let was = subst (λ (kept : Kept). IsAt kept chip m) (sym seen) at in
+    → StepsFrom (record { store = store; index = index; sessions = sessions_of sessions after; live = live }) chip (taken_at m form)
+StepsFrom-taken store index live sessions chains after card chip m form at seen is =
+    let was = subst (λ (kept : Kept). HoldsMachine kept chip m) (sym seen) at.held in
     record {
-      slots = was.slots;
-      committed = was.committed;
-      limit = ap (λ (db : Database). db.limit) (taken-committed m form) ∙ was.limit;
-      holds = subst (Holds was.slots) (sym (taken-committed m form)) was.holds;
-      valid = subst IsValid (sym (taken-committed m form)) was.valid;
-      transaction = taken-transaction m form ∙ was.transaction;
-      sessions = taken-sessions sessions chains m form was.sessions ∙ ap (sessions_of sessions) (sym is);
+      held = record {
+        slots = was.slots;
+        committed = was.committed;
+        limit = ap (λ (db : Database). db.limit) (taken-committed m form) ∙ was.limit;
+        holds = subst (Holds was.slots) (sym (taken-committed m form)) was.holds;
+        transaction = taken-transaction m form ∙ was.transaction;
+        sessions = taken-sessions sessions chains m form was.sessions ∙ ap (sessions_of sessions) (sym is);
+      };
+      valid = subst IsValid (sym (taken-committed m form)) at.valid.committed;
+      readings = λ channel.
+          subst (λ (db : Database). IsReadingOf db (reading_of (taken_at m form) channel)) (sym (taken-committed m form))
+          (subst (IsReadingOf m.committed) (sym (taken-reading m form channel)) (readings-committed m channel at.valid was.transaction));
     }
 
 -- the channel that a command asks for is open
@@ -137,9 +165,9 @@ form-card : (card : Kept) (chip : Chip) (m : Machine) (octets : List ℕ) (chann
     → channels ≡ map (λ (s : Option Seen). is_some s) card.sessions → card.sessions ≡ sessions_of sessions chains → limit ≡ card.store.row_limit
     → form_of built_operations octets (open_channels m) (command_chain m) m.committed.limit ≡ form_of built_operations octets channels (chain_on chains) limit
 form-card card chip m octets channels sessions chains limit at are_open seen is =
-    let opened : open_channels m ≡ channels = ap (map (λ (s : Option Seen). is_some s)) at.sessions ∙ sym are_open in
-    form_of-open built_operations octets (open_channels m) (command_chain m) (chain_on chains) m.committed.limit (chain-at (at.sessions ∙ seen))
-    ∙ (ap (form_of built_operations octets (open_channels m) (chain_on chains)) (at.limit ∙ sym is)
+    let opened : open_channels m ≡ channels = ap (map (λ (s : Option Seen). is_some s)) at.held.sessions ∙ sym are_open in
+    form_of-open built_operations octets (open_channels m) (command_chain m) (chain_on chains) m.committed.limit (chain-at (at.held.sessions ∙ seen))
+    ∙ (ap (form_of built_operations octets (open_channels m) (chain_on chains)) (at.held.limit ∙ sym is)
     ∙ ap (λ (channels : List Bool). form_of built_operations octets channels (chain_on chains) limit) opened)
   where
     chain-at : m.sessions ≡ sessions_of sessions chains → (channel : ℕ) → slice_get (open_channels m) channel ≡ Some true → command_chain m channel ≡ chain_on chains channel
@@ -184,11 +212,16 @@ taken-refused m (refused_on channel other) word is = cc
 taken-refused m (part_on channel kind octets) word is = absurd cc
 taken-refused m (a_command c) word is = absurd cc
 
-pub taken-kept : (m : Machine) (form : Form) → AreUnread m.sessions → taken.Kept ≡ taken_of form → outcome_of m form ≡ Ok (record { reply = said done; machine = m; commits = [] })
-taken-kept m (refused word) unread is = absurd cc
-taken-kept m (refused_on channel word) unread is = absurd cc
-taken-kept m (part_on channel kind octets) unread is = ap Ok (done_with-unread m channel [] unread)
-taken-kept m (a_command c) unread is = absurd cc
+pub taken-kept : (m : Machine) (octets : List ℕ) (form : Form) → IfSome (read_on form) (λ channel. channel ≡ channel_named octets) → taken.Kept ≡ taken_of form
+    → outcome_of m form ≡ Ok (done_with m (channel_named octets) [])
+taken-kept m octets (refused word) named is = absurd cc
+taken-kept m octets (refused_on channel word) named is = absurd cc
+taken-kept m octets (part_on channel kind part) named is = ap (λ (channel : ℕ). Ok (done_with m channel [])) named
+taken-kept m octets (a_command c) named is = absurd cc
+
+-- what octets are that are read on a channel names it
+pub named-taken : (octets : List ℕ) (channels : List Bool) (chain : ℕ → Option Chain) (limit : ℕ) → IfSome (read_on (form_of built_operations octets channels chain limit)) (λ channel. channel ≡ channel_named octets)
+named-taken octets channels chain limit = IfSome-read_on-named built_operations octets channels chain limit
 
 taken-whole : (form : Form) (c : Command) → taken.Whole c ≡ taken_of form → form ≡ a_command c
 taken-whole (refused word) c is = absurd cc
@@ -214,18 +247,18 @@ pub fits-taken : (octets : List ℕ) (channels : List Bool) (chain : ℕ → Opt
 fits-taken octets channels chain limit c are most is =
     FitsCard-form_of built_operations octets channels chain limit c sound-built_operations are most (taken-whole (form_of built_operations octets channels chain limit) c is)
 
--- But for a part, octets leave the machine as before.
-as_before-taken : (m : Machine) (octets : List ℕ) (form : Form) → IfSome (read_on form) (λ channel. channel ≡ channel_named octets) → (taken.Kept ≡ taken_of form → ⊥)
-    → IsAsBefore m (channel_named octets) (taken_at m form)
-as_before-taken m octets (refused word) named whole = inl refl
-as_before-taken m octets (refused_on channel word) named whole = inr (ap (changing_session without_chain m) named)
-as_before-taken m octets (part_on channel kind part) named whole = absurd (whole refl)
-as_before-taken m octets (a_command c) named whole = inr (ap (changing_session without_chain m) named)
-
-pub done_or_stays-taken : (m : Machine) (octets : List ℕ) (channels : List Bool) (chain : ℕ → Option Chain) (limit : ℕ)
-    → (let form = form_of built_operations octets channels chain limit in (taken.Kept ≡ taken_of form → ⊥) → DoneOrStays (taken_at m form) (answered (taken_at m form) (outcome_of (taken_at m form) form))
-    → IsDoneOrStays m octets (answered (taken_at m form) (outcome_of (taken_at m form) form)))
-done_or_stays-taken m octets channels chain limit whole (inl is_done) = inl is_done
-done_or_stays-taken m octets channels chain limit whole (inr stays) =
-    let form = form_of built_operations octets channels chain limit in
-    inr (stays.0, subst (IsAsBefore m (channel_named octets)) (sym stays.1) (as_before-taken m octets form (IfSome-read_on-named built_operations octets channels chain limit) whole))
+-- and its channel is open still
+pub open-taken : (octets : List ℕ) (channels : List Bool) (sessions : List (Option Session)) (chains after : List (Option Chain)) (limit : ℕ) (c : Command)
+    → (let form = form_of built_operations octets channels (chain_on chains) limit in channels ≡ map (λ (s : Option Seen). is_some s) (sessions_of sessions chains)
+    → after ≡ chains_after chains form → taken.Whole c ≡ taken_of form → opened.is_open (sessions_of sessions after) c.channel ≡ true)
+open-taken octets channels sessions chains after limit c are_open is whole =
+    let form : Form = form_of built_operations octets channels (chain_on chains) limit in
+    let read : slice_get channels c.channel ≡ Some true = subst (λ (form : Form). IfSome (read_on form) (λ channel. slice_get channels channel ≡ Some true)) (taken-whole form c whole)
+    (IfSome-read_on built_operations octets channels (chain_on chains) limit) in
+    open-parts sessions chains after c.channel (ap length is ∙ length-after chains form) (subst (λ (channels : List Bool). slice_get channels c.channel ≡ Some true) are_open read)
+  where
+    length-after : (chains : List (Option Chain)) (form : Form) → length (chains_after chains form) ≡ length chains
+    length-after chains (refused word) = refl
+    length-after chains (refused_on channel word) = length-set chains channel None
+    length-after chains (part_on channel kind part) = length-set chains channel (Some (record { operation = kind; parts = parts_of kind (chain_on chains channel) ++ part ∷ [] }))
+    length-after chains (a_command c) = length-set chains c.channel None

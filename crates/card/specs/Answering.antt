@@ -1,5 +1,6 @@
 -- What an answer leaves.
-use Rattle.std.specs.Prelude.{◌≡◌, ◌⊎◌, ℕ, List, [], ◌∷◌, Option, Some, Result, Ok, Err, IfOk, OnOk, slice_set}
+use Rattle.std.specs.Prelude.{◌≡◌, ◌==◌, if◌then◌else◌, ℕ, List, [], ◌∷◌, Option, Some, Result, Ok, Err, IfOk, OnOk, option_map, slice_get, slice_set}
+use Rattle.std.specs.Option.{option_flatten}
 use Rattle.eeprom.specs.Chip.{Chip, Becomes, Leaves, RisesAtMost}
 use Rattle.scql_model.specs.Database.{Database}
 use Rattle.scql_model.specs.Opens.{OpensToOneOf}
@@ -8,16 +9,21 @@ use Rattle.scql_base.specs.declared.words.StatusWord.{StatusWord}
 use Rattle.scql_base.specs.Words.{done}
 use Rattle.scql_model.specs.Replies as model
 use Rattle.scql_model.specs.Machine.{Machine, Session, session_for}
-use Rattle.scql_model.specs.Replies.{said}
-use Rattle.scql_model.specs.Accepting.{channel_named, IsAsBefore}
-use Rattle.scql_model.specs.Step.{Answer}
-use Rattle.card.specs.Card.{Kept, IsAt}
+use Rattle.scql_model.specs.Accepting.{IsAsBefore}
+use Rattle.scql_model.specs.Sessions.{without_pending}
+use Rattle.scql_model.specs.Step.{Answer, done_with}
+use Rattle.card.specs.Card.{Kept, HoldsMachine, IsAt}
 use Rattle.scql_base.specs.declared.cursor.PresentedUser.{PresentedUser}
 
 -- the machine's answer is this reply, and card and EEPROM are at its machine
 pub record Answers (answer : Answer) (sent : model.Reply) (card : Kept) (chip : Chip) : Type 0 where
   pub reply : sent ≡ answer.reply
   pub at : IsAt card chip answer.machine
+
+-- the machine's answer is this reply, and card and EEPROM hold its machine
+pub record HoldsAnswer (answer : Answer) (sent : model.Reply) (card : Kept) (chip : Chip) : Type 0 where
+  pub reply : sent ≡ answer.reply
+  pub held : HoldsMachine card chip answer.machine
 
 -- at each moment a power loss leaves an image that opens to one of these databases, and nothing was given meanwhile
 abbrev pub LeavesOneOf : List Database → Chip → Chip → Type 0
@@ -27,10 +33,10 @@ LeavesOneOf dbs old new = Leaves (OpensToOneOf dbs) old new
 abbrev pub replied : List ℕ → StatusWord → model.Reply
 replied body word = record { body = body; word = word }
 
--- What a command does to a card and its EEPROM that are at a machine: the machine's answer, with this body, or a device failed. What commits nothing
+-- What a command does to a card and its EEPROM that hold a machine: the machine's answer, with this body, or a device failed. What commits nothing
 -- writes nothing, and what is answered has written at most so many octets.
 pub record Performs (m : Machine) (answer : Answer) (most : ℕ) (body : List ℕ) (result : Result StatusWord EepromFault) (card : Kept) (old new : Chip) : Type 0 where
-  pub step : IfOk result (λ word. Answers answer (replied body word) card new)
+  pub step : IfOk result (λ word. HoldsAnswer answer (replied body word) card new)
   pub moments : LeavesOneOf (m.committed ∷ answer.commits) old new
   pub unwritten : OnOk result (answer.commits ≡ [] → new ≡ old)
   pub octets : OnOk result (Becomes (RisesAtMost most) old.written new.written)
@@ -43,14 +49,18 @@ with_session card channel session = record card { sessions = slice_set card.sess
 abbrev pub with_session_for : Kept → ℕ → Option PresentedUser → Kept
 with_session_for card channel user = with_session card channel (Some (session_for user))
 
--- what comes of a change that is committed at once, where nothing is pending on the channel
-abbrev pub committed_at_once : Machine → Result Database StatusWord → Result Answer StatusWord
-committed_at_once m (Err word) = Err word
-committed_at_once m (Ok db) = Ok (record { reply = said done; machine = record m { committed = db }; commits = db ∷ [] })
+-- the session of a channel changes, where the channel is open
+abbrev pub changing_session : (Session → Session) → Kept → ℕ → Kept
+changing_session change card channel = with_session card channel (option_map change (option_flatten (slice_get card.sessions channel)))
 
--- what octets say is done, or nothing is committed and the machine is as it was, but that their channel may have lost the parts of a command
-abbrev pub IsDoneOrStays : Machine → List ℕ → Answer → Type 0
-IsDoneOrStays m octets answer = (answer.reply.word ≡ done) ⊎ ((answer.commits ≡ []) × IsAsBefore m (channel_named octets) answer.machine)
+-- what is done leaves nothing pending on its channel
+abbrev pub settled : StatusWord → Kept → ℕ → Kept
+settled word card channel = if word.word == done.word then changing_session without_pending card channel else card
+
+-- what comes of a change that is committed at once
+abbrev pub committed_at_once : Machine → ℕ → Result Database StatusWord → Result Answer StatusWord
+committed_at_once m channel (Err word) = Err word
+committed_at_once m channel (Ok db) = Ok (done_with (record m { committed = db }) channel (db ∷ []))
 
 -- card and EEPROM are at a machine as it was, but that this channel may have lost the parts of a command
 abbrev pub IsAtAsBefore : Kept → Chip → Machine → ℕ → Type 0

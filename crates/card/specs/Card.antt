@@ -10,6 +10,8 @@ use Rattle.record_store.specs.FreshImage.{fresh_image}
 use Rattle.record_table.specs.Making.{IsHeld}
 use Rattle.row_index.specs.Index.{Index, Indexes}
 use Rattle.scql_model.specs.Machine.{Machine, Session}
+use Rattle.scql_model.specs.Sessions.{reading_of}
+use Rattle.scql_model.specs.ValidMachine.{IsReadingOf, IsValidMachine}
 use Rattle.scql_model.specs.Opens.{Holds}
 
 -- its store, the index of its rows, a session or none for each channel, and whether it answers
@@ -40,15 +42,25 @@ pub record IsReady (card : Kept) (chip : Chip) : Type 0 where
   pub index_idle : card.index.begun ≡ false
   pub index : Indexes card.index card.store chip
 
--- Card and EEPROM are at this machine: the image is told, its committed records are those of the machine's database, and the sessions are the machine's.
-pub record IsAt (card : Kept) (chip : Chip) (m : Machine) : Type 0 where
+-- Card and EEPROM hold this machine: the image is told, its committed records are those of the machine's database, and the sessions are the machine's.
+pub record HoldsMachine (card : Kept) (chip : Chip) (m : Machine) : Type 0 where
   pub slots : Slots
   pub committed : committed_slots card.store chip.image ≡ Some slots
   pub limit : m.committed.limit ≡ card.store.row_limit
   pub holds : Holds slots m.committed
-  pub valid : IsValid m.committed
   pub transaction : m.transaction ≡ None
   pub sessions : m.sessions ≡ card.sessions
+
+-- Card and EEPROM are at this machine: they hold it, and it is valid.
+pub record IsAt (card : Kept) (chip : Chip) (m : Machine) : Type 0 where
+  pub held : HoldsMachine card chip m
+  pub valid : IsValidMachine m
+
+-- A command can be carried out from this machine: card and EEPROM hold it, its database is valid, and what each channel reads is of that database.
+pub record StepsFrom (card : Kept) (chip : Chip) (m : Machine) : Type 0 where
+  pub held : HoldsMachine card chip m
+  pub valid : IsValid m.committed
+  pub readings : (channel : ℕ) → IsReadingOf m.committed (reading_of m channel)
 
 -- the octets of a new card
 abbrev pub fresh_card : ℕ → List ℕ

@@ -8,5 +8,6 @@ pub mod KeptRecords
 pub mod Making
 pub mod Opening
 pub mod Pool
+pub mod Reading
 pub mod Sessions
 pub mod Validity

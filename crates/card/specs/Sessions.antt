@@ -1,27 +1,24 @@
 -- The program's sessions, as the model's.
-use Rattle.std.specs.Prelude.{◌≡◌, ℕ, Bool, not, List, [], ◌∷◌, Option, Some, None, is_some, option_map, option_and_then, slice_get, IfSome, if◌then◌else◌}
-use Rattle.std.specs.List.{AllByRecursion, find}
+use Rattle.std.specs.Prelude.{ℕ, Bool, not, List, [], ◌∷◌, Option, Some, None, is_some, option_map, option_and_then, slice_get, if◌then◌else◌}
+use Rattle.std.specs.List.{find}
 use Rattle.std.specs.Option.{option_flatten}
 use Rattle.scql_model.specs.Machine as machine
 use Rattle.scql_base.specs.declared.cursor.PresentedUser.{PresentedUser}
 use Rattle.card.specs.declared.session.Session.{Session}
 
--- a session with these parts of a command; no cursor is built yet
+-- what a session reads
+abbrev pub reading_in : Session → machine.Reading
+reading_in s = record { cursor = s.cursor; pending = s.pending }
+
+-- a session with these parts of a command
 abbrev pub session_seen : Option machine.Chain → Session → machine.Session
-session_seen chain s = record (machine.session_for s.user) { chain = chain }
+session_seen chain s = record { user = s.user; reading = reading_in s; chain = chain }
 
 -- the sessions of the channels, each with the parts of a command that its channel has so far
 abbrev pub sessions_of : List (Option Session) → List (Option machine.Chain) → List (Option machine.Session)
 sessions_of [] chains = []
 sessions_of (session ∷ sessions) [] = []
 sessions_of (session ∷ sessions) (chain ∷ chains) = option_map (session_seen chain) session ∷ sessions_of sessions chains
-
--- a session that reads nothing
-abbrev pub IsUnread : machine.Session → Type 0
-IsUnread s = s.reading ≡ machine.no_reading
-
-abbrev pub AreUnread : List (Option machine.Session) → Type 0
-AreUnread sessions = AllByRecursion (λ (s : Option machine.Session). IfSome s IsUnread) sessions
 
 -- the stamp of a session's user, where there is one that is proved
 abbrev pub proved_stamp : PresentedUser → Option ℕ

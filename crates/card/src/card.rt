@@ -1,5 +1,5 @@
 // The card: its store, its sessions, and the answer to a command.
-ghost use Rattle.std.specs.Prelude.{◌≡◌, ◌≢◌, ◌↔◌, ◌==◌, ℕ, List, slice_get, ◌<◌, ◌≤◌, ◌+◌, ◌*◌, [], ◌∷◌, Some, None, true, false, map, is_some, length, drop, option_map, IfSome, IfOk, OnOk, OnErr, IsTrue, IsErrOf, if◌then◌else◌};
+ghost use Rattle.std.specs.Prelude.{◌≡◌, ◌⊎◌, ◌↔◌, ◌==◌, ℕ, List, slice_get, ◌<◌, ◌≤◌, ◌+◌, ◌*◌, [], ◌∷◌, Some, None, true, false, map, is_some, length, drop, option_map, IfSome, IfOk, OnOk, OnErr, IsTrue, IsErrOf, if◌then◌else◌};
 ghost use Rattle.eeprom.specs.Chip.{Chip, Becomes, Keeps, RisesAtMost};
 ghost use Rattle.eeprom.specs.Fault.{Counts, Rose};
 ghost use Rattle.eeprom.specs.StoreOf.{fewest_cells, image_size, is_gate_open, most_cells};
@@ -12,33 +12,37 @@ ghost use Rattle.scql_model.specs.Replies as model;
 ghost use Rattle.scql_model.specs.Machine as machine;
 ghost use Rattle.scql_model.specs.Step as stepping;
 ghost use Rattle.scql_model.specs.Opens.{Opens};
-ghost use Rattle.scql_base.specs.Words.{done, memory_failure};
+ghost use Rattle.scql_base.specs.Words.{end_reached, memory_failure, tries_left};
 ghost use Rattle.scql_model.specs.Database as database;
 ghost use Rattle.scql_model.specs.Database.{Database, fresh};
 ghost use Rattle.eeprom.specs.Image.{overwrite};
 ghost use Rattle.card.specs.Behind.{KeepsBehind, own_cells};
-ghost use Rattle.card.specs.Card.{Kept, IsReady, IsAt, fresh_card};
-ghost use Rattle.card.specs.Answering.{Answers, IsAtAsBefore, IsDoneOrStays, LeavesOneOf, Performs, replied, with_session, with_session_for};
+ghost use Rattle.card.specs.Card.{Kept, IsReady, IsAt, HoldsMachine, StepsFrom, fresh_card};
+ghost use Rattle.card.specs.Answering.{Answers, HoldsAnswer, IsAtAsBefore, LeavesOneOf, Performs, changing_session, replied, settled, with_session, with_session_for};
 ghost use Rattle.card.specs.Changing.{IsChange};
 ghost use Rattle.card.specs.Making.{LeavesMade};
 ghost use Rattle.card.specs.Opening.{ReadsCard};
-ghost use Rattle.card.specs.Sessions.{AreUnread, is_open, least_closed, proved_user, session_seen, sessions_of};
+ghost use Rattle.card.specs.Reading as reading;
+ghost use Rattle.card.specs.Sessions.{is_open, least_closed, proved_user, session_seen, sessions_of};
 ghost use Rattle.scql_model.specs.Bound.{octets_bound, octets_carried_out, octets_changed, or_nothing};
-ghost use Rattle.scql_model.specs.Accepting.{channel_named};
+ghost use Rattle.scql_model.specs.Accepting as accepting;
+ghost use Rattle.scql_model.specs.Accepting.{Accepts, CostsTry, EndsCursor};
+ghost use Rattle.scql_model.specs.Sessions.{without_pending};
 ghost use Rattle.scql_model.specs.Operations.{IsBuilt, kind_of};
 ghost use Rattle.scql_model.specs.WellFormed.{HasForm, FitsCard, IsWellFormed};
 ghost use Rattle.std.specs.Option.{option_flatten};
 
-use crate::changing::change;
+use crate::changing::{actor_of, change};
 use crate::opening::open_records;
 use crate::outcome::Outcome;
+use crate::reading::{is_reading, read};
 use crate::session::Session;
 use apdu::Reply;
 use apdu_chain::{Chains, Taken};
 use catalog_codec::{Counter, Record};
 use db_access::present;
 use eeprom::{Eeprom, EepromFault};
-use record_store::{FormatRefusal, OpenRefusal, RecordOctets, Store};
+use record_store::{FormatRefusal, OpenRefusal, RecordOctets, Side, Store};
 use row_index::RowIndex;
 use scql_base::{Command, Name, Octets, Operation, PresentedUser, Profile, StatusWord, User};
 use std::alloc::Global;
@@ -140,9 +144,16 @@ impl Card {
         // What commits nothing writes nothing.
         ensures unwritten { (m : machine.Machine) → IsAt self.old (B.chip bench.old) m → result ≡ Outcome.Replied
             → (stepping.step m command.now).commits ≡ [] → B.chip bench.new ≡ B.chip bench.old }
-        // So a refused command writes nothing, and leaves all as it was, but that its channel may have lost the parts of a command.
-        ensures refused { (m : machine.Machine) → IsAt self.old (B.chip bench.old) m → result ≡ Outcome.Replied → reply.new.word ≢ done
-            → (B.chip bench.new ≡ B.chip bench.old) × IsAtAsBefore self.new (B.chip bench.new) m (channel_named command.now) }
+        // A word that doesn't accept the command says that nothing was written and all is as it was, but that its channel may have lost the
+        // parts of a command.
+        ensures refused { (m : machine.Machine) → IsAt self.old (B.chip bench.old) m → result ≡ Outcome.Replied
+            → Accepts reply.new.word ⊎ ((B.chip bench.new ≡ B.chip bench.old) × IsAtAsBefore self.new (B.chip bench.new) m (accepting.channel_named command.now)) }
+        // 6282 says that a cursor came to its end, and nothing else changes.
+        ensures at_its_end { (m : machine.Machine) → IsAt self.old (B.chip bench.old) m → result ≡ Outcome.Replied → reply.new.word ≡ end_reached
+            → EndsCursor m (accepting.channel_named command.now) (stepping.step m command.now) }
+        // 63CX says that a secret was wrong, which costs a try, and nothing else changes.
+        ensures costs_a_try { (m : machine.Machine) (left : ℕ) → IsAt self.old (B.chip bench.old) m → result ≡ Outcome.Replied → reply.new.word ≡ tries_left left
+            → CostsTry m (accepting.channel_named command.now) (stepping.step m command.now) }
         // No more octets are written than the step's bound.
         ensures octets_written { (m : machine.Machine) → IsAt self.old (B.chip bench.old) m → result ≡ Outcome.Replied
             → Becomes (RisesAtMost (octets_bound m command.now)) (B.chip bench.old).written (B.chip bench.new).written }
@@ -198,13 +209,14 @@ impl Card {
         ensures cells { OnOk result (self.new.store.chains.cells ≡ self.old.store.chains.cells) }
         ensures behind { Keeps (drop (image_size self.old.store.chains.cells)) (B.chip bench.old) (B.chip bench.new) }
         ensures unsaid { OnErr result (reply.new.body ≡ []) }
-        // None of the operations that are built answers another word than done where it changes the machine.
-        ensures done_or_stays { (m : machine.Machine) → IsAt self.old (B.chip bench.old) m → IsDoneOrStays m command.now (stepping.step m command.now) }
     {
         let channels = self.open_channels();
         match self.chains.take(command, channels, self.store.row_limit()) {
             Taken::Refused { word } => Ok(word),
-            Taken::Kept => Ok(StatusWord::DONE),
+            Taken::Kept => {
+                self.drop_pending(channel_named(command));
+                Ok(StatusWord::DONE)
+            }
             Taken::Whole { command } => self.carry_out(bench, &command, reply),
         }
     }
@@ -220,7 +232,8 @@ impl Card {
         requires formed { IsWellFormed command.now }
         requires built { IsBuilt (kind_of command.now.operation) }
         requires fits { FitsCard self.old.store.row_limit command.now.operation }
-        ensures performs { (m : machine.Machine) → IsAt self.old (B.chip bench.old) m
+        requires open { is_open self.old.sessions command.now.channel ≡ true }
+        ensures performs { (m : machine.Machine) → StepsFrom self.old (B.chip bench.old) m
             → Performs m (stepping.answered m (stepping.carried_out m command.now)) (or_nothing (octets_carried_out m command.now)) reply.new.body result self.new (B.chip bench.old) (B.chip bench.new) }
         ensures ready { OnOk result (IsReady self.new (B.chip bench.new)) }
         ensures cause { Counts (B.faults bench.old) (B.faults bench.new) result }
@@ -228,15 +241,55 @@ impl Card {
         ensures behind { Keeps (drop (image_size self.old.store.chains.cells)) (B.chip bench.old) (B.chip bench.new) }
         ensures unsaid { OnErr result (reply.new.body ≡ []) }
     {
+        if is_reading(&command.operation) {
+            return self.read(bench, command, reply);
+        }
         let channel = command.channel;
         match &command.operation {
             Operation::PresentUser { name } => self.present_user(bench, channel, name.copy()),
-            Operation::OpenChannel { number } => Ok(self.open_channel(*number, reply)),
+            Operation::OpenChannel { number } => Ok(self.open_channel(channel, *number, reply)),
             Operation::CloseChannel { number } => {
-                Ok(self.close_channel(channel_meant(channel, *number)))
+                Ok(self.close_channel(channel, channel_meant(channel, *number)))
             }
+            Operation::DeleteUser { .. } | Operation::Verify { .. } => unreachable!(),
             operation => self.change(bench, channel, operation),
         }
+    }
+
+    // Carries a reading command out on the session of its channel.
+    fn read<B: Eeprom>(
+        &mut self,
+        bench: &mut B,
+        command: &Command,
+        reply: &mut Reply,
+    ) -> Result<StatusWord, EepromFault>
+        requires ready { IsReady self.old (B.chip bench.old) }
+        requires empty { reply.old.body ≡ [] }
+        requires formed { IsWellFormed command.now }
+        requires reads { reading.is_reading (kind_of command.now.operation) ≡ true }
+        requires open { is_open self.old.sessions command.now.channel ≡ true }
+        ensures performs { (m : machine.Machine) → StepsFrom self.old (B.chip bench.old) m
+            → Performs m (stepping.answered m (stepping.carried_out m command.now)) (or_nothing (octets_carried_out m command.now)) reply.new.body result self.new (B.chip bench.old) (B.chip bench.new) }
+        ensures ready { OnOk result (IsReady self.new (B.chip bench.new)) }
+        ensures cause { Counts (B.faults bench.old) (B.faults bench.new) result }
+        ensures same { B.chip bench.new ≡ B.chip bench.old }
+        ensures store { self.new.store ≡ self.old.store }
+        ensures unsaid { OnErr result (reply.new.body ≡ []) }
+    {
+        let user = self.proved_user(command.channel);
+        let actor = actor_of(&self.store, bench, Side::Committed, user)?;
+        let Some(session) = &mut self.sessions[usize::from(command.channel)] else {
+            unreachable!();
+        };
+        read(
+            &self.store,
+            bench,
+            &self.index,
+            session,
+            actor,
+            command,
+            reply,
+        )
     }
 
     fn open_channels(&self) -> [bool; 4]
@@ -259,8 +312,8 @@ impl Card {
     ) -> Result<StatusWord, EepromFault>
         requires ready { IsReady self.old (B.chip bench.old) }
         requires channel { channel < 4 }
-        ensures step { (m : machine.Machine) → IsAt self.old (B.chip bench.old) m
-            → IfOk result (λ word. Answers (stepping.answered m (stepping.user_presented m channel name)) (model.said word) self.new (B.chip bench.new)) }
+        ensures step { (m : machine.Machine) → StepsFrom self.old (B.chip bench.old) m
+            → IfOk result (λ word. HoldsAnswer (stepping.answered m (stepping.user_presented m channel name)) (model.said word) self.new (B.chip bench.new)) }
         ensures ready { OnOk result (IsReady self.new (B.chip bench.new)) }
         ensures cause { Counts (B.faults bench.old) (B.faults bench.new) result }
         ensures same { B.chip bench.new ≡ B.chip bench.old }
@@ -287,7 +340,7 @@ impl Card {
         requires changes { IsChange operation.now }
         requires formed { HasForm operation.now }
         requires fits { FitsCard self.old.store.row_limit operation.now }
-        ensures performs { (m : machine.Machine) → IsAt self.old (B.chip bench.old) m
+        ensures performs { (m : machine.Machine) → StepsFrom self.old (B.chip bench.old) m
             → Performs m (stepping.answered m (stepping.changed m channel operation.now)) (or_nothing (octets_changed m channel operation.now)) [] result self.new (B.chip bench.old) (B.chip bench.new) }
         ensures ready { OnOk result (IsReady self.new (B.chip bench.new)) }
         ensures cause { Counts (B.faults bench.old) (B.faults bench.new) result }
@@ -295,14 +348,20 @@ impl Card {
         ensures behind { Keeps (drop (image_size self.old.store.chains.cells)) (B.chip bench.old) (B.chip bench.new) }
     {
         let user = self.proved_user(channel);
-        change(
+        let cursor = match &self.sessions[usize::from(channel)] {
+            Some(session) => &session.cursor,
+            None => &None,
+        };
+        let word = change(
             &mut self.store,
             bench,
             &mut self.index,
             user,
-            &None,
+            cursor,
             operation,
-        )
+        )?;
+        self.settle(channel, word);
+        Ok(word)
     }
 
     // The stamp of a channel's user, where that one is proved.
@@ -310,7 +369,7 @@ impl Card {
         requires channel { channel < 4 }
         ensures { result ≡ proved_user (option_flatten (slice_get self.now.sessions channel)) }
     {
-        let session = self.sessions[channel as usize]?;
+        let session = self.sessions[channel as usize].as_ref()?;
         let user = session.user?;
         if user.proved { Some(user.stamp) } else { None }
     }
@@ -320,29 +379,31 @@ impl Card {
         requires channel { channel < 4 }
         ensures { self.new ≡ with_session_for self.old channel user }
     {
-        self.set_session(channel, Some(Session { user }));
+        self.set_session(channel, Some(Session::new(user)));
     }
 
     // Opens the channel of this number, or where it is 0 the least that is closed, whose number is the body of the reply.
-    fn open_channel(&mut self, number: u8, reply: &mut Reply) -> StatusWord
+    fn open_channel(&mut self, asking: u8, number: u8, reply: &mut Reply) -> StatusWord
+        requires asking { asking < 4 }
         requires number { number < 4 }
         requires empty { reply.old.body ≡ [] }
-        ensures step { (chip : Chip) (m : machine.Machine) (channel : ℕ) → IsAt self.old chip m
-            → Answers (stepping.answered m (stepping.channel_opened m channel number)) (replied reply.new.body result) self.new chip }
+        ensures step { (chip : Chip) (m : machine.Machine) → HoldsMachine self.old chip m
+            → HoldsAnswer (stepping.answered m (stepping.channel_opened m asking number)) (replied reply.new.body result) self.new chip }
         ensures ready { (chip : Chip) → IsReady self.old chip → IsReady self.new chip }
         ensures store { self.new.store ≡ self.old.store }
     {
         if number == 0 {
-            self.open_least(reply)
+            self.open_least(asking, reply)
         } else {
-            self.open_named(number)
+            self.open_named(asking, number)
         }
     }
 
-    fn open_least(&mut self, reply: &mut Reply) -> StatusWord
+    fn open_least(&mut self, asking: u8, reply: &mut Reply) -> StatusWord
+        requires asking { asking < 4 }
         requires empty { reply.old.body ≡ [] }
-        ensures step { (chip : Chip) (m : machine.Machine) (channel : ℕ) → IsAt self.old chip m
-            → Answers (stepping.answered m (stepping.channel_opened m channel 0)) (replied reply.new.body result) self.new chip }
+        ensures step { (chip : Chip) (m : machine.Machine) → HoldsMachine self.old chip m
+            → HoldsAnswer (stepping.answered m (stepping.channel_opened m asking 0)) (replied reply.new.body result) self.new chip }
         ensures ready { (chip : Chip) → IsReady self.old chip → IsReady self.new chip }
         ensures store { self.new.store ≡ self.old.store }
     {
@@ -350,15 +411,17 @@ impl Card {
             return StatusWord::FUNCTION_NOT_SUPPORTED;
         };
         self.set_user(number, None);
+        self.drop_pending(asking);
         reply.body.push(number);
         StatusWord::DONE
     }
 
-    fn open_named(&mut self, number: u8) -> StatusWord
+    fn open_named(&mut self, asking: u8, number: u8) -> StatusWord
+        requires asking { asking < 4 }
         requires number { number < 4 }
         requires named { 0 < number }
-        ensures step { (chip : Chip) (m : machine.Machine) (channel : ℕ) → IsAt self.old chip m
-            → Answers (stepping.answered m (stepping.channel_opened m channel number)) (model.said result) self.new chip }
+        ensures step { (chip : Chip) (m : machine.Machine) → HoldsMachine self.old chip m
+            → HoldsAnswer (stepping.answered m (stepping.channel_opened m asking number)) (model.said result) self.new chip }
         ensures ready { (chip : Chip) → IsReady self.old chip → IsReady self.new chip }
         ensures store { self.new.store ≡ self.old.store }
     {
@@ -366,13 +429,15 @@ impl Card {
             return StatusWord::CONDITIONS_NOT_SATISFIED;
         }
         self.set_user(number, None);
+        self.drop_pending(asking);
         StatusWord::DONE
     }
 
-    fn close_channel(&mut self, number: u8) -> StatusWord
+    fn close_channel(&mut self, asking: u8, number: u8) -> StatusWord
+        requires asking { asking < 4 }
         requires number { number < 4 }
-        ensures step { (chip : Chip) (m : machine.Machine) (channel : ℕ) → IsAt self.old chip m
-            → Answers (stepping.answered m (stepping.channel_closed m channel number)) (model.said result) self.new chip }
+        ensures step { (chip : Chip) (m : machine.Machine) → HoldsMachine self.old chip m
+            → HoldsAnswer (stepping.answered m (stepping.channel_closed m asking number)) (model.said result) self.new chip }
         ensures ready { (chip : Chip) → IsReady self.old chip → IsReady self.new chip }
         ensures store { self.new.store ≡ self.old.store }
     {
@@ -380,14 +445,13 @@ impl Card {
             return StatusWord::CHANNEL_NOT_SUPPORTED;
         }
         self.set_session(number, None);
+        self.drop_pending(asking);
         StatusWord::DONE
     }
 
-    // No session reads anything yet, so none has octets that an answer would drop.
     fn is_open(&self, channel: u8) -> bool
         requires channel { channel < 4 }
         ensures is { result ≡ is_open self.now.sessions channel }
-        ensures unread { AreUnread self.now.sessions }
     {
         self.sessions[channel as usize].is_some()
     }
@@ -395,7 +459,6 @@ impl Card {
     fn least_closed(&self) -> Option<u8>
         ensures least { result ≡ least_closed self.now.sessions }
         ensures few { IfSome result (λ channel. channel < 4) }
-        ensures unread { AreUnread self.now.sessions }
     {
         if !self.is_open(1) {
             Some(1)
@@ -408,6 +471,26 @@ impl Card {
         }
     }
 
+    // What is done drops what is pending on its channel.
+    fn settle(&mut self, channel: u8, word: StatusWord)
+        requires channel { channel < 4 }
+        ensures { self.new ≡ settled word self.old channel }
+    {
+        if word.word == StatusWord::DONE.word {
+            self.drop_pending(channel);
+        }
+    }
+
+    // Nothing is pending on a channel any more.
+    fn drop_pending(&mut self, channel: u8)
+        requires channel { channel < 4 }
+        ensures { self.new ≡ changing_session without_pending self.old channel }
+    {
+        if let Some(session) = &mut self.sessions[channel as usize] {
+            session.pending.forget();
+        }
+    }
+
     // A channel has this session from now on, or is closed. It has no parts of a command.
     fn set_session(&mut self, channel: u8, session: Option<Session>)
         requires channel { channel < 4 }
@@ -415,6 +498,17 @@ impl Card {
     {
         self.sessions[channel as usize] = session;
         self.chains.forget(channel);
+    }
+}
+
+// The channel that the class of a command names.
+fn channel_named(command: &[u8]) -> u8
+    ensures named { result ≡ accepting.channel_named command.now }
+    ensures few { result < 4 }
+{
+    match command {
+        [class, ..] => class % 4,
+        [] => 0,
     }
 }
 
@@ -446,5 +540,5 @@ fn owner() -> User
 fn first_sessions() -> [Option<Session>; 4]
     ensures { (db : Database) → sessions_of result (None ∷ None ∷ None ∷ None ∷ []) ≡ (machine.start db).sessions }
 {
-    [Some(Session { user: None }), None, None, None]
+    [Some(Session::new(None)), None, None, None]
 }

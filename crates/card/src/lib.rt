@@ -9,6 +9,7 @@ mod kept_record;
 mod kept_records;
 mod opening;
 mod outcome;
+mod reading;
 mod session;
 mod slot_record;
 mod validity;

@@ -41,7 +41,7 @@ unfolding committed_slots
 open-at card chip db ready at = of chip.image refl
   where
     of : (o : Option (List ℕ)) → chip.image ≡ o → IsOpenTo chip db
-    of None is = let none : None ≡ Some at.slots = subst (λ (o : Option (List ℕ)). committed_slots card.store o ≡ Some at.slots) is at.committed in absurd (cc)
+    of None is = let none : None ≡ Some at.held.slots = subst (λ (o : Option (List ℕ)). committed_slots card.store o ≡ Some at.held.slots) is at.held.committed in absurd (cc)
     of (Some image) is = (image, is, Opens-at card chip (start db) ready at image is)
 
 -- a database whose rows are long already is the one with longer rows

@@ -7,7 +7,6 @@ ghost use Rattle.record_store.specs.Held.{IsOver};
 ghost use Rattle.record_store.specs.declared.side.Side.TheVariants.{Committed};
 ghost use Rattle.scql_model.specs.Database.{Database, IsValid};
 ghost use Rattle.scql_model.specs.Edits.{applied, changing, lacks_room, octets_for};
-ghost use Rattle.scql_model.specs.Opens.{are_tables};
 ghost use Rattle.catalog_codec.specs.Catalog.{row_kind};
 ghost use Rattle.catalog_codec.specs.Kinds.{HaveOtherMarks};
 ghost use Rattle.record_table.specs.AtRest.{IsAtRest, Replaces};
@@ -31,7 +30,6 @@ pub fn commit_in_place<R: Editable, B: Eeprom>(
     requires there { slot < store.old.chains.cells }
     ensures replaces { (db : Database) (was : R) → IsAtRest store.old (B.chip bench.old) db → IfSome (slots_of store.old Committed (B.chip bench.old)) (λ slots. Some was ≡ at_slot R.kind slot slots)
         → R.kind.key was ≡ R.kind.key value.now → lacks_room db (changing (R.any value.now) ∷ []) ≡ false → IsValid (applied db (changing (R.any value.now) ∷ []))
-        → are_tables (applied db (changing (R.any value.now) ∷ [])).objects ≡ true
         → Replaces db (applied db (changing (R.any value.now) ∷ [])) (octets_for (changing (R.any value.now) ∷ [])) result store.new (B.chip bench.old) (B.chip bench.new) }
     ensures at { (was : R) → R.kind.form.fits value.now ≡ true → IfSome (slots_of store.old Committed (B.chip bench.old)) (λ slots. Some was ≡ at_slot R.kind slot slots)
         → OnOk result (IfSome (slots_of store.new Committed (B.chip bench.new)) (λ slots. Some value.now ≡ at_slot R.kind slot slots)) }

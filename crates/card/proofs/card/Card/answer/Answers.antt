@@ -1,10 +1,21 @@
-use Rattle.std.proofs.Common.{ap, ◌∙◌, inl, inr}
+use Rattle.std.proofs.Common.{sym, ap, subst, ◌∙◌, inl, inr, arith}
+use Rattle.scql_model.specs.Accepting.{Accepts}
+use Rattle.scql_model.specs.Operations.{built_operations}
 use Rattle.scql_model.specs.Replies.{Reply}
+use Rattle.scql_model.specs.Step.{step}
+use Rattle.scql_model.proofs.AnswerWords.{step-costs, step-ends}
+use Rattle.scql_model.proofs.Refusing.{step-accepts_or_leaves}
+use Rattle.scql_model.proofs.ValidSteps.{IsValidAnswer-step}
 use Rattle.card.specs.Answering.{replied}
 use Rattle.card.proofs.card.Card.answer.Goals as goal
 
 pub returns-in-Ok-clause-step : goal.returns-in-Ok-clause-step
-returns-in-Ok-clause-step g c = λ m at is. let answers = (c.in-Ok.ensures.performs m at).step in record { reply = ap (λ (sent : Reply). replied sent.body c.in-Ok.word) c.reply-2.view_is ∙ answers.reply; at = answers.at }
+returns-in-Ok-clause-step g c = λ m at is.
+    let says = (c.in-Ok.ensures.performs m at).step in
+    record {
+      reply = ap (λ (sent : Reply). replied sent.body c.in-Ok.word) c.reply-2.view_is ∙ says.reply;
+      at = record { held = says.held; valid = (IsValidAnswer-step m c.args.command.now (λ i. omega (arith, c.type_inv.command i)) at.valid).machine };
+    }
 
 pub returns-in-Ok-clause-moments : goal.returns-in-Ok-clause-moments
 returns-in-Ok-clause-moments g c = λ m at. (c.in-Ok.ensures.performs m at).moments
@@ -19,10 +30,26 @@ pub returns-in-Ok-clause-octets_written : goal.returns-in-Ok-clause-octets_writt
 returns-in-Ok-clause-octets_written g c = λ m at is. (c.in-Ok.ensures.performs m at).octets
 
 pub returns-in-Ok-clause-refused : goal.returns-in-Ok-clause-refused
-returns-in-Ok-clause-refused g c = λ m at is not_done.
+unfolding step
+returns-in-Ok-clause-refused g c = λ m at is.
     let performs = c.in-Ok.ensures.performs m at in
-    let answers = performs.step in
-    elim (c.in-Ok.ensures.done_or_stays m at) [
-      | inl is_done ↦ absurd (not_done (ap (λ (sent : Reply). sent.word) answers.reply ∙ is_done))
-      | inr stays ↦ (performs.unwritten stays.0, (_, stays.1, answers.at))
+    let says = performs.step in
+    elim (step-accepts_or_leaves built_operations m c.args.command.now) [
+      | inl accepts ↦ inl (subst Accepts (sym (ap (λ (sent : Reply). sent.word) says.reply)) accepts)
+      | inr leaves ↦ inr (performs.unwritten leaves.0, (_, leaves.1, record {
+          held = says.held;
+          valid = (IsValidAnswer-step m c.args.command.now (λ i. omega (arith, c.type_inv.command i)) at.valid).machine;
+        }))
     ]
+
+pub returns-in-Ok-clause-at_its_end : goal.returns-in-Ok-clause-at_its_end
+unfolding step
+returns-in-Ok-clause-at_its_end g c = λ m at is ends.
+    let says = (c.in-Ok.ensures.performs m at).step in
+    step-ends built_operations m c.args.command.now (sym (ap (λ (sent : Reply). sent.word) says.reply) ∙ ends)
+
+pub returns-in-Ok-clause-costs_a_try : goal.returns-in-Ok-clause-costs_a_try
+unfolding step
+returns-in-Ok-clause-costs_a_try g c = λ m left at is costs.
+    let says = (c.in-Ok.ensures.performs m at).step in
+    step-costs built_operations m c.args.command.now left (sym (ap (λ (sent : Reply). sent.word) says.reply) ∙ costs)

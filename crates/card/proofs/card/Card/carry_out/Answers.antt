@@ -1,4 +1,4 @@
--- A command is PRESENT USER or MANAGE CHANNEL, or it changes the database.
+-- A command reads, is PRESENT USER or MANAGE CHANNEL, or changes the database.
 use Rattle.std.proofs.Common.{◌≡◌, ℕ, List, [], drop, Result, Ok, refl, sym, ap, subst, ◌∙◌, arith}
 use Rattle.std.specs.Prelude.{IfOk}
 use Rattle.eeprom.specs.Chip.{Chip}
@@ -12,17 +12,17 @@ use Rattle.scql_model.specs.Bound.{octets_carried_out, or_nothing}
 use Rattle.scql_model.specs.Machine.{Machine}
 use Rattle.scql_model.specs.Step.{Answer, answered, carried_out, changed, user_presented, channel_opened, channel_closed}
 use Rattle.scql_model.specs.WellFormed.{HasForm}
-use Rattle.card.specs.Answering.{Answers, Performs, replied}
-use Rattle.card.specs.Card.{Kept, IsReady, IsAt}
-use Rattle.card.proofs.BuiltLines.{IsChange-built}
+use Rattle.card.specs.Answering.{HoldsAnswer, Performs, replied}
+use Rattle.card.specs.Card.{Kept, IsReady, StepsFrom}
+use Rattle.card.proofs.BuiltLines.{IsChange-built, IsNoneOfThose}
 use Rattle.card.proofs.Leaving.{Keeps-none}
 use Rattle.card.proofs.Performing.{Performs-unwritten}
 use Rattle.card.proofs.UnreadSteps.{carried_out-presents, carried_out-changes, carried_out-opens, carried_out-closes, octets-carried_out}
 use Rattle.card.proofs.card.Card.carry_out.Goals as goal
 
 -- a command that changes sessions alone is carried out so, and writes nothing
-of_sessions : (card after : Kept) (old new : Chip) (m : Machine) (c : Command) (outcome : Result Answer StatusWord) (body : List ℕ) (result : Result StatusWord EepromFault) → IsReady card old → IsAt card old m → new ≡ old
-    → carried_out m c ≡ outcome → IfOk result (λ word. Answers (answered m outcome) (replied body word) after new) → Performs m (answered m (carried_out m c)) (or_nothing (octets_carried_out m c)) body result after old new
+of_sessions : (card after : Kept) (old new : Chip) (m : Machine) (c : Command) (outcome : Result Answer StatusWord) (body : List ℕ) (result : Result StatusWord EepromFault) → IsReady card old → StepsFrom card old m → new ≡ old
+    → carried_out m c ≡ outcome → IfOk result (λ word. HoldsAnswer (answered m outcome) (replied body word) after new) → Performs m (answered m (carried_out m c)) (or_nothing (octets_carried_out m c)) body result after old new
 of_sessions card after old new m c outcome body result ready at same is step =
     subst (λ (outcome : Result Answer StatusWord). Performs m (answered m outcome) (or_nothing (octets_carried_out m c)) body result after old new) (sym is)
     (Performs-unwritten card after old new m _ _ body result ready at same step)
@@ -33,7 +33,7 @@ returns-in-PresentUser-clause-performs g c = λ m at.
     let new = g.B.Eeprom.chip c.present_user.new.bench in
     let presents : carried_out m c.args.command.now ≡ user_presented m c.args.command.now.channel c.in-PresentUser.name =
     ap (λ (operation : Operation). carried_out m (record { channel = c.args.command.now.channel; operation = operation; le = c.args.command.now.le })) c.in-PresentUser.is
-    ∙ carried_out-presents m c.args.command.now.channel c.in-PresentUser.name c.args.command.now.le at.transaction in
+    ∙ carried_out-presents m c.args.command.now.channel c.in-PresentUser.name c.args.command.now.le at.held.transaction in
     subst (λ (body : List ℕ). Performs m (answered m (carried_out m c.args.command.now)) (or_nothing (octets_carried_out m c.args.command.now)) body c.present_user.result c.present_user.new.self old new) (sym c.requires.empty)
     (of_sessions c.args.self.now c.present_user.new.self old new m c.args.command.now (user_presented m c.args.command.now.channel c.in-PresentUser.name) [] c.present_user.result c.requires.ready at c.present_user.ensures.same presents
     (rw c.copy.ensures at (c.present_user.ensures.step m at)))
@@ -50,9 +50,9 @@ returns-in-OpenChannel-clause-performs g c = λ m at.
     let old = g.B.Eeprom.chip c.args.bench.now in
     let opens : carried_out m c.args.command.now ≡ channel_opened m c.args.command.now.channel c.in-OpenChannel.number =
     ap (λ (operation : Operation). carried_out m (record { channel = c.args.command.now.channel; operation = operation; le = c.args.command.now.le })) c.in-OpenChannel.is
-    ∙ carried_out-opens m c.args.command.now.channel c.in-OpenChannel.number c.args.command.now.le at.transaction in
+    ∙ carried_out-opens m c.args.command.now.channel c.in-OpenChannel.number c.args.command.now.le at.held.transaction in
     of_sessions c.args.self.now c.open_channel.new.self old old m c.args.command.now (channel_opened m c.args.command.now.channel c.in-OpenChannel.number) c.open_channel.new.reply.body (Ok c.open_channel.result) c.requires.ready at refl opens
-    (c.open_channel.ensures.step old m c.args.command.now.channel at)
+    (c.open_channel.ensures.step old m at.held)
 
 pub returns-in-OpenChannel-clause-behind : goal.returns-in-OpenChannel-clause-behind
 returns-in-OpenChannel-clause-behind g c =
@@ -66,21 +66,32 @@ returns-in-CloseChannel-clause-performs g c = λ m at.
     let old = g.B.Eeprom.chip c.args.bench.now in
     let closes : carried_out m c.args.command.now ≡ channel_closed m c.args.command.now.channel c.channel_meant.result =
     ap (λ (operation : Operation). carried_out m (record { channel = c.args.command.now.channel; operation = operation; le = c.args.command.now.le })) c.in-CloseChannel.is
-    ∙ (carried_out-closes m c.args.command.now.channel c.in-CloseChannel.number c.args.command.now.le at.transaction
+    ∙ (carried_out-closes m c.args.command.now.channel c.in-CloseChannel.number c.args.command.now.le at.held.transaction
     ∙ ap (channel_closed m c.args.command.now.channel) (sym c.channel_meant.ensures.meant)) in
     subst (λ (body : List ℕ). Performs m (answered m (carried_out m c.args.command.now)) (or_nothing (octets_carried_out m c.args.command.now)) body (Ok c.close_channel.result) c.close_channel.new.self old old) (sym c.requires.empty)
     (of_sessions c.args.self.now c.close_channel.new.self old old m c.args.command.now (channel_closed m c.args.command.now.channel c.channel_meant.result) [] (Ok c.close_channel.result) c.requires.ready at refl closes
-    (c.close_channel.ensures.step old m c.args.command.now.channel at))
+    (c.close_channel.ensures.step old m at.held))
 
 pub returns-in-CloseChannel-clause-behind : goal.returns-in-CloseChannel-clause-behind
 returns-in-CloseChannel-clause-behind g c =
     Keeps-none (drop (image_size c.args.self.now.store.chains.cells)) (g.B.Eeprom.chip c.args.bench.now) (g.B.Eeprom.chip c.args.bench.now) refl
 
+-- what is left changes the database
+none : (g : _) (c : goal.In_default g) → IsNoneOfThose c.args.command.now.operation
+none g c = record {
+  not_reading = sym c.if-is_reading.ensures ∙ c.if-is_reading.false;
+  not_presents = c.in_default.not-PresentUser;
+  not_opens = c.in_default.not-OpenChannel;
+  not_closes = c.in_default.not-CloseChannel;
+  not_deletes = c.in_default.not-DeleteUser;
+  not_verifies = c.in_default.not-Verify;
+}
+
 pub change-requires : goal.change-requires
 change-requires g c = record {
   ready = c.requires.ready;
   channel = omega (arith, c.requires.formed.channel);
-  changes = IsChange-built c.args.command.now.operation c.requires.built c.in_default.not-PresentUser c.in_default.not-OpenChannel c.in_default.not-CloseChannel;
+  changes = IsChange-built c.args.command.now.operation c.requires.built (none g c);
   formed = c.requires.formed.form;
   fits = c.requires.fits;
 }
@@ -89,11 +100,11 @@ pub returns-in_default-clause-performs : goal.returns-in_default-clause-performs
 returns-in_default-clause-performs g c = λ m at.
     let channel = c.args.command.now.channel in
     let operation = c.args.command.now.operation in
-    let changes = IsChange-built operation c.requires.built c.in_default.not-PresentUser c.in_default.not-OpenChannel c.in_default.not-CloseChannel in
+    let changes = IsChange-built operation c.requires.built (none g (goal.at.returns-in_default-clause-performs g c).After-change) in
     let old = g.B.Eeprom.chip c.args.bench.now in
     let new = g.B.Eeprom.chip c.change.new.bench in
     subst (λ (body : List ℕ). Performs m (answered m (carried_out m c.args.command.now)) (or_nothing (octets_carried_out m c.args.command.now)) body c.change.result c.change.new.self old new) (sym c.requires.empty)
     (subst (λ (outcome : Result Answer StatusWord). Performs m (answered m outcome) (or_nothing (octets_carried_out m c.args.command.now)) [] c.change.result c.change.new.self old new)
-    (sym (carried_out-changes m channel operation c.args.command.now.le changes.1 at.transaction))
+    (sym (carried_out-changes m channel operation c.args.command.now.le changes.1 at.held.transaction))
     (subst (λ (most : Result ℕ StatusWord). Performs m (answered m (changed m channel operation)) (or_nothing most) [] c.change.result c.change.new.self old new)
-    (sym (octets-carried_out m channel operation c.args.command.now.le changes.1 at.transaction)) (c.change.ensures.performs m at)))
+    (sym (octets-carried_out m channel operation c.args.command.now.le changes.1 at.held.transaction)) (c.change.ensures.performs m at)))

@@ -1,8 +1,12 @@
 -- A channel is closed that was open.
-use Rattle.std.proofs.Common.{sym}
-use Rattle.card.proofs.ManagedChannels.{Answers-closed}
+use Rattle.std.proofs.Common.{sym, ap, ◌∙◌}
+use Rattle.scql_model.specs.Sessions.{without_pending}
+use Rattle.card.specs.Answering.{changing_session}
+use Rattle.card.specs.Card.{Kept}
+use Rattle.card.proofs.ManagedChannels.{HoldsAnswer-closed}
 use Rattle.card.proofs.card.Card.close_channel.Goals as goal
 
 pub returns-clause-step : goal.returns-clause-step
-returns-clause-step c = λ chip m channel at.
-    Answers-closed c.args.self.now chip m channel c.is_open.ensures.unread at c.set_session.new.self c.args.number (sym c.if-not-is_open.ensures.is) c.set_session.ensures
+returns-clause-step c = λ chip m at.
+    HoldsAnswer-closed c.args.self.now chip m c.args.asking at c.drop_pending.new.self c.args.number (sym c.if-not-is_open.ensures)
+    (c.drop_pending.ensures ∙ ap (λ (kept : Kept). changing_session without_pending kept c.args.asking) c.set_session.ensures)

@@ -1,25 +1,24 @@
 -- What was taken with the card's open channels and chains is what the machine takes with its own.
-use Rattle.std.proofs.Common.{◌≡◌, ◌≤◌, ◌∙◌, ℕ, min, List, [], drop, ap, Ok, Err, refl, sym, subst, inl, inr, arith}
+use Rattle.std.proofs.Common.{◌≡◌, ◌≤◌, ◌∙◌, ℕ, min, List, [], drop, map, Option, is_some, ap, Ok, Err, refl, sym, subst, arith}
 use Rattle.eeprom.specs.Chip.{Keeps}
 use Rattle.eeprom.specs.StoreOf.{image_size}
 use Rattle.scql_base.specs.declared.words.StatusWord.{StatusWord}
 use Rattle.scql_base.specs.Words.{done}
 use Rattle.scql_model.specs.Bound.{octets_bound}
 use Rattle.scql_model.specs.Form.{Form, form_of}
-use Rattle.scql_model.specs.Machine.{Machine}
+use Rattle.scql_model.specs.Accepting.{channel_named}
+use Rattle.scql_model.specs.Machine.{Machine, Session}
 use Rattle.scql_model.specs.Operations.{built_operations}
 use Rattle.scql_model.specs.Replies.{said}
-use Rattle.scql_model.specs.Step.{Answer, answered, carried_out, step}
+use Rattle.scql_model.specs.Step.{Answer, answered, carried_out, done_with, step}
 use Rattle.scql_model.specs.WellFormed.{FitsCard}
 use Rattle.apdu_chain.specs.Chaining.{chain_on}
-use Rattle.card.specs.Card.{Kept, IsAt}
-use Rattle.card.specs.Answering.{IsDoneOrStays, Performs}
-use Rattle.card.specs.Sessions.{sessions_of, AreUnread}
-use Rattle.card.proofs.SeenSessions.{unread-sessions}
-use Rattle.card.proofs.TakenForms.{taken_at, outcome_of, step-taken, IsAt-taken, bound-taken, octets_taken, octets-whole, taken-committed, taken-refused, taken-kept, outcome-whole, built-taken, fits-taken, done_or_stays-taken}
-use Rattle.card.proofs.UnreadSteps.{carried_out-done, DoneOrStays}
+use Rattle.card.specs.Card.{Kept, IsAt, StepsFrom}
+use Rattle.card.specs.Answering.{HoldsAnswer, Performs}
+use Rattle.card.specs.Sessions.{sessions_of}
+use Rattle.card.proofs.TakenForms.{taken_at, outcome_of, step-taken, StepsFrom-taken, bound-taken, octets_taken, octets-whole, taken-committed, taken-refused, taken-kept, named-taken, open-taken, outcome-whole, built-taken, fits-taken, readings-committed}
 use Rattle.card.proofs.Leaving.{Keeps-none}
-use Rattle.card.proofs.Performing.{Performs-from, Performs-unwritten}
+use Rattle.card.proofs.Performing.{HoldsAnswer-done, Performs-from, Performs-unwritten}
 use Rattle.card.proofs.card.Card.word_of.Goals.{After-take}
 use Rattle.card.proofs.card.Card.word_of.Goals as goal
 
@@ -46,60 +45,48 @@ bounds g c m at =
     bound-taken c.args.self.now (g.B.Eeprom.chip c.args.bench.now) m c.args.command.now c.open_channels-channels.result c.self.inside.sessions c.self.inside.chains (min c.row_limit.result 1020) at
     c.open_channels-channels.ensures (ap (λ (kept : Kept). kept.sessions) (sym c.self.view_is)) (rows c.row_limit.result _ c.row_limit.ensures.most (c.row_limit.ensures.limit ∙ ap (λ (kept : Kept). kept.store.row_limit) c.self.view_is))
 
-at-taken : (g : _) (c : After-take g) (m : Machine) → IsAt c.args.self.now (g.B.Eeprom.chip c.args.bench.now) m → IsAt (after_take g c) (g.B.Eeprom.chip c.args.bench.now) (taken_at m (form g c))
+at-taken : (g : _) (c : After-take g) (m : Machine) → IsAt c.args.self.now (g.B.Eeprom.chip c.args.bench.now) m → StepsFrom (after_take g c) (g.B.Eeprom.chip c.args.bench.now) (taken_at m (form g c))
 at-taken g c m at =
-    IsAt-taken c.self.inside.store c.self.inside.index c.self.inside.live c.self.inside.sessions c.self.inside.chains c.take.new.self c.args.self.now (g.B.Eeprom.chip c.args.bench.now) m (form g c) at c.self.view_is c.take.ensures.chains
+    StepsFrom-taken c.self.inside.store c.self.inside.index c.self.inside.live c.self.inside.sessions c.self.inside.chains c.take.new.self c.args.self.now (g.B.Eeprom.chip c.args.bench.now) m (form g c) at c.self.view_is c.take.ensures.chains
 
--- nothing is written for what is no command
-unwritten : (g : _) (c : After-take g) (m : Machine) (answer : Answer) (word : StatusWord) → IsAt c.args.self.now (g.B.Eeprom.chip c.args.bench.now) m
-    → answered (taken_at m (form g c)) (outcome_of (taken_at m (form g c)) (form g c)) ≡ answer → answer.reply ≡ said word → answer.machine ≡ taken_at m (form g c)
-    → Performs m (step m c.args.command.now) (octets_bound m c.args.command.now) [] (Ok word) (after_take g c) (g.B.Eeprom.chip c.args.bench.now) (g.B.Eeprom.chip c.args.bench.now)
-unwritten g c m answer word at is says stays =
-    let chip = g.B.Eeprom.chip c.args.bench.now in
-    subst (λ (answer : Answer). Performs m answer (octets_bound m c.args.command.now) [] (Ok word) (after_take g c) chip chip) (sym (steps g c m at ∙ is))
-    (Performs-unwritten c.args.self.now (after_take g c) chip chip m answer (octets_bound m c.args.command.now) [] (Ok word) c.requires.ready at refl
-    (record { reply = sym says; at = subst (λ (next : Machine). IsAt (after_take g c) chip next) (sym stays) (at-taken g c m at) }))
+-- the machine as it is holds from its step
+from : (g : _) (c : After-take g) (m : Machine) → IsAt c.args.self.now (g.B.Eeprom.chip c.args.bench.now) m → StepsFrom c.args.self.now (g.B.Eeprom.chip c.args.bench.now) m
+from g c m at = record { held = at.held; valid = at.valid.committed; readings = λ channel. readings-committed m channel at.valid at.held.transaction }
 
--- nor said
-unsaid : (g : _) (c : After-take g) (m : Machine) (word : StatusWord) → c.args.reply.now.body ≡ []
-    → Performs m (step m c.args.command.now) (octets_bound m c.args.command.now) [] (Ok word) (after_take g c) (g.B.Eeprom.chip c.args.bench.now) (g.B.Eeprom.chip c.args.bench.now)
-    → Performs m (step m c.args.command.now) (octets_bound m c.args.command.now) c.args.reply.now.body (Ok word) (after_take g c) (g.B.Eeprom.chip c.args.bench.now) (g.B.Eeprom.chip c.args.bench.now)
-unsaid g c m word empty performs =
+-- nothing is written for what is no command, nor said
+unwritten : (g : _) (c : After-take g) (m : Machine) (answer : Answer) (word : StatusWord) (after : Kept) → IsAt c.args.self.now (g.B.Eeprom.chip c.args.bench.now) m
+    → answered (taken_at m (form g c)) (outcome_of (taken_at m (form g c)) (form g c)) ≡ answer → HoldsAnswer answer (said word) after (g.B.Eeprom.chip c.args.bench.now) → c.args.reply.now.body ≡ []
+    → Performs m (step m c.args.command.now) (octets_bound m c.args.command.now) c.args.reply.now.body (Ok word) after (g.B.Eeprom.chip c.args.bench.now) (g.B.Eeprom.chip c.args.bench.now)
+unwritten g c m answer word after at is says empty =
     let chip = g.B.Eeprom.chip c.args.bench.now in
-    subst (λ (body : List ℕ). Performs m (step m c.args.command.now) (octets_bound m c.args.command.now) body (Ok word) (after_take g c) chip chip) (sym empty) performs
+    subst (λ (answer : Answer). Performs m answer (octets_bound m c.args.command.now) c.args.reply.now.body (Ok word) after chip chip) (sym (steps g c m at ∙ is))
+    (subst (λ (body : List ℕ). Performs m answer (octets_bound m c.args.command.now) body (Ok word) after chip chip) (sym empty)
+    (Performs-unwritten c.args.self.now after chip chip m answer (octets_bound m c.args.command.now) [] (Ok word) c.requires.ready (from g c m at) refl says))
 
 pub returns-in-Refused-clause-performs : goal.returns-in-Refused-clause-performs
 returns-in-Refused-clause-performs g c = λ m at.
     let w = (goal.at.returns-in-Refused-clause-performs g c).After-take in
     let next = taken_at m (form g w) in
-    unsaid g w m _ c.requires.empty (unwritten g w m (answered next (Err c.in-Refused.word)) c.in-Refused.word at (ap (answered next) (taken-refused next (form g w) c.in-Refused.word (sym c.in-Refused.is ∙ c.take.ensures.taken))) refl refl)
-
-pub returns-in-Refused-clause-done_or_stays : goal.returns-in-Refused-clause-done_or_stays
-returns-in-Refused-clause-done_or_stays g c = λ m at.
-    let w = (goal.at.returns-in-Refused-clause-done_or_stays g c).After-take in
-    let next = taken_at m (form g w) in
-    let refused = taken-refused next (form g w) c.in-Refused.word (sym c.in-Refused.is ∙ c.take.ensures.taken) in
-    subst (IsDoneOrStays m c.args.command.now) (sym (steps g w m at))
-    (done_or_stays-taken m c.args.command.now c.open_channels-channels.result (chain_on c.self.inside.chains) (min c.row_limit.result 1020) (λ kept. cc)
-    (subst (λ outcome. DoneOrStays next (answered next outcome)) (sym refused) (inr (refl, refl))))
+    unwritten g w m (answered next (Err c.in-Refused.word)) c.in-Refused.word (after_take g w) at (ap (answered next) (taken-refused next (form g w) c.in-Refused.word (sym c.in-Refused.is ∙ c.take.ensures.taken)))
+    (record { reply = refl; held = (at-taken g w m at).held }) c.requires.empty
 
 pub returns-in-Kept-clause-performs : goal.returns-in-Kept-clause-performs
 returns-in-Kept-clause-performs g c = λ m at.
     let w = (goal.at.returns-in-Kept-clause-performs g c).After-take in
     let next = taken_at m (form g w) in
-    let unread : AreUnread next.sessions = subst AreUnread (sym (at-taken g w m at).sessions) (unread-sessions c.self.inside.sessions c.take.new.self) in
-    unsaid g w m _ c.requires.empty (unwritten g w m (record { reply = said done; machine = next; commits = [] }) done at (ap (answered next) (taken-kept next (form g w) unread (sym c.in-Kept.is ∙ c.take.ensures.taken))) refl refl)
-
-pub returns-in-Kept-clause-done_or_stays : goal.returns-in-Kept-clause-done_or_stays
-returns-in-Kept-clause-done_or_stays g c = λ m at.
-    let w = (goal.at.returns-in-Kept-clause-done_or_stays g c).After-take in
-    let next = taken_at m (form g w) in
-    let unread : AreUnread next.sessions = subst AreUnread (sym (at-taken g w m at).sessions) (unread-sessions c.self.inside.sessions c.take.new.self) in
-    inl (ap (λ (answer : Answer). answer.reply.word) (steps g w m at ∙ ap (answered next) (taken-kept next (form g w) unread (sym c.in-Kept.is ∙ c.take.ensures.taken))))
+    let channel = channel_named c.args.command.now in
+    unwritten g w m (done_with next channel []) done c.drop_pending.new.self at
+    (ap (answered next) (taken-kept next c.args.command.now (form g w) (named-taken c.args.command.now c.open_channels-channels.result (chain_on c.self.inside.chains) (min c.row_limit.result 1020)) (sym c.in-Kept.is ∙ c.take.ensures.taken)))
+    (HoldsAnswer-done (after_take g w) c.drop_pending.new.self (g.B.Eeprom.chip c.args.bench.now) next channel [] (at-taken g w m at).held (rw (sym c.channel_named.ensures.named) c.drop_pending.ensures)) c.requires.empty
 
 pub carry_out-requires-clause-built : goal.carry_out-requires-clause-built
 carry_out-requires-clause-built g c =
     built-taken c.args.command.now c.open_channels-channels.result (chain_on c.self.inside.chains) (min c.row_limit.result 1020) c.in-Whole.command (omega arith) (sym c.in-Whole.is ∙ c.take.ensures.taken)
+
+pub carry_out-requires-clause-open : goal.carry_out-requires-clause-open
+carry_out-requires-clause-open g c =
+    open-taken c.args.command.now c.open_channels-channels.result c.self.inside.sessions c.self.inside.chains c.take.new.self (min c.row_limit.result 1020) c.in-Whole.command
+    (c.open_channels-channels.ensures ∙ ap (λ (kept : Kept). map (λ (s : Option Session). is_some s) kept.sessions) (sym c.self.view_is)) c.take.ensures.chains (sym c.in-Whole.is ∙ c.take.ensures.taken)
 
 pub carry_out-requires-clause-fits : goal.carry_out-requires-clause-fits
 carry_out-requires-clause-fits g c =
@@ -127,14 +114,3 @@ returns-in-Kept-clause-behind g c = Keeps-none (drop (image_size c.args.self.now
 pub returns-in-Whole-clause-behind : goal.returns-in-Whole-clause-behind
 returns-in-Whole-clause-behind g c =
     subst (λ (kept : Kept). Keeps (drop (image_size kept.store.chains.cells)) (g.B.Eeprom.chip c.args.bench.now) (g.B.Eeprom.chip c.carry_out.new.bench)) c.self.view_is c.carry_out.ensures.behind
-
-pub returns-in-Whole-clause-done_or_stays : goal.returns-in-Whole-clause-done_or_stays
-returns-in-Whole-clause-done_or_stays g c = λ m at.
-    let w = (goal.at.returns-in-Whole-clause-done_or_stays g c).After-take in
-    let next = taken_at m (form g w) in
-    let whole = outcome-whole next (form g w) c.in-Whole.command (sym c.in-Whole.is ∙ c.take.ensures.taken) in
-    subst (IsDoneOrStays m c.args.command.now) (sym (steps g w m at))
-    (done_or_stays-taken m c.args.command.now c.open_channels-channels.result (chain_on c.self.inside.chains) (min c.row_limit.result 1020) (λ kept. cc)
-    (subst (λ outcome. DoneOrStays next (answered next outcome)) (sym whole)
-    (carried_out-done next c.in-Whole.command (at-taken g w m at).transaction
-    (built-taken c.args.command.now c.open_channels-channels.result (chain_on c.self.inside.chains) (min c.row_limit.result 1020) c.in-Whole.command (omega arith) (sym c.in-Whole.is ∙ c.take.ensures.taken)))))

@@ -1,0 +1,157 @@
+-- What a reading command's word, row and cursor make of a session, as the model's move.
+use Rattle.std.proofs.Common.{◌≡◌, ◌≤◌, ◌==◌, ◌<◌, ℕ, Bool, true, false, List, [], ◌∷◌, length, Option, Some, None, option_map, Result, Ok, Err, if◌then◌else◌, refl, sym, ap, subst, ◌∙◌, arith, inl, inr}
+use Rattle.std.specs.Prelude.{IfSome, IsTrue, unwrap_or}
+use Rattle.std.specs.List.{find, list_all}
+use Rattle.std.proofs.lemmas.Bool.{cases_Bool}
+use Rattle.std.proofs.lemmas.Map.Entries.{option_filter}
+use Rattle.std.proofs.lemmas.Option.{none-some, same_Some}
+use Rattle.scql_base.specs.declared.cursor.Cursor.{Cursor}
+use Rattle.scql_base.specs.declared.operation.Command.{Command}
+use Rattle.scql_base.specs.declared.operation.Operation.{Operation}
+use Rattle.scql_base.specs.declared.operation.Operation.TheVariants as asks
+use Rattle.scql_base.specs.declared.records.Object.{Object}
+use Rattle.scql_base.specs.declared.records.ObjectKind.{ObjectKind}
+use Rattle.scql_base.specs.declared.records.ObjectKind.TheVariants.{Table, View, Dictionary}
+use Rattle.scql_base.specs.declared.words.Actor.{Actor}
+use Rattle.scql_base.specs.declared.words.StatusWord.{StatusWord}
+use Rattle.scql_base.specs.Words.{conditions_not_satisfied, done, not_found, security_not_satisfied}
+use Rattle.scql_model.specs.Cursors.{IsCursorOf}
+use Rattle.scql_model.specs.Database.{Database, is_table}
+use Rattle.scql_model.specs.Defining.{is_table_or_view}
+use Rattle.scql_model.specs.Machine.{Reading}
+use Rattle.scql_model.specs.Matching.{Values}
+use Rattle.scql_model.specs.Contents.{Contents, contents_of}
+use Rattle.scql_model.specs.Moves.{chosen, gave_more, giving, move_of, moved, rows_under}
+use Rattle.scql_model.specs.Objects.{StampedRow}
+use Rattle.scql_model.specs.Refusals.{◌>>=◌, or_refused}
+use Rattle.scql_model.specs.Rights.{appears, holds, seen_stamped, select_privilege}
+use Rattle.scql_model.specs.ReadingCommands.{Move, ReadingCommand, fetch, fetch_next, get_response, or_stays, reading_command}
+use Rattle.scql_model.proofs.LongerLists.{find-all}
+use Rattle.cursor.specs.Moved.{refuses}
+use Rattle.db_read.specs.Answered as reading
+use Rattle.db_read.specs.Answered.{answered, given, selectable}
+use Rattle.db_read.proofs.Sighted.{asked-Ok}
+use Rattle.card.specs.Reading.{Goes, MovesSo, move_to}
+
+-- a word without a row, as a move
+pub stays-answered : (word : StatusWord) (cursor : Option Cursor) (old pending : List ℕ) → pending ≡ (if refuses word then old else [])
+    → or_stays (record { cursor = cursor; pending = old }) (answered word cursor) ≡ move_to [] word cursor pending
+stays-answered word cursor old pending is =
+    elim (cases_Bool (refuses word)) [
+      | inl t ↦ (let same = rw t at is in rw (t, same) refl)
+      | inr f ↦ (let same = rw f at is in rw (f, same) refl)
+    ]
+
+-- a refusal leaves the cursor, so the move is the same from the cursor after it
+from-after : (word : StatusWord) (before : Reading) (cursor : Option Cursor) → (IsTrue (refuses word) → cursor ≡ before.cursor)
+    → or_stays before (answered word cursor) ≡ or_stays (record { cursor = cursor; pending = before.pending }) (answered word cursor)
+from-after word before cursor stays =
+    elim (cases_Bool (refuses word)) [
+      | inl t ↦ (let same = stays t in rw (t, same) refl)
+      | inr f ↦ rw f refl
+    ]
+
+from-after-given : (le : ℕ) (word : StatusWord) (before : Reading) (cursor : Option Cursor) (values : Values) → (IsTrue (refuses word) → cursor ≡ before.cursor)
+    → or_stays before (given le word cursor values) ≡ or_stays (record { cursor = cursor; pending = before.pending }) (given le word cursor values)
+from-after-given le word before cursor values stays =
+    elim (cases_Bool (word.word == done.word)) [
+      | inl t ↦ rw t refl
+      | inr f ↦ rw f (from-after word before cursor stays)
+    ]
+
+pub move-answered : (db : Database) (actor : Actor) (before : Reading) (command : ReadingCommand) (word : StatusWord) (cursor : Option Cursor) (pending : List ℕ) → moved db actor before command ≡ answered word cursor
+    → (IsTrue (refuses word) → cursor ≡ before.cursor) → pending ≡ (if refuses word then before.pending else []) → move_of db actor before command ≡ move_to [] word cursor pending
+unfolding move_of
+move-answered db actor before command word cursor pending is stays dropped =
+    ap (or_stays before) is ∙ (from-after word before cursor stays ∙ stays-answered word cursor before.pending pending dropped)
+
+pub move-given : (db : Database) (actor : Actor) (before : Reading) (command : ReadingCommand) (le : ℕ) (word : StatusWord) (cursor : Option Cursor) (values : Values) (move : Move Reading)
+    → moved db actor before command ≡ given le word cursor values → (IsTrue (refuses word) → cursor ≡ before.cursor)
+    → or_stays (record { cursor = cursor; pending = before.pending }) (given le word cursor values) ≡ move → move_of db actor before command ≡ move
+unfolding move_of
+move-given db actor before command le word cursor values move is stays same =
+    ap (or_stays before) is ∙ (from-after-given le word before cursor values stays ∙ same)
+
+-- An operation that moves a cursor and gives no octets moves a session so.
+pub MovesSo-goes : (db : Database) (actor : Actor) (c : Command) (before : Reading) (word : StatusWord) (cursor : Option Cursor) (pending : List ℕ) → Goes db actor c.operation word before.cursor cursor
+    → pending ≡ (if refuses word then before.pending else []) → MovesSo db actor c before (move_to [] word cursor pending)
+MovesSo-goes db actor c before word cursor pending goes dropped command is =
+    move-answered db actor before command word cursor pending (goes.moves c.le command before.pending is) goes.stays dropped
+
+-- A command that gives octets has an Le.
+with_le : (f : ℕ → ReadingCommand) (o : Option ℕ) (le : ℕ) (command : ReadingCommand) → le ≡ unwrap_or o 256 → option_map f o ≡ Some command → f le ≡ command
+with_le f None le command said is = absurd (none-some command is)
+with_le f (Some n) le command said is = ap f said ∙ same_Some (f n) command is
+
+pub MovesSo-fetch : (db : Database) (actor : Actor) (c : Command) (before : Reading) (le : ℕ) (move : Move Reading) → c.operation ≡ asks.Fetch → le ≡ unwrap_or c.le 256
+    → move_of db actor before (fetch le) ≡ move → MovesSo db actor c before move
+MovesSo-fetch db actor c before le move asked said moves command is =
+    subst (λ (command : ReadingCommand). move_of db actor before command ≡ move)
+    (with_le fetch c.le le command said (ap (λ (operation : Operation). reading_command operation c.le) (sym asked) ∙ is)) moves
+
+pub MovesSo-fetch_next : (db : Database) (actor : Actor) (c : Command) (before : Reading) (le : ℕ) (move : Move Reading) → c.operation ≡ asks.FetchNext → le ≡ unwrap_or c.le 256
+    → move_of db actor before (fetch_next le) ≡ move → MovesSo db actor c before move
+MovesSo-fetch_next db actor c before le move asked said moves command is =
+    subst (λ (command : ReadingCommand). move_of db actor before command ≡ move)
+    (with_le fetch_next c.le le command said (ap (λ (operation : Operation). reading_command operation c.le) (sym asked) ∙ is)) moves
+
+pub MovesSo-get_response : (db : Database) (actor : Actor) (c : Command) (before : Reading) (le : ℕ) (move : Move Reading) → c.operation ≡ asks.GetResponse → le ≡ unwrap_or c.le 256
+    → move_of db actor before (get_response le) ≡ move → MovesSo db actor c before move
+MovesSo-get_response db actor c before le move asked said moves command is =
+    subst (λ (command : ReadingCommand). move_of db actor before command ≡ move)
+    (with_le get_response c.le le command said (ap (λ (operation : Operation). reading_command operation c.le) (sym asked) ∙ is)) moves
+
+-- Le is 1 to 256.
+pub le-bounds : (o : Option ℕ) (le : ℕ) → le ≡ unwrap_or o 256 → IfSome o (λ le. (1 ≤ le) × (le ≤ 256)) → (1 ≤ le) × (le ≤ 256)
+le-bounds None le said is = (omega (arith, said), omega (arith, said))
+le-bounds (Some n) le said is = (omega (arith, said, is.0), omega (arith, said, is.1))
+
+-- The rows of a cursor may be read where its object may be selected from.
+pub rows_under-may : (db : Database) (actor : Actor) (c : Cursor) (o : Object) → selectable db actor (seen_stamped db actor c.object) ≡ Ok o → rows_under db actor c ≡ Ok (chosen (contents_of db o.stamp) c)
+rows_under-may db actor c o may = asked-Ok db actor (seen_stamped db actor c.object) (λ (x : Object) (contents : Contents). Ok (chosen contents c)) o may
+
+-- who may select from an object that was found, and who may not
+pub may-open : (db : Database) (actor : Actor) (o : Object) → appears db actor o ≡ true → holds db actor o select_privilege ≡ true → selectable db actor (option_filter (appears db actor) (Some o)) ≡ Ok o
+may-open db actor o seen may = rw (seen, may) refl
+
+pub may-closed : (db : Database) (actor : Actor) (o : Object) → appears db actor o ≡ true → holds db actor o select_privilege ≡ false → selectable db actor (option_filter (appears db actor) (Some o)) ≡ Err security_not_satisfied
+may-closed db actor o seen may = rw (seen, may) refl
+
+pub may-hidden : (db : Database) (actor : Actor) (o : Object) → appears db actor o ≡ false → selectable db actor (option_filter (appears db actor) (Some o)) ≡ Err not_found
+may-hidden db actor o seen = rw seen refl
+
+-- GET RESPONSE, by what it finds.
+module _ (db : Database) (actor : Actor) (before : Reading) (le : ℕ) where
+  pub more-without_cursor : before.cursor ≡ None → move_of db actor before (get_response le) ≡ move_to [] conditions_not_satisfied before.cursor before.pending
+  unfolding move_of
+  more-without_cursor none = ap (λ (o : Option Cursor). or_stays before (or_refused o conditions_not_satisfied >>= λ (c : Cursor). rows_under db actor c >>= λ _. gave_more c le before.pending)) none
+
+  module _ (c : Cursor) (stands : before.cursor ≡ Some c) where
+    on_cursor : moved db actor before (get_response le) ≡ (rows_under db actor c >>= λ _. gave_more c le before.pending)
+    on_cursor = ap (λ (o : Option Cursor). or_refused o conditions_not_satisfied >>= λ (c : Cursor). rows_under db actor c >>= λ _. gave_more c le before.pending) stands
+
+    pub more-refused : (word : StatusWord) → rows_under db actor c ≡ Err word → move_of db actor before (get_response le) ≡ move_to [] word before.cursor before.pending
+    unfolding move_of
+    more-refused word is = ap (or_stays before) (on_cursor ∙ ap (λ (r : Result (List StampedRow) StatusWord). r >>= λ _. gave_more c le before.pending) is)
+
+    on_rows : (rows : List StampedRow) → rows_under db actor c ≡ Ok rows → moved db actor before (get_response le) ≡ gave_more c le before.pending
+    on_rows rows is = on_cursor ∙ ap (λ (r : Result (List StampedRow) StatusWord). r >>= λ _. gave_more c le before.pending) is
+
+    pub more-may : (rows : List StampedRow) (move : Move Reading) → rows_under db actor c ≡ Ok rows → or_stays (record { cursor = Some c; pending = before.pending }) (gave_more c le before.pending) ≡ move
+        → move_of db actor before (get_response le) ≡ move
+    unfolding move_of
+    more-may rows move is same =
+        ap (or_stays before) (on_rows rows is)
+        ∙ (ap (λ (o : Option Cursor). or_stays (record { cursor = o; pending = before.pending }) (gave_more c le before.pending)) stands ∙ same)
+
+-- what is pending is nothing, or something
+pub none-pending : (octets : List ℕ) → (length octets == 0) ≡ true → octets ≡ []
+none-pending [] is = refl
+none-pending (octet ∷ octets) is = absurd cc
+
+pub some-pending : (octets : List ℕ) → (length octets == 0) ≡ false → octets ≡ [] → ⊥
+some-pending octets is none = let wrong : true ≡ false = rw none at is in absurd cc
+
+pub gives-more : (c : Cursor) (le : ℕ) (octets : List ℕ) → (octets ≡ [] → ⊥) → gave_more c le octets ≡ Ok (giving c.place c le octets)
+gives-more c le [] some = absurd (some refl)
+gives-more c le (octet ∷ octets) some = refl
