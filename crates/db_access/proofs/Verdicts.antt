@@ -16,7 +16,7 @@ use Rattle.scql_base.specs.declared.records.User.{User}
 use Rattle.scql_base.specs.declared.words.StatusWord.{StatusWord}
 use Rattle.scql_model.specs.Database.{Database, IsValid, user_stamped, weight}
 use Rattle.scql_model.specs.Edits.{applied, changing, lacks_room, octets_for}
-use Rattle.scql_model.specs.Opens.{Opens, are_tables}
+use Rattle.scql_model.specs.Opens.{Opens}
 use Rattle.scql_model.specs.Records.{of_user}
 use Rattle.scql_model.specs.Replies.{said}
 use Rattle.scql_model.specs.Step.{Answer, secret_right, secret_wrong, with_tries}
@@ -61,7 +61,7 @@ room-changed db u valid =
 -- all tries are given back after one less was committed
 pub restores : {T : Type 0} (db : Database) (u : User) (slot : ℕ) (old new : Held) (before after : Chip) (result : Result T Stop)
     → ((db : Database) (was : User) → IsAtRest old before db → IfSome (slots_of old Committed before) (λ slots. Some was ≡ at_slot user_kind slot slots) → was.stamp ≡ u.stamp
-    → lacks_room db (changing (of_user (record u { tries = ALL_TRIES })) ∷ []) ≡ false → IsValid (with_tries db u ALL_TRIES) → are_tables (with_tries db u ALL_TRIES).objects ≡ true
+    → lacks_room db (changing (of_user (record u { tries = ALL_TRIES })) ∷ []) ≡ false → IsValid (with_tries db u ALL_TRIES)
     → Replaces db (with_tries db u ALL_TRIES) (octets_for (changing (of_user (record u { tries = ALL_TRIES })) ∷ [])) result new before after)
     → (first : ℕ) → IsAtRest old before (with_tries db u first) → IfSome (slots_of old Committed before) (λ slots. Some (record u { tries = first }) ≡ at_slot user_kind slot slots) → IsValid (with_tries db u ALL_TRIES)
     → Replaces (with_tries db u first) (with_tries db u ALL_TRIES) (octets_for (changing (of_user u) ∷ [])) result new before after
@@ -69,7 +69,7 @@ restores db u slot old new before after result replaces first rest there valid =
     let twice = tries-twice db u first ALL_TRIES in
     let valid_twice : IsValid (with_tries (with_tries db u first) u ALL_TRIES) = subst IsValid (sym twice) valid in
     subst (λ (next : Database). Replaces (with_tries db u first) next (octets_for (changing (of_user u) ∷ [])) result new before after) twice
-    (replaces (with_tries db u first) (record u { tries = first }) rest there refl (room-changed (with_tries db u first) (record u { tries = ALL_TRIES }) valid_twice) valid_twice rest.tables)
+    (replaces (with_tries db u first) (record u { tries = first }) rest there refl (room-changed (with_tries db u first) (record u { tries = ALL_TRIES }) valid_twice) valid_twice)
 
 module _ (db : Database) (stamp : ℕ) (secret : List ℕ) where
   -- The model's answers.

@@ -17,7 +17,7 @@ use Rattle.record_store.proofs.Weights.{limited, store_of-stands}
 use Rattle.scql_base.specs.declared.words.StatusWord.{StatusWord}
 use Rattle.scql_model.specs.Database.{Database}
 use Rattle.scql_model.specs.Edits.{Edit, applied, lacks_room, octets_for, with_edits}
-use Rattle.scql_model.specs.Opens.{Opens, are_tables}
+use Rattle.scql_model.specs.Opens.{Opens}
 use Rattle.catalog_codec.specs.Kinds.{Kind, IsKind, HaveOtherMarks}
 use Rattle.catalog_codec.specs.Catalog.{row_kind}
 use Rattle.catalog_codec.specs.CatalogLaws.{IsKind-row}
@@ -33,7 +33,7 @@ use Rattle.record_table.proofs.Steps.{some-told, told-image}
 
 -- an image with the same store opens to the same database
 pub opens-same : (was left : List ℕ) → store_of left ≡ store_of was → (db : Database) → Opens was db → Opens left db
-opens-same was left same db opens = record { store = opens.store; stored = same ∙ opens.stored; limit = opens.limit; holds = opens.holds; valid = opens.valid; tables = opens.tables }
+opens-same was left same db opens = record { store = opens.store; stored = same ∙ opens.stored; limit = opens.limit; holds = opens.holds; valid = opens.valid }
 
 -- where nothing is written, all stays
 pub Keeps-none : {A : Type 0} (look : List ℕ → A) (old new : Chip) → new ≡ old → Keeps look old new
@@ -95,21 +95,20 @@ over-begun store begun old chip over same is stands = subst (IsOver begun) (sym 
     told (Some image) there = stands image there
 
 -- an image whose store is that of a side that holds a database opens to it
-pub opens-side : (store : Held) (side : Side) (chip : Chip) (db : Database) → IsHeld store side chip db → are_tables db.objects ≡ true → (was left : List ℕ) → chip.image ≡ Some was → store_of left ≡ stored store side was
+pub opens-side : (store : Held) (side : Side) (chip : Chip) (db : Database) → IsHeld store side chip db → (was left : List ℕ) → chip.image ≡ Some was → store_of left ≡ stored store side was
     → Opens left db
-opens-side store side chip db held tables was left told is = record {
+opens-side store side chip db held was left told is = record {
   store = record { row_limit = store.row_limit; slots = held.slots };
   stored = is ∙ ap (with_limit store.row_limit) (contents-told store side chip held.slots held.told was told);
   limit = held.limit;
   holds = held.holds;
   valid = held.valid;
-  tables = tables;
 }
 
 pub opens-rest : (store : Held) (chip : Chip) (db : Database) → IsOver store chip → IsAtRest store chip db → (was : List ℕ) → chip.image ≡ Some was → Opens was db
 opens-rest store chip db over rest was told =
     let stands : StandsFor store was = subst (λ (o : Option (List ℕ)). IfSome o (StandsFor store)) told over.stands in
-    opens-side store Committed chip db rest.held rest.tables was was told (store_of-stands store was stands)
+    opens-side store Committed chip db rest was was told (store_of-stands store was stands)
 
 -- where the store of the image stays at each moment, so does the database
 pub leaves-kept : (old new : Chip) (db : Database) (more : List Database) → ((was : List ℕ) → old.image ≡ Some was → Opens was db) → Keeps store_of old new → LeavesOneOf (db ∷ more) old new
@@ -125,13 +124,13 @@ leaves-kept old new db more opens keeps = record {
 
 -- and a commit leaves it, or what the working side holds
 pub leaves-committed : (mid : Held) (old between new : Chip) (db next : Database) → ((was : List ℕ) → old.image ≡ Some was → Opens was db) → Keeps store_of old between
-    → IsHeld mid Committed between db → are_tables db.objects ≡ true → IsHeld mid Working between next → are_tables next.objects ≡ true → Commits mid between new → LeavesOneOf (db ∷ next ∷ []) old new
-leaves-committed mid old between new db next opens keeps committed tables working next_tables commits =
+    → IsHeld mid Committed between db → IsHeld mid Working between next → Commits mid between new → LeavesOneOf (db ∷ next ∷ []) old new
+leaves-committed mid old between new db next opens keeps committed working commits =
     throughout-then old between new _ (leaves-kept old between db (next ∷ []) opens keeps) (throughout-weaker between new _ _ commits.moments (λ g left at. (
       at.0 ∙ ap (λ still. still.mark) keeps.still,
       elim at.3 [
-        | inl was ↦ inl (opens-side mid Committed between db committed tables at.1 left at.2 was)
-        | inr now ↦ inr (inl (opens-side mid Working between next working next_tables at.1 left at.2 now))
+        | inl was ↦ inl (opens-side mid Committed between db committed at.1 left at.2 was)
+        | inr now ↦ inr (inl (opens-side mid Working between next working at.1 left at.2 now))
       ],
     )))
 
@@ -244,7 +243,7 @@ pub not-refused : (db : Database) (edits : List Edit) (word : StatusWord) → la
 not-refused db edits word room refused = let wrong = rw room at refused in cc
 
 -- Edits were made in a transaction of their own, by the ways in which that ends.
-module _ (T : Type 0) (db : Database) (edits : List Edit) (store begun mid : Held) (old between : Chip) (over : IsOver store old) (rest : IsAtRest store old db) (tables : are_tables (applied db edits).objects ≡ true)
+module _ (T : Type 0) (db : Database) (edits : List Edit) (store begun mid : Held) (old between : Chip) (over : IsOver store old) (rest : IsAtRest store old db)
     (is : begun ≡ begun_from store) (stays : (image : List ℕ) → contents begun Committed image ≡ contents store Committed image) (kept : Keeps store_of old between) where
   opens : (was : List ℕ) → old.image ≡ Some was → Opens was db
   opens = opens-rest store old db over rest
@@ -255,7 +254,7 @@ module _ (T : Type 0) (db : Database) (edits : List Edit) (store begun mid : Hel
 
   module _ (makes : Makes db edits begun mid old between) (goes_on : GoesOn begun mid old between) (new : Chip) (commits : Commits mid between new) where
     moments : LeavesOneOf (db ∷ applied db edits ∷ []) old new
-    moments = leaves-committed mid old between new db (applied db edits) opens kept (committed-begun store begun mid old old between db rest.held refl is stays makes.committed goes_on.cells goes_on.rows) rest.tables makes.held tables commits
+    moments = leaves-committed mid old between new db (applied db edits) opens kept (committed-begun store begun mid old old between db rest refl is stays makes.committed goes_on.cells goes_on.rows) makes.held commits
 
     -- or during it
     pub Replaces-half : (ended : Held) → Replaces {T = T} db (applied db edits) (octets_for edits) (Err Fault) ended old new
@@ -265,7 +264,7 @@ module _ (T : Type 0) (db : Database) (edits : List Edit) (store begun mid : Hel
     pub Replaces-done : (x : T) (ended : Held) → Becomes (IsCommitted mid ended) between.image new.image → is_some new.image ≡ is_some between.image → ended.chains.cells ≡ mid.chains.cells → ended.row_limit ≡ mid.row_limit
         → entries begun ≡ 0 → Becomes (RisesBy (4 + 6 * entries mid)) between.written new.written → Replaces db (applied db edits) (octets_for edits) (Ok x) ended old new
     Replaces-done x ended done_now told cells rows none rises = record {
-      rests = record { held = held-committed mid ended between new (applied db edits) goes_on.over makes.held done_now told cells rows; tables = tables };
+      rests = held-committed mid ended between new (applied db edits) goes_on.over makes.held done_now told cells rows;
       unrefused = λ word refused. cc;
       moments = moments;
       octets = λ after told.
@@ -283,7 +282,7 @@ Replaces-fault {T} db next most (Err stop) store old new gives replaces = subst 
 -- the database was there at the beginning of these moments
 pub LeavesOnce-then : (db : Database) (dbs : List Database) (store : Held) (old mid new : Chip) → old.clock ≤ mid.clock → mid.still ≡ old.still → IsOver store mid → IsAtRest store mid db → LeavesOneOf dbs mid new → LeavesOnce db old new
 LeavesOnce-then db dbs store old mid new later still over rest leaves =
-    let image = told-image store Committed mid rest.held.slots rest.held.told in record {
+    let image = told-image store Committed mid rest.slots rest.told in record {
       left = image.0;
       opens = opens-rest store mid db over rest image.0 image.1;
       moment = subst (λ (mark : ℕ). MayBeLeftSince new old.clock mark image.0) (ap (λ still. still.mark) still) (leaves.stays old.clock mid.still.mark image.0 later (left-now mid old.clock image.0 image.1));

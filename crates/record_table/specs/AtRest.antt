@@ -5,15 +5,14 @@ use Rattle.record_store.specs.Held.{Held}
 use Rattle.record_store.specs.declared.side.Side.TheVariants.{Committed}
 use Rattle.scql_base.specs.declared.words.StatusWord.{StatusWord}
 use Rattle.scql_model.specs.Database.{Database}
-use Rattle.scql_model.specs.Opens.{Opens, OpensToOneOf, are_tables}
+use Rattle.scql_model.specs.Opens.{Opens, OpensToOneOf}
 use Rattle.record_table.specs.Making.{IsHeld}
 use Rattle.record_table.specs.declared.stop.Stop.{Stop}
 use Rattle.record_table.specs.declared.stop.Stop.TheVariants.{Refused}
 
--- what is committed is the database, one that today's card opens with
-pub record IsAtRest (store : Held) (chip : Chip) (db : Database) : Type 0 where
-  pub held : IsHeld store Committed chip db
-  pub tables : are_tables db.objects ≡ true
+-- what is committed is the database
+abbrev pub IsAtRest : Held → Chip → Database → Type 0
+IsAtRest store chip db = IsHeld store Committed chip db
 
 -- at each moment a power loss leaves an image that opens to one of these databases, and nothing was given meanwhile
 abbrev pub LeavesOneOf : List Database → Chip → Chip → Type 0

@@ -8,7 +8,6 @@ ghost use Rattle.record_store.specs.declared.side.Side.TheVariants.{Committed};
 ghost use Rattle.scql_base.specs.declared.words.StatusWord.{StatusWord};
 ghost use Rattle.scql_model.specs.Database.{Database, IsValid};
 ghost use Rattle.scql_model.specs.Edits.{applied, changing, lacks_room, octets_for};
-ghost use Rattle.scql_model.specs.Opens.{are_tables};
 ghost use Rattle.record_table.specs.AtRest.{IsAtRest, Replaces};
 ghost use Rattle.record_table.specs.Changed.{IsChanged};
 ghost use Rattle.record_table.specs.Listed.{at_slot, slots_of};
@@ -31,7 +30,6 @@ pub fn commit_in_place<R: Editable, B: Eeprom>(
     requires there { slot < store.old.chains.cells }
     ensures replaces { (db : Database) (was : R) → IsAtRest store.old (B.chip bench.old) db → IfSome (slots_of store.old Committed (B.chip bench.old)) (λ slots. Some was ≡ at_slot R.kind slot slots)
         → R.kind.key was ≡ R.kind.key value.now → lacks_room db (changing (R.any value.now) ∷ []) ≡ false → IsValid (applied db (changing (R.any value.now) ∷ []))
-        → are_tables (applied db (changing (R.any value.now) ∷ [])).objects ≡ true
         → Replaces db (applied db (changing (R.any value.now) ∷ [])) (octets_for (changing (R.any value.now) ∷ [])) result store.new (B.chip bench.old) (B.chip bench.new) }
     ensures changed { OnOk result (Becomes (IsChanged R.kind value.now slot) (slots_of store.old Committed (B.chip bench.old)) (slots_of store.new Committed (B.chip bench.new))) }
     ensures refused { (word : StatusWord) → IsErrOf result (Stop.Refused word) → slots_of store.new Committed (B.chip bench.new) ≡ slots_of store.old Committed (B.chip bench.old) }

@@ -34,7 +34,7 @@ use Rattle.db_access.proofs.verifying.try_secret.Goals.{After-commit_in_place}
 -- Who was found, in which slot, and that it has a secret.
 stamped : (g : Over) (c : After-commit_in_place g) (db : Database) → IsAtRest c.args.store.now (g.B.Eeprom.chip c.args.bench.now) db → user_stamped db.users c.args.user ≡ Some c.in-Some.field-0.value
 stamped g c db rest =
-    stamped-held c.args.store.now Committed (g.B.Eeprom.chip c.args.bench.now) db c.args.user _ rest.held c.in_ok-slot.ensures.found ∙ ap (option_map (λ found. found.value)) c.in-Some.is
+    stamped-held c.args.store.now Committed (g.B.Eeprom.chip c.args.bench.now) db c.args.user _ rest c.in_ok-slot.ensures.found ∙ ap (option_map (λ found. found.value)) c.in-Some.is
 
 there : (g : Over) (c : After-commit_in_place g) → IfSome (slots_of c.args.store.now Committed (g.B.Eeprom.chip c.find_stamp.new.bench)) (λ slots. Some c.in-Some.field-0.value ≡ at_slot user_kind c.in-Some.field-0.slot slots)
 there g c = rw (sym c.in_ok-slot.ensures.frame.same) at (rw c.in-Some.is at c.in_ok-slot.ensures.at)
@@ -55,7 +55,7 @@ one_change g c = octets_for (changing (of_user c.in-Some.field-0.value) ∷ [])
 valid : (g : Over) (c : After-commit_in_place g) (db : Database) → IsAtRest c.args.store.now (g.B.Eeprom.chip c.args.bench.now) db → IsValid (lowered g c db)
 valid g c db rest =
     let found = stamped g c db rest in
-    valid-tries db c.args.user c.in-Some.field-0.value rest.held.valid found (secret g c) (c.in-Some.field-0.value.tries - 1) (fewer_tries db c.args.user c.in-Some.field-0.value rest.held.valid found)
+    valid-tries db c.args.user c.in-Some.field-0.value rest.valid found (secret g c) (c.in-Some.field-0.value.tries - 1) (fewer_tries db c.args.user c.in-Some.field-0.value rest.valid found)
 
 first : (g : Over) (c : After-commit_in_place g) (db : Database) → IsAtRest c.args.store.now (g.B.Eeprom.chip c.args.bench.now) db
     → Replaces db (lowered g c db) (one_change g c) c.commit_in_place.result c.commit_in_place.new.store (g.B.Eeprom.chip c.args.bench.now) (g.B.Eeprom.chip c.commit_in_place.new.bench)
@@ -63,7 +63,7 @@ first g c db rest =
     let same = c.in_ok-slot.ensures.frame.same in
     let u : User = record c.in-Some.field-0.value { tries = c.in-Some.field-0.value.tries - 1 } in
     subst (λ (chip : Chip). Replaces db (lowered g c db) (one_change g c) c.commit_in_place.result c.commit_in_place.new.store chip (g.B.Eeprom.chip c.commit_in_place.new.bench)) same
-    (c.commit_in_place.ensures.replaces db c.in-Some.field-0.value (subst (λ (chip : Chip). IsAtRest c.args.store.now chip db) (sym same) rest) (there g c) refl (room-changed db u (valid g c db rest)) (valid g c db rest) rest.tables)
+    (c.commit_in_place.ensures.replaces db c.in-Some.field-0.value (subst (λ (chip : Chip). IsAtRest c.args.store.now chip db) (sym same) rest) (there g c) refl (room-changed db u (valid g c db rest)) (valid g c db rest))
 
 -- The record with one try less is in the slot, and the record with all tries takes its place.
 there_lowered : (g : Over) (c : After-commit_in_place g) (db : Database) → IsAtRest c.args.store.now (g.B.Eeprom.chip c.args.bench.now) db
@@ -73,10 +73,10 @@ there_lowered : (g : Over) (c : After-commit_in_place g) (db : Database) → IsA
 there_lowered g c db rest changed =
     let found = stamped g c db rest in
     at-changed user_kind c.in-Some.field-0.slot c.in-Some.field-0.value (record c.in-Some.field-0.value { tries = c.in-Some.field-0.value.tries - 1 }) _ _ IsKind-user
-    (fits-tries db c.args.user c.in-Some.field-0.value rest.held.valid found (c.in-Some.field-0.value.tries - 1) (fewer_tries db c.args.user c.in-Some.field-0.value rest.held.valid found)) (there g c) changed
+    (fits-tries db c.args.user c.in-Some.field-0.value rest.valid found (c.in-Some.field-0.value.tries - 1) (fewer_tries db c.args.user c.in-Some.field-0.value rest.valid found)) (there g c) changed
 
 valid_restored : (g : Over) (c : After-commit_in_place g) (db : Database) → IsAtRest c.args.store.now (g.B.Eeprom.chip c.args.bench.now) db → IsValid (with_tries db c.in-Some.field-0.value ALL_TRIES)
-valid_restored g c db rest = valid-tries db c.args.user c.in-Some.field-0.value rest.held.valid (stamped g c db rest) (secret g c) ALL_TRIES refl
+valid_restored g c db rest = valid-tries db c.args.user c.in-Some.field-0.value rest.valid (stamped g c db rest) (secret g c) ALL_TRIES refl
 
 pub returns-in_err-slot-clause-verifies : goal.returns-in_err-slot-clause-verifies
 returns-in_err-slot-clause-verifies g c = λ db holds.
@@ -87,13 +87,13 @@ pub returns-in_default-clause-verifies : goal.returns-in_default-clause-verifies
 returns-in_default-clause-verifies g c = λ db holds.
     let old = g.B.Eeprom.chip c.args.bench.now in
     let same = c.in_ok-slot.ensures.frame.same in
-    let none = stamped-held c.args.store.now Committed old db c.args.user _ holds.rest.held c.in_ok-slot.ensures.found ∙ ap (option_map (λ found. found.value)) c.in_default.is in
+    let none = stamped-held c.args.store.now Committed old db c.args.user _ holds.rest c.in_ok-slot.ensures.found ∙ ap (option_map (λ found. found.value)) c.in_default.is in
     Verifies-unwritten db (verdict db c.args.user c.args.secret.now) (octets_for_verdict db c.args.user c.args.secret.now) old c.args.user _ c.args.store.now (g.B.Eeprom.chip c.find_stamp.new.bench)
     (verdict-none db c.args.user c.args.secret.now none) (subst (λ (chip : Chip). IsAtRest c.args.store.now chip db) (sym same) holds.rest) same (opens-rest c.args.store.now old db c.requires.over holds.rest)
 
 pub returns-then-is_empty-clause-verifies : goal.returns-then-is_empty-clause-verifies
 returns-then-is_empty-clause-verifies g c = λ db holds.
-    let found = stamped-held c.args.store.now Committed (g.B.Eeprom.chip c.args.bench.now) db c.args.user _ holds.rest.held c.in_ok-slot.ensures.found ∙ ap (option_map (λ found. found.value)) c.in-Some.is in
+    let found = stamped-held c.args.store.now Committed (g.B.Eeprom.chip c.args.bench.now) db c.args.user _ holds.rest c.in_ok-slot.ensures.found ∙ ap (option_map (λ found. found.value)) c.in-Some.is in
     let has : HasSecret c.in-Some.field-0.value = subst (λ (o : Option User). IfSome o HasSecret) found holds.secret in
     absurd (false≢true (sym has ∙ (rw (c.is_empty.ensures, c.as_slice.ensures.octets) at c.if-is_empty.true)))
 
@@ -101,7 +101,7 @@ pub returns-then-holder-eq0-clause-verifies : goal.returns-then-holder-eq0-claus
 returns-then-holder-eq0-clause-verifies g c = λ db holds.
     let old = g.B.Eeprom.chip c.args.bench.now in
     let same = c.in_ok-slot.ensures.frame.same in
-    let found = stamped-held c.args.store.now Committed old db c.args.user _ holds.rest.held c.in_ok-slot.ensures.found ∙ ap (option_map (λ found. found.value)) c.in-Some.is in
+    let found = stamped-held c.args.store.now Committed old db c.args.user _ holds.rest c.in_ok-slot.ensures.found ∙ ap (option_map (λ found. found.value)) c.in-Some.is in
     Verifies-unwritten db (verdict db c.args.user c.args.secret.now) (octets_for_verdict db c.args.user c.args.secret.now) old c.args.user _ c.args.store.now (g.B.Eeprom.chip c.find_stamp.new.bench)
     (verdict-blocked db c.args.user c.args.secret.now c.in-Some.field-0.value found c.if-holder-eq0.true) (subst (λ (chip : Chip). IsAtRest c.args.store.now chip db) (sym same) holds.rest) same
     (opens-rest c.args.store.now old db c.requires.over holds.rest)

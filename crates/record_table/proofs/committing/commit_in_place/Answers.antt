@@ -26,39 +26,39 @@ ended : (g : Over) (c : After-change_in_place g) (db : Database) (was : g.row.R.
     → Ends db (Ok (changing (g.R.Editable.any c.args.value.now) ∷ [])) c.change_in_place.result c.begin.new.self c.change_in_place.new.store (g.B.Eeprom.chip c.args.bench.now) (g.B.Eeprom.chip c.change_in_place.new.bench)
 ended g c db was rest there key valid =
     let old = g.B.Eeprom.chip c.args.bench.now in
-    c.change_in_place.ensures.ends db was (held-begun c.args.store.now c.begin.new.self old old db rest.held refl c.begin.ensures.begun c.begin.ensures.starts)
+    c.change_in_place.ensures.ends db was (held-begun c.args.store.now c.begin.new.self old old db rest refl c.begin.ensures.begun c.begin.ensures.starts)
     (rw (begun_slots g c) at there) key (λ room. valid)
 
 pub returns-in_ok-commit-in-Ok-clause-replaces : goal.returns-in_ok-commit-in-Ok-clause-replaces
-returns-in_ok-commit-in-Ok-clause-replaces g c = λ db was rest there key room valid tables.
+returns-in_ok-commit-in-Ok-clause-replaces g c = λ db was rest there key room valid.
     let w = (goal.at.returns-in_ok-commit-in-Ok-clause-replaces g c).After-change_in_place in
     let old = g.B.Eeprom.chip c.args.bench.now in
     let mid = g.B.Eeprom.chip c.change_in_place.new.bench in
     let edits = changing (g.R.Editable.any c.args.value.now) ∷ [] in
     let makes = made-edits db edits (Ok edits) c.begin.new.self c.change_in_place.new.store old mid refl (rw c.in-Ok.is at (ended g w db was rest there key valid)) in
-    Replaces-done _ db edits c.args.store.now c.begin.new.self c.change_in_place.new.store old mid c.requires.over rest tables c.begin.ensures.begun c.begin.ensures.committed c.change_in_place.ensures.moments makes
+    Replaces-done _ db edits c.args.store.now c.begin.new.self c.change_in_place.new.store old mid c.requires.over rest c.begin.ensures.begun c.begin.ensures.committed c.change_in_place.ensures.moments makes
     (c.in-Ok.ensures.goes_on (λ wrong. cc)) (g.B.Eeprom.chip c.commit.new.bench) c.commit.ensures.moments _ c.commit.new.self c.in_ok-commit-in-Ok.ensures.done c.in_ok-commit-in-Ok.ensures.told c.in_ok-commit-in-Ok.ensures.cells
     c.in_ok-commit-in-Ok.ensures.rows c.begin.ensures.no_entries c.in_ok-commit-in-Ok.ensures.octets_written
 
 pub returns-in_err-commit-in-Ok-clause-replaces : goal.returns-in_err-commit-in-Ok-clause-replaces
-returns-in_err-commit-in-Ok-clause-replaces g c = λ db was rest there key room valid tables.
+returns-in_err-commit-in-Ok-clause-replaces g c = λ db was rest there key room valid.
     let w = (goal.at.returns-in_err-commit-in-Ok-clause-replaces g c).After-change_in_place in
     let old = g.B.Eeprom.chip c.args.bench.now in
     let mid = g.B.Eeprom.chip c.change_in_place.new.bench in
     let edits = changing (g.R.Editable.any c.args.value.now) ∷ [] in
     let makes = made-edits db edits (Ok edits) c.begin.new.self c.change_in_place.new.store old mid refl (rw c.in-Ok.is at (ended g w db was rest there key valid)) in
     Replaces-fault db (applied db edits) (octets_for edits) c.from_residual.result c.commit.new.self old (g.B.Eeprom.chip c.commit.new.bench) c.from_residual.ensures.1
-    (Replaces-half _ db edits c.args.store.now c.begin.new.self c.change_in_place.new.store old mid c.requires.over rest tables c.begin.ensures.begun c.begin.ensures.committed c.change_in_place.ensures.moments makes
+    (Replaces-half _ db edits c.args.store.now c.begin.new.self c.change_in_place.new.store old mid c.requires.over rest c.begin.ensures.begun c.begin.ensures.committed c.change_in_place.ensures.moments makes
     (c.in-Ok.ensures.goes_on (λ wrong. cc)) (g.B.Eeprom.chip c.commit.new.bench) c.commit.ensures.moments c.commit.new.self)
 
 pub returns-in-Err-Refused-clause-replaces : goal.returns-in-Err-Refused-clause-replaces
-returns-in-Err-Refused-clause-replaces g c = λ db was rest there key room valid tables.
+returns-in-Err-Refused-clause-replaces g c = λ db was rest there key room valid.
     let w = (goal.at.returns-in-Err-Refused-clause-replaces g c).After-change_in_place in
     absurd (not-refused db (changing (g.R.Editable.any c.args.value.now) ∷ []) c.in-Err-Refused.word room (rw (c.in-Err-Refused.is, c.in-Err-Refused.field-0-is) at (ended g w db was rest there key valid)).0)
 
 pub returns-in-Err-Fault-clause-replaces : goal.returns-in-Err-Fault-clause-replaces
-returns-in-Err-Fault-clause-replaces g c = λ db was rest there key room valid tables.
-    Replaces-failed _ db (changing (g.R.Editable.any c.args.value.now) ∷ []) c.args.store.now c.begin.new.self c.change_in_place.new.store (g.B.Eeprom.chip c.args.bench.now) (g.B.Eeprom.chip c.change_in_place.new.bench) c.requires.over rest tables
+returns-in-Err-Fault-clause-replaces g c = λ db was rest there key room valid.
+    Replaces-failed _ db (changing (g.R.Editable.any c.args.value.now) ∷ []) c.args.store.now c.begin.new.self c.change_in_place.new.store (g.B.Eeprom.chip c.args.bench.now) (g.B.Eeprom.chip c.change_in_place.new.bench) c.requires.over rest
     c.begin.ensures.begun c.begin.ensures.committed c.change_in_place.ensures.moments c.change_in_place.new.store
 
 pub returns-in_ok-commit-in-Ok-clause-changed : goal.returns-in_ok-commit-in-Ok-clause-changed
