@@ -1,6 +1,10 @@
 pub mod Apart
 pub mod Asking
+pub mod Comparing
 pub mod NamedUser
+pub mod OnChannels
 pub mod PairsFound
 pub mod PrivilegesChanged
+pub mod Tries
 pub mod UserDeleted
+pub mod Verdicts

@@ -2,3 +2,4 @@ pub mod Asked
 pub mod Depending
 pub mod Pairs
 pub mod Presenting
+pub mod Verifying

@@ -7,12 +7,14 @@ mod granting;
 mod pairs;
 mod presenting;
 mod revoking;
+mod verifying;
 
 pub use creating::create_user;
 pub use deleting::delete_user;
 pub use granting::grant;
 pub use presenting::{Presented, present};
 pub use revoking::revoke;
+pub use verifying::verify;
 
 #[cfg(test)]
 mod tests;

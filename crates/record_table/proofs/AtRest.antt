@@ -1,5 +1,5 @@
 -- What a store holds outside of a transaction: while one is begun, committed or rolled back, and what a power loss leaves meanwhile.
-use Rattle.std.proofs.Common.{◌≡◌, ℕ, ◌+◌, ◌*◌, ◌≤◌, Bool, true, false, List, [], ◌∷◌, drop, Option, Some, None, is_some, Result, Ok, Err, refl, sym, ap, subst, ◌∙◌, inl, inr, arith}
+use Rattle.std.proofs.Common.{◌≡◌, ℕ, ◌+◌, ◌*◌, ◌≤◌, Bool, true, false, List, [], ◌∷◌, drop, Option, Some, None, is_some, Result, Ok, Err, get_or, refl, sym, ap, subst, ◌∙◌, inl, inr, arith}
 use Rattle.std.specs.Prelude.{IfSome, option_and_then, if◌then◌else◌}
 use Rattle.std.specs.Result.{IsErrAnd}
 use Rattle.std.proofs.lemmas.List.{get_or-set_same}
@@ -18,14 +18,17 @@ use Rattle.scql_base.specs.declared.words.StatusWord.{StatusWord}
 use Rattle.scql_model.specs.Database.{Database}
 use Rattle.scql_model.specs.Edits.{Edit, applied, lacks_room, octets_for, with_edits}
 use Rattle.scql_model.specs.Opens.{Opens}
-use Rattle.catalog_codec.specs.Kinds.{Kind, IsKind}
+use Rattle.catalog_codec.specs.Kinds.{Kind, IsKind, HaveOtherMarks}
+use Rattle.catalog_codec.specs.Catalog.{row_kind}
+use Rattle.catalog_codec.specs.CatalogLaws.{IsKind-row}
 use Rattle.record_table.specs.AtRest.{IsAtRest, LeavesOnce, LeavesOneOf, Replaces}
 use Rattle.record_table.specs.Changed.{IsChanged}
 use Rattle.record_table.specs.Listed.{at_slot, slots_of}
 use Rattle.record_table.specs.Making.{GoesOn, IsHeld, KeepsRows, Makes}
 use Rattle.record_table.specs.declared.stop.Stop.{Stop}
 use Rattle.record_table.specs.declared.stop.Stop.TheVariants.{Fault}
-use Rattle.record_table.proofs.ListedChanges.{within-at}
+use Rattle.record_table.proofs.Ending.{KeepsRows-one}
+use Rattle.record_table.proofs.ListedChanges.{at_slot-kept, is_of, within-at}
 use Rattle.record_table.proofs.Steps.{some-told, told-image}
 
 -- an image with the same store opens to the same database
@@ -207,6 +210,22 @@ at-changed {X} kind slot was x old (Some slots) is fits there changed =
     let here : Some was ≡ at_slot kind slot from.0 = subst (λ o. IfSome o (λ slots. Some was ≡ at_slot kind slot slots)) from.1 there in
     let within = within-at kind from.0 slot was (sym here) in
     rw (from.2, get_or-set_same from.0 slot (Some (kind.form.spell x)) None within) (sym (is.again x fits))
+
+-- a record of a kind that takes the place of one, and then another that takes its place, leave the rows where they are, if the kind is another
+pub KeepsRows-changed : {X : Type 0} (kind : Kind X) (slot : ℕ) (was x : X) (old new : Option Slots) → IsKind kind → HaveOtherMarks kind row_kind → IfSome old (λ slots. Some was ≡ at_slot kind slot slots)
+    → Becomes (IsChanged kind x slot) old new → KeepsRows old new
+KeepsRows-changed kind slot was x old new is apart there changed =
+    KeepsRows-one kind slot was (IsChanged kind x slot) old new is apart there (λ a b now. (Some (kind.form.spell x), now, is.begins x)) changed
+
+pub KeepsRows-again : {X : Type 0} (kind : Kind X) (slot : ℕ) (was x y : X) (old mid new : Option Slots) → IsKind kind → HaveOtherMarks kind row_kind → IfSome old (λ slots. Some was ≡ at_slot kind slot slots)
+    → Becomes (IsChanged kind x slot) old mid → Becomes (IsChanged kind y slot) mid new → KeepsRows mid new
+KeepsRows-again kind slot was x y old mid new is apart there first second = λ after told.
+    let b = second after told in
+    let a = first b.0 b.1 in
+    let here : Some was ≡ at_slot kind slot a.0 = subst (λ o. IfSome o (λ slots. Some was ≡ at_slot kind slot slots)) a.1 there in
+    let within = within-at kind a.0 slot was (sym here) in
+    let marked : is_of kind (get_or b.0 slot None) ≡ true = ap (λ (slots : Slots). is_of kind (get_or slots slot None)) a.2 ∙ (ap (is_of kind) (get_or-set_same a.0 slot (Some (kind.form.spell x)) None within) ∙ is.begins x) in
+    (b.0, b.1, λ place. ap (at_slot row_kind place) b.2 ∙ at_slot-kept kind row_kind b.0 slot (Some (kind.form.spell y)) place IsKind-row apart marked (is.begins y))
 
 abbrev result_of : List Edit → Result (List Edit) StatusWord
 result_of edits = Ok edits

@@ -1,6 +1,6 @@
 // A record of a database changed in its place, or taken out.
-ghost use Rattle.std.specs.Prelude.{◌≡◌, ◌<◌, [], ◌∷◌, Some, Ok, true, IsTrue, IfSome, IsErrOf, OnOk, drop};
-ghost use Rattle.eeprom.specs.Chip.{Chip, Keeps};
+ghost use Rattle.std.specs.Prelude.{◌≡◌, ◌<◌, [], ◌∷◌, Some, Ok, IsTrue, IfSome, IsErrOf, OnOk, drop};
+ghost use Rattle.eeprom.specs.Chip.{Chip, Becomes, Keeps};
 ghost use Rattle.eeprom.specs.Fault.{CountsFaults};
 ghost use Rattle.eeprom.specs.StoreOf.{store_of, image_size};
 ghost use Rattle.record_store.specs.Held.{IsOver};
@@ -10,6 +10,7 @@ ghost use Rattle.scql_model.specs.Database.{Database};
 ghost use Rattle.scql_model.specs.Edits.{changing, removing};
 ghost use Rattle.catalog_codec.specs.Catalog.{row_kind};
 ghost use Rattle.catalog_codec.specs.Kinds.{HaveOtherMarks};
+ghost use Rattle.record_table.specs.Changed.{IsChanged};
 ghost use Rattle.record_table.specs.Listed.{at_slot, slots_of};
 ghost use Rattle.record_table.specs.Making.{Ends, GoesOn, IsHeld, IsValidWith, KeepsRows, Makes, is_stop_fault};
 
@@ -31,8 +32,7 @@ pub fn change_in_place<R: Editable, B: Eeprom>(
     ensures ends { (db : Database) (was : R) → IsHeld store.old Working (B.chip bench.old) db → IfSome (slots_of store.old Working (B.chip bench.old)) (λ slots. Some was ≡ at_slot R.kind slot slots)
         → R.kind.key was ≡ R.kind.key value.now → IsValidWith db (changing (R.any value.now) ∷ [])
         → Ends db (Ok (changing (R.any value.now) ∷ [])) result store.old store.new (B.chip bench.old) (B.chip bench.new) }
-    ensures at { (was : R) → R.kind.form.fits value.now ≡ true → IfSome (slots_of store.old Working (B.chip bench.old)) (λ slots. Some was ≡ at_slot R.kind slot slots)
-        → OnOk result (IfSome (slots_of store.new Working (B.chip bench.new)) (λ slots. Some value.now ≡ at_slot R.kind slot slots)) }
+    ensures changed { OnOk result (Becomes (IsChanged R.kind value.now slot) (slots_of store.old Working (B.chip bench.old)) (slots_of store.new Working (B.chip bench.new))) }
     ensures goes_on { ¬ IsErrOf result Stop.Fault → GoesOn store.old store.new (B.chip bench.old) (B.chip bench.new) }
     ensures rows { (was : R) → HaveOtherMarks R.kind row_kind → IfSome (slots_of store.old Working (B.chip bench.old)) (λ slots. Some was ≡ at_slot R.kind slot slots)
         → OnOk result (KeepsRows (slots_of store.old Working (B.chip bench.old)) (slots_of store.new Working (B.chip bench.new))) }

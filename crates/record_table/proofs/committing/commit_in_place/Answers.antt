@@ -8,7 +8,6 @@ use Rattle.record_table.specs.AtRest.{IsAtRest}
 use Rattle.record_table.specs.Listed.{at_slot, slots_of}
 use Rattle.record_table.specs.Making.{Ends}
 use Rattle.record_table.proofs.AtRest.{Replaces-done, Replaces-failed, Replaces-fault, Replaces-half, behind-changed, held-begun, made-edits, not-refused, over-begun, same-slots, slots-committed}
-use Rattle.record_table.proofs.Ending.{KeepsRows-same}
 use Rattle.record_table.proofs.committing.commit_in_place.Given.{Over}
 use Rattle.record_table.proofs.committing.commit_in_place.Goals as goal
 use Rattle.record_table.proofs.committing.commit_in_place.Goals.{After-change_in_place}
@@ -62,26 +61,18 @@ returns-in-Err-Fault-clause-replaces g c = λ db was rest there key room valid.
     Replaces-failed _ db (changing (g.R.Editable.any c.args.value.now) ∷ []) c.args.store.now c.begin.new.self c.change_in_place.new.store (g.B.Eeprom.chip c.args.bench.now) (g.B.Eeprom.chip c.change_in_place.new.bench) c.requires.over rest
     c.begin.ensures.begun c.begin.ensures.committed c.change_in_place.ensures.moments c.change_in_place.new.store
 
-pub returns-in_ok-commit-in-Ok-clause-at : goal.returns-in_ok-commit-in-Ok-clause-at
-returns-in_ok-commit-in-Ok-clause-at g c = λ was fits there.
-    let w = (goal.at.returns-in_ok-commit-in-Ok-clause-at g c).After-change_in_place in
+pub returns-in_ok-commit-in-Ok-clause-changed : goal.returns-in_ok-commit-in-Ok-clause-changed
+returns-in_ok-commit-in-Ok-clause-changed g c =
+    let w = (goal.at.returns-in_ok-commit-in-Ok-clause-changed g c).After-change_in_place in
     let stays = slots-committed c.change_in_place.new.store c.commit.new.self (g.B.Eeprom.chip c.change_in_place.new.bench) (g.B.Eeprom.chip c.commit.new.bench) (c.in-Ok.ensures.goes_on (λ wrong. cc)).over
     c.in_ok-commit-in-Ok.ensures.done c.in_ok-commit-in-Ok.ensures.told in
-    rw stays (c.in-Ok.ensures.at was fits (rw (begun_slots g w) at there))
+    rw (begun_slots g w, stays) (c.in-Ok.ensures.changed)
 
-pub returns-in_ok-commit-in-Ok-clause-rows : goal.returns-in_ok-commit-in-Ok-clause-rows
-returns-in_ok-commit-in-Ok-clause-rows g c = λ was apart there no_fault.
-    let w = (goal.at.returns-in_ok-commit-in-Ok-clause-rows g c).After-change_in_place in
-    let stays = slots-committed c.change_in_place.new.store c.commit.new.self (g.B.Eeprom.chip c.change_in_place.new.bench) (g.B.Eeprom.chip c.commit.new.bench) (c.in-Ok.ensures.goes_on (λ wrong. cc)).over
-    c.in_ok-commit-in-Ok.ensures.done c.in_ok-commit-in-Ok.ensures.told in
-    rw (begun_slots g w, stays) (c.in-Ok.ensures.rows was apart (rw (begun_slots g w) at there))
-
-pub returns-in-Err-Refused-clause-rows : goal.returns-in-Err-Refused-clause-rows
-returns-in-Err-Refused-clause-rows g c = λ was apart there no_fault.
+pub returns-in-Err-Refused-clause-refused : goal.returns-in-Err-Refused-clause-refused
+returns-in-Err-Refused-clause-refused g c = λ word is.
     let old = g.B.Eeprom.chip c.args.bench.now in
-    KeepsRows-same (slots_of c.args.store.now Committed old) _
-    (same-slots c.rollback.new.self c.change_in_place.new.store Committed Committed (g.B.Eeprom.chip c.change_in_place.new.bench) c.rollback.ensures.committed
-    ∙ (c.in-Err-Refused.ensures.committed (λ wrong. cc) ∙ same-slots c.begin.new.self c.args.store.now Committed Committed old c.begin.ensures.committed))
+    same-slots c.rollback.new.self c.change_in_place.new.store Committed Committed (g.B.Eeprom.chip c.change_in_place.new.bench) c.rollback.ensures.committed
+    ∙ (c.in-Err-Refused.ensures.committed (λ wrong. cc) ∙ same-slots c.begin.new.self c.args.store.now Committed Committed old c.begin.ensures.committed)
 
 pub returns-in_err-commit-in-Ok-clause-behind : goal.returns-in_err-commit-in-Ok-clause-behind
 returns-in_err-commit-in-Ok-clause-behind g c =

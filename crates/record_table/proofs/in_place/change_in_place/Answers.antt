@@ -9,7 +9,6 @@ use Rattle.scql_model.specs.Edits.{changing}
 use Rattle.scql_model.proofs.EditLaws.{applied-cells, applied-limit}
 use Rattle.record_table.specs.Changed.{IsChanged}
 use Rattle.record_table.specs.Listed.{at_slot, slots_of}
-use Rattle.record_table.proofs.AtRest.{at-changed}
 use Rattle.record_table.proofs.Ending.{Ends-store, KeepsRows-one, at-told, full-store, not_fault}
 use Rattle.record_table.proofs.InPlace.{IsEditedTo-changed, full-changed}
 use Rattle.record_table.proofs.Made.{cells-any}
@@ -83,8 +82,6 @@ returns-clause-rows g c = λ was apart there.
 pub returns-clause-committed : goal.returns-clause-committed
 returns-clause-committed g c = λ no_fault. committed-stays _ c.args.store.now c.change.new.store (g.B.Eeprom.chip c.args.bench.now) (g.B.Eeprom.chip c.change.new.bench) c.in_ok-change.ensures.told c.in_ok-change.ensures.changed
 
-pub returns-clause-at : goal.returns-clause-at
-returns-clause-at g c = λ was fits there.
-    let kind = g.R.Record.kind in
-    at-changed kind c.args.slot was c.args.value.now _ _ g.met.R.Record.lawful fits there
-    (slots-told (IsChanged kind c.args.value.now c.args.slot) c.args.store.now c.change.new.store (g.B.Eeprom.chip c.args.bench.now) (g.B.Eeprom.chip c.change.new.bench) c.requires.over.stands c.in_ok-change.ensures.changed)
+pub returns-clause-changed : goal.returns-clause-changed
+returns-clause-changed g c =
+    slots-told (IsChanged g.R.Record.kind c.args.value.now c.args.slot) c.args.store.now c.change.new.store (g.B.Eeprom.chip c.args.bench.now) (g.B.Eeprom.chip c.change.new.bench) c.requires.over.stands c.in_ok-change.ensures.changed

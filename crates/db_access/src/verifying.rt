@@ -1,0 +1,123 @@
+// VERIFY.
+ghost use Rattle.std.specs.Prelude.{◌≡◌, ◌+◌, ◌-◌, ◌<◌, [], ◌∷◌, Some, false, drop, IfOk, IsErrOf, OnOk};
+ghost use Rattle.std.specs.Str.{bytes_eq};
+ghost use Rattle.eeprom.specs.Chip.{Becomes, Keeps, RisesAtMost};
+ghost use Rattle.eeprom.specs.Fault.{Counts, CountsFaults};
+ghost use Rattle.eeprom.specs.StoreOf.{image_size};
+ghost use Rattle.record_store.specs.Held.{IsOver};
+ghost use Rattle.record_store.specs.declared.side.Side.{Side};
+ghost use Rattle.record_store.specs.declared.side.Side.TheVariants.{Committed};
+ghost use Rattle.scql_base.specs.Words.{done, tries_left};
+ghost use Rattle.scql_base.specs.declared.records.User.{User};
+ghost use Rattle.scql_model.specs.Database.{Database, user_stamped};
+ghost use Rattle.scql_model.specs.Step.{with_tries};
+ghost use Rattle.record_table.specs.AtRest.{IsAtRest, LeavesOneOf, LeavesOnce};
+ghost use Rattle.record_table.specs.Listed.{slots_of};
+ghost use Rattle.record_table.specs.Making.{GoesOn, KeepsRows, is_stop_fault};
+ghost use Rattle.db_access.specs.Verifying.{HoldsSecret, Verifies, octets_for_verdict, verdict};
+
+use eeprom::{Eeprom, EepromFault};
+use record_store::{Found, Side, Store};
+use record_table::{Stop, commit_in_place};
+use scql_base::{StatusWord, User};
+use user_table::find_stamp;
+
+/// Compares a secret with that of a committed user, which costs one try until it was right. Each change of the tries is committed.
+pub fn verify<B: Eeprom>(
+    store: &mut Store,
+    bench: &mut B,
+    user: u32,
+    secret: &[u8],
+) -> Result<StatusWord, EepromFault>
+    requires idle { store.old.begun ≡ false }
+    requires over { IsOver store.old (B.chip bench.old) }
+    ensures word { (db : Database) → HoldsSecret store.old (B.chip bench.old) db user → IfOk result (λ word. word ≡ (verdict db user secret.now).reply.word) }
+    ensures rests { (db : Database) → HoldsSecret store.old (B.chip bench.old) db user → OnOk result (IsAtRest store.new (B.chip bench.new) (verdict db user secret.now).machine.committed) }
+    // Whatever the user has, some database is held.
+    ensures holds { (db : Database) → IsAtRest store.old (B.chip bench.old) db → OnOk result ((next : Database) × IsAtRest store.new (B.chip bench.new) next) }
+    // A power loss leaves the database from before, or one of those that are committed.
+    ensures moments { (db : Database) → HoldsSecret store.old (B.chip bench.old) db user → LeavesOneOf (db ∷ (verdict db user secret.now).commits) (B.chip bench.old) (B.chip bench.new) }
+    // Where it is done, there was a moment at which a power loss may leave one try less.
+    ensures lowered { (db : Database) (holder : User) → HoldsSecret store.old (B.chip bench.old) db user → user_stamped db.users user ≡ Some holder
+        → IfOk result (λ word. word ≡ done → LeavesOnce (with_tries db holder (holder.tries - 1)) (B.chip bench.old) (B.chip bench.new)) }
+    ensures unwritten { (db : Database) → HoldsSecret store.old (B.chip bench.old) db user → (verdict db user secret.now).commits ≡ [] → OnOk result (B.chip bench.new ≡ B.chip bench.old) }
+    ensures octets_written { (db : Database) → HoldsSecret store.old (B.chip bench.old) db user
+        → OnOk result (Becomes (RisesAtMost (octets_for_verdict db user secret.now)) (B.chip bench.old).written (B.chip bench.new).written) }
+    // The store is idle again.
+    ensures goes_on { OnOk result (GoesOn store.old store.new (B.chip bench.old) (B.chip bench.new)) }
+    ensures rows { (side : Side) → OnOk result (KeepsRows (slots_of store.old side (B.chip bench.old)) (slots_of store.new side (B.chip bench.new))) }
+    ensures behind { Keeps (drop (image_size store.old.chains.cells)) (B.chip bench.old) (B.chip bench.new) }
+    ensures cause { Counts (B.faults bench.old) (B.faults bench.new) result }
+{
+    match try_secret(store, bench, user, secret) {
+        Ok(word) => Ok(word),
+        // Tries never change the length of a record, so a card has room for them.
+        Err(Stop::Refused { word }) => Ok(word),
+        Err(Stop::Fault) => Err(EepromFault),
+    }
+}
+
+// Lowers the tries, and then compares: so a power loss costs the try.
+fn try_secret<B: Eeprom>(
+    store: &mut Store,
+    bench: &mut B,
+    user: u32,
+    secret: &[u8],
+) -> Result<StatusWord, Stop>
+    requires idle { store.old.begun ≡ false }
+    requires over { IsOver store.old (B.chip bench.old) }
+    ensures verifies { (db : Database) → HoldsSecret store.old (B.chip bench.old) db user
+        → Verifies db (verdict db user secret.now) (octets_for_verdict db user secret.now) result store.new (B.chip bench.old) (B.chip bench.new) }
+    ensures lowered { (db : Database) (holder : User) → HoldsSecret store.old (B.chip bench.old) db user → user_stamped db.users user ≡ Some holder
+        → IfOk result (λ word. word ≡ done → LeavesOnce (with_tries db holder (holder.tries - 1)) (B.chip bench.old) (B.chip bench.new)) }
+    ensures holds { (db : Database) → IsAtRest store.old (B.chip bench.old) db → ¬ IsErrOf result Stop.Fault → (next : Database) × IsAtRest store.new (B.chip bench.new) next }
+    ensures goes_on { ¬ IsErrOf result Stop.Fault → GoesOn store.old store.new (B.chip bench.old) (B.chip bench.new) }
+    ensures rows { ¬ IsErrOf result Stop.Fault → KeepsRows (slots_of store.old Committed (B.chip bench.old)) (slots_of store.new Committed (B.chip bench.new)) }
+    ensures behind { Keeps (drop (image_size store.old.chains.cells)) (B.chip bench.old) (B.chip bench.new) }
+    ensures cause { CountsFaults is_stop_fault (B.faults bench.old) (B.faults bench.new) result }
+{
+    let Some(
+        Found {
+            slot,
+            value: mut holder,
+        },
+    ) = find_stamp(store, bench, Side::Committed, user)?
+    else {
+        return Ok(StatusWord::CONDITIONS_NOT_SATISFIED);
+    };
+    // A user without a secret is proved already.
+    if holder.secret.as_slice().is_empty() {
+        return Ok(StatusWord::CONDITIONS_NOT_SATISFIED);
+    }
+    if holder.tries == 0 {
+        return Ok(StatusWord::AUTHENTICATION_BLOCKED);
+    }
+    holder.tries -= 1;
+    commit_in_place(store, bench, slot, &holder)?;
+    if !is_same(secret, holder.secret.as_slice()) {
+        return Ok(wrong_secret(holder.tries));
+    }
+    holder.tries = User::ALL_TRIES;
+    commit_in_place(store, bench, slot, &holder)?;
+    Ok(StatusWord::DONE)
+}
+
+// What a wrong secret answers, with so many tries left.
+fn wrong_secret(tries: u8) -> StatusWord
+    ensures { result ≡ tries_left tries }
+{
+    StatusWord {
+        word: 0x63C0 + tries.min(15) as u16,
+    }
+}
+
+// Whether two secrets are the same. A difference doesn't end the comparison, so its time doesn't tell where it is.
+fn is_same(given: &[u8], kept: &[u8]) -> bool
+    ensures { result ≡ bytes_eq given.now kept.now }
+{
+    let mut same = given.len() == kept.len();
+    for place in 0..given.len().min(kept.len()) {
+        same = same & (given[place] == kept[place]);
+    }
+    same
+}
