@@ -1,0 +1,4 @@
+pub mod Meaning
+pub mod Planned
+pub mod Text
+pub mod Words

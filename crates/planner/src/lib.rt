@@ -1,0 +1,12 @@
+//! Statements as commands: which command comes next, by the answers so far.
+#![tactic(auto)]
+
+mod closing;
+mod plan;
+mod stage;
+mod step;
+mod words;
+
+pub use closing::Closing;
+pub use plan::Plan;
+pub use step::Step;
