@@ -1,2 +1,4 @@
+pub mod Asking
+pub mod Brief
 pub mod Sending
 mod WorkedLines

@@ -1,4 +1,5 @@
 pub mod Meaning
 pub mod Planned
+pub mod Running
 pub mod Text
 pub mod Words

@@ -2,6 +2,7 @@
 #![tactic(auto)]
 
 mod closing;
+pub mod laws;
 mod plan;
 mod stage;
 mod step;
