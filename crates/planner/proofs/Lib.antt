@@ -1,4 +1,5 @@
 pub mod Asking
 pub mod Brief
+pub mod Selecting
 pub mod Sending
 mod WorkedLines
