@@ -112,17 +112,17 @@ answer-read m c s t command can is there =
     let n : Machine = in_session m c.channel t in
     let now : session_of n c.channel ≡ Some t = set-there m.sessions c.channel s t there in
     let acts : actor (ended n c.channel) c.channel ≡ who m c.channel t =
-        ended-actor n c.channel ∙ ap (λ (session : Option Session). option_map_or (actor_of (base m c.channel)) (option_and_then (λ (x : Session). x.user) session) Public) now in
+    ended-actor n c.channel ∙ ap (λ (session : Option Session). option_map_or (actor_of (base m c.channel)) (option_and_then (λ (x : Session). x.user) session) Public) now in
     let reads : reading_of (ended n c.channel) c.channel ≡ t.reading =
-        ended-reading n c.channel ∙ ap (λ (session : Option Session). option_map_or (λ (x : Session). x.reading) session no_reading) now in
+    ended-reading n c.channel ∙ ap (λ (session : Option Session). option_map_or (λ (x : Session). x.reading) session no_reading) now in
     let gone : ended n c.channel ≡ in_session m c.channel (without_chain t) = changing_session-set without_chain m c.channel (Some t) in
     answer-stepped n c t command can is now
     ∙ (stepped-reading n c command is
     ∙ (ap (λ (actor : Actor). let move = move_of (base m c.channel) actor (reading_of (ended n c.channel) c.channel) command in
-          let a : Answer = record { reply = move.reply; machine = changing_session (reading_so move.after) (ended n c.channel) c.channel; commits = [] } in a) acts
+    let a : Answer = record { reply = move.reply; machine = changing_session (reading_so move.after) (ended n c.channel) c.channel; commits = [] } in a) acts
     ∙ (ap (λ (reading : Reading). let move = move_of (base m c.channel) (who m c.channel t) reading command in
-          let a : Answer = record { reply = move.reply; machine = changing_session (reading_so move.after) (ended n c.channel) c.channel; commits = [] } in a) reads
+    let a : Answer = record { reply = move.reply; machine = changing_session (reading_so move.after) (ended n c.channel) c.channel; commits = [] } in a) reads
     ∙ ap (λ (machine : Machine). let move = move_of (base m c.channel) (who m c.channel t) t.reading command in
-          let a : Answer = record { reply = move.reply; machine = machine; commits = [] } in a)
-      (ap (λ (machine : Machine). changing_session (reading_so (move_of (base m c.channel) (who m c.channel t) t.reading command).after) machine c.channel) gone
-      ∙ changing_session-set (reading_so (move_of (base m c.channel) (who m c.channel t) t.reading command).after) m c.channel (Some (without_chain t))))))
+    let a : Answer = record { reply = move.reply; machine = machine; commits = [] } in a)
+    (ap (λ (machine : Machine). changing_session (reading_so (move_of (base m c.channel) (who m c.channel t) t.reading command).after) machine c.channel) gone
+    ∙ changing_session-set (reading_so (move_of (base m c.channel) (who m c.channel t) t.reading command).after) m c.channel (Some (without_chain t))))))

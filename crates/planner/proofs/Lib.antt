@@ -1,5 +1,6 @@
 pub mod Asking
 pub mod Brief
+pub mod Selected
 pub mod Selecting
 pub mod Sending
 mod WorkedLines

@@ -108,10 +108,10 @@ all-behind : (P : StampedRow → Type 0) (before : List StampedRow) (r : Stamped
 all-behind P [] r rest all = all.0
 all-behind P (b ∷ before) r rest all = all-behind P before r rest all.1
 
-abbrev stamp_of : StampedRow → ℕ
+abbrev pub stamp_of : StampedRow → ℕ
 stamp_of r = r.stamp
 
-find-behind : (before : List StampedRow) (r : StampedRow) (rest : List StampedRow) → Rises stamp_of (before ++ r ∷ rest)
+pub find-behind : (before : List StampedRow) (r : StampedRow) (rest : List StampedRow) → Rises stamp_of (before ++ r ∷ rest)
     → find (λ (x : StampedRow). nat_lt r.stamp x.stamp) (before ++ r ∷ rest) ≡ first_row rest
 find-behind [] r [] rises = rw (le-ltb r.stamp r.stamp (omega arith)) refl
 find-behind [] r (x ∷ rest) rises = rw (le-ltb r.stamp r.stamp (omega arith), lt-ltb r.stamp x.stamp rises.0.0) refl
@@ -119,7 +119,7 @@ find-behind (b ∷ before) r rest rises =
     let below : b.stamp < r.stamp = all-behind (λ (x : StampedRow). b.stamp < x.stamp) before r rest rises.0 in
     rw (le-ltb r.stamp b.stamp (omega (arith, below))) (find-behind before r rest rises.1)
 
-row_at-first : (r : StampedRow) (rest : List StampedRow) → row_at r.stamp (r ∷ rest) ≡ Some r
+pub row_at-first : (r : StampedRow) (rest : List StampedRow) → row_at r.stamp (r ∷ rest) ≡ Some r
 row_at-first r rest = rw (eq-eqb r.stamp r.stamp refl) refl
 
 -- Moves of an opened cursor over rows.

@@ -1,11 +1,15 @@
 -- A plan over a machine: each command is answered by the steps of its parts in turn, and the plan goes on by that answer.
-use Rattle.std.specs.Prelude.{◌≡◌, ℕ, zero, suc, List, [], ◌∷◌, ◌++◌, map, Option, Some, None}
+use Rattle.std.specs.Prelude.{◌≡◌, ℕ, zero, suc, ◌+◌, ◌≤◌, true, List, [], ◌∷◌, ◌++◌, length, map, Option, Some, None}
+use Rattle.std.specs.List.{AllByRecursion}
 use Rattle.scql_base.specs.declared.operation.Command.{Command}
 use Rattle.scql_base.specs.declared.operation.Line.{Line}
 use Rattle.scql_model.specs.Replies.{Reply}
 use Rattle.scql_model.specs.Database.{Database}
 use Rattle.scql_model.specs.Machine.{Machine, reset}
+use Rattle.scql_model.specs.Records.{is_row}
+use Rattle.scql_model.specs.Matching.{Values}
 use Rattle.scql_model.specs.ReadingCommands.{row_octets}
+use Rattle.scql_model.specs.Operations.{operations}
 use Rattle.scql_model.specs.Step.{Answer}
 use Rattle.script.specs.declared.statement.Statement.{Statement}
 use Rattle.script.specs.declared.statement.Statement.TheVariants.{Blank, Single, OpenNumber, CloseNumber, UseNumber, Reset}
@@ -65,3 +69,13 @@ IsBrief (CloseNumber number) = Unit {0}
 IsBrief (UseNumber number) = Unit {0}
 IsBrief Reset = Unit {0}
 IsBrief statement = ⊥
+
+-- at most so many rows as a plan gives, each of which is a row
+pub record AreRows (rows : List Values) : Type 0 where
+  pub few : length rows ≤ 2048
+  pub formed : AllByRecursion (λ (values : Values). is_row values ≡ true) rows
+
+-- from some number of steps on, a plan that was started on a machine has run so
+pub record RunsTo (m : Machine) (p : Planned) (ran : Ran) : Type 0 where
+  pub steps : ℕ
+  pub runs : (n : ℕ) → run operations (steps + n) m None p ≡ ran

@@ -1,15 +1,30 @@
 // Laws over the plans of statements. Each is the contract of a function that does nothing.
-ghost use Rattle.std.specs.Prelude.{◌≡◌, ℕ, suc, Bool, List, None};
+ghost use Rattle.std.specs.Prelude.{◌≡◌, ℕ, suc, Bool, true, List, None};
+ghost use Rattle.scql_base.specs.declared.condition.Condition.{Condition};
 ghost use Rattle.scql_base.specs.declared.operation.Line.{Line};
-ghost use Rattle.scql_model.specs.Machine.{Machine};
+ghost use Rattle.scql_model.specs.Machine.{Machine, base};
+ghost use Rattle.scql_model.specs.Operations.{operations};
+ghost use Rattle.scql_model.specs.ReadingLaws.{IsReadable};
+ghost use Rattle.scql_model.specs.Sessions.{is_channel_open};
 ghost use Rattle.script.specs.declared.statement.Statement.{Statement};
+ghost use Rattle.script.specs.declared.statement.Statement.TheVariants.{Select};
+ghost use Rattle.script.specs.Commands.{CanBeSent};
 ghost use Rattle.planner.specs.Meaning.{meaning};
 ghost use Rattle.planner.specs.Planned.{started};
-ghost use Rattle.planner.specs.Running.{IsBrief, run, shown};
+ghost use Rattle.planner.specs.Running.{AreRows, IsBrief, RunsTo, run, shown};
 
-/// The commands of a statement of one command, or of none, are its meaning: answered by the machine's steps in turn they give no row, end as
-/// the statement does, and leave the same machine and commits.
-pub fn brief_statements_are_their_meaning()
+/// A statement of one command, or of none, runs to its meaning: its command, answered by the steps of the machine, gives no row, ends as the
+/// statement does, and leaves the same machine and commits.
+pub fn brief_statements_run_to_their_meaning()
     ensures { (table : List Line) (n : ℕ) (m : Machine) (channel : ℕ) (inside : Bool) (s : Statement) → IsBrief s
         → run table (suc (suc n)) m None (started s channel inside) ≡ shown (meaning table m channel s) }
+{}
+
+/// A SELECT on an open channel runs to its meaning: its commands, answered by the steps of the machine in turn, give the rows that match, each
+/// once and in their order, or end with DECLARE's refusal, and the cursor is then at its end.
+pub fn a_select_runs_to_its_meaning()
+    ensures { (m : Machine) (channel : ℕ) (object : List ℕ) (columns : List (List ℕ)) (conditions : List Condition) (inside : Bool)
+        → is_channel_open m channel ≡ true → CanBeSent channel (Select object columns conditions) → IsReadable (base m channel)
+        → AreRows (meaning operations m channel (Select object columns conditions)).rows
+        → RunsTo m (started (Select object columns conditions) channel inside) (shown (meaning operations m channel (Select object columns conditions))) }
 {}
