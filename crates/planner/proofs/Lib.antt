@@ -3,4 +3,5 @@ pub mod Brief
 pub mod Selected
 pub mod Selecting
 pub mod Sending
+pub mod Turning
 mod WorkedLines

@@ -1,17 +1,19 @@
 // Laws over the plans of statements. Each is the contract of a function that does nothing.
-ghost use Rattle.std.specs.Prelude.{◌≡◌, ℕ, suc, Bool, true, List, None};
+ghost use Rattle.std.specs.Prelude.{◌≡◌, ◌<◌, ℕ, suc, Bool, true, List, Option, None};
 ghost use Rattle.scql_base.specs.declared.condition.Condition.{Condition};
 ghost use Rattle.scql_base.specs.declared.operation.Line.{Line};
 ghost use Rattle.scql_model.specs.Machine.{Machine, base};
 ghost use Rattle.scql_model.specs.Operations.{operations};
 ghost use Rattle.scql_model.specs.ReadingLaws.{IsReadable};
+ghost use Rattle.scql_model.specs.Replies.{Reply};
 ghost use Rattle.scql_model.specs.Sessions.{is_channel_open};
 ghost use Rattle.script.specs.declared.statement.Statement.{Statement};
 ghost use Rattle.script.specs.declared.statement.Statement.TheVariants.{Select};
 ghost use Rattle.script.specs.Commands.{CanBeSent};
 ghost use Rattle.planner.specs.Meaning.{meaning};
-ghost use Rattle.planner.specs.Planned.{started};
+ghost use Rattle.planner.specs.Planned.{Planned, next_of, started};
 ghost use Rattle.planner.specs.Running.{AreRows, IsBrief, RunsTo, run, shown};
+ghost use Rattle.planner.specs.Turns.{IfGoesOn, turns_left};
 
 /// A statement of one command, or of none, runs to its meaning: its command, answered by the steps of the machine, gives no row, ends as the
 /// statement does, and leaves the same machine and commits.
@@ -27,4 +29,9 @@ pub fn a_select_runs_to_its_meaning()
         → is_channel_open m channel ≡ true → CanBeSent channel (Select object columns conditions) → IsReadable (base m channel)
         → AreRows (meaning operations m channel (Select object columns conditions)).rows
         → RunsTo m (started (Select object columns conditions) channel inside) (shown (meaning operations m channel (Select object columns conditions))) }
+{}
+
+/// Whatever a plan is answered, each of its steps but the last leaves fewer.
+pub fn a_plan_comes_to_its_end()
+    ensures { (last : Option Reply) (p : Planned) → IfGoesOn (next_of last p).step (turns_left (next_of last p).plan < turns_left p) }
 {}
