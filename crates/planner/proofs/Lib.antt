@@ -3,5 +3,6 @@ pub mod Brief
 pub mod Selected
 pub mod Selecting
 pub mod Sending
+pub mod Settled
 pub mod Turning
 mod WorkedLines

@@ -51,7 +51,8 @@ use Rattle.planner.specs.Meaning.{Declared, cursor_on, declared, answer_to, mean
 use Rattle.planner.specs.Planned.{Planned, Turn, is_row, row_before, started, refuses, accepts, finishes, reaches}
 use Rattle.planner.specs.Running.{Ran, run, giving, shown, AreRows, RunsTo}
 use Rattle.planner.proofs.Asking.{who, in_session, reads_so, moved_answer, answer-read}
-use Rattle.planner.proofs.Selecting.{more, Ends, sends-ends, row-ends, done-ends, more-accepted, more-not_end, find-behind, row_at-first, stamp_of, at, open-move, fetch-move, next-move, more-move, takes-row, takes-piece, fetching-next}
+use Rattle.planner.proofs.Settled.{runs-to}
+use Rattle.planner.proofs.Selecting.{ Ends, sends-ends, row-ends, done-ends, more-accepted, more-not_end, find-behind, row_at-first, stamp_of, at, open-move, fetch-move, next-move, more-move, takes-row, takes-piece, fetching-next}
 
 -- the octets of a row
 record IsGiven (octets : List ℕ) : Type 0 where
@@ -349,14 +350,7 @@ pub select-open : (m : Machine) (channel : ℕ) (object : List ℕ) (columns : C
     → RunsTo m (started (Select object columns conditions) channel inside) (shown (meaning operations m channel (Select object columns conditions)))
 select-open m channel object columns conditions inside is_open can readable rows = go (session_of m channel) refl is_open
   where
-    more-is : (k n : ℕ) → more k n ≡ k + n
-    more-is zero n = sym (zero-add n)
-    more-is (suc k) n = ap suc (more-is k n) ∙ omega arith
-
-    runs-to : (ran : Ran) → Ends m None (started (Select object columns conditions) channel inside) ran → RunsTo m (started (Select object columns conditions) channel inside) ran
-    runs-to ran e = record { steps = e.steps; runs = λ n. ap (λ turns. run operations turns m None (started (Select object columns conditions) channel inside)) (sym (more-is e.steps n)) ∙ e.runs n }
-
     go : (session : Option Session) → session_of m channel ≡ session → is_some session ≡ true
         → RunsTo m (started (Select object columns conditions) channel inside) (shown (meaning operations m channel (Select object columns conditions)))
     go None there is = absurd (cc)
-    go (Some s) there is = runs-to (shown (meaning operations m channel (Select object columns conditions))) (select-runs m channel s there object columns conditions inside can readable rows)
+    go (Some s) there is = runs-to m (started (Select object columns conditions) channel inside) (shown (meaning operations m channel (Select object columns conditions))) (select-runs m channel s there object columns conditions inside can readable rows)

@@ -1,5 +1,5 @@
 -- A plan over a machine: each command is answered by the steps of its parts in turn, and the plan goes on by that answer.
-use Rattle.std.specs.Prelude.{◌≡◌, ℕ, zero, suc, ◌+◌, ◌≤◌, true, List, [], ◌∷◌, ◌++◌, length, map, Option, Some, None}
+use Rattle.std.specs.Prelude.{◌≡◌, ℕ, zero, suc, ◌<◌, ◌≤◌, true, List, [], ◌∷◌, ◌++◌, length, map, Option, Some, None}
 use Rattle.std.specs.List.{AllByRecursion}
 use Rattle.scql_base.specs.declared.operation.Command.{Command}
 use Rattle.scql_base.specs.declared.operation.Line.{Line}
@@ -12,13 +12,14 @@ use Rattle.scql_model.specs.ReadingCommands.{row_octets}
 use Rattle.scql_model.specs.Operations.{operations}
 use Rattle.scql_model.specs.Step.{Answer}
 use Rattle.script.specs.declared.statement.Statement.{Statement}
-use Rattle.script.specs.declared.statement.Statement.TheVariants.{Blank, Single, OpenNumber, CloseNumber, UseNumber, Reset}
+use Rattle.script.specs.declared.statement.Statement.TheVariants.{Blank, Single, Select, UpdateRows, DeleteRows, OpenNumber, CloseNumber, UseNumber, Reset}
 use Rattle.planner.specs.declared.closing.Closing.{Closing}
 use Rattle.planner.specs.declared.closing.Closing.TheVariants.{Nothing}
 use Rattle.planner.specs.declared.step.Step.{Step}
 use Rattle.planner.specs.declared.step.Step.TheVariants.{Send, Row, ResetCard, Done}
 use Rattle.planner.specs.Meaning.{Meaning, answer_to}
 use Rattle.planner.specs.Planned.{Planned, Turn, next_of, started}
+use Rattle.planner.specs.Turns.{turns_left}
 
 -- the octets of the rows that were given, how it ended, the machine after it, and the databases that were committed in turn
 pub record Ran : Type 0 where
@@ -75,7 +76,13 @@ pub record AreRows (rows : List Values) : Type 0 where
   pub few : length rows ≤ 2048
   pub formed : AllByRecursion (λ (values : Values). is_row values ≡ true) rows
 
--- from some number of steps on, a plan that was started on a machine has run so
+-- a plan that was started on a machine runs so, in as many steps as it may take
 pub record RunsTo (m : Machine) (p : Planned) (ran : Ran) : Type 0 where
-  pub steps : ℕ
-  pub runs : (n : ℕ) → run operations (steps + n) m None p ≡ ran
+  pub runs : (turns : ℕ) → turns_left p < turns → run operations turns m None p ≡ ran
+
+-- a statement of rows
+abbrev pub IsOfRows : Statement → Type 0
+IsOfRows (Select object columns conditions) = Unit {0}
+IsOfRows (UpdateRows object changes conditions) = Unit {0}
+IsOfRows (DeleteRows object conditions) = Unit {0}
+IsOfRows statement = ⊥
