@@ -67,13 +67,13 @@ reading-taken FetchNext le command secrets limit is = tt
 reading-taken GetResponse le command secrets limit is = tt
 reading-taken operation le command secrets limit is = absurd (none-some command is)
 
-one-part : (c : Command) → comes_in_parts (kind_of c.operation) ≡ false → fits c ≡ true → part_count c ≡ 1
+pub one-part : (c : Command) → comes_in_parts (kind_of c.operation) ≡ false → fits c ≡ true → part_count c ≡ 1
 one-part c alone fitting =
     let small = leb-true (length (field_of c.operation)) 255 (rw alone at fitting) in
     omega (arith, parts_some (length (field_of c.operation)), parts_least (length (field_of c.operation)) 1 (omega arith) (omega (arith, small)))
 
 -- a command of one part is answered by one step
-answer-one : (m : Machine) (c : Command) → part_count c ≡ 1 → answer_to operations m c ≡ step_by operations m (octets_of c)
+pub answer-one : (m : Machine) (c : Command) → part_count c ≡ 1 → answer_to operations m c ≡ step_by operations m (octets_of c)
 unfolding answer_to
 answer-one m c one = rw (one, part-one c one) refl
 

@@ -1,5 +1,6 @@
 pub mod Asking
 pub mod Brief
+pub mod Closed
 pub mod Selected
 pub mod Selecting
 pub mod Sending

@@ -1,5 +1,5 @@
 // Laws over the plans of statements. Each is the contract of a function that does nothing.
-ghost use Rattle.std.specs.Prelude.{◌≡◌, ◌<◌, ℕ, suc, Bool, true, List, Option, None};
+ghost use Rattle.std.specs.Prelude.{◌≡◌, ◌<◌, ℕ, suc, Bool, true, false, List, Option, None};
 ghost use Rattle.scql_base.specs.declared.condition.Condition.{Condition};
 ghost use Rattle.scql_base.specs.declared.operation.Line.{Line};
 ghost use Rattle.scql_model.specs.Machine.{Machine, base};
@@ -12,7 +12,7 @@ ghost use Rattle.script.specs.declared.statement.Statement.TheVariants.{Select};
 ghost use Rattle.script.specs.Commands.{CanBeSent};
 ghost use Rattle.planner.specs.Meaning.{meaning};
 ghost use Rattle.planner.specs.Planned.{Planned, next_of, started};
-ghost use Rattle.planner.specs.Running.{AreRows, IsBrief, RunsTo, run, shown};
+ghost use Rattle.planner.specs.Running.{AreRows, IsBrief, IsOfRows, RunsTo, run, shown};
 ghost use Rattle.planner.specs.Turns.{IfGoesOn, turns_left};
 
 /// A statement of one command, or of none, runs to its meaning: its command, answered by the steps of the machine, gives no row, ends as the
@@ -34,4 +34,10 @@ pub fn a_select_runs_to_its_meaning()
 /// Whatever a plan is answered, each of its steps but the last leaves fewer.
 pub fn a_plan_comes_to_its_end()
     ensures { (last : Option Reply) (p : Planned) → IfGoesOn (next_of last p).step (turns_left (next_of last p).plan < turns_left p) }
+{}
+
+/// On a channel that isn't open a statement of rows runs to its meaning: it is refused.
+pub fn a_closed_channel_refuses_statements_of_rows()
+    ensures { (m : Machine) (n channel : ℕ) (inside : Bool) (s : Statement) → IsOfRows s → CanBeSent channel s → is_channel_open m channel ≡ false
+        → run operations (suc (suc n)) m None (started s channel inside) ≡ shown (meaning operations m channel s) }
 {}
