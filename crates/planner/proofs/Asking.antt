@@ -1,20 +1,19 @@
 -- The answer to a command that reads.
-use Rattle.std.proofs.Common.{◌≡◌, ℕ, zero, suc, ◌≤◌, Bool, true, false, List, [], ◌∷◌, length, map, Option, Some, None, is_some, option_map, refl, sym, ◌∙◌, ap, arith}
+use Rattle.std.proofs.Common.{◌≡◌, ℕ, zero, suc, Bool, true, false, List, [], ◌∷◌, length, map, Option, Some, None, is_some, refl, ◌∙◌, ap, arith}
 use Rattle.std.specs.Prelude.{slice_get, slice_set, option_and_then}
 use Rattle.std.specs.Option.{option_flatten, option_map_or}
 use Rattle.std.proofs.lemmas.Bool.{leb-true}
 use Rattle.std.proofs.lemmas.Option.{none-some}
 use Rattle.scql_base.specs.declared.words.Actor.{Actor}
 use Rattle.scql_base.specs.declared.words.Actor.TheVariants.{Public}
-use Rattle.scql_base.specs.declared.cursor.PresentedUser.{PresentedUser}
 use Rattle.scql_base.specs.declared.operation.Command.{Command}
 use Rattle.scql_base.specs.declared.operation.Operation.{Operation}
 use Rattle.scql_base.specs.declared.operation.Operation.TheVariants.{DeclareCursor, OpenCursor, Next, Fetch, FetchNext, GetResponse}
 use Rattle.scql_model.specs.Machine.{Machine, Session, Reading, Chain, no_reading, session_of, open_channels, base, actor_of, actor}
 use Rattle.scql_model.specs.Sessions.{with_session, changing_session, command_chain, reading_of, reading_so, without_chain}
 use Rattle.scql_model.specs.Operations.{operations, comes_in_parts, kind_of, has_secrets}
-use Rattle.scql_model.specs.Form.{a_command, parts_of, form_of}
-use Rattle.scql_model.specs.Spelling.{IsTaken, octets_of, part_octets, part_count, field_of, fits}
+use Rattle.scql_model.specs.Form.{a_command, parts_of}
+use Rattle.scql_model.specs.Spelling.{IsTaken, octets_of, part_count, field_of, fits}
 use Rattle.scql_model.specs.ReadingCommands.{ReadingCommand, reading_command, Move}
 use Rattle.scql_model.specs.Moves.{move_of}
 use Rattle.scql_model.specs.Step.{Answer, stepped, step_by}

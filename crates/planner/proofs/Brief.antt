@@ -1,5 +1,5 @@
 -- The runs of statements of one command, or of none.
-use Rattle.std.proofs.Common.{◌≡◌, ℕ, suc, Bool, List, [], ◌++◌, Option, None, refl, sym, ◌∙◌, ap}
+use Rattle.std.proofs.Common.{◌≡◌, ℕ, suc, Bool, List, None, refl, ap}
 use Rattle.std.proofs.lemmas.List.{append-nil}
 use Rattle.scql_base.specs.declared.operation.Line.{Line}
 use Rattle.scql_base.specs.declared.operation.Operation.TheVariants.{OpenChannel, CloseChannel}
@@ -8,9 +8,9 @@ use Rattle.scql_model.specs.Database.{Database}
 use Rattle.script.specs.declared.statement.Statement.{Statement}
 use Rattle.script.specs.declared.statement.Statement.TheVariants.{Blank, Single, OpenNumber, CloseNumber, UseNumber, Reset}
 use Rattle.script.specs.Commands.{asking}
-use Rattle.planner.specs.Meaning.{Meaning, meaning, single, answer_to}
+use Rattle.planner.specs.Meaning.{meaning, single, answer_to}
 use Rattle.planner.specs.Planned.{started}
-use Rattle.planner.specs.Running.{Ran, run, shown, committing, IsBrief}
+use Rattle.planner.specs.Running.{run, shown, IsBrief}
 
 pub brief-runs : (table : List Line) (n : ℕ) (m : Machine) (channel : ℕ) (inside : Bool) (s : Statement) → IsBrief s
     → run table (suc (suc n)) m None (started s channel inside) ≡ shown (meaning table m channel s)

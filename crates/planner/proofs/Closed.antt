@@ -1,19 +1,17 @@
 -- On a channel that isn't open a statement of rows is refused by its first command.
-use Rattle.std.proofs.Common.{◌≡◌, ℕ, zero, suc, ◌≤◌, not, ◌&&◌, Bool, true, false, List, [], ◌∷◌, length, map, Option, Some, None, is_some, Err, refl, sym, ◌∙◌, ap, arith, if◌then◌else◌}
+use Rattle.std.proofs.Common.{◌≡◌, ℕ, zero, suc, ◌≤◌, Bool, true, false, List, [], ◌∷◌, map, Option, Some, None, is_some, Err, refl, ◌∙◌, ap, arith}
 use Rattle.std.specs.Prelude.{slice_get}
 use Rattle.std.specs.Option.{option_flatten}
-use Rattle.std.proofs.lemmas.Option.{none-some}
 use Rattle.scql_base.specs.declared.operation.Command.{Command}
-use Rattle.scql_base.specs.declared.operation.Operation.{Operation}
 use Rattle.scql_base.specs.declared.operation.Operation.TheVariants.{DeclareCursor, Begin}
 use Rattle.scql_base.specs.declared.operation.Line.{Line}
 use Rattle.scql_base.specs.Words.{channel_not_supported}
 use Rattle.scql_model.specs.Replies.{said}
-use Rattle.scql_model.specs.Machine.{Machine, Chain, session_of, open_channels}
+use Rattle.scql_model.specs.Machine.{Machine, Chain, open_channels}
 use Rattle.scql_model.specs.Sessions.{command_chain, is_channel_open}
 use Rattle.scql_model.specs.Operations.{operations, has_instruction, comes_in_parts, kind_of}
-use Rattle.scql_model.specs.Form.{Form, refused, is_open, channel_asked, form_of}
-use Rattle.scql_model.specs.Spelling.{cla_of, apdu_by, field_of, octets_of, part_count}
+use Rattle.scql_model.specs.Form.{refused, is_open, channel_asked, form_of}
+use Rattle.scql_model.specs.Spelling.{cla_of, apdu_by, field_of, octets_of}
 use Rattle.scql_model.specs.WellFormed.{IsWellFormed}
 use Rattle.scql_model.specs.Step.{Answer, stepped, step_by}
 use Rattle.scql_model.proofs.LinesFound.{HasLine-operations, has_instruction-found}
@@ -21,11 +19,9 @@ use Rattle.scql_model.proofs.TakenFields.{Lined-field}
 use Rattle.script.specs.declared.statement.Statement.{Statement}
 use Rattle.script.specs.declared.statement.Statement.TheVariants.{Select, UpdateRows, DeleteRows}
 use Rattle.script.specs.Commands.{asking, IsSendable, CanBeSent}
-use Rattle.planner.specs.declared.closing.Closing.TheVariants.{Refused}
-use Rattle.planner.specs.declared.stage.Stage.TheVariants.{Beginning, Declaring}
-use Rattle.planner.specs.Meaning.{answer_to, meaning, ended}
-use Rattle.planner.specs.Planned.{Planned, started, begins_with}
-use Rattle.planner.specs.Running.{Ran, run, shown, answered_by, IsOfRows}
+use Rattle.planner.specs.Meaning.{answer_to, meaning}
+use Rattle.planner.specs.Planned.{started}
+use Rattle.planner.specs.Running.{run, shown, IsOfRows}
 use Rattle.planner.proofs.Asking.{one-part, answer-one}
 
 closed-there : {A : Type 0} (xs : List (Option A)) (i : ℕ) → is_some (option_flatten (slice_get xs i)) ≡ false → is_open (slice_get (map (λ (s : Option A). is_some s) xs) i) ≡ false

@@ -1,6 +1,6 @@
 -- The run of a SELECT is its meaning.
-use Rattle.std.proofs.Common.{◌≡◌, ℕ, zero, suc, ◌+◌, ◌-◌, ◌*◌, ◌≤◌, ◌<◌, ◌==◌, nat_le, nat_lt, Bool, true, false, not, ◌&&◌, List, [], ◌∷◌, ◌++◌, length, take, drop, map, Option, Some, None, is_some, option_map, Result, Ok, Err, IfOk, if◌then◌else◌, refl, sym, ◌∙◌, ap, subst, append_assoc, zero-add, lit<, lit≤, arith}
-use Rattle.std.specs.List.{filter, flat_map, list_all, AllByRecursion}
+use Rattle.std.proofs.Common.{◌≡◌, ℕ, zero, suc, ◌+◌, ◌-◌, ◌*◌, ◌≤◌, ◌<◌, ◌==◌, nat_le, Bool, true, false, ◌&&◌, List, [], ◌∷◌, ◌++◌, length, take, drop, map, Option, Some, None, is_some, option_map, Result, Ok, Err, if◌then◌else◌, refl, sym, ◌∙◌, ap, subst, append_assoc, lit≤, arith}
+use Rattle.std.specs.List.{filter, list_all, AllByRecursion}
 use Rattle.std.specs.Prelude.{option_and_then}
 use Rattle.std.specs.Option.{option_map_or}
 use Rattle.std.proofs.lemmas.Bool.{and_parts, lt-ltb, leb-true, ne_eqb}
@@ -16,8 +16,7 @@ use Rattle.scql_base.specs.declared.cursor.Place.TheVariants.{NotOpen, At, End}
 use Rattle.scql_base.specs.declared.operation.Command.{Command}
 use Rattle.scql_base.specs.declared.operation.Operation.TheVariants.{DeclareCursor, OpenCursor, Fetch, FetchNext, GetResponse}
 use Rattle.scql_base.specs.declared.records.Object.{Object}
-use Rattle.scql_base.specs.Row.{row_from, row_size, is_narrow}
-use Rattle.scql_base.specs.Strings.{spelled}
+use Rattle.scql_base.specs.Row.{row_size, is_narrow}
 use Rattle.scql_base.specs.Words.{done, end_reached, more_left, not_found, security_not_satisfied, channel_not_supported}
 use Rattle.scql_base.proofs.Splitting.{params_of-again}
 use Rattle.scql_base.proofs.RowOctets.{row_size-spelled}
@@ -25,15 +24,15 @@ use Rattle.scql_model.specs.Refusals.{◌>>=◌, or_refused, provided}
 use Rattle.scql_model.specs.Replies.{Reply, said}
 use Rattle.scql_model.specs.Database.{Database, are_named_among}
 use Rattle.scql_model.specs.Machine.{Machine, Session, Reading, session_of, base, actor_of, actor}
-use Rattle.scql_model.specs.Sessions.{with_session, changing_session, without_chain, reading_so, is_channel_open}
+use Rattle.scql_model.specs.Sessions.{with_session, changing_session, without_chain, is_channel_open}
 use Rattle.scql_model.specs.Records as records
-use Rattle.scql_model.specs.Rights.{select_privilege, holds, seen_named, seen_stamped}
+use Rattle.scql_model.specs.Rights.{select_privilege, holds, seen_named}
 use Rattle.scql_model.specs.Matching.{Columns, Values, matches}
 use Rattle.scql_model.specs.Objects.{StampedRow}
 use Rattle.scql_model.specs.Contents.{Contents, contents_of, cut_to, narrowed}
 use Rattle.scql_model.specs.ReadingCommands.{declare, open_cursor, fetch, fetch_next, get_response, Move, or_stays, cut, rest_word, row_octets, wanted_of, named_among}
 use Rattle.scql_model.specs.ReadingLaws.{IsReadable}
-use Rattle.scql_model.specs.Moves.{selected, chosen, rows_under, first_row, row_behind, row_at, went_to, moved_to, moved, move_of}
+use Rattle.scql_model.specs.Moves.{selected, chosen, rows_under, first_row, row_behind, row_at, went_to, moved_to, move_of}
 use Rattle.scql_model.specs.Operations.{operations}
 use Rattle.scql_model.proofs.FoundAgain.{seen_stamped-named}
 use Rattle.scql_model.proofs.ContentsRise.{Rises-map, Rises-contents_of}
@@ -45,14 +44,13 @@ use Rattle.script.proofs.Sendable.{asked-sent, wanted-sent}
 use Rattle.planner.specs.declared.closing.Closing.TheVariants.{Rows, Refused}
 use Rattle.planner.specs.declared.stage.Stage.{Stage}
 use Rattle.planner.specs.declared.stage.Stage.TheVariants.{Declaring, Opening, Fetching, Ended}
-use Rattle.planner.specs.declared.step.Step.TheVariants.{Send, Row, Done}
 use Rattle.planner.specs.Words.{is_refusal}
 use Rattle.planner.specs.Meaning.{Declared, cursor_on, declared, answer_to, meaning, selects_all, standing, ended, Meaning}
-use Rattle.planner.specs.Planned.{Planned, Turn, is_row, row_before, started, refuses, accepts, finishes, reaches}
-use Rattle.planner.specs.Running.{Ran, run, giving, shown, AreRows, RunsTo}
+use Rattle.planner.specs.Planned.{Planned, is_row, row_before, started, refuses, accepts}
+use Rattle.planner.specs.Running.{Ran, giving, shown, AreRows, RunsTo}
 use Rattle.planner.proofs.Asking.{who, in_session, reads_so, moved_answer, answer-read}
 use Rattle.planner.proofs.Settled.{runs-to}
-use Rattle.planner.proofs.Selecting.{ Ends, sends-ends, row-ends, done-ends, more-accepted, more-not_end, find-behind, row_at-first, stamp_of, at, open-move, fetch-move, next-move, more-move, takes-row, takes-piece, fetching-next}
+use Rattle.planner.proofs.Selecting.{Ends, sends-ends, row-ends, done-ends, more-accepted, more-not_end, find-behind, row_at-first, stamp_of, at, open-move, fetch-move, next-move, more-move, takes-row, takes-piece, fetching-next}
 
 -- the octets of a row
 record IsGiven (octets : List ℕ) : Type 0 where
@@ -205,8 +203,8 @@ declares_so reading (Ok d) = moved_to NotOpen d.cursor done
 
 -- a refusal is one, and else the rows are those under the cursor
 abbrev IsDeclared : Database → Actor → Result Declared StatusWord → Type 0
-IsDeclared db a (Err word) = is_refusal word ≡ true
-IsDeclared db a (Ok d) = (rows_under db a d.cursor ≡ Ok d.rows) × Rises stamp_of d.rows
+IsDeclared database a (Err word) = is_refusal word ≡ true
+IsDeclared database a (Ok d) = (rows_under database a d.cursor ≡ Ok d.rows) × Rises stamp_of d.rows
 
 record Declares (db : Database) (a : Actor) (reading : Reading) (object : List ℕ) (columns : Columns) (conditions : List Condition) (d : Result Declared StatusWord) : Type 0 where
   moves : move_of db a reading (declare object columns conditions) ≡ declares_so reading d

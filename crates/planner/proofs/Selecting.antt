@@ -1,41 +1,33 @@
 -- The run of a SELECT: each row is given once, in parts where it needs them.
-use Rattle.std.proofs.Common.{◌≡◌, ℕ, zero, suc, ◌+◌, ◌*◌, ◌/◌, ◌≤◌, ◌<◌, ◌==◌, nat_le, nat_lt, Bool, true, false, not, ◌||◌, ◌&&◌, List, [], ◌∷◌, ◌++◌, length, take, drop, map, Option, Some, None, Result, Ok, Err, if◌then◌else◌, refl, sym, ◌∙◌, ap, subst, append_assoc, lit<, lit≤, arith}
+use Rattle.std.proofs.Common.{◌≡◌, ℕ, zero, suc, ◌+◌, ◌/◌, ◌≤◌, ◌<◌, ◌==◌, nat_le, nat_lt, Bool, true, false, not, ◌||◌, ◌&&◌, List, [], ◌∷◌, ◌++◌, length, Option, Some, None, Result, Ok, Err, if◌then◌else◌, refl, sym, ◌∙◌, ap, subst, lit<, arith}
 use Rattle.std.specs.List.{find, AllByRecursion}
 use Rattle.std.proofs.lemmas.Bool.{lt-ltb, le-ltb, ltb-true, ne_eqb, eq-eqb}
-use Rattle.std.proofs.lemmas.List.{append-nil, take-append-drop, length-append}
+use Rattle.std.proofs.lemmas.List.{length-append}
 use Rattle.eeprom.specs.Slots.{Rises}
 use Rattle.scql_base.specs.declared.words.Actor.{Actor}
 use Rattle.scql_base.specs.declared.words.StatusWord.{StatusWord}
-use Rattle.scql_base.specs.declared.condition.Condition.{Condition}
 use Rattle.scql_base.specs.declared.cursor.Cursor.{Cursor}
 use Rattle.scql_base.specs.declared.cursor.Place.{Place}
 use Rattle.scql_base.specs.declared.cursor.Place.TheVariants.{NotOpen, At, End}
 use Rattle.scql_base.specs.declared.operation.Command.{Command}
-use Rattle.scql_base.specs.declared.operation.Operation.{Operation}
-use Rattle.scql_base.specs.declared.operation.Operation.TheVariants.{OpenCursor, Fetch, FetchNext, GetResponse}
+use Rattle.scql_base.specs.declared.operation.Operation.TheVariants.{GetResponse}
 use Rattle.scql_base.specs.Words.{done, end_reached, record_not_found, more_left, wrong_le, in_sw2}
 use Rattle.scql_model.specs.Refusals.{◌>>=◌, or_refused}
 use Rattle.scql_model.specs.Replies.{Reply}
 use Rattle.scql_model.specs.Database.{Database}
-use Rattle.scql_model.specs.Machine.{Machine, Session, Reading, session_of, base}
+use Rattle.scql_model.specs.Machine.{Machine, Reading}
 use Rattle.scql_model.specs.Objects.{StampedRow}
-use Rattle.scql_model.specs.ReadingCommands.{ReadingCommand, open_cursor, fetch, fetch_next, get_response, Move, or_stays, reading_command, rest_word, cut, fitting, row_octets}
+use Rattle.scql_model.specs.ReadingCommands.{open_cursor, fetch, fetch_next, get_response, Move, or_stays, fitting, row_octets}
 use Rattle.scql_model.specs.Moves.{rows_under, first_row, row_behind, row_at, moved_to, giving, went_to, gave, gave_next, move_of}
 use Rattle.scql_model.specs.Operations.{operations}
-use Rattle.script.specs.declared.statement.Statement.TheVariants.{Select}
-use Rattle.script.specs.Commands.{asking, wanting, IsSendable}
-use Rattle.script.proofs.Sendable.{asked-sent, wanted-sent}
 use Rattle.planner.specs.declared.closing.Closing.{Closing}
-use Rattle.planner.specs.declared.closing.Closing.TheVariants.{Rows}
-use Rattle.planner.specs.declared.stage.Stage.{Stage}
-use Rattle.planner.specs.declared.stage.Stage.TheVariants.{Opening, Fetching}
+use Rattle.planner.specs.declared.stage.Stage.TheVariants.{Fetching}
 use Rattle.planner.specs.declared.step.Step.TheVariants.{Send, Row, Done}
 use Rattle.planner.specs.Words.{is_end, has_more, is_refusal}
 use Rattle.planner.specs.Meaning.{answer_to}
-use Rattle.planner.specs.Planned.{Planned, Turn, next_of, goes_on, accepts, is_answered, refuses, finishes, takes, gathers, gives_row, ends_row, asks_for_rest, wants, row_before, is_row}
+use Rattle.planner.specs.Planned.{Planned, Turn, next_of, goes_on, accepts, refuses, finishes, takes, gathers, gives_row, ends_row, asks_for_rest, wants, row_before, is_row}
 use Rattle.planner.specs.Running.{Ran, run, taken, answered_by}
 use Rattle.planner.specs.Running as running
-use Rattle.planner.proofs.Asking.{who, in_session, reads_so, answer-read}
 
 -- so many steps, and then more
 abbrev pub more : ℕ → ℕ → ℕ

@@ -1,17 +1,17 @@
 -- What a plan sends can be sent.
-use Rattle.std.proofs.Common.{◌≡◌, ℕ, ◌+◌, ◌==◌, ◌≤◌, nat_lt, ◌&&◌, not, Bool, true, false, List, [], ◌++◌, length, Option, if◌then◌else◌, refl, subst}
+use Rattle.std.proofs.Common.{◌≡◌, ℕ, ◌+◌, ◌≤◌, nat_lt, ◌&&◌, not, Bool, true, false, List, ◌++◌, length, if◌then◌else◌, refl, subst}
 use Rattle.scql_base.specs.declared.row.TheConstants.Row.{LARGEST}
 use Rattle.scql_base.specs.declared.words.StatusWord.{StatusWord}
 use Rattle.scql_base.specs.declared.operation.Operation.{Operation}
 use Rattle.scql_base.specs.declared.operation.Operation.TheVariants.{OpenCursor, Next, Fetch, FetchNext, GetResponse, Update, Delete, Begin, Commit, Rollback}
 use Rattle.script.specs.declared.statement.Statement.{Statement}
 use Rattle.script.specs.declared.statement.Statement.TheVariants.{Blank, Single, Select, UpdateRows, DeleteRows, OpenNumber, CloseNumber, UseNumber, Reset}
-use Rattle.script.specs.Commands.{asking, wanting, IsSendable, CanBeSent}
+use Rattle.script.specs.Commands.{asking, IsSendable, CanBeSent}
 use Rattle.script.proofs.Sendable.{asked-sent, wanted-sent}
 use Rattle.planner.specs.declared.stage.Stage.{Stage}
 use Rattle.planner.specs.declared.stage.Stage.TheVariants.{Start, Alone, Beginning, Declaring, Opening, Fetching, Changing, Moving, Committing, RollingBack, Ended}
 use Rattle.planner.specs.Words.{is_end, has_more, is_refusal}
-use Rattle.planner.specs.Planned.{Planned, Turn, IfSent, finishes, refuses, is_beginning, declares_over, declares, begins_with, begins, most_rows, changes_row, reaches, most_responses, row_before, is_row, gives_row, ends_row, asks_for_rest, gathers, takes, accepts, is_answered, goes_on, asks, wants, ends, empty}
+use Rattle.planner.specs.Planned.{Planned, Turn, IfSent, finishes, refuses, is_beginning, declares_over, declares, begins_with, begins, most_rows, changes_row, reaches, most_responses, row_before, is_row, gives_row, ends_row, asks_for_rest, gathers, takes, accepts, is_answered, goes_on, asks, wants}
 
 -- a step sends a command that can be sent, or none
 abbrev pub Sends : Turn → Type 0

@@ -1,5 +1,5 @@
 -- Each step but the last leaves fewer.
-use Rattle.std.proofs.Common.{◌≡◌, ℕ, ◌+◌, ◌-◌, ◌*◌, ◌<◌, ◌≤◌, nat_lt, not, ◌&&◌, Bool, true, false, List, ◌++◌, length, Option, if◌then◌else◌, refl, lit<, lit≤, arith}
+use Rattle.std.proofs.Common.{◌≡◌, ℕ, ◌+◌, ◌-◌, ◌<◌, ◌≤◌, nat_lt, not, ◌&&◌, Bool, true, false, List, ◌++◌, length, Option, if◌then◌else◌, refl, lit<, arith}
 use Rattle.std.proofs.lemmas.Bool.{and_parts, ltb-true}
 use Rattle.scql_base.specs.declared.row.TheConstants.Row.{LARGEST}
 use Rattle.scql_base.specs.declared.words.StatusWord.{StatusWord}
@@ -11,7 +11,7 @@ use Rattle.script.specs.declared.statement.Statement.TheVariants.{Blank, Single,
 use Rattle.planner.specs.declared.stage.Stage.{Stage}
 use Rattle.planner.specs.declared.stage.Stage.TheVariants.{Start, Alone, Beginning, Declaring, Opening, Fetching, Changing, Moving, Committing, RollingBack, Ended}
 use Rattle.planner.specs.Words.{is_end, has_more, is_refusal}
-use Rattle.planner.specs.Planned.{Planned, Turn, finishes, refuses, is_beginning, declares_over, declares, begins_with, begins, most_rows, changes_row, reaches, most_responses, row_before, is_row, gives_row, ends_row, asks_for_rest, gathers, takes, accepts, is_answered, goes_on, heard, next_of}
+use Rattle.planner.specs.Planned.{Planned, Turn, finishes, refuses, is_beginning, declares_over, begins, most_rows, changes_row, reaches, most_responses, row_before, is_row, ends_row, asks_for_rest, gathers, takes, accepts, is_answered, goes_on, heard, next_of}
 use Rattle.planner.specs.Turns.{for_rows, turns_at, turns_left, IfGoesOn}
 
 abbrev Below : ℕ → Turn → Type 0

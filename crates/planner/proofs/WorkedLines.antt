@@ -14,7 +14,7 @@ use Rattle.scql_model.specs.Writing.{row_inserted, row_updated, row_deleted}
 use Rattle.scql_model.specs.Users.{user_deleted}
 use Rattle.scql_model.specs.Changing.{edits_of}
 use Rattle.scql_model.specs.Database.{fresh}
-use Rattle.scql_model.specs.Machine.{Machine, start}
+use Rattle.scql_model.specs.Machine.{start}
 use Rattle.scql_model.specs.Operations.{operations}
 use Rattle.scql_model.specs.Form.{form_of}
 use Rattle.scql_model.specs.Spelling.{part_octets}

@@ -1,5 +1,5 @@
 -- What a statement does: the rows that it gives, how it ends, the next machine, and the databases that are committed in turn.
-use Rattle.std.specs.Prelude.{ℕ, zero, suc, ◌+◌, List, [], ◌∷◌, ◌++◌, length, map, Option, Some, None, is_some, Result, Ok, Err, not, if◌then◌else◌}
+use Rattle.std.specs.Prelude.{ℕ, zero, suc, ◌+◌, List, [], ◌∷◌, ◌++◌, length, map, Option, Some, None, Result, Ok, Err, if◌then◌else◌}
 use Rattle.scql_base.specs.declared.words.Actor.{Actor}
 use Rattle.scql_base.specs.declared.words.StatusWord.{StatusWord}
 use Rattle.scql_base.specs.declared.condition.Condition.{Condition}
@@ -11,7 +11,7 @@ use Rattle.scql_base.specs.declared.operation.Line.{Line}
 use Rattle.scql_base.specs.declared.operation.Operation.{Operation}
 use Rattle.scql_base.specs.declared.operation.Operation.TheVariants.{Update, Delete, OpenChannel, CloseChannel}
 use Rattle.scql_base.specs.Words.{done, channel_not_supported, conditions_not_satisfied, not_found}
-use Rattle.scql_model.specs.Refusals.{◌>>=◌, or_refused, provided}
+use Rattle.scql_model.specs.Refusals.{◌>>=◌, or_refused}
 use Rattle.scql_model.specs.Replies.{said}
 use Rattle.scql_model.specs.Database.{Database}
 use Rattle.scql_model.specs.Machine.{Machine, Session, Transaction, reset, base, actor}

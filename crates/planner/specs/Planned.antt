@@ -1,5 +1,5 @@
 -- A plan: which command comes next, by the answers so far.
-use Rattle.std.specs.Prelude.{ℕ, ◌+◌, ◌==◌, nat_lt, not, ◌&&◌, Bool, true, false, List, [], ◌∷◌, ◌++◌, length, Option, Some, None, if◌then◌else◌}
+use Rattle.std.specs.Prelude.{ℕ, ◌+◌, ◌==◌, nat_lt, not, ◌&&◌, Bool, true, false, List, [], ◌++◌, length, Option, Some, None, if◌then◌else◌}
 use Rattle.std.specs.Option.{option_map_or}
 use Rattle.scql_base.specs.declared.row.TheConstants.Row.{LARGEST}
 use Rattle.scql_base.specs.declared.words.StatusWord.{StatusWord}

@@ -1,7 +1,6 @@
 -- A plan over a machine: each command is answered by the steps of its parts in turn, and the plan goes on by that answer.
 use Rattle.std.specs.Prelude.{◌≡◌, ℕ, zero, suc, ◌<◌, ◌≤◌, true, List, [], ◌∷◌, ◌++◌, length, map, Option, Some, None}
 use Rattle.std.specs.List.{AllByRecursion}
-use Rattle.scql_base.specs.declared.operation.Command.{Command}
 use Rattle.scql_base.specs.declared.operation.Line.{Line}
 use Rattle.scql_model.specs.Replies.{Reply}
 use Rattle.scql_model.specs.Database.{Database}
@@ -18,7 +17,7 @@ use Rattle.planner.specs.declared.closing.Closing.TheVariants.{Nothing}
 use Rattle.planner.specs.declared.step.Step.{Step}
 use Rattle.planner.specs.declared.step.Step.TheVariants.{Send, Row, ResetCard, Done}
 use Rattle.planner.specs.Meaning.{Meaning, answer_to}
-use Rattle.planner.specs.Planned.{Planned, Turn, next_of, started}
+use Rattle.planner.specs.Planned.{Planned, next_of}
 use Rattle.planner.specs.Turns.{turns_left}
 
 -- the octets of the rows that were given, how it ended, the machine after it, and the databases that were committed in turn

@@ -1,10 +1,10 @@
 -- How many steps a plan may still take, whatever it is answered.
-use Rattle.std.specs.Prelude.{ℕ, ◌+◌, ◌-◌, ◌*◌, ◌<◌}
+use Rattle.std.specs.Prelude.{ℕ, ◌+◌, ◌-◌, ◌*◌}
 use Rattle.planner.specs.declared.stage.Stage.{Stage}
 use Rattle.planner.specs.declared.stage.Stage.TheVariants.{Start, Alone, Beginning, Declaring, Opening, Fetching, Changing, Moving, Committing, RollingBack, Ended}
 use Rattle.planner.specs.declared.step.Step.{Step}
 use Rattle.planner.specs.declared.step.Step.TheVariants.{Done}
-use Rattle.planner.specs.Planned.{Planned, Turn, most_rows, most_responses}
+use Rattle.planner.specs.Planned.{Planned, most_rows, most_responses}
 
 -- for each row that may still come at most five: a fetch, three times the rest of the row, and what may follow
 abbrev pub for_rows : Planned → ℕ

@@ -1,5 +1,5 @@
 -- Which answers end a statement (ISO/IEC 7816-4, status bytes).
-use Rattle.std.specs.Prelude.{ℕ, ◌/◌, ◌==◌, not, ◌||◌, Bool, if◌then◌else◌}
+use Rattle.std.specs.Prelude.{◌/◌, ◌==◌, not, ◌||◌, Bool, if◌then◌else◌}
 use Rattle.scql_base.specs.declared.words.StatusWord.{StatusWord}
 use Rattle.scql_base.specs.Words.{done, end_reached}
 use Rattle.planner.specs.declared.closing.Closing.{Closing}
