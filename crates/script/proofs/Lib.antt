@@ -2,8 +2,11 @@ pub mod Closing
 pub mod Completing
 pub mod Cutting
 mod ExampleLines
+pub mod Formed
+pub mod FormedRules
 pub mod Fresh
 pub mod Listing
 pub mod Locality
 pub mod Rows
+pub mod Sendable
 pub mod Undoubling

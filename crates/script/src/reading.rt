@@ -1,6 +1,7 @@
 // Reads the statement of a line.
-ghost use Rattle.std.specs.Prelude.{◌≡◌, ◌≤◌, length};
+ghost use Rattle.std.specs.Prelude.{◌≡◌, ◌≤◌, IfOk, length};
 ghost use Rattle.scql_model.specs.Lines.{longest_line};
+ghost use Rattle.script.specs.Commands.{CanAlwaysBeSent};
 ghost use Rattle.script.specs.Line as lines;
 ghost use Rattle.script.specs.Parsed.{stated};
 
@@ -17,18 +18,27 @@ impl Statement {
     /// a row is over 1,020 octets, or a command doesn't fit: its data field is over 255, and over 1,275 for INSERT and UPDATE.
     pub fn read(line: &[u8]) -> Result<Statement, ScriptFault>
         requires { length line.now ≤ longest_line }
-        ensures { result ≡ lines.statement_of line.now }
+        ensures statement { result ≡ lines.statement_of line.now }
+        // Each command that the statement becomes, on whichever channel, is well-formed and fits.
+        ensures sendable { IfOk result CanAlwaysBeSent }
     {
-        if is_nothing(after_blanks(line)) {
-            return Ok(Statement::Blank);
-        }
-        let mut reader = Reader::new(line);
-        match reader.whole() {
-            Some(parsed) => sized(parsed),
-            None => Err(ScriptFault::At {
-                place: line.len().saturating_sub(reader.left()) as u16,
-            }),
-        }
+        statement_in(line)
+    }
+}
+
+fn statement_in(line: &[u8]) -> Result<Statement, ScriptFault>
+    requires { length line.now ≤ longest_line }
+    ensures { result ≡ lines.statement_of line.now }
+{
+    if is_nothing(after_blanks(line)) {
+        return Ok(Statement::Blank);
+    }
+    let mut reader = Reader::new(line);
+    match reader.whole() {
+        Some(parsed) => sized(parsed),
+        None => Err(ScriptFault::At {
+            place: line.len().saturating_sub(reader.left()) as u16,
+        }),
     }
 }
 

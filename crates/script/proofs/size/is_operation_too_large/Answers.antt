@@ -1,4 +1,4 @@
-use Rattle.std.proofs.Common.{◌≡◌, Bool, false, None, refl, sym, ◌∙◌}
+use Rattle.std.proofs.Common.{◌≡◌, false, None, refl, sym, ◌∙◌}
 use Rattle.scql_base.specs.declared.operation.Command.{Command}
 use Rattle.script.specs.Sizes as sizes
 use Rattle.script.proofs.size.is_operation_too_large.Goals as goal

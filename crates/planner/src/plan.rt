@@ -1,0 +1,346 @@
+// Which command comes next.
+ghost use Rattle.std.specs.Prelude.{◌≡◌, ◌++◌, nat_le, nat_lt, length, option_copied, if◌then◌else◌};
+ghost use Rattle.scql_base.specs.declared.row.TheConstants.Row.{LARGEST};
+ghost use Rattle.scql_base.specs.declared.operation.Operation.TheVariants.{DeclareCursor};
+ghost use Rattle.script.specs.Commands as commands;
+ghost use Rattle.script.specs.Commands.{CanBeSent, IsSendable};
+ghost use Rattle.planner.specs.Planned as planned;
+ghost use Rattle.planner.specs.Planned.{IfSent, Turn};
+
+use crate::stage::Stage;
+use crate::words::{closing_of, has_more, is_end, is_refusal};
+use crate::{Closing, Step};
+use apdu::Reply;
+use arrayvec::ArrayVec;
+use scql_base::{Command, Conditions, Name, NameList, Operation, Row, StatusWord};
+use script::Statement;
+use std::marker::Model;
+use std::mem;
+
+/// What is left of a statement on a channel.
+#[derive(Drop)]
+pub struct Plan {
+    statement: Statement,
+    channel: u8,
+    own: bool,
+    stage: Stage,
+    rows: u32,
+    responses: u8,
+    row: ArrayVec<u8, { Row::LARGEST }>,
+}
+
+impl Model for Plan {
+    ghost use Rattle.script.specs.Commands.{CanBeSent};
+    ghost use Rattle.planner.specs.Planned.{Planned};
+
+    ghost Value = { Planned };
+
+    ghost view = { λ p. record { statement = p.statement; channel = p.channel; own = p.own; stage = p.stage; rows = p.rows; responses = p.responses; row = p.row.items } };
+
+    ghost invariant = { λ p. CanBeSent p.channel p.statement };
+}
+
+impl Plan {
+    /// After so many rows a plan ends.
+    const MOST_ROWS: u32 = 2048;
+
+    /// How often a plan asks for the rest of a row.
+    const MOST_RESPONSES: u8 = 3;
+
+    /// A plan for a statement on a channel; `inside` says that the channel has the open transaction.
+    pub fn start(statement: Statement, channel: u8, inside: bool) -> Plan
+        requires { CanBeSent channel statement }
+        ensures { result ≡ planned.started statement channel inside }
+    {
+        let own = changes_rows(&statement) && !inside;
+        Plan {
+            statement,
+            channel,
+            own,
+            stage: Stage::Start,
+            rows: 0,
+            responses: 0,
+            row: ArrayVec::new(),
+        }
+    }
+
+    /// The next step, by the answer to the command that the plan sent last. No answer counts as 6581.
+    pub fn next(&mut self, last: Option<&Reply>) -> Step
+        ensures next { planned.next_of (option_copied last.entry) self.old ≡ record { plan = self.new; step = result } }
+        ensures sendable { IfSent result IsSendable }
+    {
+        let _ = &self.statement;
+        match last {
+            Some(reply) => self.go_on(reply.word, reply.body.as_slice()),
+            None => self.go_on(StatusWord::MEMORY_FAILURE, &[]),
+        }
+    }
+
+    /// After a step with a row: the row's octets, joined where they came in parts.
+    pub fn row_octets(&self) -> &[u8]
+        ensures { result.now ≡ self.now.row }
+    {
+        self.row.as_slice()
+    }
+
+    fn go_on(&mut self, word: StatusWord, body: &[u8]) -> Step
+        ensures { planned.goes_on self.old.stage word body.now self.old ≡ record { plan = self.new; step = result } }
+    {
+        match self.stage {
+            Stage::Start => self.begin(),
+            Stage::Alone => self.end(closing_of(word)),
+            Stage::RollingBack { word } => self.end(Closing::Refused { word }),
+            Stage::Ended { closing } => Step::Done { closing },
+            stage if is_refusal(word) => self.refuse(stage, word),
+            stage => self.accept(stage, word, body),
+        }
+    }
+
+    // Goes on after an answer that is no refusal.
+    fn accept(&mut self, stage: Stage, word: StatusWord, body: &[u8]) -> Step
+        ensures { planned.accepts stage word body.now self.old ≡ record { plan = self.new; step = result } }
+    {
+        match stage {
+            Stage::Beginning => self.declare(),
+            Stage::Declaring => self.ask(Stage::Opening, Operation::OpenCursor),
+            Stage::Opening | Stage::Moving | Stage::Fetching if is_end(word) => self.finish(),
+            Stage::Opening | Stage::Moving => self.reach(),
+            Stage::Fetching => self.take(word, body),
+            Stage::Changing => self.ask(Stage::Moving, Operation::Next),
+            _ => self.end(Closing::Rows { number: self.rows }),
+        }
+    }
+
+    // The first step. A statement of one command, or of none, isn't kept.
+    fn begin(&mut self) -> Step
+        ensures { planned.begins self.old.statement self.old ≡ record { plan = self.new; step = result } }
+    {
+        match mem::replace(&mut self.statement, Statement::Blank) {
+            Statement::Blank => self.end(Closing::Nothing),
+            Statement::Single { operation } => self.ask(Stage::Alone, operation),
+            Statement::OpenNumber { number } => self.send(
+                Stage::Alone,
+                asking(0, Operation::OpenChannel { number }),
+            ),
+            Statement::CloseNumber { number } => self.send(
+                Stage::Alone,
+                asking(0, Operation::CloseChannel { number }),
+            ),
+            Statement::UseNumber { .. } => self.end(Closing::Fine),
+            Statement::Reset => {
+                self.stage = Stage::Ended {
+                    closing: Closing::Fine,
+                };
+                Step::ResetCard
+            }
+            statement => {
+                self.statement = statement;
+                self.begin_with()
+            }
+        }
+    }
+
+    fn begin_with(&mut self) -> Step
+        ensures { planned.begins_with self.old ≡ record { plan = self.new; step = result } }
+    {
+        if self.own {
+            self.ask(Stage::Beginning, Operation::Begin)
+        } else {
+            self.declare()
+        }
+    }
+
+    // Declares a cursor over the rows that are read or changed.
+    fn declare(&mut self) -> Step
+        ensures { planned.declares self.old ≡ record { plan = self.new; step = result } }
+    {
+        let operation = match &self.statement {
+            Statement::Select {
+                object,
+                columns,
+                conditions,
+            } => cursor_over(object, columns, conditions),
+            Statement::UpdateRows {
+                object,
+                conditions,
+                ..
+            }
+            | Statement::DeleteRows { object, conditions } => {
+                cursor_over(object, &NameList::new(), conditions)
+            }
+            _ => return self.end(Closing::Nothing),
+        };
+        self.ask(Stage::Declaring, operation)
+    }
+
+    // A row was reached: it is fetched, or changed.
+    fn reach(&mut self) -> Step
+        ensures { planned.reaches self.old.statement self.old ≡ record { plan = self.new; step = result } }
+    {
+        match &self.statement {
+            Statement::UpdateRows { changes, .. } => {
+                let changes = changes.copy();
+                self.change(Operation::Update { changes })
+            }
+            Statement::DeleteRows { .. } => self.change(Operation::Delete),
+            _ => self.want(Stage::Fetching, Operation::Fetch),
+        }
+    }
+
+    fn change(&mut self, operation: Operation) -> Step
+        ensures { planned.changes_row operation self.old ≡ record { plan = self.new; step = result } }
+    {
+        if self.rows < Plan::MOST_ROWS {
+            self.rows += 1;
+            self.ask(Stage::Changing, operation)
+        } else {
+            self.finish()
+        }
+    }
+
+    // Octets of a row came.
+    fn take(&mut self, word: StatusWord, body: &[u8]) -> Step
+        ensures { planned.takes word body.now self.old ≡ record { plan = self.new; step = result } }
+    {
+        let before = if self.responses == 0 {
+            0
+        } else {
+            self.row.len()
+        };
+        if before + body.len() > Row::LARGEST {
+            return self.finish();
+        }
+        self.row.truncate(before);
+        let fits = self.row.try_extend_from_slice(body).is_ok();
+        prove!(fits);
+        if has_more(word) {
+            self.ask_for_rest()
+        } else {
+            self.end_row()
+        }
+    }
+
+    fn ask_for_rest(&mut self) -> Step
+        ensures { planned.asks_for_rest self.old ≡ record { plan = self.new; step = result } }
+    {
+        if self.responses < Plan::MOST_RESPONSES {
+            self.responses += 1;
+            self.want(Stage::Fetching, Operation::GetResponse)
+        } else {
+            self.finish()
+        }
+    }
+
+    // All octets of a row are there: it is given, and the next one fetched.
+    fn end_row(&mut self) -> Step
+        ensures { planned.ends_row self.old ≡ record { plan = self.new; step = result } }
+    {
+        if !is_row(self.row.as_slice()) || self.rows >= Plan::MOST_ROWS {
+            return self.finish();
+        }
+        self.stage = Stage::Fetching;
+        self.rows += 1;
+        self.responses = 0;
+        Step::Row {
+            command: wanting(self.channel, Operation::FetchNext),
+        }
+    }
+
+    // All rows were given or changed.
+    fn finish(&mut self) -> Step
+        ensures { planned.finishes self.old ≡ record { plan = self.new; step = result } }
+    {
+        if self.own {
+            self.ask(Stage::Committing, Operation::Commit)
+        } else {
+            self.end(Closing::Rows { number: self.rows })
+        }
+    }
+
+    // A refusal ends the plan, which first rolls back a transaction of its own that was begun.
+    fn refuse(&mut self, stage: Stage, word: StatusWord) -> Step
+        ensures { planned.refuses stage word self.old ≡ record { plan = self.new; step = result } }
+    {
+        if self.own && stage != Stage::Beginning {
+            self.ask(Stage::RollingBack { word }, Operation::Rollback)
+        } else {
+            self.end(Closing::Refused { word })
+        }
+    }
+
+    fn ask(&mut self, stage: Stage, operation: Operation) -> Step
+        ensures { planned.asks stage operation self.old ≡ record { plan = self.new; step = result } }
+    {
+        self.send(stage, asking(self.channel, operation))
+    }
+
+    fn want(&mut self, stage: Stage, operation: Operation) -> Step
+        ensures { planned.wants stage operation self.old ≡ record { plan = self.new; step = result } }
+    {
+        self.send(stage, wanting(self.channel, operation))
+    }
+
+    fn send(&mut self, stage: Stage, command: Command) -> Step
+        ensures { planned.sends stage command self.old ≡ record { plan = self.new; step = result } }
+    {
+        self.stage = stage;
+        Step::Send { command }
+    }
+
+    fn end(&mut self, closing: Closing) -> Step
+        ensures { planned.ends closing self.old ≡ record { plan = self.new; step = result } }
+    {
+        self.stage = Stage::Ended { closing };
+        Step::Done { closing }
+    }
+}
+
+fn changes_rows(statement: &Statement) -> bool
+    ensures { result ≡ planned.changes_rows statement.now }
+{
+    matches!(
+        statement,
+        Statement::UpdateRows { .. } | Statement::DeleteRows { .. }
+    )
+}
+
+fn asking(channel: u8, operation: Operation) -> Command
+    ensures { result ≡ commands.asking channel operation }
+{
+    Command {
+        channel,
+        operation,
+        le: None,
+    }
+}
+
+// A command that wants as many octets as an answer may have.
+fn wanting(channel: u8, operation: Operation) -> Command
+    ensures { result ≡ commands.wanting channel operation }
+{
+    Command {
+        channel,
+        operation,
+        le: Some(Command::LARGEST_LE),
+    }
+}
+
+fn cursor_over(object: &Name, columns: &NameList, conditions: &Conditions) -> Operation
+    ensures { result ≡ DeclareCursor object.now columns.now conditions.now }
+{
+    Operation::DeclareCursor {
+        object: object.copy(),
+        columns: columns.copy(),
+        conditions: conditions.copy(),
+    }
+}
+
+// Whether octets are a row of at least one value.
+fn is_row(octets: &[u8]) -> bool
+    ensures { result ≡ planned.is_row octets.now }
+{
+    match Row::read(octets) {
+        Some(row) => row.len() > 0,
+        None => false,
+    }
+}
