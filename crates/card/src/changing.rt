@@ -19,7 +19,7 @@ ghost use Rattle.card.specs.Card.{HoldsSome, IsAtRest};
 ghost use Rattle.card.specs.Changing.{IsChange, Changes, acting, goes_through_cursor};
 
 use db_access::{create_user, grant, revoke};
-use db_define::{create_table, drop_table};
+use db_define::{create_dictionary, create_table, create_view, drop_table, drop_view};
 use db_write::{delete, insert, update};
 use eeprom::{Eeprom, EepromFault};
 use record_store::{Side, Store};
@@ -90,6 +90,7 @@ fn make<B: Eeprom>(
     requires index { Indexes index.old store.old (B.chip bench.old) }
     requires last { (db : Database) → IsHeld store.old Working (B.chip bench.old) db → is_above db.next index.old.committed ≡ true }
     requires changes { IsChange operation.now }
+    requires fits { FitsCard store.old.row_limit operation.now }
     ensures ends { (db : Database) → IsHeld store.old Working (B.chip bench.old) db → IfSome cursor.now (IsCursorOf db) → IsActorOf db actor → HasForm operation.now → FitsCard db.limit operation.now
         → Ends db (edits_of db actor cursor.now operation.now) result store.old store.new (B.chip bench.old) (B.chip bench.new) }
     // Whatever the cursor is, it ends as through some cursor.
@@ -127,6 +128,7 @@ fn make_without_cursor<B: Eeprom>(
     requires last { (db : Database) → IsHeld store.old Working (B.chip bench.old) db → is_above db.next index.old.committed ≡ true }
     requires changes { IsChange operation.now }
     requires no_cursor { goes_through_cursor (kind_of operation.now) ≡ false }
+    requires fits { FitsCard store.old.row_limit operation.now }
     ensures ends { (db : Database) (cursor : Option model.Cursor) → IsHeld store.old Working (B.chip bench.old) db → IsActorOf db actor → HasForm operation.now → FitsCard db.limit operation.now
         → Ends db (edits_of db actor cursor operation.now) result store.old store.new (B.chip bench.old) (B.chip bench.new) }
     ensures goes_on { ¬ IsErrOf result Stop.Fault → GoesOn store.old store.new (B.chip bench.old) (B.chip bench.new) }
@@ -143,7 +145,26 @@ fn make_without_cursor<B: Eeprom>(
         Operation::CreateTable { name, columns } => {
             create_table(store, bench, actor, name.copy(), columns, index)
         }
+        Operation::CreateView {
+            name,
+            base,
+            columns,
+            conditions,
+        } => create_view(
+            store,
+            bench,
+            actor,
+            name.copy(),
+            base.copy(),
+            columns,
+            conditions,
+            index,
+        ),
+        Operation::CreateDictionary { name, subject } => {
+            create_dictionary(store, bench, actor, name.copy(), *subject, index)
+        }
         Operation::DropTable { name } => drop_table(store, bench, actor, name.copy(), index),
+        Operation::DropView { name } => drop_view(store, bench, actor, name.copy(), index),
         Operation::Grant {
             privileges,
             object,

@@ -33,6 +33,9 @@ returns-in_err-actor-clause-changes g c = λ db rest of.
 pub make-requires-clause-over : goal.make-requires-clause-over
 make-requires-clause-over g c = over-begun c.args.store.now c.begin.new.self (g.B.Eeprom.chip c.args.bench.now) (g.B.Eeprom.chip c.actor_of.new.bench) c.requires.over c.in_ok-actor.ensures.frame.same c.begin.ensures.begun c.begin.ensures.stands
 
+pub make-requires-clause-fits : goal.make-requires-clause-fits
+make-requires-clause-fits g c = subst (λ (store : Held). FitsCard store.row_limit c.args.operation.now) (sym c.begin.ensures.begun) c.requires.fits
+
 -- the operation that was made ended as through a cursor
 abbrev EndsThrough : (g : _) (c : After-make g) → Database → Option Cursor → Type 0
 EndsThrough g c db cursor =

@@ -1,8 +1,10 @@
 -- Each operation ends as its edits say, and the index goes on with it.
 use Rattle.std.proofs.Common.{◌≡◌, ℕ, false, true, List, refl}
+use Rattle.scql_base.specs.declared.condition.Condition.{Condition}
 use Rattle.scql_base.specs.declared.operation.Operation.{Operation}
-use Rattle.scql_base.specs.declared.operation.Operation.TheVariants.{CreateTable, DropTable, Grant, Revoke, Insert, Update, Delete, CreateUser}
+use Rattle.scql_base.specs.declared.operation.Operation.TheVariants.{CreateTable, CreateView, CreateDictionary, DropTable, DropView, Grant, Revoke, Insert, Update, Delete, CreateUser}
 use Rattle.scql_base.specs.declared.words.Profile.{Profile}
+use Rattle.scql_base.specs.declared.words.Subject.{Subject}
 use Rattle.scql_model.specs.Changing.{edits_of}
 use Rattle.scql_model.specs.Operations.{kind_of}
 use Rattle.card.specs.Changing.{goes_through_cursor}
@@ -10,24 +12,58 @@ use Rattle.card.proofs.BuiltLines.{is_change, is_change-IsChange}
 use Rattle.card.proofs.IndexedStore.{Indexes-ends}
 use Rattle.card.proofs.changing.make_without_cursor.Goals as goal
 
--- each change that is built has an arm
-no-other : (operation : Operation) → is_change (kind_of operation) ≡ true → goes_through_cursor (kind_of operation) ≡ false → ((name : List ℕ) (columns : List (List ℕ)) → operation ≡ CreateTable name columns → ⊥) → ((name : List ℕ) → operation ≡ DropTable name → ⊥)
+-- each change has an arm
+no-other : (operation : Operation) → is_change (kind_of operation) ≡ true → goes_through_cursor (kind_of operation) ≡ false → ((name : List ℕ) (columns : List (List ℕ)) → operation ≡ CreateTable name columns → ⊥)
+    → ((name base : List ℕ) (columns : List (List ℕ)) (conditions : List Condition) → operation ≡ CreateView name base columns conditions → ⊥) → ((name : List ℕ) (subject : Subject) → operation ≡ CreateDictionary name subject → ⊥)
+    → ((name : List ℕ) → operation ≡ DropTable name → ⊥) → ((name : List ℕ) → operation ≡ DropView name → ⊥)
     → ((privileges : ℕ) (object grantee : List ℕ) → operation ≡ Grant privileges object grantee → ⊥) → ((privileges : ℕ) (object grantee : List ℕ) → operation ≡ Revoke privileges object grantee → ⊥)
     → ((table : List ℕ) (row : List (List ℕ)) → operation ≡ Insert table row → ⊥) → ((name : List ℕ) (profile : Profile) (secret : List ℕ) → operation ≡ CreateUser name profile secret → ⊥) → ⊥
-no-other (CreateTable name columns) change without table drop grant revoke row user = table name columns refl
-no-other (DropTable name) change without table drop grant revoke row user = drop name refl
-no-other (Grant privileges object grantee) change without table drop grant revoke row user = grant privileges object grantee refl
-no-other (Revoke privileges object grantee) change without table drop grant revoke row user = revoke privileges object grantee refl
-no-other (Insert name values) change without table drop grant revoke row user = row name values refl
-no-other (Update changes) change without table drop grant revoke row user = absurd (cc)
-no-other Delete change without table drop grant revoke row user = absurd (cc)
-no-other (CreateUser name profile secret) change without table drop grant revoke row user = user name profile secret refl
-no-other operation change without table drop grant revoke row user = cc
+no-other (CreateTable name columns) change without table view dictionary drop drop_view grant revoke row user = table name columns refl
+no-other (CreateView name base columns conditions) change without table view dictionary drop drop_view grant revoke row user = view name base columns conditions refl
+no-other (CreateDictionary name subject) change without table view dictionary drop drop_view grant revoke row user = dictionary name subject refl
+no-other (DropTable name) change without table view dictionary drop drop_view grant revoke row user = drop name refl
+no-other (DropView name) change without table view dictionary drop drop_view grant revoke row user = drop_view name refl
+no-other (Grant privileges object grantee) change without table view dictionary drop drop_view grant revoke row user = grant privileges object grantee refl
+no-other (Revoke privileges object grantee) change without table view dictionary drop drop_view grant revoke row user = revoke privileges object grantee refl
+no-other (Insert name values) change without table view dictionary drop drop_view grant revoke row user = row name values refl
+no-other (Update changes) change without table view dictionary drop drop_view grant revoke row user = absurd (cc)
+no-other Delete change without table view dictionary drop drop_view grant revoke row user = absurd (cc)
+no-other (CreateUser name profile secret) change without table view dictionary drop drop_view grant revoke row user = user name profile secret refl
+no-other operation change without table view dictionary drop drop_view grant revoke row user = cc
 
 pub unreachable-requires : goal.unreachable-requires
 unreachable-requires g c =
-    no-other c.args.operation.now (is_change-IsChange c.args.operation.now c.requires.changes) c.requires.no_cursor c.in_default.not-CreateTable c.in_default.not-DropTable c.in_default.not-Grant c.in_default.not-Revoke
-    c.in_default.not-Insert c.in_default.not-CreateUser
+    no-other c.args.operation.now (is_change-IsChange c.args.operation.now c.requires.changes) c.requires.no_cursor c.in_default.not-CreateTable c.in_default.not-CreateView c.in_default.not-CreateDictionary c.in_default.not-DropTable
+    c.in_default.not-DropView c.in_default.not-Grant c.in_default.not-Revoke c.in_default.not-Insert c.in_default.not-CreateUser
+
+pub create_view-requires-clause-short : goal.create_view-requires-clause-short
+create_view-requires-clause-short g c = rw c.in-CreateView.is at c.requires.fits
+
+pub returns-in-CreateView-clause-ends : goal.returns-in-CreateView-clause-ends
+unfolding edits_of
+returns-in-CreateView-clause-ends g c = λ db cursor held acts form fits.
+    rw c.in-CreateView.is ((rw (c.copy-in-CreateView.ensures, c.copy-in-CreateView-2.ensures) at c.create_view.ensures.ends) db held acts (rw c.in-CreateView.is at form))
+
+pub returns-in-CreateView-clause-index : goal.returns-in-CreateView-clause-index
+returns-in-CreateView-clause-index g c = λ db held acts form fits.
+    (rw (c.copy-in-CreateView.ensures, c.copy-in-CreateView-2.ensures) at c.create_view.ensures.index) db held acts (rw c.in-CreateView.is at form)
+
+pub returns-in-CreateDictionary-clause-ends : goal.returns-in-CreateDictionary-clause-ends
+unfolding edits_of
+returns-in-CreateDictionary-clause-ends g c = λ db cursor held acts form fits.
+    rw c.in-CreateDictionary.is ((rw c.copy-in-CreateDictionary.ensures at c.create_dictionary.ensures.ends) db held acts (rw c.in-CreateDictionary.is at form))
+
+pub returns-in-CreateDictionary-clause-index : goal.returns-in-CreateDictionary-clause-index
+returns-in-CreateDictionary-clause-index g c = λ db held acts form fits.
+    (rw c.copy-in-CreateDictionary.ensures at c.create_dictionary.ensures.index) db held acts (rw c.in-CreateDictionary.is at form)
+
+pub returns-in-DropView-clause-ends : goal.returns-in-DropView-clause-ends
+unfolding edits_of
+returns-in-DropView-clause-ends g c = λ db cursor held acts form fits.
+    rw c.in-DropView.is ((rw c.copy-in-DropView.ensures at c.drop_view.ensures.ends) db held)
+
+pub returns-in-DropView-clause-index : goal.returns-in-DropView-clause-index
+returns-in-DropView-clause-index g c = λ db held acts form fits. c.drop_view.ensures.index db held
 
 pub returns-in-CreateTable-clause-ends : goal.returns-in-CreateTable-clause-ends
 unfolding edits_of
