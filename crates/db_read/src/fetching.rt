@@ -8,7 +8,7 @@ ghost use Rattle.scql_model.specs.Cursors.{IsCursorOf};
 ghost use Rattle.scql_model.specs.Database.{Database};
 ghost use Rattle.scql_model.specs.Moves.{gave, gave_next, moved, row_behind};
 ghost use Rattle.scql_model.specs.Objects.{StampedRow};
-ghost use Rattle.scql_model.specs.ReadBound.{IsOnTableOrView, octets_for_operation, place_reached};
+ghost use Rattle.scql_model.specs.ReadBound.{IsOnTableOrView, RisesAtLeast, octets_for_operation, place_reached};
 ghost use Rattle.scql_model.specs.ReadingCommands as commands;
 ghost use Rattle.record_table.specs.Listed.{slots_of};
 ghost use Rattle.record_table.specs.Making.{IsHeld};
@@ -47,6 +47,8 @@ pub fn fetch_row<B: Eeprom>(
     ensures stays { cursor.new ≡ cursor.old }
     ensures octets_read { (db : Database) → IsHeld store.now side (B.chip bench.old) db → IfSome cursor.old (IsCursorOf db) → IfSome cursor.old (IsOnTableOrView db)
         → IfOk result (λ _. Becomes (RisesAtMost (octets_for_operation db actor cursor.old (commands.fetch le))) (B.octets_read bench.old) (B.octets_read bench.new)) }
+    ensures least { (db : Database) → IsHeld store.now side (B.chip bench.old) db → IfSome cursor.old (IsCursorOf db) → IfSome cursor.old (IsOnTableOrView db)
+        → IfOk result (λ word. Becomes (RisesAtLeast (least_read word out.new)) (B.octets_read bench.old) (B.octets_read bench.new)) }
     ensures frame { Reads each_error B.chip B.faults bench.old bench.new result }
 {
     let Some(held) = cursor else {
@@ -82,6 +84,8 @@ pub fn fetch_next_row<B: Eeprom>(
     ensures fault { OnErr result (cursor.new ≡ cursor.old) }
     ensures octets_read { (db : Database) → IsHeld store.now side (B.chip bench.old) db → IfSome cursor.old (IsCursorOf db) → IfSome cursor.old (IsOnTableOrView db)
         → IfOk result (λ _. Becomes (RisesAtMost (octets_for_operation db actor cursor.old (commands.fetch_next le))) (B.octets_read bench.old) (B.octets_read bench.new)) }
+    ensures least { (db : Database) → IsHeld store.now side (B.chip bench.old) db → IfSome cursor.old (IsCursorOf db) → IfSome cursor.old (IsOnTableOrView db)
+        → IfOk result (λ word. Becomes (RisesAtLeast (least_read word out.new)) (B.octets_read bench.old) (B.octets_read bench.new)) }
     ensures frame { Reads each_error B.chip B.faults bench.old bench.new result }
 {
     let Some(held) = cursor else {

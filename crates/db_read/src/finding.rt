@@ -12,6 +12,7 @@ ghost use Rattle.scql_model.specs.Rights.{seen_named, seen_stamped};
 ghost use Rattle.catalog_codec.specs.Catalog.{grant_kind, object_kind};
 ghost use Rattle.record_table.specs.Listed.{cells_marked, slots_of};
 ghost use Rattle.record_table.specs.Making.{IsHeld, is_stop_fault};
+ghost use Rattle.record_table.specs.Reading.{NeverFalls};
 ghost use Rattle.db_read.specs.Answered.{Chooses, Stops, WhereRead, rows_under, selectable, stop_answer};
 ghost use Rattle.db_read.specs.Costs.{catalogue_cost};
 ghost use Rattle.db_read.specs.Told.{Tells, costs_of};
@@ -41,6 +42,7 @@ pub(crate) fn find_choice<B: Eeprom>(
     ensures refused { (db : Database) → IsHeld store.now side (B.chip bench.old) db → IsCursorOf db cursor.now → IfErr result (Stops (rows_under db actor cursor.now)) }
     ensures octets_read { WhereRead result (IfSome (slots_of store.now side (B.chip bench.old))
         (λ slots. Becomes (RisesAtMost (catalogue_cost slots)) (B.octets_read bench.old) (B.octets_read bench.new))) }
+    ensures rises { WhereRead result (NeverFalls (slots_of store.now side (B.chip bench.old)) (B.octets_read bench.old) (B.octets_read bench.new)) }
     ensures frame { Reads is_stop_fault B.chip B.faults bench.old bench.new result }
 {
     let object = find_selected(store, bench, side, actor, cursor.object)?;
@@ -70,6 +72,7 @@ fn find_selected<B: Eeprom>(
     ensures refused { (db : Database) → IsHeld store.now side (B.chip bench.old) db → IfErr result (Stops (selectable db actor (seen_stamped db actor stamp))) }
     ensures octets_read { WhereRead result (IfSome (slots_of store.now side (B.chip bench.old))
         (λ slots. Becomes (RisesAtMost (cell_size * cells_marked object_kind slots + cell_size * cells_marked grant_kind slots)) (B.octets_read bench.old) (B.octets_read bench.new))) }
+    ensures rises { WhereRead result (NeverFalls (slots_of store.now side (B.chip bench.old)) (B.octets_read bench.old) (B.octets_read bench.new)) }
     ensures frame { Reads is_stop_fault B.chip B.faults bench.old bench.new result }
 {
     let found = find_stamp(store, bench, side, stamp)?;
@@ -110,6 +113,7 @@ fn select<B: Eeprom>(
         → IfErr result (Stops (selectable db actor (option_filter (model.appears db actor) (option_map (λ found. found.value) found)))) }
     ensures octets_read { WhereRead result (IfSome (slots_of store.now side (B.chip bench.old))
         (λ slots. Becomes (RisesAtMost (cell_size * cells_marked grant_kind slots)) (B.octets_read bench.old) (B.octets_read bench.new))) }
+    ensures rises { WhereRead result (NeverFalls (slots_of store.now side (B.chip bench.old)) (B.octets_read bench.old) (B.octets_read bench.new)) }
     ensures frame { Reads is_stop_fault B.chip B.faults bench.old bench.new result }
 {
     let Some(found) = found else {

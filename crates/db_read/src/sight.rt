@@ -12,6 +12,7 @@ ghost use Rattle.std.specs.List.{list_any};
 ghost use Rattle.catalog_codec.specs.Catalog.{grant_kind};
 ghost use Rattle.record_table.specs.Listed.{cells_marked, slots_of};
 ghost use Rattle.record_table.specs.Making.{IsHeld};
+ghost use Rattle.record_table.specs.Reading.{NeverFalls};
 ghost use Rattle.db_read.specs.Sight.{sight_of};
 
 use eeprom::{Eeprom, EepromFault};
@@ -43,6 +44,7 @@ pub(crate) fn see<B: Eeprom>(
         → IfOk result (λ sight. sight ≡ sight_of (model.appears db actor object.now) (model.holds db actor object.now select_privilege)) }
     ensures octets_read { IfOk result (λ _. IfSome (slots_of store.now side (B.chip bench.old))
         (λ slots. Becomes (RisesAtMost (cell_size * cells_marked grant_kind slots)) (B.octets_read bench.old) (B.octets_read bench.new))) }
+    ensures rises { IfOk result (λ _. NeverFalls (slots_of store.now side (B.chip bench.old)) (B.octets_read bench.old) (B.octets_read bench.new)) }
     ensures frame { Reads each_error B.chip B.faults bench.old bench.new result }
 {
     if is_owned_by(actor, object.owner) {

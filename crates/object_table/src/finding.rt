@@ -10,6 +10,7 @@ ghost use Rattle.record_store.specs.Held.{IsOver};
 ghost use Rattle.scql_model.specs.Objects.{object_stamped};
 ghost use Rattle.catalog_codec.specs.Catalog.{object_kind};
 ghost use Rattle.record_table.specs.Listed.{at_slot, cells_marked, in_slots, listed, slots_of};
+ghost use Rattle.record_table.specs.Reading.{NeverFalls};
 ghost use Rattle.object_table.specs.Named.{has_name, object_named};
 
 use eeprom::{Eeprom, EepromFault};
@@ -44,6 +45,7 @@ pub fn find_stamp<B: Eeprom>(
         (λ slots. Rises object_kind.key (listed object_kind slots) → option_map (λ found. found.value) found ≡ object_stamped (listed object_kind slots) stamp)) }
     ensures octets_read { IfOk result (λ _. IfSome (slots_of store.now side (B.chip bench.old))
         (λ slots. Becomes (RisesAtMost (cell_size * cells_marked object_kind slots)) (B.octets_read bench.old) (B.octets_read bench.new))) }
+    ensures rises { IfOk result (λ _. NeverFalls (slots_of store.now side (B.chip bench.old)) (B.octets_read bench.old) (B.octets_read bench.new)) }
     ensures frame { Reads each_error B.chip B.faults bench.old bench.new result }
 {
     record_table::find_stamp(store, bench, side, stamp)
@@ -68,6 +70,7 @@ pub fn find_name<B: Eeprom>(
         (λ slots. count_by (has_name name) (listed object_kind slots) ≤ 1 → option_map (λ found. found.value) found ≡ object_named (listed object_kind slots) name)) }
     ensures octets_read { IfOk result (λ _. IfSome (slots_of store.now side (B.chip bench.old))
         (λ slots. Becomes (RisesAtMost (cell_size * cells_marked object_kind slots)) (B.octets_read bench.old) (B.octets_read bench.new))) }
+    ensures rises { IfOk result (λ _. NeverFalls (slots_of store.now side (B.chip bench.old)) (B.octets_read bench.old) (B.octets_read bench.new)) }
     ensures frame { Reads each_error B.chip B.faults bench.old bench.new result }
 {
     find_by(store, bench, side, &Named(name))

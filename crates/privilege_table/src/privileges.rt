@@ -8,6 +8,7 @@ ghost use Rattle.record_store.specs.Held.{IsOver};
 ghost use Rattle.scql_model.specs.Rights.{has_bit};
 ghost use Rattle.catalog_codec.specs.Catalog.{grant_kind};
 ghost use Rattle.record_table.specs.Listed.{cells_marked, listed, slots_of};
+ghost use Rattle.record_table.specs.Reading.{NeverFalls};
 ghost use Rattle.privilege_table.specs.Granted.{AreHeld, gives_bit};
 
 use eeprom::{Eeprom, EepromFault};
@@ -27,6 +28,7 @@ pub fn held<B: Eeprom>(
     ensures held { IfOk result (λ bits. IfSome (slots_of store.now side (B.chip bench.old)) (λ slots. AreHeld object grantee (listed grant_kind slots) bits)) }
     ensures octets_read { IfOk result (λ _. IfSome (slots_of store.now side (B.chip bench.old))
         (λ slots. Becomes (RisesAtMost (cell_size * cells_marked grant_kind slots)) (B.octets_read bench.old) (B.octets_read bench.new))) }
+    ensures rises { IfOk result (λ _. NeverFalls (slots_of store.now side (B.chip bench.old)) (B.octets_read bench.old) (B.octets_read bench.new)) }
     ensures frame { Reads each_error B.chip B.faults bench.old bench.new result }
 {
     let mut octets = RecordOctets::new();

@@ -8,7 +8,9 @@ use Rattle.cell_store.specs.Reading.{ReadsRecord}
 use Rattle.record_store.specs.Held.{Held, contents, record_at, StandsFor}
 use Rattle.record_store.specs.declared.side.Side.{Side}
 use Rattle.catalog_codec.specs.Kinds.{Kind, IsKind, read_as}
+use Rattle.scql_model.specs.ReadBound.{RisesAtLeast}
 use Rattle.record_table.specs.Listed.{at_slot, has_kind_mark, kind_cells}
+use Rattle.record_table.specs.Reading.{NeverFalls}
 
 -- what holds of the record of a slot, said of the slots
 at_record : (contents : List ℕ → Option Slots) (image : Option (List ℕ)) (slot : ℕ) (P : Option (List ℕ) → Type 0)
@@ -52,3 +54,16 @@ reads-marked kind store side slot None marked entry a b stands says own_mark is 
 reads-marked kind store side slot (Some image) marked entry a b stands says own_mark is reads =
     at_record (contents store side) (Some image) slot (λ entry. Becomes (RisesAtMost (cell_size * kind_cells kind entry)) a b)
     (own kind (record_at store side slot image) a b (sym (says image stands) ∙ own_mark) (rw is reads))
+
+rises-record : (entry : Option (List ℕ)) (a b : Option ℕ) → Becomes (ReadsRecord entry) a b → Becomes (RisesAtLeast 0) a b
+rises-record None a b reads = λ after told. let r = reads after told in (r.0, r.1, omega (arith, r.2))
+rises-record (Some octets) a b reads = λ after told. let r = reads after told in (r.0, r.1, omega (arith, r.2.0))
+
+-- whatever is read of a slot, the count doesn't fall
+pub reads-rise : (store : Held) (side : Side) (image : Option (List ℕ)) (entry : Option (List ℕ)) (a b : Option ℕ) → IfSome image (λ _. Becomes (ReadsRecord entry) a b) → NeverFalls (option_and_then (contents store side) image) a b
+reads-rise store side None entry a b reads = tt
+reads-rise store side (Some image) entry a b reads = told (contents store side image)
+  where
+    told : (o : Option Slots) → NeverFalls o a b
+    told None = tt
+    told (Some slots) = rises-record entry a b reads

@@ -4,4 +4,5 @@ pub mod Editable
 pub mod EditableLaws
 pub mod Listed
 pub mod Making
+pub mod Reading
 pub mod Swept

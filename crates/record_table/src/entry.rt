@@ -7,6 +7,7 @@ ghost use Rattle.eeprom.specs.StoreOf.{cell_size};
 ghost use Rattle.record_store.specs.Held.{IsOver, StandsFor, record_at};
 ghost use Rattle.record_table.specs.Listed.{at_slot, kind_cells, slots_of};
 ghost use Rattle.record_table.specs.Listed as listed;
+ghost use Rattle.record_table.specs.Reading.{NeverFalls};
 
 use catalog_codec::Record;
 use eeprom::{Eeprom, EepromFault};
@@ -25,6 +26,7 @@ pub fn read_entry<R: Record, B: Eeprom>(
     ensures value { IfOk result (λ value. IfSome (slots_of store.now side (B.chip bench.old)) (λ slots. value ≡ at_slot R.kind slot slots)) }
     ensures octets_read { IfOk result (λ _. IfSome (slots_of store.now side (B.chip bench.old))
         (λ slots. Becomes (RisesAtMost (cell_size * kind_cells R.kind (slice_index_or slots slot None))) (B.octets_read bench.old) (B.octets_read bench.new))) }
+    ensures rises { IfOk result (λ _. NeverFalls (slots_of store.now side (B.chip bench.old)) (B.octets_read bench.old) (B.octets_read bench.new)) }
     ensures frame { Reads each_error B.chip B.faults bench.old bench.new result }
 {
     if !is_marked::<R>(store, side, slot) {

@@ -8,6 +8,7 @@ ghost use Rattle.eeprom.specs.Slots.{Rises, has};
 ghost use Rattle.eeprom.specs.StoreOf.{cell_size};
 ghost use Rattle.record_store.specs.Held.{IsOver};
 ghost use Rattle.record_table.specs.Listed.{at_slot, in_slots, listed, cells_marked, slots_of};
+ghost use Rattle.record_table.specs.Reading.{NeverFalls};
 
 use crate::entry::read_entry;
 use crate::{Stamped, Wanted};
@@ -34,6 +35,7 @@ pub fn find_by<R: Record, W: Wanted<R>, B: Eeprom>(
         (λ slots. count_by (W.wants wanted.now) (listed R.kind slots) ≤ 1 → option_map (λ found. found.value) found ≡ find (W.wants wanted.now) (listed R.kind slots))) }
     ensures octets_read { IfOk result (λ _. IfSome (slots_of store.now side (B.chip bench.old))
         (λ slots. Becomes (RisesAtMost (cell_size * cells_marked R.kind slots)) (B.octets_read bench.old) (B.octets_read bench.new))) }
+    ensures rises { IfOk result (λ _. NeverFalls (slots_of store.now side (B.chip bench.old)) (B.octets_read bench.old) (B.octets_read bench.new)) }
     ensures frame { Reads each_error B.chip B.faults bench.old bench.new result }
 {
     let mut octets = RecordOctets::new();
@@ -62,6 +64,7 @@ pub fn find_stamp<R: Record, B: Eeprom>(
         (λ slots. Rises R.kind.key (listed R.kind slots) → option_map (λ found. found.value) found ≡ find (has R.kind.key stamp) (listed R.kind slots))) }
     ensures octets_read { IfOk result (λ _. IfSome (slots_of store.now side (B.chip bench.old))
         (λ slots. Becomes (RisesAtMost (cell_size * cells_marked R.kind slots)) (B.octets_read bench.old) (B.octets_read bench.new))) }
+    ensures rises { IfOk result (λ _. NeverFalls (slots_of store.now side (B.chip bench.old)) (B.octets_read bench.old) (B.octets_read bench.new)) }
     ensures frame { Reads each_error B.chip B.faults bench.old bench.new result }
 {
     find_by(store, bench, side, &Stamped(stamp))

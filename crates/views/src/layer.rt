@@ -12,6 +12,7 @@ ghost use Rattle.scql_model.specs.Objects.{columns_of, deepest};
 ghost use Rattle.scql_model.specs.Resolving.{resolved_below, resolved_of};
 ghost use Rattle.catalog_codec.specs.Catalog.{object_kind};
 ghost use Rattle.record_table.specs.Listed.{cells_marked, slots_of};
+ghost use Rattle.record_table.specs.Reading.{NeverFalls};
 ghost use Rattle.record_table.specs.Making.{IsHeld};
 ghost use Rattle.views.specs.Layers as specs;
 ghost use Rattle.views.specs.Layers.{layer_found, resolved_as, resolved_under};
@@ -80,6 +81,7 @@ pub(crate) fn descend<B: Eeprom>(
     ensures few { IfOk result (λ base. IfSome base (λ base. length base.passed.items ≤ DEEPEST)) }
     ensures octets_read { IfOk result (λ _. IfSome (slots_of store.now side (B.chip bench.old))
         (λ slots. Becomes (RisesAtMost (deepest * (cell_size * cells_marked object_kind slots))) (B.octets_read bench.old) (B.octets_read bench.new))) }
+    ensures rises { IfOk result (λ _. NeverFalls (slots_of store.now side (B.chip bench.old)) (B.octets_read bench.old) (B.octets_read bench.new)) }
     ensures frame { Reads each_error B.chip B.faults bench.old bench.new result }
 {
     let mut passed = ArrayVec::new();
@@ -105,6 +107,7 @@ fn pass<B: Eeprom>(
     ensures one { length passed.new.items ≤ length passed.old.items + 1 }
     ensures octets_read { IfOk result (λ _. IfSome (slots_of store.now side (B.chip bench.old))
         (λ slots. Becomes (RisesAtMost (cell_size * cells_marked object_kind slots)) (B.octets_read bench.old) (B.octets_read bench.new))) }
+    ensures rises { IfOk result (λ _. NeverFalls (slots_of store.now side (B.chip bench.old)) (B.octets_read bench.old) (B.octets_read bench.new)) }
     ensures frame { Reads each_error B.chip B.faults bench.old bench.new result }
 {
     match layer {
@@ -127,6 +130,7 @@ fn find_layer<B: Eeprom>(
     ensures found { (db : Database) → IsHeld store.now side (B.chip bench.old) db → IfOk result (λ layer. layer ≡ layer_found (object_stamped db.objects stamp)) }
     ensures octets_read { IfOk result (λ _. IfSome (slots_of store.now side (B.chip bench.old))
         (λ slots. Becomes (RisesAtMost (cell_size * cells_marked object_kind slots)) (B.octets_read bench.old) (B.octets_read bench.new))) }
+    ensures rises { IfOk result (λ _. NeverFalls (slots_of store.now side (B.chip bench.old)) (B.octets_read bench.old) (B.octets_read bench.new)) }
     ensures frame { Reads each_error B.chip B.faults bench.old bench.new result }
 {
     match find_stamp(store, bench, side, stamp)? {

@@ -13,6 +13,7 @@ ghost use Rattle.scql_model.specs.Defining.{is_table_or_view};
 ghost use Rattle.scql_model.specs.Objects.{columns_of, deepest};
 ghost use Rattle.catalog_codec.specs.Catalog.{object_kind};
 ghost use Rattle.record_table.specs.Listed.{cells_marked, slots_of};
+ghost use Rattle.record_table.specs.Reading.{NeverFalls};
 ghost use Rattle.record_table.specs.Making.{IsHeld};
 ghost use Rattle.views.specs.Layers.{resolved_as};
 ghost use Rattle.views.specs.Resolved.{AreBound, AreKnown, ArePlaces, Resolves, StandsFor};
@@ -57,6 +58,7 @@ pub fn resolve<B: Eeprom>(
         → object_stamped db.objects object.now.stamp ≡ Some object.now → is_table_or_view object.now.kind ≡ true → IfOk result (Resolves db.objects object.now.stamp) }
     ensures octets_read { IfOk result (λ _. IfSome (slots_of store.now side (B.chip bench.old))
         (λ slots. Becomes (RisesAtMost (deepest * (cell_size * cells_marked object_kind slots))) (B.octets_read bench.old) (B.octets_read bench.new))) }
+    ensures rises { IfOk result (λ _. NeverFalls (slots_of store.now side (B.chip bench.old)) (B.octets_read bench.old) (B.octets_read bench.new)) }
     ensures frame { Reads each_error B.chip B.faults bench.old bench.new result }
 {
     let Some(base) = descend(store, bench, side, object)? else {

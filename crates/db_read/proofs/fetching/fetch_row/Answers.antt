@@ -8,9 +8,10 @@ use Rattle.scql_model.specs.ReadBound.{is_at, octets_for_operation, octets_of_ro
 use Rattle.scql_model.specs.ReadingCommands.{fetch}
 use Rattle.record_table.specs.Listed.{slots_of}
 use Rattle.cursor.specs.Costs.{RisesBetween, cost_at, least_read}
+use Rattle.db_read.specs.Answered.{rows_under}
 use Rattle.db_read.specs.Costs.{catalogue_cost}
 use Rattle.db_read.specs.Told.{costs_of}
-use Rattle.db_read.proofs.Adding.{at-place, reads-move, reads-searches, where-read}
+use Rattle.db_read.proofs.Adding.{at-place, reads-move, reads-least, reads-searches, rises-stopped, where-least, where-read}
 use Rattle.db_read.proofs.fetching.fetch_row.Goals as goal
 
 pub returns-clause-octets_read : goal.returns-clause-octets_read
@@ -37,3 +38,25 @@ returns-in-Err-clause-octets_read g c = λ db held cursor kind.
     let b : Option ℕ = g.B.Eeprom.octets_read c.find_choice.new.bench in
     where-read (IfSome (slots_of c.args.store.now c.args.side chip) (λ slots. Becomes (RisesAtMost (catalogue_cost slots)) a b)) (Becomes (RisesAtMost (octets_for_operation db c.args.actor c.args.cursor.now (fetch c.args.le))) a b)
     c.in-Err.stop c.stopped.result c.stopped.ensures c.in-Err.ensures.octets_read (reads-searches c.args.store.now c.args.side chip db held (octets_of_rows db c.args.actor c.args.cursor.now (fetch c.args.le)) a b)
+
+pub returns-clause-least : goal.returns-clause-least
+returns-clause-least g c = λ db held cursor kind.
+    let chip = g.B.Eeprom.chip c.args.bench.now in
+    let on = c.in-Some.held in
+    let a : Option ℕ = g.B.Eeprom.octets_read c.args.bench.now in
+    let b : Option ℕ = g.B.Eeprom.octets_read c.find_choice.new.bench in
+    let after : Option ℕ = g.B.Eeprom.octets_read c.give.new.bench in
+    let chooses = c.in-Ok.ensures.chosen db held (rw c.in-Some.is at cursor) in
+    IfOk-weaker c.give.result
+    (λ word. IfSome (costs_of c.in-Ok.choice (slots_of c.args.store.now c.args.side chip)) (λ costs. Becomes (RisesBetween (least_read word c.give.new.out) (cost_at on.place costs)) b after)) _
+    (λ word reads. reads-least c.args.store.now c.args.side chip db held on.object (costs_of c.in-Ok.choice (slots_of c.args.store.now c.args.side chip)) (least_read word c.give.new.out) (λ list. cost_at on.place list) a b after
+    (chooses.costs_are (rw c.in-Some.is at kind)) c.in-Ok.ensures.rises reads)
+    (rw c.in-Ok.ensures.frame.same at c.give.ensures.read)
+
+pub returns-in-Err-clause-least : goal.returns-in-Err-clause-least
+returns-in-Err-clause-least g c = λ db held cursor kind.
+    let chip = g.B.Eeprom.chip c.args.bench.now in
+    let a : Option ℕ = g.B.Eeprom.octets_read c.args.bench.now in
+    let b : Option ℕ = g.B.Eeprom.octets_read c.find_choice.new.bench in
+    where-least c.args.out.now (rows_under db c.args.actor c.in-Some.held) c.in-Err.stop c.stopped.result a b c.stopped.ensures (c.in-Err.ensures.refused db held (rw c.in-Some.is at cursor))
+    (rises-stopped c.args.store.now c.args.side chip db held c.in-Err.stop a b c.in-Err.ensures.rises)

@@ -5,6 +5,8 @@ use Rattle.eeprom.specs.Chip.{Becomes, RisesAtMost}
 use Rattle.eeprom.specs.StoreOf.{Slots, cell_size}
 use Rattle.catalog_codec.specs.Catalog.{grant_kind, object_kind}
 use Rattle.record_table.specs.Listed.{cells_marked, slots_of}
+use Rattle.record_table.specs.Reading.{NeverFalls}
+use Rattle.record_table.proofs.ReadingCosts.{falls-both}
 use Rattle.db_read.specs.Costs.{catalogue_cost}
 use Rattle.std.proofs.lemmas.Bool.{false≢true}
 use Rattle.scql_base.specs.Words.{not_found}
@@ -86,3 +88,23 @@ returns-in-None-choose-clause-octets_read g c =
     let slots : Option Slots = slots_of c.args.store.now c.args.side (g.B.Eeprom.chip c.args.bench.now) in
     where-refused _ c.refused-in-None-choose.result not_found c.refused-in-None-choose.ensures
     (reads-two found_cost way_cost catalogue_cost slots _ _ _ (λ slots. omega arith) c.in_ok-object.ensures.octets_read (rw c.in_ok-object.ensures.frame.same at c.in_ok-resolved.ensures.octets_read))
+
+pub returns-in_err-object-clause-rises : goal.returns-in_err-object-clause-rises
+returns-in_err-object-clause-rises g c =
+    where-on (NeverFalls (slots_of c.args.store.now c.args.side (g.B.Eeprom.chip c.args.bench.now)) (g.B.Eeprom.octets_read c.args.bench.now) (g.B.Eeprom.octets_read c.find_selected.new.bench)) _ c.find_selected.result c.from_residual.result c.in_err-object.field-0.0
+    c.in_err-object.was c.from_residual.ensures.1 (λ h. h) c.find_selected.ensures.rises
+
+pub returns-in-Some-clause-rises : goal.returns-in-Some-clause-rises
+returns-in-Some-clause-rises g c = c.in_ok-object.ensures.rises
+
+pub returns-in-None-clause-rises : goal.returns-in-None-clause-rises
+returns-in-None-clause-rises g c = where-refused _ c.refused.result not_found c.refused.ensures c.in_ok-object.ensures.rises
+
+pub returns-in-Some-choose-clause-rises : goal.returns-in-Some-choose-clause-rises
+returns-in-Some-choose-clause-rises g c =
+    falls-both (slots_of c.args.store.now c.args.side (g.B.Eeprom.chip c.args.bench.now)) _ _ _ c.in_ok-object.ensures.rises (rw c.in_ok-object.ensures.frame.same at c.in_ok-resolved.ensures.rises)
+
+pub returns-in-None-choose-clause-rises : goal.returns-in-None-choose-clause-rises
+returns-in-None-choose-clause-rises g c =
+    where-refused _ c.refused-in-None-choose.result not_found c.refused-in-None-choose.ensures
+    (falls-both (slots_of c.args.store.now c.args.side (g.B.Eeprom.chip c.args.bench.now)) _ _ _ c.in_ok-object.ensures.rises (rw c.in_ok-object.ensures.frame.same at c.in_ok-resolved.ensures.rises))

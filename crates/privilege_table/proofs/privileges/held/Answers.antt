@@ -5,6 +5,7 @@ use Rattle.eeprom.specs.StoreOf.{Slots}
 use Rattle.scql_base.specs.declared.records.Grant.{Grant}
 use Rattle.catalog_codec.specs.Catalog.{grant_kind}
 use Rattle.record_table.specs.Listed.{in_slots, slots_of}
+use Rattle.record_table.proofs.ReadingCosts.{falls-both, falls-none}
 use Rattle.record_table.proofs.Scan.{empty-told, left-behind, left-empty, reads-none, reads-behind}
 use Rattle.privilege_table.specs.Granted.{gives_bit}
 use Rattle.privilege_table.proofs.Bits.{any_left, any_left-given, any_left-none, held-listed}
@@ -21,6 +22,7 @@ loop-slot-init g c =
       empty = empty-told c.args.store.now c.args.side c.slots_in_use-slot-end.result (g.B.Eeprom.chip c.args.bench.now).image c.requires.over.stands c.slots_in_use-slot-end.ensures.empty;
       left = λ i. any_left-none (gives_bit c.args.object c.args.grantee (2 ^ i)) i slots;
       read = reads-none grant_kind slots (g.B.Eeprom.octets_read c.args.bench.now);
+      rises = falls-none slots (g.B.Eeprom.octets_read c.args.bench.now);
     }
 
 pub loop-slot-preserved : goal.loop-slot-preserved
@@ -41,6 +43,7 @@ loop-slot-preserved g c =
       left = λ i. left-behind grant_kind (λ slots. list_any (gives i) (in_slots grant_kind slots)) (any_left c.loop-slot.bits (gives i) i) (any_left c.match-branch-2.bits (gives i) i) slots
           c.loop-slot.slot c.in_ok-grant.field-0 here (step i) (c.loop-slot.invariant.left i);
       read = reads-behind grant_kind slots c.loop-slot.slot _ _ _ c.loop-slot.invariant.read (rw c.loop-slot.invariant.same at c.in_ok-grant.ensures.octets_read);
+      rises = falls-both slots _ _ _ c.loop-slot.invariant.rises (rw c.loop-slot.invariant.same at c.in_ok-grant.ensures.rises);
     }
 
 pub returns-clause-held : goal.returns-clause-held

@@ -4,6 +4,7 @@ use Rattle.std.specs.List.{list_any}
 use Rattle.eeprom.specs.Chip.{Becomes}
 use Rattle.catalog_codec.specs.Catalog.{grant_kind}
 use Rattle.record_table.specs.Listed.{in_slots, slots_of}
+use Rattle.record_table.specs.Reading.{NeverFalls}
 use Rattle.record_table.proofs.Scan.{AreEmptyFrom, IsOfLeft, ReadsUpTo}
 use Rattle.privilege_table.specs.Granted.{gives_bit}
 use Rattle.privilege_table.proofs.Bits.{any_left}
@@ -19,4 +20,5 @@ invariant-loop-slot g l = record {
       (IsOfLeft grant_kind (λ slots. list_any (gives_bit l.object l.grantee (2 ^ i)) (in_slots grant_kind slots)) (any_left l.bits (gives_bit l.object l.grantee (2 ^ i)) i) l.slot);
   read : IfSome (slots_of l.store l.side (g.B.Eeprom.chip l.fn.bench))
       (λ slots. Becomes (ReadsUpTo grant_kind l.slot slots) (g.B.Eeprom.octets_read l.fn.bench) (g.B.Eeprom.octets_read l.bench));
+  rises : NeverFalls (slots_of l.store l.side (g.B.Eeprom.chip l.fn.bench)) (g.B.Eeprom.octets_read l.fn.bench) (g.B.Eeprom.octets_read l.bench);
 }

@@ -5,6 +5,7 @@ use Rattle.std.specs.List.{find}
 use Rattle.eeprom.specs.StoreOf.{Slots}
 use Rattle.record_table.specs.Listed.{in_slots, slots_of}
 use Rattle.record_table.proofs.ListedSearches.{found-listed, some-listed}
+use Rattle.record_table.proofs.ReadingCosts.{falls-both, falls-none}
 use Rattle.record_table.proofs.Scan.{empty-told, left-all, left-behind, left-known, left-empty, passed_over, reads-none, reads-behind, reads-all}
 use Rattle.record_table.proofs.finding.find_by.Goals as goal
 use Rattle.record_table.proofs.finding.find_by.Goals.{in-Some+else-is, in_default}
@@ -19,6 +20,7 @@ loop-slot-init g c =
       empty = empty-told c.args.store.now c.args.side c.slots_in_use-slot-end.result (g.B.Eeprom.chip c.args.bench.now).image c.requires.over.stands c.slots_in_use-slot-end.ensures.empty;
       left = left-all g.R.Record.kind (find (g.W.Wanted.wants c.args.wanted.now)) slots;
       read = reads-none g.R.Record.kind slots (g.B.Eeprom.octets_read c.args.bench.now);
+      rises = falls-none slots (g.B.Eeprom.octets_read c.args.bench.now);
     }
 
 pub returns-then-is-clause-first : goal.returns-then-is-clause-first
@@ -42,6 +44,10 @@ returns-then-is-clause-octets_read g c =
     let here = rw c.loop-slot.invariant.same at c.in_ok-value.ensures.octets_read in
     reads-all g.R.Record.kind slots (c.loop-slot.slot + 1) _ _ (reads-behind g.R.Record.kind slots c.loop-slot.slot _ _ _ c.loop-slot.invariant.read here)
 
+pub returns-then-is-clause-rises : goal.returns-then-is-clause-rises
+returns-then-is-clause-rises g c =
+    falls-both (slots_of c.args.store.now c.args.side (g.B.Eeprom.chip c.args.bench.now)) _ _ _ c.loop-slot.invariant.rises (rw c.loop-slot.invariant.same at c.in_ok-value.ensures.rises)
+
 pub loop-slot-preserved : goal.loop-slot-preserved
 loop-slot-preserved g c =
     let slots : Option Slots = slots_of c.args.store.now c.args.side (g.B.Eeprom.chip c.args.bench.now) in
@@ -59,6 +65,7 @@ loop-slot-preserved g c =
       left = left-behind g.R.Record.kind (λ slots. find (g.W.Wanted.wants c.args.wanted.now) (in_slots g.R.Record.kind slots)) (find (g.W.Wanted.wants c.args.wanted.now)) (find (g.W.Wanted.wants c.args.wanted.now)) slots
           c.loop-slot.slot c.in_ok-value.field-0 here (passed_over (g.W.Wanted.wants c.args.wanted.now) c.in_ok-value.field-0 fails) c.loop-slot.invariant.left;
       read = reads-behind g.R.Record.kind slots c.loop-slot.slot _ _ _ c.loop-slot.invariant.read (rw c.loop-slot.invariant.same at c.in_ok-value.ensures.octets_read);
+      rises = falls-both slots _ _ _ c.loop-slot.invariant.rises (rw c.loop-slot.invariant.same at c.in_ok-value.ensures.rises);
     }
 
 pub returns-clause-first : goal.returns-clause-first

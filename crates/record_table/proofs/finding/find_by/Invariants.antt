@@ -3,6 +3,7 @@ use Rattle.std.specs.Prelude.{IfSome}
 use Rattle.std.specs.List.{find}
 use Rattle.eeprom.specs.Chip.{Becomes}
 use Rattle.record_table.specs.Listed.{in_slots, slots_of}
+use Rattle.record_table.specs.Reading.{NeverFalls}
 use Rattle.record_table.proofs.Scan.{AreEmptyFrom, IsOfLeft, ReadsUpTo}
 use Rattle.record_table.proofs.finding.find_by.Given as goal
 
@@ -16,4 +17,5 @@ invariant-loop-slot g l = record {
       (IsOfLeft g.R.Record.kind (λ slots. find (g.W.Wanted.wants l.wanted) (in_slots g.R.Record.kind slots)) (find (g.W.Wanted.wants l.wanted)) l.slot);
   read : IfSome (slots_of l.store l.side (g.B.Eeprom.chip l.fn.bench))
       (λ slots. Becomes (ReadsUpTo g.R.Record.kind l.slot slots) (g.B.Eeprom.octets_read l.fn.bench) (g.B.Eeprom.octets_read l.bench));
+  rises : NeverFalls (slots_of l.store l.side (g.B.Eeprom.chip l.fn.bench)) (g.B.Eeprom.octets_read l.fn.bench) (g.B.Eeprom.octets_read l.bench);
 }

@@ -8,6 +8,7 @@ use Rattle.scql_model.specs.Resolving.{resolved_below, resolved_of}
 use Rattle.catalog_codec.specs.Catalog.{object_kind}
 use Rattle.record_table.specs.Listed.{cells_marked, slots_of}
 use Rattle.record_table.specs.Making.{IsHeld}
+use Rattle.record_table.specs.Reading.{NeverFalls}
 use Rattle.views.specs.Layers.{resolved_under}
 use Rattle.views.proofs.layer.descend.Given as goal
 
@@ -20,4 +21,5 @@ invariant-loop-depth g l = record {
       → (n : ℕ) → n + l._depth ≡ 4 → resolved_of db.objects l.object.stamp ≡ resolved_under (columns_of l.object.kind) l.passed.items (resolved_below n db.objects) l.layer;
   read : IfSome (slots_of l.store l.side (g.B.Eeprom.chip l.fn.bench))
       (λ slots. Becomes (RisesAtMost (l._depth * (cell_size * cells_marked object_kind slots))) (g.B.Eeprom.octets_read l.fn.bench) (g.B.Eeprom.octets_read l.bench));
+  rises : NeverFalls (slots_of l.store l.side (g.B.Eeprom.chip l.fn.bench)) (g.B.Eeprom.octets_read l.fn.bench) (g.B.Eeprom.octets_read l.bench);
 }
