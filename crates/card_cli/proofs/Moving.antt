@@ -56,9 +56,9 @@ gives-stays old new clocked gives t g left since there = may-be-left new t g lef
           ]) in
           inr (subst (λ (past : List Stretch). LeftIn (drop t past) g left) (sym more.2) (subst (λ (past : List Stretch). LeftIn past g left) (sym (drop-more t from.0 stretch within)) longer))
       | inr none ↦ elim was [
-          | inl now ↦ inl (none.1 ∙ now.0, now.1 ∙ sym none.2)
-          | inr before ↦ inr (subst (λ (past : List Stretch). LeftIn (drop t past) g left) (sym none.0) before)
-        ]
+        | inl now ↦ inl (none.1 ∙ now.0, now.1 ∙ sym none.2)
+        | inr before ↦ inr (subst (λ (past : List Stretch). LeftIn (drop t past) g left) (sym none.0) before)
+      ]
     ])
 
 pub gives-throughout : (old new : Chip) → IfSome old.past (λ past. length past ≡ old.clock) → Gives old new → Throughout old new (IsInPiece old new.still.mark)
