@@ -337,6 +337,7 @@ impl Card {
     ) -> Result<StatusWord, EepromFault>
         requires ready { IsReady self.old (B.chip bench.old) }
         requires channel { channel < 4 }
+        requires open { is_open self.old.sessions channel ≡ true }
         requires changes { IsChange operation.now }
         requires formed { HasForm operation.now }
         requires fits { FitsCard self.old.store.row_limit operation.now }
@@ -348,16 +349,15 @@ impl Card {
         ensures behind { Keeps (drop (image_size self.old.store.chains.cells)) (B.chip bench.old) (B.chip bench.new) }
     {
         let user = self.proved_user(channel);
-        let cursor = match &self.sessions[usize::from(channel)] {
-            Some(session) => &session.cursor,
-            None => &None,
+        let Some(session) = &self.sessions[usize::from(channel)] else {
+            unreachable!();
         };
         let word = change(
             &mut self.store,
             bench,
             &mut self.index,
             user,
-            cursor,
+            &session.cursor,
             operation,
         )?;
         self.settle(channel, word);

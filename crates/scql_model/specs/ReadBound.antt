@@ -15,7 +15,7 @@ use Rattle.scql_base.specs.declared.words.StatusWord.{StatusWord}
 use Rattle.scql_model.specs.Database.{Database, counter_cells, object_stamped, rows_of}
 use Rattle.scql_model.specs.Defining.{is_table_or_view}
 use Rattle.scql_model.specs.Edits.{cells_of_record, of_user, of_object, of_grant, of_row}
-use Rattle.scql_model.specs.Moves.{first_row, row_behind, rows_under}
+use Rattle.scql_model.specs.Moves.{row_behind, rows_under}
 use Rattle.scql_model.specs.Objects.{StampedRow}
 use Rattle.scql_model.specs.ReadingCommands.{ReadingCommand, declare, open_cursor, next, fetch, fetch_next, get_response}
 use Rattle.scql_model.specs.Resolving.{Resolved, resolved_of}

@@ -10,17 +10,6 @@ use Rattle.card.specs.Card.{Kept, StepsFrom, IsAtRest}
 use Rattle.card.proofs.Performing.{IsAtRest-at, Performs-changed}
 use Rattle.card.proofs.card.Card.change.Goals as goal
 
-rests : (g : _) (c : goal.After-change g) (m : Machine) → StepsFrom c.args.self.now (g.B.Eeprom.chip c.args.bench.now) m → IsAtRest c.self.inside.store (g.B.Eeprom.chip c.args.bench.now) m.committed
-rests g c m from = let old = g.B.Eeprom.chip c.args.bench.now in
-    subst (λ (kept : Kept). IsAtRest kept.store old m.committed) (sym c.self.view_is) (IsAtRest-at c.args.self.now old m c.requires.ready from)
-
-performs : (g : _) (c : goal.After-change g) (m : Machine) (after : Kept) → StepsFrom c.args.self.now (g.B.Eeprom.chip c.args.bench.now) m
-    → IfOk c.change.result (λ word. after ≡ settled word (record c.args.self.now { store = c.change.new.store; index = c.change.new.index }) c.args.channel)
-    → Performs m (answered m (changed m c.args.channel c.args.operation.now)) (or_nothing (octets_changed m c.args.channel c.args.operation.now)) [] c.change.result after (g.B.Eeprom.chip c.args.bench.now) (g.B.Eeprom.chip c.change.new.bench)
-performs g c m after from ended =
-    Performs-changed c.args.self.now after c.change.new.store c.change.new.index (g.B.Eeprom.chip c.args.bench.now) (g.B.Eeprom.chip c.change.new.bench) m c.args.channel c.args.operation.now c.proved_user-user.result c.change.result from.held
-    c.proved_user-user.ensures ended (c.change.ensures.changes m.committed (cursor_of m c.args.channel) (rests g c m from))
-
 pub returns-in_err-word-clause-performs : goal.returns-in_err-word-clause-performs
 returns-in_err-word-clause-performs g c = λ m from. ?
 
