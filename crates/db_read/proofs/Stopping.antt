@@ -52,6 +52,10 @@ where-on said more from (Err given) stop is gives weaker read =
 pub where-refused : {T : Type 0} (said : Type 0) (result : Result T Stop) (word : StatusWord) → result ≡ Err (Refused word) → said → WhereRead result said
 where-refused said result word is read = subst (λ r. WhereRead r said) (sym is) read
 
+pub where-more : {T : Type 0} (said more : Type 0) (result : Result T Stop) → (said → more) → WhereRead result said → WhereRead result more
+where-more said more (Ok x) weaker read = weaker read
+where-more said more (Err stop) weaker read = where-stopped said more stop weaker read
+
 -- more may be read
 pub reads-less : (most more : Slots → ℕ) (slots : Option Slots) (a b : Option ℕ) → ((slots : Slots) → most slots ≤ more slots) → IfSome slots (λ slots. Becomes (RisesAtMost (most slots)) a b)
     → IfSome slots (λ slots. Becomes (RisesAtMost (more slots)) a b)

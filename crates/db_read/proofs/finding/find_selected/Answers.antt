@@ -1,5 +1,10 @@
 -- The one object of the stamp is seen if it appears.
-use Rattle.std.proofs.Common.{◌≡◌, sym, subst, Ok, option_map}
+use Rattle.std.proofs.Common.{◌≡◌, ℕ, Option, sym, subst, Ok, option_map}
+use Rattle.eeprom.specs.StoreOf.{Slots}
+use Rattle.record_table.specs.Listed.{slots_of}
+use Rattle.record_table.specs.Reading.{NeverFalls}
+use Rattle.record_table.proofs.ReadingCosts.{falls-both}
+use Rattle.db_read.proofs.Stopping.{where-more}
 use Rattle.std.specs.Prelude.{IfOk, IfErr}
 use Rattle.db_read.specs.Answered.{Stops, selectable}
 use Rattle.db_read.proofs.Sighted.{seen-stamped-held}
@@ -16,3 +21,11 @@ returns-clause-refused g c = λ db held.
     subst (λ seen. IfErr c.select.result (Stops (selectable db c.args.actor seen)))
     (seen-stamped-held c.args.store.now c.args.side (g.B.Eeprom.chip c.args.bench.now) db c.args.actor c.args.stamp (option_map (λ found. found.value) c.in_ok-found.found) held c.in_ok-found.ensures.found)
     (c.select.ensures.refused db (rw (sym c.in_ok-found.ensures.frame.same) at held))
+
+pub returns-clause-rises : goal.returns-clause-rises
+returns-clause-rises g c =
+    let slots : Option Slots = slots_of c.args.store.now c.args.side (g.B.Eeprom.chip c.args.bench.now) in
+    let a : Option ℕ = g.B.Eeprom.octets_read c.args.bench.now in
+    let b : Option ℕ = g.B.Eeprom.octets_read c.find_stamp.new.bench in
+    let after : Option ℕ = g.B.Eeprom.octets_read c.select.new.bench in
+    where-more (NeverFalls slots b after) (NeverFalls slots a after) c.select.result (falls-both slots a b after c.in_ok-found.ensures.rises) (rw c.in_ok-found.ensures.frame.same at c.select.ensures.rises)
