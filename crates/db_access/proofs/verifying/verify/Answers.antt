@@ -48,3 +48,9 @@ pub returns-in-Err-Refused-clause-rows : goal.returns-in-Err-Refused-clause-rows
 returns-in-Err-Refused-clause-rows g c = λ side.
     let goes_on = c.in-Err-Refused.ensures.goes_on (λ wrong. cc) in
     KeepsRows-idle c.args.store.now c.try_secret.new.store (g.B.Eeprom.chip c.args.bench.now) (g.B.Eeprom.chip c.try_secret.new.bench) side c.requires.idle (goes_on.begun ∙ c.requires.idle) (c.in-Err-Refused.ensures.rows (λ wrong. cc))
+
+pub returns-in-Ok-clause-holds : goal.returns-in-Ok-clause-holds
+returns-in-Ok-clause-holds g c = λ db rest. c.in-Ok.ensures.holds db rest (λ wrong. cc)
+
+pub returns-in-Err-Refused-clause-holds : goal.returns-in-Err-Refused-clause-holds
+returns-in-Err-Refused-clause-holds g c = λ db rest. c.in-Err-Refused.ensures.holds db rest (λ wrong. cc)
