@@ -5,6 +5,7 @@ pub mod Card
 pub mod Changing
 pub mod Making
 pub mod Opening
+pub mod Proved
 pub mod Reading
 pub mod Sessions
 pub mod Summary

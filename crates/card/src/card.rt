@@ -358,9 +358,10 @@ impl Card {
         requires channel { channel < 4 }
         ensures { result ≡ proved_user (option_flatten (slice_get self.now.sessions channel)) }
     {
-        let session = self.sessions[channel as usize].as_ref()?;
-        let user = session.user?;
-        if user.proved { Some(user.stamp) } else { None }
+        match &self.sessions[channel as usize] {
+            Some(session) => session.proved_user(),
+            None => None,
+        }
     }
 
     // A new session of a channel, for this user.
