@@ -101,7 +101,14 @@ open-parts (session ∷ sessions) [] after channel same is = absurd (none-some t
 open-parts (session ∷ sessions) (chain ∷ chains) [] channel same is = absurd cc
 open-parts (None ∷ sessions) (chain ∷ chains) (next ∷ after) zero same is = absurd (false≢true (same_Some _ true is))
 open-parts (Some session ∷ sessions) (chain ∷ chains) (next ∷ after) zero same is = refl
-open-parts (session ∷ sessions) (chain ∷ chains) (next ∷ after) (suc channel) same is = open-parts sessions chains after channel cc is
+open-parts (session ∷ sessions) (chain ∷ chains) (next ∷ after) (suc channel) same is = open-parts sessions chains after channel (cc) is
+
+-- a channel without a session isn't open
+pub closed-none : (sessions : List (Option Session)) (chains : List (Option Chain)) (channel : ℕ) → slice_index_or sessions channel None ≡ None → is_open (sessions_of sessions chains) channel ≡ false
+closed-none [] chains channel there = refl
+closed-none (session ∷ sessions) [] channel there = refl
+closed-none (session ∷ sessions) (chain ∷ chains) zero there = ap (λ (s : Option Session). is_some (option_map (session_seen chain) s)) there
+closed-none (session ∷ sessions) (chain ∷ chains) (suc channel) there = closed-none sessions chains channel there
 
 -- What changes a session of the program, and not its parts, changes the session that is seen.
 sessions_of-changed : (change : machine.Session → machine.Session) (new : Session) (sessions : List (Option Session)) (chains : List (Option Chain)) (channel : ℕ) (old : Session)

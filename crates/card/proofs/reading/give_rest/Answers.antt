@@ -5,6 +5,8 @@ use Rattle.scql_model.specs.Contents.{Contents}
 use Rattle.scql_model.specs.Rights.{seen_stamped}
 use Rattle.scql_base.specs.declared.records.Object.{Object}
 use Rattle.db_read.proofs.Sighted.{asked-Err}
+use Rattle.scql_base.specs.declared.cursor.Cursor.{Cursor}
+use Rattle.card.specs.Reading.{move_to}
 use Rattle.card.specs.Sessions.{reading_in}
 use Rattle.card.proofs.ReadingMoves.{more-may, more-refused, more-without_cursor, rows_under-may}
 use Rattle.card.proofs.reading.give_rest.Goals as goal
@@ -24,4 +26,5 @@ pub returns-in-Ok-clause-moves : goal.returns-in-Ok-clause-moves
 returns-in-Ok-clause-moves g c = λ db held.
     let cursor = c.in-Some.cursor in
     let may = c.in-Ok.ensures.may db held in
-    rw c.in-Some.is (more-may db c.args.actor (reading_in c.args.session.now) c.args.le cursor c.in-Some.is _ _ (rows_under-may db c.args.actor cursor may.0 may.1) (c.give_more.ensures cursor))
+    more-may db c.args.actor (reading_in c.args.session.now) c.args.le cursor c.in-Some.is _ _ (rows_under-may db c.args.actor cursor may.0 may.1) (c.give_more.ensures cursor)
+    ∙ ap (λ (o : Option Cursor). move_to c.give_more.new.reply.body c.give_more.result o c.give_more.new.pending) (sym c.in-Some.is)
