@@ -67,9 +67,14 @@ pub of_database : (db : Database) (o : Option Cursor) → IfSome o (StandsOn db)
 of_database db None is = tt
 of_database db (Some c) is = is.columns
 
-pub err-ok : {P : EepromFault → Type 0} {Q : StatusWord → Type 0} (r : Result StatusWord EepromFault) → IsErrAnd r P → IfOk r Q
-err-ok (Ok word) is = absurd is
-err-ok (Err fault) is = tt
+pub err-ok : (P : EepromFault → Type 0) (Q : StatusWord → Type 0) (r : Result StatusWord EepromFault) → IsErrAnd r P → IfOk r Q
+err-ok P Q (Ok word) is = absurd is
+err-ok P Q (Err fault) is = tt
+
+-- a move over the same database, for the same actor, from the same reading
+pub move-there : (db base : Database) (who actor : Actor) (reading before : Reading) (command : ReadingCommand) (move : Move Reading) → base ≡ db → actor ≡ who → before ≡ reading
+    → move_of db who reading command ≡ move → move_of base actor before command ≡ move
+move-there db base who actor reading before command move same acts reads moves = rw (same, acts, reads) moves
 
 -- the answer of a move
 abbrev answer_of : Machine → ℕ → Move Reading → Answer

@@ -3,8 +3,8 @@ use Rattle.std.proofs.Common.{◌≡◌, ◌∙◌, refl, sym, ap, subst, arith}
 use Rattle.std.proofs.lemmas.Bool.{false≢true}
 use Rattle.eeprom.specs.Chip.{Chip}
 use Rattle.scql_model.specs.Bound.{octets_carried_out, or_nothing}
-use Rattle.scql_model.specs.Machine.{Reading}
-use Rattle.scql_model.specs.Sessions.{reading_so}
+use Rattle.scql_model.specs.Machine.{Reading, actor, base}
+use Rattle.scql_model.specs.Sessions.{reading_of, reading_so}
 use Rattle.scql_model.specs.Step.{answered, carried_out}
 use Rattle.card.specs.Answering.{HoldsAnswer, replied}
 use Rattle.card.specs.Card.{Kept, IsAtRest}
@@ -14,7 +14,7 @@ use Rattle.scql_model.specs.Database.{Database}
 use Rattle.scql_model.specs.Cursors.{StandsOn}
 use Rattle.std.specs.Prelude.{IfSome}
 use Rattle.card.proofs.Performing.{IsAtRest-at, Performs-unwritten, actor-at}
-use Rattle.card.proofs.ReadingCard.{HoldsAnswer-read, err-ok, of_database, reading-card, reads-command, reads-so}
+use Rattle.card.proofs.ReadingCard.{HoldsAnswer-read, err-ok, move-there, of_database, reading-card, reads-command, reads-so}
 use Rattle.card.proofs.ReadingMoves.{if_ok-then}
 use Rattle.card.proofs.SeenSessions.{card-changed, closed-none, index-there}
 use Rattle.card.proofs.UnreadSteps.{committed-base}
@@ -23,7 +23,7 @@ use Rattle.card.proofs.card.Card.read.Goals as goal
 pub returns-in_err-actor-clause-performs : goal.returns-in_err-actor-clause-performs
 returns-in_err-actor-clause-performs g c = λ m from.
     Performs-unwritten c.args.self.now c.args.self.now (g.B.Eeprom.chip c.args.bench.now) (g.B.Eeprom.chip c.actor_of.new.bench) m _ _ c.args.reply.now.body c.from_residual.result c.requires.ready from
-    c.in_err-actor.ensures.frame.same (err-ok c.from_residual.result c.from_residual.ensures.1)
+    c.in_err-actor.ensures.frame.same (err-ok _ _ c.from_residual.result c.from_residual.ensures.1)
 
 pub unreachable-requires : goal.unreachable-requires
 unreachable-requires g c =
@@ -53,5 +53,5 @@ returns-clause-performs g c = λ m from.
     (if_ok-then c.read.result (λ word moves.
     subst (λ (chip : Chip). HoldsAnswer (answered m (carried_out m command)) (replied c.read.new.reply.body word) _ chip) (sym same)
     (HoldsAnswer-read c.args.self.now _ old m command reads.0 c.read.new.reply.body word (reading_in after) from.held reads.1
-    (rw (committed-base m command.channel from.held.transaction, who, seen) (moves reads.0 reads.1)) (rw c.from.ensures set)))
+    (move-there m.committed (base m command.channel) c.in_ok-actor.actor (actor m command.channel) (reading_in session) (reading_of m command.channel) reads.0 _ (committed-base m command.channel from.held.transaction) who seen (moves reads.0 reads.1)) (rw c.from.ensures set)))
     (c.read.ensures.moves m.committed there_still cursors))
