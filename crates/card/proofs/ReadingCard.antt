@@ -1,6 +1,6 @@
 -- What a reading command does to a card that holds a machine.
 use Rattle.std.proofs.Common.{◌≡◌, ℕ, zero, suc, Bool, true, List, [], ◌∷◌, length, Option, Some, None, is_some, option_map, Result, Ok, Err, refl, lit≤, sym, ap, subst, ◌∙◌}
-use Rattle.std.specs.Prelude.{IfOk, IfSome, IsErrAnd, slice_get, slice_index_or}
+use Rattle.std.specs.Prelude.{IfOk, IfSome, IsErrAnd, OnOk, slice_get, slice_index_or}
 use Rattle.eeprom.specs.declared.fault.EepromFault.{EepromFault}
 use Rattle.scql_base.specs.declared.cursor.Cursor.{Cursor}
 use Rattle.scql_model.specs.Cursors.{IsCursorOf, StandsOn}
@@ -70,6 +70,10 @@ of_database db (Some c) is = is.columns
 pub err-ok : (P : EepromFault → Type 0) (Q : StatusWord → Type 0) (r : Result StatusWord EepromFault) → IsErrAnd r P → IfOk r Q
 err-ok P Q (Ok word) is = absurd is
 err-ok P Q (Err fault) is = tt
+
+pub err-on : (P : EepromFault → Type 0) (X : Type 0) (r : Result StatusWord EepromFault) → IsErrAnd r P → OnOk r X
+err-on P X (Ok word) is = absurd is
+err-on P X (Err fault) is = tt
 
 -- a move over the same database, for the same actor, from the same reading
 pub move-there : (db base : Database) (who actor : Actor) (reading before : Reading) (command : ReadingCommand) (move : Move Reading) → base ≡ db → actor ≡ who → before ≡ reading

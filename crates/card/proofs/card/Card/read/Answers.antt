@@ -8,6 +8,7 @@ use Rattle.scql_model.specs.Sessions.{reading_of, reading_so}
 use Rattle.scql_model.specs.Step.{answered, carried_out}
 use Rattle.card.specs.Answering.{HoldsAnswer, replied}
 use Rattle.card.specs.Card.{Kept, IsAtRest}
+use Rattle.card.specs.Reading.{move_to}
 use Rattle.card.specs.Sessions as opened
 use Rattle.card.specs.Sessions.{reading_in}
 use Rattle.scql_model.specs.Database.{Database}
@@ -53,5 +54,5 @@ returns-clause-performs g c = λ m from.
     (if_ok-then c.read.result (λ word moves.
     subst (λ (chip : Chip). HoldsAnswer (answered m (carried_out m command)) (replied c.read.new.reply.body word) _ chip) (sym same)
     (HoldsAnswer-read c.args.self.now _ old m command reads.0 c.read.new.reply.body word (reading_in after) from.held reads.1
-    (move-there m.committed (base m command.channel) c.in_ok-actor.actor (actor m command.channel) (reading_in session) (reading_of m command.channel) reads.0 _ (committed-base m command.channel from.held.transaction) who seen (moves reads.0 reads.1)) (rw c.from.ensures set)))
+    (move-there m.committed (base m command.channel) c.in_ok-actor.actor (actor m command.channel) (reading_in session) (reading_of m command.channel) reads.0 (move_to c.read.new.reply.body word after.cursor after.pending) (committed-base m command.channel from.held.transaction) who seen (moves reads.0 reads.1)) (rw c.from.ensures set)))
     (c.read.ensures.moves m.committed there_still cursors))

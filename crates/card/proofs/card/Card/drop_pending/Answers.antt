@@ -1,0 +1,17 @@
+-- Nothing is pending in the session of the channel, if it has one.
+use Rattle.std.proofs.Common.{◌∙◌, refl, arith}
+use Rattle.scql_model.specs.Sessions.{without_pending}
+use Rattle.card.specs.declared.session.Session.{Session}
+use Rattle.card.proofs.SeenSessions.{card-changed, card-none, index-there}
+use Rattle.card.proofs.card.Card.drop_pending.Goals.{in-Some, in_default}
+use Rattle.card.proofs.card.Card.drop_pending.Goals as goal
+
+pub returns : goal.returns
+returns c =
+    let at = index-there c.self.inside.sessions c.args.channel c.index-self-channel.result (omega (arith, c.requires.channel, c.self.invariant.0)) c.index-self-channel.is in
+    elim c.match-self-channel.branch [
+      | in-Some w ↦ rw w.self-inside-is (card-changed without_pending c.self.inside.store c.self.inside.index c.self.inside.live c.self.inside.sessions c.self.inside.chains c.args.channel w.in-Some.session
+          (record w.in-Some.session { pending = w.forget.new.self }) c.args.self.now c.self.view_is (λ chain. rw w.forget.ensures refl) (at ∙ (c.index-self-channel.is ∙ w.in-Some.is)))
+      | in_default w ↦ rw w.self-inside-is (c.self.view_is ∙ card-none without_pending c.self.inside.store c.self.inside.index c.self.inside.live c.self.inside.sessions c.self.inside.chains c.args.channel c.args.self.now c.self.view_is
+          (at ∙ (c.index-self-channel.is ∙ w.in_default.is)))
+    ]
