@@ -20,6 +20,12 @@ index-there [] i x lt is = absurd (omega (arith, lt))
 index-there (y ∷ ys) zero x lt is = sym is
 index-there (y ∷ ys) (suc i) x lt is = index-there ys i x (omega (arith, lt)) is
 
+-- and is set to what it was
+pub set-again : {X : Type 0} (xs : List (Option X)) (i : ℕ) (x : Option X) → slice_set xs i (get_or xs i x) ≡ xs
+set-again [] i x = refl
+set-again (y ∷ ys) zero x = refl
+set-again (y ∷ ys) (suc i) x = ap (λ rest. y ∷ rest) (set-again ys i x)
+
 -- which of four channels have a session
 pub four-sessions : (sessions : List (Option Session)) (a b c d : Option Session) → length sessions ≡ 4
     → is_some (get_or sessions 0 a) ∷ is_some (get_or sessions 1 b) ∷ is_some (get_or sessions 2 c) ∷ is_some (get_or sessions 3 d) ∷ []

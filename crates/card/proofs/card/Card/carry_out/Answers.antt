@@ -80,7 +80,7 @@ returns-in-CloseChannel-clause-behind g c =
 -- what is left changes the database
 none : (g : _) (c : In_default g) → IsNoneOfThose c.args.command.now.operation
 none g c = record {
-  not_reading = sym c.if-is_reading.ensures ∙ c.if-is_reading.false;
+  not_reading = sym c.is_reading.ensures ∙ c.if-is_reading.false;
   not_presents = c.in_default.not-PresentUser;
   not_opens = c.in_default.not-OpenChannel;
   not_closes = c.in_default.not-CloseChannel;

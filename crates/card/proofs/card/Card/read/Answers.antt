@@ -10,10 +10,10 @@ use Rattle.card.specs.Answering.{HoldsAnswer, replied}
 use Rattle.card.specs.Card.{Kept, IsAtRest}
 use Rattle.card.specs.Reading.{move_to}
 use Rattle.card.specs.Sessions as opened
-use Rattle.card.specs.Sessions.{reading_in}
+use Rattle.card.specs.Sessions.{reading_in, sessions_of}
 use Rattle.scql_model.specs.Database.{Database}
 use Rattle.scql_model.specs.Cursors.{StandsOn}
-use Rattle.std.specs.Prelude.{IfSome}
+use Rattle.std.specs.Prelude.{IfSome, Some, slice_set}
 use Rattle.card.proofs.Performing.{IsAtRest-at, Performs-unwritten, actor-at}
 use Rattle.card.proofs.ReadingCard.{HoldsAnswer-read, err-ok, move-there, of_database, reading-card, reads-command, reads-so}
 use Rattle.card.proofs.ReadingMoves.{if_ok-then}
@@ -50,9 +50,10 @@ returns-clause-performs g c = λ m from.
     let there_still = subst (λ (chip : Chip). IsAtRest c.self.inside.store chip m.committed) (sym c.in_ok-actor.ensures.frame.same) rest in
     let set = rw c.from.ensures at (card-changed (reading_so (reading_in after)) c.self.inside.store c.self.inside.index c.self.inside.live c.self.inside.sessions c.self.inside.chains c.from.result session after c.args.self.now c.self.view_is
     (λ chain. reads-so after session c.read.ensures.user chain) there) in
-    Performs-unwritten c.args.self.now _ old new m _ _ c.read.new.reply.body c.read.result c.requires.ready from same
+    let kept : Kept = record { store = c.self.inside.store; index = c.self.inside.index; sessions = sessions_of (slice_set c.self.inside.sessions c.from.result (Some after)) c.self.inside.chains; live = c.self.inside.live } in
+    Performs-unwritten c.args.self.now kept old new m _ _ c.read.new.reply.body c.read.result c.requires.ready from same
     (if_ok-then c.read.result (λ word moves.
-    subst (λ (chip : Chip). HoldsAnswer (answered m (carried_out m command)) (replied c.read.new.reply.body word) _ chip) (sym same)
-    (HoldsAnswer-read c.args.self.now _ old m command reads.0 c.read.new.reply.body word (reading_in after) from.held reads.1
+    subst (λ (chip : Chip). HoldsAnswer (answered m (carried_out m command)) (replied c.read.new.reply.body word) kept chip) (sym same)
+    (HoldsAnswer-read c.args.self.now kept old m command reads.0 c.read.new.reply.body word (reading_in after) from.held reads.1
     (move-there m.committed (base m command.channel) c.in_ok-actor.actor (actor m command.channel) (reading_in session) (reading_of m command.channel) reads.0 (move_to c.read.new.reply.body word after.cursor after.pending) (committed-base m command.channel from.held.transaction) who seen (moves reads.0 reads.1)) (rw c.from.ensures set)))
     (c.read.ensures.moves m.committed there_still cursors))
