@@ -78,14 +78,31 @@ pub(crate) fn read<B: Eeprom>(
         Operation::Fetch => {
             let mut row = Row::new();
             let cursor = &mut session.cursor;
-            let word = fetch_row(store, bench, Side::Committed, actor, cursor, le, &mut row, index)?;
+            let word = fetch_row(
+                store,
+                bench,
+                Side::Committed,
+                actor,
+                cursor,
+                le,
+                &mut row,
+                index,
+            )?;
             Ok(give(word, &row, le, &mut session.pending, reply))
         }
         Operation::FetchNext => {
             let mut row = Row::new();
             let cursor = &mut session.cursor;
-            let word =
-                fetch_next_row(store, bench, Side::Committed, actor, cursor, le, &mut row, index)?;
+            let word = fetch_next_row(
+                store,
+                bench,
+                Side::Committed,
+                actor,
+                cursor,
+                le,
+                &mut row,
+                index,
+            )?;
             Ok(give(word, &row, le, &mut session.pending, reply))
         }
         operation => {
@@ -163,12 +180,7 @@ fn give_rest<B: Eeprom>(
 }
 
 // Whether the actor may select from the object of a stamp, or the first refusal.
-fn ask<B: Eeprom>(
-    store: &Store,
-    bench: &mut B,
-    actor: Actor,
-    stamp: u32,
-) -> Result<(), Stop>
+fn ask<B: Eeprom>(store: &Store, bench: &mut B, actor: Actor, stamp: u32) -> Result<(), Stop>
     requires over { IsOver store.now (B.chip bench.old) }
     ensures may { (db : Database) → IsHeld store.now Committed (B.chip bench.old) db
         → IfOk result (λ _. (o : Object) × (selectable db actor (seen_stamped db actor stamp) ≡ Ok o)) }
@@ -196,7 +208,13 @@ fn ask<B: Eeprom>(
 }
 
 // The row that a fetch handed out is given as far as Le allows, and the rest is pending. Without a row the word stands alone.
-fn give(word: StatusWord, row: &Row, le: u16, pending: &mut Pending, reply: &mut Reply) -> StatusWord
+fn give(
+    word: StatusWord,
+    row: &Row,
+    le: u16,
+    pending: &mut Pending,
+    reply: &mut Reply,
+) -> StatusWord
     requires least { 1 ≤ le }
     requires most { le ≤ 256 }
     requires empty { reply.old.body ≡ [] }

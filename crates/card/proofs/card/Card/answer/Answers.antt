@@ -36,10 +36,17 @@ returns-in-Ok-clause-refused g c = λ m at is.
     let says = performs.step in
     elim (step-accepts_or_leaves built_operations m c.args.command.now) [
       | inl accepts ↦ inl (subst Accepts (sym (ap (λ (sent : Reply). sent.word) says.reply)) accepts)
-      | inr leaves ↦ inr (performs.unwritten leaves.0, (_, leaves.1, record {
-          held = says.held;
-          valid = (IsValidAnswer-step m c.args.command.now (λ i. omega (arith, c.type_inv.command i)) at.valid).machine;
-        }))
+      | inr leaves ↦ inr (
+        performs.unwritten leaves.0,
+        (
+          _,
+          leaves.1,
+          record {
+            held = says.held;
+            valid = (IsValidAnswer-step m c.args.command.now (λ i. omega (arith, c.type_inv.command i)) at.valid).machine;
+          },
+        ),
+      )
     ]
 
 pub returns-in-Ok-clause-at_its_end : goal.returns-in-Ok-clause-at_its_end
