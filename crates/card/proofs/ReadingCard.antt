@@ -1,6 +1,9 @@
 -- What a reading command does to a card that holds a machine.
-use Rattle.std.proofs.Common.{◌≡◌, ℕ, zero, suc, Bool, true, List, [], ◌∷◌, length, Option, Some, None, is_some, option_map, Result, Ok, refl, lit≤, sym, ap, subst, ◌∙◌}
-use Rattle.std.specs.Prelude.{slice_get, slice_index_or}
+use Rattle.std.proofs.Common.{◌≡◌, ℕ, zero, suc, Bool, true, List, [], ◌∷◌, length, Option, Some, None, is_some, option_map, Result, Ok, Err, refl, lit≤, sym, ap, subst, ◌∙◌}
+use Rattle.std.specs.Prelude.{IfOk, IfSome, IsErrAnd, OnOk, slice_get, slice_index_or}
+use Rattle.eeprom.specs.declared.fault.EepromFault.{EepromFault}
+use Rattle.scql_base.specs.declared.cursor.Cursor.{Cursor}
+use Rattle.scql_model.specs.Cursors.{IsCursorOf, StandsOn}
 use Rattle.std.specs.List.{Contains}
 use Rattle.std.specs.Option.{option_flatten, option_map_or}
 use Rattle.std.proofs.lemmas.Option.{none-some}
@@ -51,13 +54,31 @@ reading-seen : (sessions : List (Option Session)) (chains : List (Option Chain))
 reading-seen [] chains channel session same there = absurd (none-some session there)
 reading-seen (s ∷ sessions) [] channel session same there = absurd cc
 reading-seen (s ∷ sessions) (chain ∷ chains) zero session same there = ap (λ (s : Option Session). option_map_or (λ (s : machine.Session). s.reading) (option_map (session_seen chain) s) no_reading) there
-reading-seen (s ∷ sessions) (chain ∷ chains) (suc channel) session same there = reading-seen sessions chains channel session cc there
+reading-seen (s ∷ sessions) (chain ∷ chains) (suc channel) session same there = reading-seen sessions chains channel session (cc) there
 
 pub reading-card : (card : Kept) (chip : Chip) (m : Machine) (sessions : List (Option Session)) (chains : List (Option Chain)) (channel : ℕ) (session : Session) → HoldsMachine card chip m → card.sessions ≡ sessions_of sessions chains
     → length sessions ≡ length chains → slice_index_or sessions channel None ≡ Some session → reading_of m channel ≡ reading_in session
 reading-card card chip m sessions chains channel session at seen same there =
     ap (λ (s : List (Option machine.Session)). option_map_or (λ (s : machine.Session). s.reading) (option_flatten (slice_get s channel)) no_reading) (at.sessions ∙ seen)
     ∙ reading-seen sessions chains channel session same there
+
+-- a cursor that stands on a database is one of it
+pub of_database : (db : Database) (o : Option Cursor) → IfSome o (StandsOn db) → IfSome o (IsCursorOf db)
+of_database db None is = tt
+of_database db (Some c) is = is.columns
+
+pub err-ok : (P : EepromFault → Type 0) (Q : StatusWord → Type 0) (r : Result StatusWord EepromFault) → IsErrAnd r P → IfOk r Q
+err-ok P Q (Ok word) is = absurd is
+err-ok P Q (Err fault) is = tt
+
+pub err-on : (P : EepromFault → Type 0) (X : Type 0) (r : Result StatusWord EepromFault) → IsErrAnd r P → OnOk r X
+err-on P X (Ok word) is = absurd is
+err-on P X (Err fault) is = tt
+
+-- a move over the same database, for the same actor, from the same reading
+pub move-there : (db base : Database) (who actor : Actor) (reading before : Reading) (command : ReadingCommand) (move : Move Reading) → base ≡ db → actor ≡ who → before ≡ reading
+    → move_of db who reading command ≡ move → move_of base actor before command ≡ move
+move-there db base who actor reading before command move same acts reads moves = rw (same, acts, reads) moves
 
 -- the answer of a move
 abbrev answer_of : Machine → ℕ → Move Reading → Answer

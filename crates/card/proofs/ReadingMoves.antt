@@ -1,10 +1,11 @@
 -- What a reading command's word, row and cursor make of a session, as the model's move.
 use Rattle.std.proofs.Common.{◌≡◌, ◌≤◌, ◌==◌, ◌<◌, ℕ, Bool, true, false, List, [], ◌∷◌, length, Option, Some, None, option_map, Result, Ok, Err, if◌then◌else◌, refl, sym, ap, subst, ◌∙◌, arith, inl, inr}
-use Rattle.std.specs.Prelude.{IfSome, IsTrue, unwrap_or}
+use Rattle.std.specs.Prelude.{IfOk, IfSome, IsTrue, unwrap_or}
 use Rattle.std.specs.List.{find, list_all}
-use Rattle.std.proofs.lemmas.Bool.{cases_Bool}
+use Rattle.std.proofs.lemmas.Bool.{cases_Bool, eqb-true}
 use Rattle.std.proofs.lemmas.Map.Entries.{option_filter}
 use Rattle.std.proofs.lemmas.Option.{none-some, same_Some}
+use Rattle.eeprom.specs.declared.fault.EepromFault.{EepromFault}
 use Rattle.scql_base.specs.declared.cursor.Cursor.{Cursor}
 use Rattle.scql_base.specs.declared.operation.Command.{Command}
 use Rattle.scql_base.specs.declared.operation.Operation.{Operation}
@@ -31,7 +32,8 @@ use Rattle.cursor.specs.Moved.{refuses}
 use Rattle.db_read.specs.Answered as reading
 use Rattle.db_read.specs.Answered.{answered, given, selectable}
 use Rattle.db_read.proofs.Sighted.{asked-Ok}
-use Rattle.card.specs.Reading.{Goes, MovesSo, move_to}
+use Rattle.scql_model.specs.Operations.{kind_of}
+use Rattle.card.specs.Reading.{Goes, MovesSo, is_going, is_reading, move_to}
 
 -- a word without a row, as a move
 pub stays-answered : (word : StatusWord) (cursor : Option Cursor) (old pending : List ℕ) → pending ≡ (if refuses word then old else [])
@@ -51,12 +53,16 @@ from-after word before cursor stays =
       | inr f ↦ rw f refl
     ]
 
+given-word : (le : ℕ) (word : StatusWord) (cursor : Option Cursor) (values : Values) → (word.word == done.word) ≡ false → given le word cursor values ≡ answered word cursor
+given-word le word cursor values is = rw is refl
+
 from-after-given : (le : ℕ) (word : StatusWord) (before : Reading) (cursor : Option Cursor) (values : Values) → (IsTrue (refuses word) → cursor ≡ before.cursor)
     → or_stays before (given le word cursor values) ≡ or_stays (record { cursor = cursor; pending = before.pending }) (given le word cursor values)
 from-after-given le word before cursor values stays =
     elim (cases_Bool (word.word == done.word)) [
       | inl t ↦ rw t refl
-      | inr f ↦ rw f (from-after word before cursor stays)
+      | inr f ↦ ap (or_stays before) (given-word le word cursor values f)
+          ∙ (from-after word before cursor stays ∙ ap (or_stays (record { cursor = cursor; pending = before.pending })) (sym (given-word le word cursor values f)))
     ]
 
 pub move-answered : (db : Database) (actor : Actor) (before : Reading) (command : ReadingCommand) (word : StatusWord) (cursor : Option Cursor) (pending : List ℕ) → moved db actor before command ≡ answered word cursor
@@ -77,6 +83,17 @@ pub MovesSo-goes : (db : Database) (actor : Actor) (c : Command) (before : Readi
     → pending ≡ (if refuses word then before.pending else []) → MovesSo db actor c before (move_to [] word cursor pending)
 MovesSo-goes db actor c before word cursor pending goes dropped command is =
     move-answered db actor before command word cursor pending (goes.moves c.le command before.pending is) goes.stays dropped
+
+-- what is said of each pending octets makes it so
+pub Goes-ok : (db : Database) (actor : Actor) (operation : Operation) (r : Result StatusWord EepromFault) (old new : Option Cursor) (command : ReadingCommand)
+    → ((le : Option ℕ) (other : ReadingCommand) → reading_command operation le ≡ Some other → command ≡ other)
+    → ((pending : List ℕ) → IfOk r (λ word. moved db actor (record { cursor = old; pending = pending }) command ≡ answered word new))
+    → IfOk r (λ word. IsTrue (refuses word) → new ≡ old) → IfOk r (λ word. Goes db actor operation word old new)
+Goes-ok db actor operation (Ok word) old new command each moves stays = record {
+  moves = λ le other pending is. subst (λ (command : ReadingCommand). moved db actor (record { cursor = old; pending = pending }) command ≡ answered word new) (each le other is) (moves pending);
+  stays = stays;
+}
+Goes-ok db actor operation (Err fault) old new command each moves stays = tt
 
 -- A command that gives octets has an Le.
 with_le : (f : ℕ → ReadingCommand) (o : Option ℕ) (le : ℕ) (command : ReadingCommand) → le ≡ unwrap_or o 256 → option_map f o ≡ Some command → f le ≡ command
@@ -100,6 +117,10 @@ pub MovesSo-get_response : (db : Database) (actor : Actor) (c : Command) (before
 MovesSo-get_response db actor c before le move asked said moves command is =
     subst (λ (command : ReadingCommand). move_of db actor before command ≡ move)
     (with_le get_response c.le le command said (ap (λ (operation : Operation). reading_command operation c.le) (sym asked) ∙ is)) moves
+
+pub if_ok-then : {P Q : StatusWord → Type 0} (r : Result StatusWord EepromFault) → ((word : StatusWord) → P word → Q word) → IfOk r P → IfOk r Q
+if_ok-then (Ok word) then' holds = then' word holds
+if_ok-then (Err fault) then' holds = tt
 
 -- Le is 1 to 256.
 pub le-bounds : (o : Option ℕ) (le : ℕ) → le ≡ unwrap_or o 256 → IfSome o (λ le. (1 ≤ le) × (le ≤ 256)) → (1 ≤ le) × (le ≤ 256)
@@ -147,7 +168,7 @@ module _ (db : Database) (actor : Actor) (before : Reading) (le : ℕ) where
 -- what is pending is nothing, or something
 pub none-pending : (octets : List ℕ) → (length octets == 0) ≡ true → octets ≡ []
 none-pending [] is = refl
-none-pending (octet ∷ octets) is = absurd cc
+none-pending (octet ∷ octets) is = absurd (let wrong = eqb-true (length (octet ∷ octets)) 0 is in omega (arith, wrong))
 
 pub some-pending : (octets : List ℕ) → (length octets == 0) ≡ false → octets ≡ [] → ⊥
 some-pending octets is none = let wrong : true ≡ false = rw none at is in absurd cc
@@ -155,3 +176,13 @@ some-pending octets is none = let wrong : true ≡ false = rw none at is in absu
 pub gives-more : (c : Cursor) (le : ℕ) (octets : List ℕ) → (octets ≡ [] → ⊥) → gave_more c le octets ≡ Ok (giving c.place c le octets)
 gives-more c le [] some = absurd (some refl)
 gives-more c le (octet ∷ octets) some = refl
+
+-- what reads and gives no octets moves a cursor
+pub going : (operation : Operation) → is_reading (kind_of operation) ≡ true → (operation ≡ asks.GetResponse → ⊥) → (operation ≡ asks.Fetch → ⊥) → (operation ≡ asks.FetchNext → ⊥) → is_going (kind_of operation) ≡ true
+going (asks.DeclareCursor object columns conditions) reads not_more not_fetch not_next = refl
+going asks.OpenCursor reads not_more not_fetch not_next = refl
+going asks.Next reads not_more not_fetch not_next = refl
+going asks.Fetch reads not_more not_fetch not_next = absurd (not_fetch refl)
+going asks.FetchNext reads not_more not_fetch not_next = absurd (not_next refl)
+going asks.GetResponse reads not_more not_fetch not_next = absurd (not_more refl)
+going operation reads not_more not_fetch not_next = absurd cc

@@ -1,5 +1,5 @@
 -- The sessions and the chains of a card, as the model sees them.
-use Rattle.std.proofs.Common.{◌≡◌, ℕ, zero, suc, Bool, true, false, List, [], ◌∷◌, length, Option, Some, None, is_some, refl, ap, sym, subst, ◌∙◌, arith}
+use Rattle.std.proofs.Common.{◌≡◌, ◌<◌, ℕ, zero, suc, Bool, true, false, List, [], ◌∷◌, get_or, length, Option, Some, None, is_some, refl, ap, sym, subst, ◌∙◌, arith}
 use Rattle.std.specs.Prelude.{map, option_map, option_and_then, slice_get, slice_index_or, slice_set}
 use Rattle.std.specs.Option.{option_flatten}
 use Rattle.std.proofs.lemmas.Option.{none-some, same_Some}
@@ -14,16 +14,28 @@ use Rattle.card.specs.Sessions.{is_open, session_seen, sessions_of, proved_stamp
 use Rattle.card.specs.Answering.{changing_session, with_session}
 use Rattle.card.specs.declared.session.Session.{Session}
 
+-- an element that is there is so whatever else would be
+pub index-there : {X : Type 0} (xs : List (Option X)) (i : ℕ) (x : Option X) → i < length xs → x ≡ get_or xs i x → slice_index_or xs i None ≡ x
+index-there [] i x lt is = absurd (omega (arith, lt))
+index-there (y ∷ ys) zero x lt is = sym is
+index-there (y ∷ ys) (suc i) x lt is = index-there ys i x (omega (arith, lt)) is
+
+-- and is set to what it was
+pub set-again : {X : Type 0} (xs : List (Option X)) (i : ℕ) (x : Option X) → slice_set xs i (get_or xs i x) ≡ xs
+set-again [] i x = refl
+set-again (y ∷ ys) zero x = refl
+set-again (y ∷ ys) (suc i) x = ap (λ rest. y ∷ rest) (set-again ys i x)
+
 -- which of four channels have a session
-pub four-sessions : (sessions : List (Option Session)) → length sessions ≡ 4
-    → is_some (slice_index_or sessions 0 None) ∷ is_some (slice_index_or sessions 1 None) ∷ is_some (slice_index_or sessions 2 None) ∷ is_some (slice_index_or sessions 3 None) ∷ []
+pub four-sessions : (sessions : List (Option Session)) (a b c d : Option Session) → length sessions ≡ 4
+    → is_some (get_or sessions 0 a) ∷ is_some (get_or sessions 1 b) ∷ is_some (get_or sessions 2 c) ∷ is_some (get_or sessions 3 d) ∷ []
     ≡ map (λ (s : Option Session). is_some s) sessions
-four-sessions [] four = absurd cc
-four-sessions (first ∷ []) four = absurd cc
-four-sessions (first ∷ second ∷ []) four = absurd cc
-four-sessions (first ∷ second ∷ third ∷ []) four = absurd cc
-four-sessions (first ∷ second ∷ third ∷ fourth ∷ []) four = refl
-four-sessions (first ∷ second ∷ third ∷ fourth ∷ fifth ∷ rest) four = absurd (omega (arith, four))
+four-sessions [] a b c d four = absurd cc
+four-sessions (first ∷ []) a b c d four = absurd cc
+four-sessions (first ∷ second ∷ []) a b c d four = absurd cc
+four-sessions (first ∷ second ∷ third ∷ []) a b c d four = absurd cc
+four-sessions (first ∷ second ∷ third ∷ fourth ∷ []) a b c d four = refl
+four-sessions (first ∷ second ∷ third ∷ fourth ∷ fifth ∷ rest) a b c d four = absurd (omega (arith, four))
 
 -- a channel with a session is open
 open-sessions : (sessions : List (Option Session)) (chains : List (Option Chain)) → length sessions ≡ length chains
@@ -95,7 +107,14 @@ open-parts (session ∷ sessions) [] after channel same is = absurd (none-some t
 open-parts (session ∷ sessions) (chain ∷ chains) [] channel same is = absurd cc
 open-parts (None ∷ sessions) (chain ∷ chains) (next ∷ after) zero same is = absurd (false≢true (same_Some _ true is))
 open-parts (Some session ∷ sessions) (chain ∷ chains) (next ∷ after) zero same is = refl
-open-parts (session ∷ sessions) (chain ∷ chains) (next ∷ after) (suc channel) same is = open-parts sessions chains after channel cc is
+open-parts (session ∷ sessions) (chain ∷ chains) (next ∷ after) (suc channel) same is = open-parts sessions chains after channel (cc) is
+
+-- a channel without a session isn't open
+pub closed-none : (sessions : List (Option Session)) (chains : List (Option Chain)) (channel : ℕ) → slice_index_or sessions channel None ≡ None → is_open (sessions_of sessions chains) channel ≡ false
+closed-none [] chains channel there = refl
+closed-none (session ∷ sessions) [] channel there = refl
+closed-none (session ∷ sessions) (chain ∷ chains) zero there = ap (λ (s : Option Session). is_some (option_map (session_seen chain) s)) there
+closed-none (session ∷ sessions) (chain ∷ chains) (suc channel) there = closed-none sessions chains channel there
 
 -- What changes a session of the program, and not its parts, changes the session that is seen.
 sessions_of-changed : (change : machine.Session → machine.Session) (new : Session) (sessions : List (Option Session)) (chains : List (Option Chain)) (channel : ℕ) (old : Session)

@@ -103,7 +103,7 @@ taken-reading m (part_on on kind octets) channel = reading-changed (with_part ki
 taken-reading m (a_command c) channel = reading-changed without_chain (λ s. refl) m.sessions c.channel channel
 
 -- outside of a transaction each channel of a valid machine reads what is committed
-readings-committed : (m : Machine) (channel : ℕ) → IsValidMachine m → m.transaction ≡ None → IsReadingOf m.committed (reading_of m channel)
+pub readings-committed : (m : Machine) (channel : ℕ) → IsValidMachine m → m.transaction ≡ None → IsReadingOf m.committed (reading_of m channel)
 readings-committed m channel valid none = subst (λ (db : Database). IsReadingOf db (reading_of m channel)) (committed-base m channel none) (valid.readings channel)
 
 -- from the next machine, once octets were taken, a command can be carried out

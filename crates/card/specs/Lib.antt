@@ -8,6 +8,7 @@ pub mod KeptRecords
 pub mod Making
 pub mod Opening
 pub mod Pool
+pub mod Proved
 pub mod Reading
 pub mod Sessions
 pub mod Validity

@@ -1,10 +1,10 @@
 -- The program's sessions, as the model's.
-use Rattle.std.specs.Prelude.{ℕ, Bool, not, List, [], ◌∷◌, Option, Some, None, is_some, option_map, option_and_then, slice_get, if◌then◌else◌}
+use Rattle.std.specs.Prelude.{ℕ, Bool, not, List, [], ◌∷◌, Option, Some, None, is_some, option_map, option_and_then, slice_get}
 use Rattle.std.specs.List.{find}
 use Rattle.std.specs.Option.{option_flatten}
 use Rattle.scql_model.specs.Machine as machine
-use Rattle.scql_base.specs.declared.cursor.PresentedUser.{PresentedUser}
 use Rattle.card.specs.declared.session.Session.{Session}
+pub use Rattle.card.specs.Proved.{proved_stamp}
 
 -- what a session reads
 abbrev pub reading_in : Session → machine.Reading
@@ -21,9 +21,6 @@ sessions_of (session ∷ sessions) [] = []
 sessions_of (session ∷ sessions) (chain ∷ chains) = option_map (session_seen chain) session ∷ sessions_of sessions chains
 
 -- the stamp of a session's user, where there is one that is proved
-abbrev pub proved_stamp : PresentedUser → Option ℕ
-proved_stamp p = if p.proved then Some p.stamp else None
-
 abbrev pub proved_user : Option machine.Session → Option ℕ
 proved_user session = option_and_then proved_stamp (option_and_then (λ (s : machine.Session). s.user) session)
 

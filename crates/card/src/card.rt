@@ -349,17 +349,16 @@ impl Card {
         ensures behind { Keeps (drop (image_size self.old.store.chains.cells)) (B.chip bench.old) (B.chip bench.new) }
     {
         let user = self.proved_user(channel);
-        let Some(session) = &self.sessions[usize::from(channel)] else {
+        let Card {
+            store,
+            index,
+            sessions,
+            ..
+        } = self;
+        let Some(session) = &sessions[usize::from(channel)] else {
             unreachable!();
         };
-        let word = change(
-            &mut self.store,
-            bench,
-            &mut self.index,
-            user,
-            &session.cursor,
-            operation,
-        )?;
+        let word = change(store, bench, index, user, &session.cursor, operation)?;
         self.settle(channel, word);
         Ok(word)
     }
@@ -369,9 +368,10 @@ impl Card {
         requires channel { channel < 4 }
         ensures { result ≡ proved_user (option_flatten (slice_get self.now.sessions channel)) }
     {
-        let session = self.sessions[channel as usize].as_ref()?;
-        let user = session.user?;
-        if user.proved { Some(user.stamp) } else { None }
+        match &self.sessions[channel as usize] {
+            Some(session) => session.proved_user(),
+            None => None,
+        }
     }
 
     // A new session of a channel, for this user.

@@ -1,5 +1,6 @@
 // What is kept for an open channel.
-ghost use Rattle.std.specs.Prelude.{◌≡◌, None, []};
+ghost use Rattle.std.specs.Prelude.{◌≡◌, None, [], option_and_then};
+ghost use Rattle.card.specs.Proved.{proved_stamp};
 
 use apdu_chain::Pending;
 use scql_base::{Cursor, PresentedUser};
@@ -22,5 +23,13 @@ impl Session {
             cursor: None,
             pending: Pending::new(),
         }
+    }
+
+    /// The stamp of its user, where that one is proved.
+    pub(crate) fn proved_user(&self) -> Option<u32>
+        ensures { result ≡ option_and_then proved_stamp self.now.user }
+    {
+        let user = self.user?;
+        if user.proved { Some(user.stamp) } else { None }
     }
 }

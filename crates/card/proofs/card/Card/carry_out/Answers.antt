@@ -18,6 +18,7 @@ use Rattle.card.proofs.BuiltLines.{IsChange-built, IsNoneOfThose}
 use Rattle.card.proofs.Leaving.{Keeps-none}
 use Rattle.card.proofs.Performing.{Performs-unwritten}
 use Rattle.card.proofs.UnreadSteps.{carried_out-presents, carried_out-changes, carried_out-opens, carried_out-closes, octets-carried_out}
+use Rattle.card.proofs.card.Card.carry_out.Goals.{In_default}
 use Rattle.card.proofs.card.Card.carry_out.Goals as goal
 
 -- a command that changes sessions alone is carried out so, and writes nothing
@@ -77,9 +78,9 @@ returns-in-CloseChannel-clause-behind g c =
     Keeps-none (drop (image_size c.args.self.now.store.chains.cells)) (g.B.Eeprom.chip c.args.bench.now) (g.B.Eeprom.chip c.args.bench.now) refl
 
 -- what is left changes the database
-none : (g : _) (c : goal.In_default g) → IsNoneOfThose c.args.command.now.operation
+none : (g : _) (c : In_default g) → IsNoneOfThose c.args.command.now.operation
 none g c = record {
-  not_reading = sym c.if-is_reading.ensures ∙ c.if-is_reading.false;
+  not_reading = sym c.is_reading.ensures ∙ c.if-is_reading.false;
   not_presents = c.in_default.not-PresentUser;
   not_opens = c.in_default.not-OpenChannel;
   not_closes = c.in_default.not-CloseChannel;
@@ -91,7 +92,7 @@ pub change-requires : goal.change-requires
 change-requires g c = record {
   ready = c.requires.ready;
   channel = omega (arith, c.requires.formed.channel);
-  changes = IsChange-built c.args.command.now.operation c.requires.built (none g c);
+  changes = IsChange-built c.args.command.now.operation c.requires.built (none g (goal.at.change-requires g c).In_default);
   formed = c.requires.formed.form;
   fits = c.requires.fits;
 }
@@ -100,7 +101,7 @@ pub returns-in_default-clause-performs : goal.returns-in_default-clause-performs
 returns-in_default-clause-performs g c = λ m at.
     let channel = c.args.command.now.channel in
     let operation = c.args.command.now.operation in
-    let changes = IsChange-built operation c.requires.built (none g (goal.at.returns-in_default-clause-performs g c).After-change) in
+    let changes = IsChange-built operation c.requires.built (none g (goal.at.returns-in_default-clause-performs g c).In_default) in
     let old = g.B.Eeprom.chip c.args.bench.now in
     let new = g.B.Eeprom.chip c.change.new.bench in
     subst (λ (body : List ℕ). Performs m (answered m (carried_out m c.args.command.now)) (or_nothing (octets_carried_out m c.args.command.now)) body c.change.result c.change.new.self old new) (sym c.requires.empty)

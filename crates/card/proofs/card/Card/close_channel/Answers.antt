@@ -8,5 +8,5 @@ use Rattle.card.proofs.card.Card.close_channel.Goals as goal
 
 pub returns-clause-step : goal.returns-clause-step
 returns-clause-step c = λ chip m at.
-    HoldsAnswer-closed c.args.self.now chip m c.args.asking at c.drop_pending.new.self c.args.number (sym c.if-not-is_open.ensures)
+    HoldsAnswer-closed c.args.self.now chip m c.args.asking at c.drop_pending.new.self c.args.number (sym c.if-not-is_open.ensures.is)
     (c.drop_pending.ensures ∙ ap (λ (kept : Kept). changing_session without_pending kept c.args.asking) c.set_session.ensures)

@@ -8,5 +8,5 @@ use Rattle.card.proofs.card.Card.open_named.Goals as goal
 
 pub returns-clause-step : goal.returns-clause-step
 returns-clause-step c = λ chip m at.
-    HoldsAnswer-named c.args.self.now chip m c.args.asking at c.drop_pending.new.self c.args.number c.requires.named (sym c.is_open.ensures ∙ c.if-is_open.false)
+    HoldsAnswer-named c.args.self.now chip m c.args.asking at c.drop_pending.new.self c.args.number c.requires.named (sym c.is_open.ensures.is ∙ c.if-is_open.false)
     (c.drop_pending.ensures ∙ ap (λ (kept : Kept). changing_session without_pending kept c.args.asking) c.set_user.ensures)

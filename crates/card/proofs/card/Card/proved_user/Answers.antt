@@ -1,9 +1,9 @@
 -- The user of a channel's session is the one that the model sees.
-use Rattle.std.proofs.Common.{refl, sym, ◌∙◌}
-use Rattle.card.proofs.SeenSessions.{user-card}
+use Rattle.std.proofs.Common.{refl, sym, ◌∙◌, arith}
+use Rattle.card.proofs.SeenSessions.{index-there, user-card}
 use Rattle.card.proofs.card.Card.proved_user.Goals as goal
 
-pub returns-then-user : goal.returns-then-user
-returns-then-user c =
-    sym (user-card c.self.inside.store c.self.inside.index c.self.inside.live c.self.inside.sessions c.self.inside.chains c.args.self.now c.self.view_is (c.self.invariant.0 ∙ sym c.self.invariant.1) c.args.channel c.in_ok-session.session c.in_ok-session.was
-    ∙ rw (c.in_ok-user.was, c.if-user.true) refl)
+pub returns-in-Some : goal.returns-in-Some
+returns-in-Some c =
+    let there = index-there c.self.inside.sessions c.args.channel c.index-self-channel.result (omega (arith, c.requires, c.self.invariant.0)) c.index-self-channel.is ∙ (c.index-self-channel.is ∙ c.in-Some.is) in
+    c.proved_user.ensures ∙ sym (user-card c.self.inside.store c.self.inside.index c.self.inside.live c.self.inside.sessions c.self.inside.chains c.args.self.now c.self.view_is (c.self.invariant.0 ∙ sym c.self.invariant.1) c.args.channel c.in-Some.session there)

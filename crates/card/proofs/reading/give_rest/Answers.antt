@@ -1,0 +1,30 @@
+-- What is pending is given where the cursor's object may be read, or the first refusal.
+use Rattle.std.proofs.Common.{◌≡◌, List, Option, Some, Ok, Result, refl, sym, ap, subst, ◌∙◌}
+use Rattle.scql_model.specs.Moves.{chosen}
+use Rattle.scql_model.specs.Contents.{Contents}
+use Rattle.scql_model.specs.Rights.{seen_stamped}
+use Rattle.scql_base.specs.declared.records.Object.{Object}
+use Rattle.db_read.proofs.Sighted.{asked-Err}
+use Rattle.scql_base.specs.declared.cursor.Cursor.{Cursor}
+use Rattle.card.specs.Reading.{move_to}
+use Rattle.card.specs.Sessions.{reading_in}
+use Rattle.card.proofs.ReadingMoves.{more-may, more-refused, more-without_cursor, rows_under-may}
+use Rattle.card.proofs.reading.give_rest.Goals as goal
+
+pub returns-in_default-clause-moves : goal.returns-in_default-clause-moves
+returns-in_default-clause-moves g c = λ db held.
+    rw c.requires.empty (more-without_cursor db c.args.actor (reading_in c.args.session.now) c.args.le c.in_default.is)
+
+pub returns-in-Err-Refused-clause-moves : goal.returns-in-Err-Refused-clause-moves
+returns-in-Err-Refused-clause-moves g c = λ db held.
+    let cursor = c.in-Some.cursor in
+    let stops = rw c.in-Err-Refused.field-0-is at (c.in-Err-Refused.ensures.refused db held) in
+    rw c.requires.empty (more-refused db c.args.actor (reading_in c.args.session.now) c.args.le cursor c.in-Some.is c.in-Err-Refused.word
+    (asked-Err db c.args.actor (seen_stamped db c.args.actor cursor.object) (λ (x : Object) (contents : Contents). Ok (chosen contents cursor)) c.in-Err-Refused.word stops.0))
+
+pub returns-in-Ok-clause-moves : goal.returns-in-Ok-clause-moves
+returns-in-Ok-clause-moves g c = λ db held.
+    let cursor = c.in-Some.cursor in
+    let may = c.in-Ok.ensures.may db held in
+    more-may db c.args.actor (reading_in c.args.session.now) c.args.le cursor c.in-Some.is _ _ (rows_under-may db c.args.actor cursor may.0 may.1) (c.give_more.ensures cursor)
+    ∙ ap (λ (o : Option Cursor). move_to c.give_more.new.reply.body c.give_more.result o c.give_more.new.pending) (sym c.in-Some.is)
