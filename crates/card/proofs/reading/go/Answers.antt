@@ -2,28 +2,24 @@
 use Rattle.std.proofs.Common.{List, refl}
 use Rattle.std.proofs.lemmas.Option.{same_Some}
 use Rattle.scql_model.specs.ReadingCommands.{declare, next, open_cursor}
-use Rattle.card.proofs.ReadingMoves.{Goes-ok, found-table, on-table, read-cursor}
+use Rattle.card.proofs.ReadingMoves.{Goes-ok}
 use Rattle.card.proofs.reading.go.Goals as goal
 
 pub returns-in-OpenCursor-clause-moves : goal.returns-in-OpenCursor-clause-moves
 returns-in-OpenCursor-clause-moves g c = λ db rest cursor.
     let old = c.args.cursor.now in
-    let stands = read-cursor db old cursor in
-    let table = on-table db old rest.tables in
     rw c.in-OpenCursor.is (Goes-ok db c.args.actor _ c.open_cursor.result old c.open_cursor.new.cursor open_cursor (λ le other is. same_Some open_cursor other is)
-    (c.open_cursor.ensures.moved db rest.held stands table) (c.open_cursor.ensures.refused db rest.held stands table))
+    (c.open_cursor.ensures.moved db rest cursor) (c.open_cursor.ensures.refused db rest cursor))
 
 pub returns-in-Next-clause-moves : goal.returns-in-Next-clause-moves
 returns-in-Next-clause-moves g c = λ db rest cursor.
     let old = c.args.cursor.now in
-    let stands = read-cursor db old cursor in
-    let table = on-table db old rest.tables in
     rw c.in-Next.is (Goes-ok db c.args.actor _ c.next_row.result old c.next_row.new.cursor next (λ le other is. same_Some next other is)
-    (c.next_row.ensures.moved db rest.held stands table) (c.next_row.ensures.refused db rest.held stands table))
+    (c.next_row.ensures.moved db rest cursor) (c.next_row.ensures.refused db rest cursor))
 
 pub returns-in-DeclareCursor-clause-moves : goal.returns-in-DeclareCursor-clause-moves
 returns-in-DeclareCursor-clause-moves g c = λ db rest cursor.
     let old = c.args.cursor.now in
     let command = declare c.in-DeclareCursor.object c.in-DeclareCursor.columns c.in-DeclareCursor.conditions in
     rw c.in-DeclareCursor.is (Goes-ok db c.args.actor _ c.declare.result old c.declare.new.cursor command (λ le other is. same_Some command other is)
-    (rw c.copy.ensures at (c.declare.ensures.moved db rest.held (found-table db.objects _ rest.tables))) c.declare.ensures.refused)
+    (rw c.copy.ensures at (c.declare.ensures.moved db rest)) c.declare.ensures.refused)

@@ -44,7 +44,7 @@ returns-clause-performs g c = λ m from.
     let there = index-there c.self.inside.sessions c.from.result c.index-self-from.result (omega (arith, c.from.ensures, c.requires.formed.channel, c.self.invariant.0)) c.index-self-from.is ∙ (c.index-self-from.is ∙ c.in-Some.is) in
     let seen = reading-card c.args.self.now old m c.self.inside.sessions c.self.inside.chains command.channel session from.held (ap (λ (kept : Kept). kept.sessions) (sym c.self.view_is)) (c.self.invariant.0 ∙ sym c.self.invariant.1)
     (rw c.from.ensures at there) in
-    let who = actor-at c.args.self.now old m command.channel c.proved_user-user.result from.held c.proved_user-user.ensures ∙ sym (c.in_ok-actor.ensures.actor m.committed rest.held) in
+    let who = actor-at c.args.self.now old m command.channel c.proved_user-user.result from.held c.proved_user-user.ensures ∙ sym (c.in_ok-actor.ensures.actor m.committed rest) in
     let cursors = of_database m.committed session.cursor (subst (λ (reading : Reading). IfSome reading.cursor (StandsOn m.committed)) seen (from.readings command.channel).cursor) in
     let reads = reads-command command c.requires.formed c.requires.reads in
     let there_still = subst (λ (chip : Chip). IsAtRest c.self.inside.store chip m.committed) (sym c.in_ok-actor.ensures.frame.same) rest in
