@@ -53,5 +53,6 @@ pub unwritten_leaves : (card : Kept) (old new : Chip) (m : Machine) (more : List
 unwritten_leaves card old new m more ready at same = subst (λ (chip : Chip). LeavesOneOf (m.committed ∷ more) old chip) (sym same) (record {
   later = omega arith;
   only = λ t g left since there. inl there;
+  stays = λ t g left since there. there;
   now = λ image told. (refl, inl (Opens-held card old m ready at.held at.valid image told));
 })

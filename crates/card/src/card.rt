@@ -251,7 +251,6 @@ impl Card {
             Operation::CloseChannel { number } => {
                 Ok(self.close_channel(channel, channel_meant(channel, *number)))
             }
-            Operation::DeleteUser { .. } | Operation::Verify { .. } => unreachable!(),
             operation => self.change(bench, channel, operation),
         }
     }
@@ -337,7 +336,7 @@ impl Card {
     ) -> Result<StatusWord, EepromFault>
         requires ready { IsReady self.old (B.chip bench.old) }
         requires channel { channel < 4 }
-        requires open { is_open self.old.sessions channel ≡ true }
+        requires there { is_open self.old.sessions channel ≡ true }
         requires changes { IsChange operation.now }
         requires formed { HasForm operation.now }
         requires fits { FitsCard self.old.store.row_limit operation.now }
@@ -355,6 +354,7 @@ impl Card {
             sessions,
             ..
         } = self;
+        let sessions = &*sessions;
         let Some(session) = &sessions[usize::from(channel)] else {
             unreachable!();
         };

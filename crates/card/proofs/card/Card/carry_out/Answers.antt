@@ -84,14 +84,13 @@ none g c = record {
   not_presents = c.in_default.not-PresentUser;
   not_opens = c.in_default.not-OpenChannel;
   not_closes = c.in_default.not-CloseChannel;
-  not_deletes = c.in_default.not-DeleteUser;
-  not_verifies = c.in_default.not-Verify;
 }
 
 pub change-requires : goal.change-requires
 change-requires g c = record {
   ready = c.requires.ready;
   channel = omega (arith, c.requires.formed.channel);
+  there = c.requires.open;
   changes = IsChange-built c.args.command.now.operation c.requires.built (none g (goal.at.change-requires g c).In_default);
   formed = c.requires.formed.form;
   fits = c.requires.fits;

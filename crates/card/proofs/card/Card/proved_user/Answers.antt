@@ -1,5 +1,5 @@
 -- The user of a channel's session is the one that the model sees.
-use Rattle.std.proofs.Common.{refl, sym, ◌∙◌, arith}
+use Rattle.std.proofs.Common.{sym, ◌∙◌, arith}
 use Rattle.card.proofs.SeenSessions.{index-there, user-card}
 use Rattle.card.proofs.card.Card.proved_user.Goals as goal
 
