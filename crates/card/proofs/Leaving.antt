@@ -12,7 +12,7 @@ use Rattle.record_store.specs.declared.side.Side.TheVariants.{Committed}
 use Rattle.scql_model.specs.Database.{Database, IsValid}
 use Rattle.scql_model.specs.Machine.{Machine}
 use Rattle.scql_model.specs.Opens.{Opens}
-use Rattle.card.specs.Card.{Kept, IsReady, HoldsMachine, IsAt, StepsFrom, committed_slots}
+use Rattle.card.specs.Card.{Kept, IsReady, HoldsMachine, IsAt, committed_slots}
 use Rattle.card.specs.Answering.{LeavesOneOf}
 use Rattle.card.specs.Behind.{KeepsBehind, own_cells}
 
@@ -49,10 +49,10 @@ pub rises-none : (most : ℕ) (old new : Chip) → new ≡ old → Becomes (Rise
 rises-none most old new same = λ after told. (after, subst (λ (chip : Chip). chip.written ≡ Some after) same told, omega arith)
 
 -- and so does the database
-pub unwritten_leaves : (card : Kept) (old new : Chip) (m : Machine) (more : List Database) → IsReady card old → StepsFrom card old m → new ≡ old → LeavesOneOf (m.committed ∷ more) old new
-unwritten_leaves card old new m more ready at same = subst (λ (chip : Chip). LeavesOneOf (m.committed ∷ more) old chip) (sym same) (record {
+pub unwritten_leaves : (card : Kept) (old new : Chip) (m : Machine) (more : List Database) → IsReady card old → HoldsMachine card old m → IsValid m.committed → new ≡ old → LeavesOneOf (m.committed ∷ more) old new
+unwritten_leaves card old new m more ready held valid same = subst (λ (chip : Chip). LeavesOneOf (m.committed ∷ more) old chip) (sym same) (record {
   later = omega arith;
   only = λ t g left since there. inl there;
   stays = λ t g left since there. there;
-  now = λ image told. (refl, inl (Opens-held card old m ready at.held at.valid image told));
+  now = λ image told. (refl, inl (Opens-held card old m ready held valid image told));
 })

@@ -40,7 +40,7 @@ pub Performs-unwritten : (card new_card : Kept) (old new : Chip) (m : Machine) (
     → IfOk result (λ word. HoldsAnswer answer (replied body word) new_card new) → Performs m answer most body result new_card old new
 Performs-unwritten card new_card old new m answer most body result ready at same step = record {
   step = step;
-  moments = unwritten_leaves card old new m answer.commits ready at same;
+  moments = unwritten_leaves card old new m answer.commits ready at.held at.valid same;
   unwritten = go result;
   octets = risen result;
 }

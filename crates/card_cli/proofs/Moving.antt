@@ -142,7 +142,7 @@ pub note-moments : (m : Machine) (note reading : LineContent) (text : List ℕ) 
     → now.still.mark ≤ old.still.mark + length text → Throughout old now (IsInAnswered m reading old.still.mark)
 note-moments m note reading text card old now ready at is text_is stays clocked gives within =
     subst (λ (r : LineContent). Throughout old now (IsInAnswered m r old.still.mark)) is
-    (answered-moments m note old old now (unwritten_leaves card old old m (content_commits m note) ready at refl) refl (gives-throughout old now clocked gives)
+    (answered-moments m note old old now (unwritten_leaves card old old m (content_commits m note) ready at.held at.valid.committed refl) refl (gives-throughout old now clocked gives)
     (λ image there. subst (Opens image) stays (Opens-at card old m ready at image there)) (omega (arith, within, ap length text_is)))
 
 -- or all of it
