@@ -251,7 +251,10 @@ impl Card {
             Operation::CloseChannel { number } => {
                 Ok(self.close_channel(channel, channel_meant(channel, *number)))
             }
-            Operation::DeleteUser { .. } | Operation::Verify { .. } => unreachable!(),
+            Operation::Verify { secret } => self.verify(bench, channel, secret.as_slice()),
+            Operation::DeleteUser { name } => {
+                self.delete_user(bench, channel, name.copy(), &command.operation)
+            }
             operation => self.change(bench, channel, operation),
         }
     }
@@ -362,6 +365,95 @@ impl Card {
         )?;
         self.settle(channel, word);
         Ok(word)
+    }
+
+    // Compares a secret with that of the user who is presented on a channel, where that one isn't proved yet.
+    fn verify<B: Eeprom>(
+        &mut self,
+        bench: &mut B,
+        channel: u8,
+        secret: &[u8],
+    ) -> Result<StatusWord, EepromFault>
+        requires ready { IsReady self.old (B.chip bench.old) }
+        requires channel { channel < 4 }
+        ensures performs { (m : machine.Machine) → StepsFrom self.old (B.chip bench.old) m
+            → Performs m (stepping.answered m (stepping.verified m channel secret.now)) (or_nothing (octets_verified m channel secret.now)) [] result self.new (B.chip bench.old) (B.chip bench.new) }
+        // Where it is done, there was a moment at which a power loss may leave one try less.
+        ensures lowered { (m : machine.Machine) → StepsFrom self.old (B.chip bench.old) m
+            → IfOk result (λ word. word ≡ done → LeavesFirst (stepping.answered m (stepping.verified m channel secret.now)).commits (B.chip bench.old) (B.chip bench.new)) }
+        ensures ready { OnOk result (IsReady self.new (B.chip bench.new)) }
+        ensures cause { Counts (B.faults bench.old) (B.faults bench.new) result }
+        ensures cells { OnOk result (self.new.store.chains.cells ≡ self.old.store.chains.cells) }
+        ensures behind { Keeps (drop (image_size self.old.store.chains.cells)) (B.chip bench.old) (B.chip bench.new) }
+    {
+        let Some(user) = self.unproved_user(channel) else {
+            return Ok(StatusWord::CONDITIONS_NOT_SATISFIED);
+        };
+        let word = verify(&mut self.store, bench, user, secret)?;
+        if word.word == StatusWord::DONE.word {
+            self.prove(channel);
+        }
+        self.settle(channel, word);
+        Ok(word)
+    }
+
+    // Deletes a user, whose sessions then have neither user nor cursor.
+    fn delete_user<B: Eeprom>(
+        &mut self,
+        bench: &mut B,
+        channel: u8,
+        name: Name,
+        operation: &Operation,
+    ) -> Result<StatusWord, EepromFault>
+        requires ready { IsReady self.old (B.chip bench.old) }
+        requires channel { channel < 4 }
+        requires deletes { operation.now ≡ model_operation.DeleteUser name }
+        ensures performs { (m : machine.Machine) → StepsFrom self.old (B.chip bench.old) m
+            → Performs m (stepping.answered m (stepping.user_and_sessions_deleted m channel name)) (or_nothing (octets_changed m channel operation.now)) [] result self.new (B.chip bench.old) (B.chip bench.new) }
+        ensures ready { OnOk result (IsReady self.new (B.chip bench.new)) }
+        ensures cause { Counts (B.faults bench.old) (B.faults bench.new) result }
+        ensures cells { OnOk result (self.new.store.chains.cells ≡ self.old.store.chains.cells) }
+        ensures behind { Keeps (drop (image_size self.old.store.chains.cells)) (B.chip bench.old) (B.chip bench.new) }
+    {
+        let found = find_name(&self.store, bench, Side::Committed, name)?;
+        let word = self.change(bench, channel, operation)?;
+        if let (Some(user), true) = (found, word.word == StatusWord::DONE.word) {
+            self.leave(user.value.stamp);
+        }
+        Ok(word)
+    }
+
+    // The stamp of a channel's user, where that one isn't proved.
+    fn unproved_user(&self, channel: u8) -> Option<u32>
+        requires channel { channel < 4 }
+        ensures { result ≡ unproved_user (option_flatten (slice_get self.now.sessions channel)) }
+    {
+        let session = self.sessions[channel as usize].as_ref()?;
+        let user = session.user?;
+        if user.proved { None } else { Some(user.stamp) }
+    }
+
+    // The user of a channel has shown the secret.
+    fn prove(&mut self, channel: u8)
+        requires channel { channel < 4 }
+        ensures { self.new ≡ changing_session proving self.old channel }
+    {
+        if let Some(session) = &mut self.sessions[channel as usize] {
+            if let Some(user) = &mut session.user {
+                user.proved = true;
+            }
+        }
+    }
+
+    // Each session that presented the user of a stamp has neither user nor cursor any more.
+    fn leave(&mut self, stamp: u32)
+        ensures { self.new ≡ record self.old { sessions = map (option_map (left_by stamp)) self.old.sessions } }
+    {
+        for session in &mut self.sessions {
+            if let Some(session) = session {
+                session.leave(stamp);
+            }
+        }
     }
 
     // The stamp of a channel's user, where that one is proved.
