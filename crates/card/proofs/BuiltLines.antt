@@ -6,7 +6,7 @@ use Rattle.scql_base.specs.declared.operation.Line.{Line}
 use Rattle.scql_base.specs.declared.operation.Operation.{Operation}
 use Rattle.scql_base.specs.declared.operation.Operation.TheVariants as asks
 use Rattle.scql_base.specs.declared.operation.OperationKind.{OperationKind}
-use Rattle.scql_base.specs.declared.operation.OperationKind.TheVariants.{PresentUser, OpenChannel, CloseChannel}
+use Rattle.scql_base.specs.declared.operation.OperationKind.TheVariants.{Begin, Commit, Rollback, PresentUser, OpenChannel, CloseChannel}
 use Rattle.scql_model.specs.Operations.{IsBuilt, built_operations, kind_of}
 use Rattle.scql_model.specs.Spelling.{is_same}
 use Rattle.card.specs.Changing.{IsChange, is_changing}
@@ -37,6 +37,9 @@ is_change-IsChange operation change = and_from (is_changing (kind_of operation))
 
 -- an operation that is built changes the database, reads, or is one of those with an arm of their own
 abbrev is_of_its_own : OperationKind → Bool
+is_of_its_own Begin = true
+is_of_its_own Commit = true
+is_of_its_own Rollback = true
 is_of_its_own PresentUser = true
 is_of_its_own (OpenChannel number) = true
 is_of_its_own (CloseChannel number) = true
@@ -48,12 +51,18 @@ pub record IsNoneOfThose (operation : Operation) : Type 0 where
   pub not_presents : (name : List ℕ) → operation ≡ asks.PresentUser name → ⊥
   pub not_opens : (number : ℕ) → operation ≡ asks.OpenChannel number → ⊥
   pub not_closes : (number : ℕ) → operation ≡ asks.CloseChannel number → ⊥
+  pub not_begins : operation ≡ asks.Begin → ⊥
+  pub not_commits : operation ≡ asks.Commit → ⊥
+  pub not_rolls_back : operation ≡ asks.Rollback → ⊥
 
 pub IsChange-built : (operation : Operation) → IsBuilt (kind_of operation) → IsNoneOfThose operation → IsChange operation
 IsChange-built operation built others =
     (built, of operation others (all-Contains (λ kind. is_changing kind || is_reading kind || is_of_its_own kind) kinds_built (kind_of operation) refl built))
   where
     of : (operation : Operation) → IsNoneOfThose operation → (is_changing (kind_of operation) || is_reading (kind_of operation) || is_of_its_own (kind_of operation)) ≡ true → is_changing (kind_of operation) ≡ true
+    of asks.Begin others is = absurd (others.not_begins refl)
+    of asks.Commit others is = absurd (others.not_commits refl)
+    of asks.Rollback others is = absurd (others.not_rolls_back refl)
     of (asks.PresentUser name) others is = absurd (others.not_presents name refl)
     of (asks.OpenChannel number) others is = absurd (others.not_opens number refl)
     of (asks.CloseChannel number) others is = absurd (others.not_closes number refl)

@@ -28,7 +28,7 @@ use Rattle.card.proofs.Leaving.{Keeps-none, rises-none}
 use Rattle.card.proofs.Starting.{opens-same}
 
 -- Slots are told where an image is.
-told-image : (store : Held) (side : Side) (chip : Chip) (slots : Slots) → slots_of store side chip ≡ Some slots → (image : List ℕ) × (chip.image ≡ Some image) × (contents store side image ≡ Some slots)
+pub told-image : (store : Held) (side : Side) (chip : Chip) (slots : Slots) → slots_of store side chip ≡ Some slots → (image : List ℕ) × (chip.image ≡ Some image) × (contents store side image ≡ Some slots)
 told-image store side chip slots told = of chip.image refl
   where
     of : (o : Option (List ℕ)) → chip.image ≡ o → (image : List ℕ) × (chip.image ≡ Some image) × (contents store side image ≡ Some slots)
@@ -100,7 +100,7 @@ opens-rest store chip db over rest was told =
     opens-side store Committed chip db rest was was told (store_of-stands store was stands)
 
 -- where the store of the image stays at each moment, so does the database
-leaves-kept : (old new : Chip) (db : Database) (more : List Database) → ((was : List ℕ) → old.image ≡ Some was → Opens was db) → Keeps store_of old new → LeavesOneOf (db ∷ more) old new
+pub leaves-kept : (old new : Chip) (db : Database) (more : List Database) → ((was : List ℕ) → old.image ≡ Some was → Opens was db) → Keeps store_of old new → LeavesOneOf (db ∷ more) old new
 leaves-kept old new db more opens keeps = record {
   later = keeps.later;
   only = λ t g left since there. elim (keeps.only t g left since there) [
@@ -112,7 +112,7 @@ leaves-kept old new db more opens keeps = record {
 }
 
 -- and a commit leaves it, or what the working side holds
-leaves-committed : (mid : Held) (old between new : Chip) (db next : Database) → ((was : List ℕ) → old.image ≡ Some was → Opens was db) → Keeps store_of old between
+pub leaves-committed : (mid : Held) (old between new : Chip) (db next : Database) → ((was : List ℕ) → old.image ≡ Some was → Opens was db) → Keeps store_of old between
     → IsHeld mid Committed between db → IsHeld mid Working between next → Commits mid between new → LeavesOneOf (db ∷ next ∷ []) old new
 leaves-committed mid old between new db next opens keeps committed working commits =
     throughout-then old between new _ (leaves-kept old between db (next ∷ []) opens keeps) (throughout-weaker between new _ _ commits.moments (λ g left at. (

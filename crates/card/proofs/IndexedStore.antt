@@ -37,7 +37,7 @@ rows-told index store chip Committed stands = stands.committed
 rows-told index store chip Working stands = stands.working
 
 -- without a transaction both sides have the same slots
-working-idle : (store : Held) (chip : Chip) → store.begun ≡ false → slots_of store Working chip ≡ slots_of store Committed chip
+pub working-idle : (store : Held) (chip : Chip) → store.begun ≡ false → slots_of store Working chip ≡ slots_of store Committed chip
 working-idle store chip idle = of chip.image
   where
     of : (image : Option (List ℕ)) → option_and_then (contents store Working) image ≡ option_and_then (contents store Committed) image
@@ -67,22 +67,22 @@ Indexes-ended index next side store ended old new stands is_next idle cells same
       working = subst (λ o. IfSome o (HasRows index.cells (side_places index side))) (sym (working-idle ended new idle)) rows;
     })
 
--- Where the store held some database if its image was told, an index stands that does so for each database.
-pub Indexes-held : (index : Index) (store before : Held) (old new : Chip) → HoldsSome before old → is_some new.image ≡ is_some old.image → index.cells ≡ store.chains.cells
-    → ((db : Database) → IsAtRest before old db → Indexes index store new) → Indexes index store new
-Indexes-held index store before old new holds told cells each = of old.image new.image refl holds told
+-- Where a side held some database if its image was told, an index stands that does so for each database.
+pub Indexes-held : (index : Index) (store before : Held) (side : Side) (old new : Chip) → HoldsSome before side old → is_some new.image ≡ is_some old.image → index.cells ≡ store.chains.cells
+    → ((db : Database) → IsHeld before side old db → Indexes index store new) → Indexes index store new
+Indexes-held index store before side old new holds told cells each = of old.image new.image refl holds told
   where
-    of : (was now : Option (List ℕ)) → new.image ≡ now → IfSome was (λ image. (db : Database) × IsAtRest before old db) → is_some now ≡ is_some was → Indexes index store new
+    of : (was now : Option (List ℕ)) → new.image ≡ now → IfSome was (λ image. (db : Database) × IsHeld before side old db) → is_some now ≡ is_some was → Indexes index store new
     of (Some image) now is holds told = each holds.0 holds.1
     of None None is holds told = Indexes-untold index store new cells (ap is_some is)
     of None (Some image) is holds told = absurd cc
 
--- And so does the store hold some database again.
-pub HoldsSome-changed : (store before : Held) (old new : Chip) → HoldsSome before old → is_some new.image ≡ is_some old.image
-    → ((db : Database) → IsAtRest before old db → (next : Database) × IsAtRest store new next) → HoldsSome store new
-HoldsSome-changed store before old new holds told each = of old.image new.image holds told
+-- And so does the side hold some database again.
+pub HoldsSome-changed : (store before : Held) (side : Side) (old new : Chip) → HoldsSome before side old → is_some new.image ≡ is_some old.image
+    → ((db : Database) → IsHeld before side old db → (next : Database) × IsHeld store side new next) → HoldsSome store side new
+HoldsSome-changed store before side old new holds told each = of old.image new.image holds told
   where
-    of : (was now : Option (List ℕ)) → IfSome was (λ image. (db : Database) × IsAtRest before old db) → is_some now ≡ is_some was → IfSome now (λ image. (db : Database) × IsAtRest store new db)
+    of : (was now : Option (List ℕ)) → IfSome was (λ image. (db : Database) × IsHeld before side old db) → is_some now ≡ is_some was → IfSome now (λ image. (db : Database) × IsHeld store side new db)
     of was None holds told = tt
     of (Some image) (Some now) holds told = each holds.0 holds.1
     of None (Some now) holds told = absurd cc

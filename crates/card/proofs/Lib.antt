@@ -23,12 +23,15 @@ mod PlacedRows
 mod ReadingCard
 mod ReadingMoves
 mod SeenSessions
+mod Sides
 mod SlotCount
 mod SortedTest
 mod Sorting
 pub mod Stamped
 pub mod Starting
 mod TakenForms
+mod TouchedLaws
+mod Transacting
 pub mod Tested
 pub mod Told
-mod UnreadSteps
+mod FreeCommands

@@ -14,6 +14,8 @@ use Rattle.card.specs.Answering as answering
 use Rattle.card.specs.Answering.{HoldsAnswer, changing_session, replied}
 use Rattle.card.specs.Card.{Kept, HoldsMachine}
 use Rattle.card.specs.Sessions.{is_open, least_closed}
+use Rattle.card.specs.Waiting.{has_own}
+use Rattle.card.proofs.FreeCommands.{own-has, own-none}
 use Rattle.card.proofs.Performing.{HoldsMachine-changing, HoldsMachine-set}
 
 module _ (card : Kept) (chip : Chip) (m : Machine) (asking : ℕ) (at : HoldsMachine card chip m) where
@@ -63,16 +65,23 @@ module _ (card : Kept) (chip : Chip) (m : Machine) (asking : ℕ) (at : HoldsMac
   pub HoldsAnswer-open_already : (number : ℕ) → 0 < number → is_open card.sessions number ≡ true → HoldsAnswer (answered m (channel_opened m asking number)) (said conditions_not_satisfied) card chip
   HoldsAnswer-open_already number named is = refuses (channel_opened m asking number) conditions_not_satisfied (opened-named number true named is)
 
-  -- and one is closed.
-  closed-named : (number : ℕ) (open' : Bool) → is_open card.sessions number ≡ open'
-      → channel_closed m asking number ≡ (provided open' channel_not_supported >>= λ _. Ok (done_with (with_session m number None) asking []))
-  closed-named number open' is =
+  -- and one is closed, unless it has the open transaction.
+  closed-named : (number : ℕ) (open' : Bool) (own : Option Transaction) → is_open card.sessions number ≡ open' → own_transaction m.transaction number ≡ own
+      → channel_closed m asking number ≡ (provided open' channel_not_supported >>= λ _. provided (not (is_some own)) conditions_not_satisfied >>= λ _. Ok (done_with (with_session m number None) asking []))
+  closed-named number open' own is has =
       ap (λ (b : Bool). provided b channel_not_supported >>= λ _. provided (not (is_some (own_transaction m.transaction number))) conditions_not_satisfied >>= λ _. Ok (done_with (with_session m number None) asking [])) (open-at number ∙ is)
-      ∙ ap (λ (t : Option Transaction). provided open' channel_not_supported >>= λ _. provided (not (is_some (own_transaction t number))) conditions_not_satisfied >>= λ _. Ok (done_with (with_session m number None) asking [])) at.transaction
+      ∙ ap (λ (t : Option Transaction). provided open' channel_not_supported >>= λ _. provided (not (is_some t)) conditions_not_satisfied >>= λ _. Ok (done_with (with_session m number None) asking [])) has
 
-  pub HoldsAnswer-closed : (after : Kept) (number : ℕ) → is_open card.sessions number ≡ true → after ≡ changing_session without_pending (answering.with_session card number None) asking
-      → HoldsAnswer (answered m (channel_closed m asking number)) (said done) after chip
-  HoldsAnswer-closed after number open' set = answers after (channel_closed m asking number) [] number None set (closed-named number true open')
+  pub HoldsAnswer-closed : (after : Kept) (number : ℕ) → is_open card.sessions number ≡ true → has_own card.transaction number ≡ false
+      → after ≡ changing_session without_pending (answering.with_session card number None) asking → HoldsAnswer (answered m (channel_closed m asking number)) (said done) after chip
+  HoldsAnswer-closed after number open' other set =
+      answers after (channel_closed m asking number) [] number None set (closed-named number true None open' (own-none m.transaction card.transaction number at.transaction other))
+
+  pub HoldsAnswer-closed_within : (number : ℕ) → is_open card.sessions number ≡ true → has_own card.transaction number ≡ true
+      → HoldsAnswer (answered m (channel_closed m asking number)) (said conditions_not_satisfied) card chip
+  HoldsAnswer-closed_within number open' own =
+      let has = own-has m.transaction card.transaction number at.transaction own in
+      refuses (channel_closed m asking number) conditions_not_satisfied (closed-named number true (Some has.0) open' has.2)
 
   pub HoldsAnswer-closed_already : (number : ℕ) → is_open card.sessions number ≡ false → HoldsAnswer (answered m (channel_closed m asking number)) (said channel_not_supported) card chip
-  HoldsAnswer-closed_already number closed = refuses (channel_closed m asking number) channel_not_supported (closed-named number false closed)
+  HoldsAnswer-closed_already number closed = refuses (channel_closed m asking number) channel_not_supported (closed-named number false (own_transaction m.transaction number) closed refl)

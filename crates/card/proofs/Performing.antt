@@ -1,6 +1,6 @@
 -- What a command does, by the ways in which it ends.
-use Rattle.std.proofs.Common.{◌≡◌, ℕ, Bool, true, false, List, [], ◌∷◌, length, Option, Some, None, Result, Ok, Err, if◌then◌else◌, refl, sym, ap, subst, ◌==◌, ◌∙◌}
-use Rattle.std.specs.Prelude.{IfOk, OnOk, option_and_then, option_map, slice_get, slice_set}
+use Rattle.std.proofs.Common.{◌≡◌, ℕ, Bool, true, false, List, [], ◌∷◌, length, Option, Some, None, Result, Ok, Err, if◌then◌else◌, refl, sym, ap, subst, ◌==◌, ◌∙◌, arith}
+use Rattle.std.specs.Prelude.{IfOk, IfSome, OnOk, option_and_then, option_map, slice_get, slice_set}
 use Rattle.std.specs.Option.{option_map_or, option_flatten}
 use Rattle.eeprom.specs.declared.EepromFault.{EepromFault}
 use Rattle.eeprom.specs.Chip.{Chip, Becomes, RisesAtMost}
@@ -15,7 +15,8 @@ use Rattle.scql_base.specs.Words.{done}
 use Rattle.scql_model.specs.Bound.{octets_changed, or_nothing}
 use Rattle.scql_model.specs.Changing.{edits_of, with_edits}
 use Rattle.scql_model.specs.Database.{Database}
-use Rattle.scql_model.specs.Machine.{Machine, Session, actor, actor_of, base, session_for, session_of}
+use Rattle.scql_model.specs.Edits.{Edit, octets_for}
+use Rattle.scql_model.specs.Machine.{Machine, Session, Transaction, actor, actor_of, base, session_for, session_of}
 use Rattle.scql_model.specs.Refusals.{◌>>=◌}
 use Rattle.scql_model.specs.Replies.{said}
 use Rattle.scql_model.specs.Sessions as sessions
@@ -27,20 +28,20 @@ use Rattle.db_access.specs.Presenting.{session_presented}
 use Rattle.db_access.specs.declared.presenting.Presented.{Presented as Found}
 use Rattle.card.specs.Answering.{HoldsAnswer, LeavesOneOf, Performs, changing_session, committed_at_once, replied, settled, with_session, with_session_for}
 use Rattle.row_index.specs.Index.{Index}
-use Rattle.card.specs.Card.{Kept, IsReady, HoldsMachine, StepsFrom, committed_slots, IsAtRest}
-use Rattle.card.specs.Changing.{Concludes, Changes, acting, new_of, commits_of}
+use Rattle.card.specs.Card.{Kept, IsReady, IsAt, HoldsMachine, WorksOn, committed_slots, IsAtRest}
+use Rattle.card.specs.Changing.{Concludes, Changes, acting, new_of, octets_of, commits_of}
 use Rattle.card.specs.Sessions.{proved_stamp, proved_user}
 use Rattle.card.proofs.Leaving.{rises-none, unwritten_leaves}
 use Rattle.card.proofs.SlotCount.{length-committed_slots}
 use Rattle.card.proofs.Told.{if_some-at}
-use Rattle.card.proofs.UnreadSteps.{committed-base, changed-outcome, octets-changed}
+use Rattle.card.proofs.FreeCommands.{committed-base, changed-outcome, octets-changed}
 
 -- a command that writes nothing
-pub Performs-unwritten : (card new_card : Kept) (old new : Chip) (m : Machine) (answer : Answer) (most : ℕ) (body : List ℕ) (result : Result StatusWord EepromFault) → IsReady card old → StepsFrom card old m → new ≡ old
+pub Performs-unwritten : (card new_card : Kept) (old new : Chip) (m : Machine) (answer : Answer) (most : ℕ) (body : List ℕ) (result : Result StatusWord EepromFault) → IsReady card old → IsAt card old m → new ≡ old
     → IfOk result (λ word. HoldsAnswer answer (replied body word) new_card new) → Performs m answer most body result new_card old new
 Performs-unwritten card new_card old new m answer most body result ready at same step = record {
   step = step;
-  moments = unwritten_leaves card old new m answer.commits ready at.held at.valid same;
+  moments = unwritten_leaves card old new m answer.commits ready at.held at.valid.committed same;
   unwritten = go result;
   octets = risen result;
 }
@@ -49,7 +50,7 @@ Performs-unwritten card new_card old new m answer most body result ready at same
     risen (Ok word) = rises-none most old new same
     risen (Err fault) = tt
 
-    go : (r : Result StatusWord EepromFault) → OnOk r (answer.commits ≡ [] → new ≡ old)
+    go : (r : Result StatusWord EepromFault) → OnOk r (most ≡ 0 → new ≡ old)
     go (Ok word) = λ none. same
     go (Err fault) = tt
 
@@ -64,24 +65,25 @@ Performs-from m next answer most body result card old new same performs = record
 }
 
 -- A card that holds a machine holds the machine's database,
-pub IsAtRest-at : (card : Kept) (chip : Chip) (m : Machine) → IsReady card chip → StepsFrom card chip m → IsAtRest card.store chip m.committed
+pub IsAtRest-at : (card : Kept) (chip : Chip) (m : Machine) → IsReady card chip → IsAt card chip m → IsAtRest card.store chip m.committed
 unfolding committed_slots
 IsAtRest-at card chip m ready from =
     let at = from.held in
     let counted : length at.slots ≡ card.store.chains.cells =
     if_some-at (λ slots. length slots ≡ card.store.chains.cells) (committed_slots card.store chip.image) at.slots at.committed (length-committed_slots card.store chip.image ready.over.stands) in
-    record { slots = at.slots; told = at.committed; cells = sym at.holds.cells ∙ counted; limit = at.limit; holds = at.holds; valid = from.valid }
+    record { slots = at.slots; told = at.committed; cells = sym at.holds.cells ∙ counted; limit = at.limit; holds = at.holds; valid = from.valid.committed }
 
--- and one that holds it holds the machine.
-HoldsMachine-rest : (card : Kept) (store : Held) (index : Index) (chip : Chip) (m : Machine) (db : Database) → m.transaction ≡ None → m.sessions ≡ card.sessions → IsAtRest store chip db
+-- and one that holds it, without a transaction, holds the machine.
+pub HoldsMachine-rest : (card : Kept) (store : Held) (index : Index) (chip : Chip) (m : Machine) (db : Database) → m.transaction ≡ None → card.transaction ≡ None → m.sessions ≡ card.sessions → IsAtRest store chip db
     → HoldsMachine (record card { store = store; index = index }) chip (record m { committed = db })
 unfolding committed_slots
-HoldsMachine-rest card store index chip m db none sessions rest = record {
+HoldsMachine-rest card store index chip m db none closed sessions rest = record {
   slots = rest.slots;
   committed = rest.told;
   limit = rest.limit;
   holds = rest.holds;
-  transaction = none;
+  transaction = ap (option_map (λ (t : Transaction). t.channel)) none ∙ sym closed;
+  works = subst (λ (t : Option Transaction). IfSome t (WorksOn store chip rest.slots)) (sym none) tt;
   sessions = sessions;
 }
 
@@ -94,6 +96,7 @@ HoldsMachine-set card chip m channel session at = record {
   limit = at.limit;
   holds = at.holds;
   transaction = at.transaction;
+  works = at.works;
   sessions = ap (λ (others : List (Option Session)). slice_set others channel session) at.sessions;
 }
 
@@ -106,6 +109,7 @@ HoldsMachine-changing change card chip m channel at = record {
   limit = at.limit;
   holds = at.holds;
   transaction = at.transaction;
+  works = at.works;
   sessions = ap (λ (others : List (Option Session)). slice_set others channel (option_map change (option_flatten (slice_get others channel)))) at.sessions;
 }
 
@@ -125,36 +129,44 @@ actor-stamped db (Some p) = chosen p.proved
     chosen false = refl
 
 pub actor-at : (card : Kept) (chip : Chip) (m : Machine) (channel : ℕ) (user : Option ℕ) → HoldsMachine card chip m → user ≡ proved_user (option_flatten (slice_get card.sessions channel))
-    → actor m channel ≡ acting m.committed user
+    → actor m channel ≡ acting (base m channel) user
 actor-at card chip m channel user at is =
     let session : session_of m channel ≡ option_flatten (slice_get card.sessions channel) = ap (λ (sessions : List (Option Session)). option_flatten (slice_get sessions channel)) at.sessions in
     actor-stamped (base m channel) (option_and_then (λ (s : Session). s.user) (session_of m channel))
-    ∙ (ap (λ (db : Database). acting db (proved_user (session_of m channel))) (committed-base m channel at.transaction)
-    ∙ ap (acting m.committed) (ap proved_user session ∙ sym is))
+    ∙ ap (acting (base m channel)) (ap proved_user session ∙ sym is)
+
+-- a change for which nothing is written commits nothing
+none-committed : (db : Database) (edited : Result (List Edit) StatusWord) → octets_of db edited ≡ 0 → commits_of (new_of db edited) ≡ []
+none-committed db (Err word) none = refl
+none-committed db (Ok edits) none = of (with_edits db edits) none
+  where
+    of : (outcome : Result Database StatusWord) → or_nothing (outcome >>= λ (new : Database). Ok (octets_for edits)) ≡ 0 → commits_of outcome ≡ []
+    of (Ok new) none = absurd (omega (arith, none))
+    of (Err word) none = refl
 
 -- a refusal of a change isn't 9000
-refused-not_done : (db : Database) (actor : Actor) (cursor : Option Cursor) (operation : Operation) (refused : StatusWord) → new_of db (edits_of db actor cursor operation) ≡ Err refused
+pub refused-not_done : (db : Database) (actor : Actor) (cursor : Option Cursor) (operation : Operation) (refused : StatusWord) → new_of db (edits_of db actor cursor operation) ≡ Err refused
     → (refused.word == done.word) ≡ false
 refused-not_done db actor cursor operation refused is =
     let gives = behind Anything (edits_of db actor cursor operation) (with_edits db) (gives-edits_of db actor cursor operation) (λ edits _. gives-with_edits db edits) in
     not_done-refusal refused (subst (Gives Anything) is gives)
 
--- What a change does to the store, it does to the machine. Where it is done, nothing is pending on its channel any more.
+-- What a change that is committed at once does to the store, it does to the machine. Where it is done, nothing is pending on its channel any more.
 pub Performs-changed : (card after : Kept) (store : Held) (index : Index) (old new : Chip) (m : Machine) (channel : ℕ) (operation : Operation) (user : Option ℕ) (result : Result StatusWord EepromFault) → HoldsMachine card old m
-    → user ≡ proved_user (option_flatten (slice_get card.sessions channel)) → IfOk result (λ word. after ≡ settled word (record card { store = store; index = index }) channel)
+    → m.transaction ≡ None → card.transaction ≡ None → user ≡ proved_user (option_flatten (slice_get card.sessions channel)) → IfOk result (λ word. after ≡ settled word (record card { store = store; index = index }) channel)
     → Changes m.committed (edits_of m.committed (acting m.committed user) (cursor_of m channel) operation) result store old new
     → Performs m (answered m (changed m channel operation)) (or_nothing (octets_changed m channel operation)) [] result after old new
-Performs-changed card after store index old new m channel operation user result at is ended changes =
+Performs-changed card after store index old new m channel operation user result at none closed is ended changes =
     let edited = edits_of m.committed (actor m channel) (cursor_of m channel) operation in
     let by : Changes m.committed edited result store old new
-    = subst (λ (who : Actor). Changes m.committed (edits_of m.committed who (cursor_of m channel) operation) result store old new) (sym (actor-at card old m channel user at is)) changes in
+    = subst (λ (who : Actor). Changes m.committed (edits_of m.committed who (cursor_of m channel) operation) result store old new) (sym (actor-at card old m channel user at is ∙ ap (λ (db : Database). acting db user) (committed-base m channel none))) changes in
     subst (λ (o : Result Answer StatusWord). Performs m (answered m o) (or_nothing (octets_changed m channel operation)) [] result after old new)
-    (sym (changed-outcome m channel operation at.transaction))
+    (sym (changed-outcome m channel operation none))
     (subst (λ (most : ℕ). Performs m (answered m (committed_at_once m channel (new_of m.committed edited))) most [] result after old new)
-    (sym (octets-changed m channel operation at.transaction)) (record {
+    (sym (octets-changed m channel operation none)) (record {
       step = each result ended by.step;
       moments = subst (λ (dbs : List Database). LeavesOneOf (m.committed ∷ dbs) old new) (sym (committed (new_of m.committed edited))) by.moments;
-      unwritten = idle result (new_of m.committed edited) by.unwritten;
+      unwritten = idle result edited by.unwritten;
       octets = by.octets;
     }))
   where
@@ -164,13 +176,13 @@ Performs-changed card after store index old new m channel operation user result 
         let there : (word.word == done.word) ≡ true = ap (λ (w : StatusWord). w.word == done.word) concludes.0 in
         let dropped = rw there at ended in
         subst (λ (w : StatusWord). HoldsAnswer (answered m (committed_at_once m channel (Ok db))) (said w) after new) (sym concludes.0)
-        (HoldsAnswer-done (record card { store = store; index = index }) after new (record m { committed = db }) channel (db ∷ []) (HoldsMachine-rest card store index new m db at.transaction at.sessions concludes.1) dropped)
+        (HoldsAnswer-done (record card { store = store; index = index }) after new (record m { committed = db }) channel (db ∷ []) (HoldsMachine-rest card store index new m db none closed at.sessions concludes.1) dropped)
     concluded (Err refused) word refuses ended concludes =
         let there : (word.word == done.word) ≡ false = ap (λ (w : StatusWord). w.word == done.word) concludes.0 ∙ refuses refused refl in
         let stays = rw there at ended in
         record {
           reply = ap said concludes.0;
-          held = subst (λ (kept : Kept). HoldsMachine kept new m) (sym stays) (HoldsMachine-rest card store index new m m.committed at.transaction at.sessions concludes.1);
+          held = subst (λ (kept : Kept). HoldsMachine kept new m) (sym stays) (HoldsMachine-rest card store index new m m.committed none closed at.sessions concludes.1);
         }
 
     each : (r : Result StatusWord EepromFault) → IfOk r (λ word. after ≡ settled word (record card { store = store; index = index }) channel)
@@ -185,16 +197,15 @@ Performs-changed card after store index old new m channel operation user result 
     committed (Ok db) = refl
     committed (Err refused) = refl
 
-    idle : (r : Result StatusWord EepromFault) (outcome : Result Database StatusWord) → OnOk r (commits_of outcome ≡ [] → new ≡ old)
-        → OnOk r ((answered m (committed_at_once m channel outcome)).commits ≡ [] → new ≡ old)
-    idle (Ok word) outcome same = λ none. same (sym (committed outcome) ∙ none)
-    idle (Err fault) outcome same = tt
+    idle : (r : Result StatusWord EepromFault) (edited : Result (List Edit) StatusWord) → OnOk r (commits_of (new_of m.committed edited) ≡ [] → new ≡ old) → OnOk r (octets_of m.committed edited ≡ 0 → new ≡ old)
+    idle (Ok word) edited same = λ none. same (none-committed m.committed edited none)
+    idle (Err fault) edited same = tt
 
 -- PRESENT USER, by who was found.
-module _ (card : Kept) (old new : Chip) (m : Machine) (channel : ℕ) (name : List ℕ) (found : Found) (at : HoldsMachine card old m) (same : new ≡ old) (is : session_presented found ≡ session_named m.committed name) where
+module _ (card : Kept) (old new : Chip) (m : Machine) (channel : ℕ) (name : List ℕ) (found : Found) (at : HoldsMachine card old m) (none : m.transaction ≡ None) (same : new ≡ old) (is : session_presented found ≡ session_named m.committed name) where
   presented-by : (outcome : Result Session StatusWord) → session_presented found ≡ outcome → user_presented m channel name ≡ (outcome >>= λ session. Ok (done_with (sessions.with_session m channel (Some session)) channel []))
   presented-by outcome was =
-      ap (λ (db : Database). session_named db name >>= λ (session : Session). Ok (done_with (sessions.with_session m channel (Some session)) channel [])) (committed-base m channel at.transaction)
+      ap (λ (db : Database). session_named db name >>= λ (session : Session). Ok (done_with (sessions.with_session m channel (Some session)) channel [])) (committed-base m channel none)
       ∙ ap (λ (o : Result Session StatusWord). o >>= λ (session : Session). Ok (done_with (sessions.with_session m channel (Some session)) channel [])) (sym is ∙ was)
 
   -- nobody has the name

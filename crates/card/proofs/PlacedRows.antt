@@ -184,7 +184,7 @@ indexed index store chip cells count next records sorted is all idle claimed ope
 
 -- The store holds the database that its image opens to.
 pub holds-opened : (store : Held) (chip : Chip) (count next : ℕ) (records : List KeptRecord) → count ≡ store.chains.cells → IfSome chip.image (λ image. store_of image ≡ stored store Committed image)
-    → IfSome chip.image (λ image. (was : Stored) → store_of image ≡ Some was → Gathers was.row_limit count was.slots (Some next) records) → IfSome chip.image (λ image. (db : Database) × Opens image db) → HoldsSome store chip
+    → IfSome chip.image (λ image. (was : Stored) → store_of image ≡ Some was → Gathers was.row_limit count was.slots (Some next) records) → IfSome chip.image (λ image. (db : Database) × Opens image db) → HoldsSome store Committed chip
 holds-opened store chip count next records cells opened gathers opens = go chip.image refl opened gathers opens
   where
     go : (image : Option (List ℕ)) → chip.image ≡ image → IfSome image (λ image. store_of image ≡ stored store Committed image)

@@ -20,16 +20,16 @@ use Rattle.scql_model.specs.Moves.{move_of}
 use Rattle.scql_model.specs.Operations.{WantsLe, kind_of}
 use Rattle.scql_model.specs.ReadingCommands.{Move, ReadingCommand, reading_command}
 use Rattle.scql_model.specs.Sessions as sessions
-use Rattle.scql_model.specs.Sessions.{reading_of, reading_so}
+use Rattle.scql_model.specs.Sessions.{cursor_of, reading_of, reading_so}
 use Rattle.scql_model.specs.Step.{Answer, answered, carried_out}
 use Rattle.scql_model.specs.WellFormed.{IsWellFormed}
 use Rattle.card.specs.Answering.{HoldsAnswer, changing_session, replied}
-use Rattle.card.specs.Card.{Kept, HoldsMachine}
+use Rattle.card.specs.Card.{Kept, HoldsMachine, IsAt}
 use Rattle.card.specs.Reading.{is_reading}
 use Rattle.card.specs.Sessions.{reading_in, session_seen, sessions_of}
 use Rattle.card.specs.declared.session.Session.{Session}
 use Rattle.card.proofs.Performing.{HoldsMachine-changing}
-use Rattle.card.proofs.UnreadSteps.{carried_out-reads}
+use Rattle.card.proofs.FreeCommands.{carried_out-reads}
 
 -- a command of a reading operation is a reading command
 pub reads-command : (c : Command) → IsWellFormed c → is_reading (kind_of c.operation) ≡ true → (command : ReadingCommand) × (reading_command c.operation c.le ≡ Some command)
@@ -75,6 +75,19 @@ pub err-on : (P : EepromFault → Type 0) (X : Type 0) (r : Result StatusWord Ee
 err-on P X (Ok word) is = absurd is
 err-on P X (Err fault) is = tt
 
+pub on-any : (X : Type 0) (r : Result StatusWord EepromFault) → X → OnOk r X
+on-any X (Ok word) x = x
+on-any X (Err fault) x = tt
+
+-- The cursor of a session is the machine's, and one of what its channel reads.
+pub cursor-card : (card : Kept) (chip : Chip) (m : Machine) (sessions : List (Option Session)) (chains : List (Option Chain)) (channel : ℕ) (session : Session) → IsAt card chip m → card.sessions ≡ sessions_of sessions chains
+    → length sessions ≡ length chains → slice_index_or sessions channel None ≡ Some session → (cursor_of m channel ≡ session.cursor) × IfSome session.cursor (IsCursorOf (base m channel))
+cursor-card card chip m sessions chains channel session at seen same there =
+    let reads = reading-card card chip m sessions chains channel session at.held seen same there in (
+      ap (λ (reading : Reading). reading.cursor) reads,
+      of_database (base m channel) session.cursor (subst (λ (reading : Reading). IfSome reading.cursor (StandsOn (base m channel))) reads (at.valid.readings channel).cursor),
+    )
+
 -- a move over the same database, for the same actor, from the same reading
 pub move-there : (db base : Database) (who actor : Actor) (reading before : Reading) (command : ReadingCommand) (move : Move Reading) → base ≡ db → actor ≡ who → before ≡ reading
     → move_of db who reading command ≡ move → move_of base actor before command ≡ move
@@ -91,7 +104,7 @@ pub HoldsAnswer-read : (card after : Kept) (chip : Chip) (m : Machine) (c : Comm
 HoldsAnswer-read card after chip m c command body word reading at is moves set =
     subst (λ (kept : Kept). HoldsAnswer (answered m (carried_out m c)) (replied body word) kept chip) (sym set)
     (subst (λ (answer : Answer). HoldsAnswer answer (replied body word) (changing_session (reading_so reading) card c.channel) chip)
-    (sym (ap (answered m) (carried_out-reads m c command at.transaction is) ∙ ap (answer_of m c.channel) moves))
+    (sym (ap (answered m) (carried_out-reads m c command is) ∙ ap (answer_of m c.channel) moves))
     (record { reply = refl; held = HoldsMachine-changing (reading_so reading) card chip m c.channel at }))
 
 -- what a session of the program reads then is what the one that is seen reads

@@ -55,7 +55,7 @@ user-seen (Some session ∷ sessions) (chain ∷ chains) zero same = refl
 user-seen (session ∷ sessions) (chain ∷ chains) (suc channel) same = user-seen sessions chains channel cc
 
 -- the same of a card
-module _ (store : Held) (index : Index) (live : Bool) (sessions : List (Option Session)) (chains : List (Option Chain)) (card : Kept) (is : record { store = store; index = index; sessions = sessions_of sessions chains; live = live } ≡ card) where
+module _ (store : Held) (index : Index) (transaction : Option ℕ) (live : Bool) (sessions : List (Option Session)) (chains : List (Option Chain)) (card : Kept) (is : record { store = store; index = index; sessions = sessions_of sessions chains; transaction = transaction; live = live } ≡ card) where
   pub open-card : length sessions ≡ length chains → map (λ (s : Option Session). is_some s) sessions ≡ map (λ (s : Option machine.Session). is_some s) card.sessions
   open-card same = open-sessions sessions chains same ∙ ap (λ (kept : Kept). map (λ (s : Option machine.Session). is_some s) kept.sessions) is
 
@@ -141,29 +141,29 @@ sessions_of-none change (session ∷ sessions) (chain ∷ chains) (suc channel) 
     ap (λ rest. option_map (session_seen chain) session ∷ rest) (sessions_of-none change sessions chains channel there)
 
 -- the same of a card
-pub card-changed : (change : machine.Session → machine.Session) (store : Held) (index : Index) (live : Bool) (sessions : List (Option Session)) (chains : List (Option Chain)) (channel : ℕ) (old new : Session) (card : Kept)
-    → record { store = store; index = index; sessions = sessions_of sessions chains; live = live } ≡ card
+pub card-changed : (change : machine.Session → machine.Session) (store : Held) (index : Index) (transaction : Option ℕ) (live : Bool) (sessions : List (Option Session)) (chains : List (Option Chain)) (channel : ℕ) (old new : Session) (card : Kept)
+    → record { store = store; index = index; sessions = sessions_of sessions chains; transaction = transaction; live = live } ≡ card
     → ((chain : Option Chain) → session_seen chain new ≡ change (session_seen chain old)) → slice_index_or sessions channel None ≡ Some old
-    → record { store = store; index = index; sessions = sessions_of (slice_set sessions channel (Some new)) chains; live = live } ≡ changing_session change card channel
-card-changed change store index live sessions chains channel old new card is seen there =
-    ap (λ (changed : List (Option machine.Session)). let kept : Kept = record { store = store; index = index; sessions = changed; live = live } in kept)
+    → record { store = store; index = index; sessions = sessions_of (slice_set sessions channel (Some new)) chains; transaction = transaction; live = live } ≡ changing_session change card channel
+card-changed change store index transaction live sessions chains channel old new card is seen there =
+    ap (λ (changed : List (Option machine.Session)). let kept : Kept = record { store = store; index = index; sessions = changed; transaction = transaction; live = live } in kept)
     (sessions_of-changed change new sessions chains channel old seen there)
     ∙ ap (λ (kept : Kept). changing_session change kept channel) is
 
-pub card-none : (change : machine.Session → machine.Session) (store : Held) (index : Index) (live : Bool) (sessions : List (Option Session)) (chains : List (Option Chain)) (channel : ℕ) (card : Kept)
-    → record { store = store; index = index; sessions = sessions_of sessions chains; live = live } ≡ card → slice_index_or sessions channel None ≡ None
+pub card-none : (change : machine.Session → machine.Session) (store : Held) (index : Index) (transaction : Option ℕ) (live : Bool) (sessions : List (Option Session)) (chains : List (Option Chain)) (channel : ℕ) (card : Kept)
+    → record { store = store; index = index; sessions = sessions_of sessions chains; transaction = transaction; live = live } ≡ card → slice_index_or sessions channel None ≡ None
     → card ≡ changing_session change card channel
-card-none change store index live sessions chains channel card is there =
+card-none change store index transaction live sessions chains channel card is there =
     sym is
-    ∙ (ap (λ (changed : List (Option machine.Session)). let kept : Kept = record { store = store; index = index; sessions = changed; live = live } in kept)
+    ∙ (ap (λ (changed : List (Option machine.Session)). let kept : Kept = record { store = store; index = index; sessions = changed; transaction = transaction; live = live } in kept)
     (sessions_of-none change sessions chains channel there)
     ∙ ap (λ (kept : Kept). changing_session change kept channel) is)
 
-pub sessions_of-set : (store : Held) (index : Index) (live : Bool) (sessions : List (Option Session)) (chains left : List (Option Chain)) (channel : ℕ) (set : Option Session) → (card : Kept)
-    → record { store = store; index = index; sessions = sessions_of sessions chains; live = live } ≡ card → left ≡ slice_set chains channel None
-    → record { store = store; index = index; sessions = sessions_of (slice_set sessions channel set) left; live = live } ≡ with_session card channel (option_map (session_seen None) set)
-sessions_of-set store index live sessions chains left channel set card is ended =
-    let seen = λ (changed : List (Option machine.Session)). let kept : Kept = record { store = store; index = index; sessions = changed; live = live } in kept in
+pub sessions_of-set : (store : Held) (index : Index) (transaction : Option ℕ) (live : Bool) (sessions : List (Option Session)) (chains left : List (Option Chain)) (channel : ℕ) (set : Option Session) → (card : Kept)
+    → record { store = store; index = index; sessions = sessions_of sessions chains; transaction = transaction; live = live } ≡ card → left ≡ slice_set chains channel None
+    → record { store = store; index = index; sessions = sessions_of (slice_set sessions channel set) left; transaction = transaction; live = live } ≡ with_session card channel (option_map (session_seen None) set)
+sessions_of-set store index transaction live sessions chains left channel set card is ended =
+    let seen = λ (changed : List (Option machine.Session)). let kept : Kept = record { store = store; index = index; sessions = changed; transaction = transaction; live = live } in kept in
     ap (λ (left : List (Option Chain)). seen (sessions_of (slice_set sessions channel set) left)) ended
     ∙ (ap seen (sessions_of-new sessions chains channel set)
     ∙ ap (λ (kept : Kept). with_session kept channel (option_map (session_seen None) set)) is)

@@ -20,7 +20,7 @@ use Rattle.row_index.specs.Index.{Index}
 use Rattle.card.specs.Card.{Kept, IsAt, committed_slots}
 
 abbrev pub opened : Held → Index → List (Option Session) → Kept
-opened store index sessions = record { store = store; index = index; sessions = sessions; live = true }
+opened store index sessions = record { store = store; index = index; sessions = sessions; transaction = None; live = true }
 
 pub starts_at : (store : Held) (index : Index) (sessions : List (Option Session)) (chip : Chip) (image : Option (List ℕ)) → ((db : Database) → sessions ≡ (start db).sessions) → image ≡ chip.image
     → IfSome image (λ image. store_of image ≡ stored store Committed image) → IfSome image (λ image. (db : Database) → Opens image db → IsAt (opened store index sessions) chip (start db))
@@ -34,6 +34,7 @@ starts_at store index sessions chip (Some image) first same has = λ db opens.
         limit = opens.limit ∙ sym of.1;
         holds = opens.holds;
         transaction = refl;
+        works = tt;
         sessions = sym (first db);
       };
       valid = IsValidMachine-start db opens.valid;

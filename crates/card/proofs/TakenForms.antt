@@ -9,14 +9,15 @@ use Rattle.scql_base.specs.Words.{instruction_not_supported, channel_not_support
 use Rattle.scql_base.specs.declared.operation.Command.{Command}
 use Rattle.scql_base.specs.declared.operation.Line.{Line}
 use Rattle.scql_model.specs.Refusals.{◌>>=◌, provided}
-use Rattle.scql_model.specs.Machine.{Machine, Session as Seen, Chain, no_reading, open_channels}
-use Rattle.scql_model.specs.Sessions.{changing_session, command_chain, reading_of, without_chain, with_part}
+use Rattle.scql_base.specs.declared.cursor.PresentedUser.{PresentedUser}
+use Rattle.scql_model.specs.Machine.{Machine, Session as Seen, Chain, Transaction, base, no_reading, open_channels}
+use Rattle.scql_model.specs.Sessions.{changing_session, command_chain, without_chain, with_part}
 use Rattle.scql_model.specs.Operations.{IsBuilt, built_operations, has_instruction, has_secrets, kind_of}
 use Rattle.scql_model.specs.Form.{Form, refused, refused_on, part_on, a_command, form_of, formed, formed_on, class_of, is_open, channel_asked, line_on, taken_in, is_chained, part_in, command_in, parts_of}
 use Rattle.scql_model.specs.Accepting.{channel_named}
-use Rattle.scql_model.specs.ValidMachine.{IsReadingOf, IsValidMachine}
+use Rattle.scql_model.specs.ValidMachine.{ArePresentedIn, IsPresentedIn, IsReadingOf, IsValidMachine, IsValidWork}
 use Rattle.scql_model.specs.Bound.{octets_bound, octets_bound_by, octets_carried_out, octets_stepped, or_nothing}
-use Rattle.scql_model.specs.Database.{Database, IsValid}
+use Rattle.scql_model.specs.Database.{Database}
 use Rattle.scql_model.specs.Opens.{Holds}
 use Rattle.scql_model.specs.Step.{Answer, answered, done_with, carried_out, stepped, step_by, step}
 use Rattle.scql_model.proofs.FormedCommands.{bound, refused-not, kind-form_of, sound-built_operations}
@@ -28,12 +29,11 @@ use Rattle.apdu_chain.specs.declared.chains.Taken.TheVariants as taken
 use Rattle.apdu_chain.specs.Chaining.{chain_on, chains_after, taken_of}
 use Rattle.record_store.specs.Held.{Held}
 use Rattle.row_index.specs.Index.{Index}
-use Rattle.card.specs.Card.{Kept, HoldsMachine, IsAt, StepsFrom}
+use Rattle.card.specs.Card.{Kept, HoldsMachine, IsAt, WorksOn}
 use Rattle.card.specs.Sessions as opened
 use Rattle.card.specs.Sessions.{sessions_of}
 use Rattle.card.specs.declared.session.Session.{Session}
 use Rattle.card.proofs.SeenSessions.{chain-seen, open-parts, sessions_of-chain}
-use Rattle.card.proofs.UnreadSteps.{committed-base}
 
 -- the machine once octets were taken
 abbrev pub taken_at : Machine → Form → Machine
@@ -96,21 +96,38 @@ reading-changed change same (s ∷ sessions) zero (suc j) = refl
 reading-changed change same (s ∷ sessions) (suc i) zero = refl
 reading-changed change same (s ∷ sessions) (suc i) (suc j) = reading-changed change same sessions i j
 
-taken-reading : (m : Machine) (form : Form) (channel : ℕ) → reading_of (taken_at m form) channel ≡ reading_of m channel
-taken-reading m (refused word) channel = refl
-taken-reading m (refused_on on word) channel = reading-changed without_chain (λ s. refl) m.sessions on channel
-taken-reading m (part_on on kind octets) channel = reading-changed (with_part kind octets) (λ s. refl) m.sessions on channel
-taken-reading m (a_command c) channel = reading-changed without_chain (λ s. refl) m.sessions c.channel channel
+-- and so does who is presented, where a session changes that has the same user
+presented-changed : (db : Database) (change : Seen → Seen) → ((s : Seen) → (change s).user ≡ s.user) → (sessions : List (Option Seen)) (i : ℕ) → ArePresentedIn db sessions
+    → ArePresentedIn db (slice_set sessions i (option_map change (option_flatten (slice_get sessions i))))
+presented-changed db change same [] i all = tt
+presented-changed db change same (None ∷ sessions) zero all = all
+presented-changed db change same (Some s ∷ sessions) zero all = (subst (λ (user : Option PresentedUser). IfSome user (IsPresentedIn db)) (sym (same s)) all.0, all.1)
+presented-changed db change same (s ∷ sessions) (suc i) all = (all.0, presented-changed db change same sessions i all.1)
 
--- outside of a transaction each channel of a valid machine reads what is committed
-pub readings-committed : (m : Machine) (channel : ℕ) → IsValidMachine m → m.transaction ≡ None → IsReadingOf m.committed (reading_of m channel)
-readings-committed m channel valid none = subst (λ (db : Database). IsReadingOf db (reading_of m channel)) (committed-base m channel none) (valid.readings channel)
+-- So a machine stays valid where a session changes that has the same user and reads the same.
+valid-changing : (m : Machine) (channel : ℕ) (change : Seen → Seen) → ((s : Seen) → (change s).user ≡ s.user) → ((s : Seen) → (change s).reading ≡ s.reading) → IsValidMachine m → IsValidMachine (changing_session change m channel)
+valid-changing m channel change user reading valid = record {
+  committed = valid.committed;
+  presented = presented-changed m.committed change user m.sessions channel valid.presented;
+  transaction = work m.transaction valid.transaction;
+  readings = λ other. subst (IsReadingOf (base m other)) (sym (reading-changed change reading m.sessions channel other)) (valid.readings other);
+}
+  where
+    work : (t : Option Transaction) → IfSome t (IsValidWork m) → IfSome t (IsValidWork (changing_session change m channel))
+    work None valid = tt
+    work (Some t) valid = record { working = valid.working; limit = valid.limit; follows = valid.follows; presented = presented-changed t.working change user m.sessions channel valid.presented }
 
--- from the next machine, once octets were taken, a command can be carried out
-pub StepsFrom-taken : (store : Held) (index : Index) (live : Bool) (sessions : List (Option Session)) (chains after : List (Option Chain)) (card : Kept) (chip : Chip) (m : Machine) (form : Form) → IsAt card chip m
-    → record { store = store; index = index; sessions = sessions_of sessions chains; live = live } ≡ card → after ≡ chains_after chains form
-    → StepsFrom (record { store = store; index = index; sessions = sessions_of sessions after; live = live }) chip (taken_at m form)
-StepsFrom-taken store index live sessions chains after card chip m form at seen is =
+valid-taken : (m : Machine) (form : Form) → IsValidMachine m → IsValidMachine (taken_at m form)
+valid-taken m (refused word) valid = valid
+valid-taken m (refused_on channel word) valid = valid-changing m channel without_chain (λ s. refl) (λ s. refl) valid
+valid-taken m (part_on channel kind octets) valid = valid-changing m channel (with_part kind octets) (λ s. refl) (λ s. refl) valid
+valid-taken m (a_command c) valid = valid-changing m c.channel without_chain (λ s. refl) (λ s. refl) valid
+
+-- card and EEPROM are at the next machine, once octets were taken
+pub IsAt-taken : (store : Held) (index : Index) (transaction : Option ℕ) (live : Bool) (sessions : List (Option Session)) (chains after : List (Option Chain)) (card : Kept) (chip : Chip) (m : Machine) (form : Form) → IsAt card chip m
+    → record { store = store; index = index; sessions = sessions_of sessions chains; transaction = transaction; live = live } ≡ card → after ≡ chains_after chains form
+    → IsAt (record { store = store; index = index; sessions = sessions_of sessions after; transaction = transaction; live = live }) chip (taken_at m form)
+IsAt-taken store index transaction live sessions chains after card chip m form at seen is =
     let was = subst (λ (kept : Kept). HoldsMachine kept chip m) (sym seen) at.held in
     record {
       held = record {
@@ -118,13 +135,11 @@ StepsFrom-taken store index live sessions chains after card chip m form at seen 
         committed = was.committed;
         limit = ap (λ (db : Database). db.limit) (taken-committed m form) ∙ was.limit;
         holds = subst (Holds was.slots) (sym (taken-committed m form)) was.holds;
-        transaction = taken-transaction m form ∙ was.transaction;
+        transaction = ap (option_map (λ (t : Transaction). t.channel)) (taken-transaction m form) ∙ was.transaction;
+        works = subst (λ (t : Option Transaction). IfSome t (WorksOn store chip was.slots)) (sym (taken-transaction m form)) was.works;
         sessions = taken-sessions sessions chains m form was.sessions ∙ ap (sessions_of sessions) (sym is);
       };
-      valid = subst IsValid (sym (taken-committed m form)) at.valid.committed;
-      readings = λ channel.
-          subst (λ (db : Database). IsReadingOf db (reading_of (taken_at m form) channel)) (sym (taken-committed m form))
-          (subst (IsReadingOf m.committed) (sym (taken-reading m form channel)) (readings-committed m channel at.valid was.transaction));
+      valid = valid-taken m form at.valid;
     }
 
 -- the channel that a command asks for is open

@@ -33,12 +33,12 @@ LeavesOneOf dbs old new = Leaves (OpensToOneOf dbs) old new
 abbrev pub replied : List ℕ → StatusWord → model.Reply
 replied body word = record { body = body; word = word }
 
--- What a command does to a card and its EEPROM that hold a machine: the machine's answer, with this body, or a device failed. What commits nothing
--- writes nothing, and what is answered has written at most so many octets.
+-- What a command does to a card and its EEPROM that hold a machine: the machine's answer, with this body, or a device failed. What is answered has
+-- written at most so many octets, and nothing where that is none.
 pub record Performs (m : Machine) (answer : Answer) (most : ℕ) (body : List ℕ) (result : Result StatusWord EepromFault) (card : Kept) (old new : Chip) : Type 0 where
   pub step : IfOk result (λ word. HoldsAnswer answer (replied body word) card new)
   pub moments : LeavesOneOf (m.committed ∷ answer.commits) old new
-  pub unwritten : OnOk result (answer.commits ≡ [] → new ≡ old)
+  pub unwritten : OnOk result (most ≡ 0 → new ≡ old)
   pub octets : OnOk result (Becomes (RisesAtMost most) old.written new.written)
 
 -- a channel has this session, or none where it is closed

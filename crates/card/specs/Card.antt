@@ -1,24 +1,27 @@
 -- What a card keeps in memory, and at which machine it is together with its EEPROM.
-use Rattle.std.specs.Prelude.{◌≡◌, ℕ, Bool, true, false, List, Option, Some, None, option_and_then, IsTrue, IfSome}
+use Rattle.std.specs.Prelude.{◌≡◌, ℕ, ◌≤◌, Bool, List, Option, Some, is_some, option_map, option_and_then, IsTrue, IfSome}
 use Rattle.eeprom.specs.Chip.{Chip}
 use Rattle.eeprom.specs.StoreOf.{Slots}
 use Rattle.record_store.specs.Held.{Held, contents, IsOver}
-use Rattle.record_store.specs.declared.side.Side.TheVariants.{Committed}
-use Rattle.scql_model.specs.Database.{Database, IsValid, owner}
+use Rattle.record_store.specs.declared.side.Side.{Side}
+use Rattle.record_store.specs.declared.side.Side.TheVariants.{Committed, Working}
+use Rattle.scql_model.specs.Database.{Database, owner}
 use Rattle.scql_model.specs.Records.{counter_record, user_record}
 use Rattle.record_store.specs.FreshImage.{fresh_image}
+use Rattle.record_table.specs.Listed.{slots_of}
 use Rattle.record_table.specs.Making.{IsHeld}
+use Rattle.card.specs.Touching.{IsTouched}
 use Rattle.row_index.specs.Index.{Index, Indexes}
-use Rattle.scql_model.specs.Machine.{Machine, Session}
-use Rattle.scql_model.specs.Sessions.{reading_of}
-use Rattle.scql_model.specs.ValidMachine.{IsReadingOf, IsValidMachine}
+use Rattle.scql_model.specs.Machine.{Machine, Session, Transaction}
+use Rattle.scql_model.specs.ValidMachine.{IsValidMachine}
 use Rattle.scql_model.specs.Opens.{Holds}
 
--- its store, the index of its rows, a session or none for each channel, and whether it answers
+-- its store, the index of its rows, a session or none for each channel, the channel of the open transaction, if there is one, and whether it answers
 pub record Kept : Type 0 where
   pub store : Held
   pub index : Index
   pub sessions : List (Option Session)
+  pub transaction : Option ℕ
   pub live : Bool
 
 -- the committed records, where the image is told
@@ -29,38 +32,49 @@ committed_slots store image = option_and_then (contents store Committed) image
 abbrev pub IsAtRest : Held → Chip → Database → Type 0
 IsAtRest store chip db = IsHeld store Committed chip db
 
--- where the image is told, the store holds some database so
-abbrev pub HoldsSome : Held → Chip → Type 0
-HoldsSome store chip = IfSome chip.image (λ image. (db : Database) × IsAtRest store chip db)
+-- where the image is told, a side of the store holds some database
+abbrev pub HoldsSome : Held → Side → Chip → Type 0
+HoldsSome store side chip = IfSome chip.image (λ image. (db : Database) × IsHeld store side chip db)
 
--- The card answers, no transaction is begun, its store is over the EEPROM and holds a database, and the index stands for its rows.
+-- the working database has given out all stamps that the committed one has
+abbrev pub KeepsStamps : Held → Chip → Type 0
+KeepsStamps store chip = (db working : Database) → IsHeld store Committed chip db → IsHeld store Working chip working → db.next ≤ working.next
+
+-- The card answers, its store is over the EEPROM and holds a database on each side, the index stands for the rows of both, and a transaction is begun where
+-- a channel has one.
 pub record IsReady (card : Kept) (chip : Chip) : Type 0 where
   pub live : IsTrue card.live
-  pub idle : card.store.begun ≡ false
+  pub begun : card.store.begun ≡ is_some card.transaction
   pub over : IsOver card.store chip
-  pub holds : HoldsSome card.store chip
-  pub index_idle : card.index.begun ≡ false
+  pub holds : HoldsSome card.store Committed chip
+  pub works : HoldsSome card.store Working chip
+  pub stamps : KeepsStamps card.store chip
+  pub index_begun : card.index.begun ≡ is_some card.transaction
   pub index : Indexes card.index card.store chip
 
--- Card and EEPROM hold this machine: the image is told, its committed records are those of the machine's database, and the sessions are the machine's.
+-- The working records are those of a transaction's database, and those that it touched stand in all slots that it changed.
+pub record WorksOn (store : Held) (chip : Chip) (committed : Slots) (t : Transaction) : Type 0 where
+  pub slots : Slots
+  pub told : slots_of store Working chip ≡ Some slots
+  pub limit : t.working.limit ≡ store.row_limit
+  pub holds : Holds slots t.working
+  pub touched : IsTouched t.touched committed slots store
+
+-- Card and EEPROM hold this machine: the image is told, its committed records are those of the machine's database, the working ones are those of its transaction,
+-- where one is open, and that is the channel's that the card has it for; and the sessions are the machine's.
 pub record HoldsMachine (card : Kept) (chip : Chip) (m : Machine) : Type 0 where
   pub slots : Slots
   pub committed : committed_slots card.store chip.image ≡ Some slots
   pub limit : m.committed.limit ≡ card.store.row_limit
   pub holds : Holds slots m.committed
-  pub transaction : m.transaction ≡ None
+  pub transaction : option_map (λ (t : Transaction). t.channel) m.transaction ≡ card.transaction
+  pub works : IfSome m.transaction (WorksOn card.store chip slots)
   pub sessions : m.sessions ≡ card.sessions
 
 -- Card and EEPROM are at this machine: they hold it, and it is valid.
 pub record IsAt (card : Kept) (chip : Chip) (m : Machine) : Type 0 where
   pub held : HoldsMachine card chip m
   pub valid : IsValidMachine m
-
--- A command can be carried out from this machine: card and EEPROM hold it, its database is valid, and what each channel reads is of that database.
-pub record StepsFrom (card : Kept) (chip : Chip) (m : Machine) : Type 0 where
-  pub held : HoldsMachine card chip m
-  pub valid : IsValid m.committed
-  pub readings : (channel : ℕ) → IsReadingOf m.committed (reading_of m channel)
 
 -- the octets of a new card
 abbrev pub fresh_card : ℕ → List ℕ

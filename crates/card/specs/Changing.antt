@@ -1,5 +1,5 @@
 -- A change of the database of a card: which operations make one, for whom, and what it comes to.
-use Rattle.std.specs.Prelude.{◌≡◌, ℕ, Bool, true, false, List, [], ◌∷◌, Option, Some, None, Result, Ok, Err, IfOk, OnOk}
+use Rattle.std.specs.Prelude.{◌≡◌, ◌⊎◌, ℕ, Bool, true, false, List, [], ◌∷◌, Option, Some, None, Result, Ok, Err, IfOk, OnOk}
 use Rattle.std.specs.Option.{option_map_or}
 use Rattle.eeprom.specs.Chip.{Chip, Becomes, RisesAtMost}
 use Rattle.eeprom.specs.declared.EepromFault.{EepromFault}
@@ -17,6 +17,7 @@ use Rattle.scql_model.specs.Database.{Database, user_stamped}
 use Rattle.scql_model.specs.Edits.{Edit, octets_for, with_edits}
 use Rattle.scql_model.specs.Operations.{IsBuilt, kind_of}
 use Rattle.scql_model.specs.Refusals.{◌>>=◌}
+use Rattle.record_table.specs.Making.{Makes}
 use Rattle.card.specs.Card.{IsAtRest}
 use Rattle.card.specs.Answering.{LeavesOneOf}
 
@@ -75,3 +76,9 @@ pub record Changes (db : Database) (edited : Result (List Edit) StatusWord) (res
   pub moments : LeavesOneOf (db ∷ commits_of (new_of db edited)) old new
   pub unwritten : OnOk result (commits_of (new_of db edited) ≡ [] → new ≡ old)
   pub octets : OnOk result (Becomes (RisesAtMost (octets_of db edited)) old.written new.written)
+
+-- The working database is another one with these edits, and the answer is done; or it is the refusal's word, and nothing was done.
+abbrev pub ConcludesWithin : Database → Result (List Edit) StatusWord → StatusWord → Held → Held → Chip → Chip → Type 0
+ConcludesWithin db edited word before after old new =
+    ((edits : List Edit) × (edited ≡ Ok edits) × (word ≡ done) × Makes db edits before after old new)
+    ⊎ ((new_of db edited ≡ Err word) × (after ≡ before) × (new ≡ old))

@@ -11,4 +11,6 @@ pub mod Pool
 pub mod Proved
 pub mod Reading
 pub mod Sessions
+pub mod Touching
 pub mod Validity
+pub mod Waiting

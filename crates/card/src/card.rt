@@ -17,22 +17,24 @@ ghost use Rattle.scql_model.specs.Database as database;
 ghost use Rattle.scql_model.specs.Database.{Database, fresh};
 ghost use Rattle.eeprom.specs.Image.{overwrite};
 ghost use Rattle.card.specs.Behind.{KeepsBehind, own_cells};
-ghost use Rattle.card.specs.Card.{Kept, IsReady, IsAt, HoldsMachine, StepsFrom, fresh_card};
+ghost use Rattle.card.specs.Card.{Kept, IsReady, IsAt, HoldsMachine, fresh_card};
 ghost use Rattle.card.specs.Answering.{Answers, HoldsAnswer, IsAtAsBefore, LeavesOneOf, Performs, changing_session, replied, settled, with_session, with_session_for};
 ghost use Rattle.card.specs.Changing.{IsChange};
 ghost use Rattle.card.specs.Making.{LeavesMade};
 ghost use Rattle.card.specs.Opening.{ReadsCard};
 ghost use Rattle.card.specs.Reading as reading;
 ghost use Rattle.card.specs.Sessions.{is_open, least_closed, proved_user, session_seen, sessions_of};
-ghost use Rattle.scql_model.specs.Bound.{octets_bound, octets_carried_out, octets_changed, or_nothing};
+ghost use Rattle.scql_model.specs.Bound.{octets_bound, octets_carried_out, octets_changed, octets_committed, or_nothing};
 ghost use Rattle.scql_model.specs.Accepting as accepting;
 ghost use Rattle.scql_model.specs.Accepting.{Accepts, CostsTry, EndsCursor};
-ghost use Rattle.scql_model.specs.Sessions.{without_pending};
+ghost use Rattle.scql_model.specs.Sessions.{without_cursor, without_pending};
+ghost use Rattle.scql_model.specs.Transactions.{for_others, waits};
+ghost use Rattle.card.specs.Waiting.{has_own, keeps_waiting, side_of};
 ghost use Rattle.scql_model.specs.Operations.{IsBuilt, kind_of};
 ghost use Rattle.scql_model.specs.WellFormed.{HasForm, FitsCard, IsWellFormed};
 ghost use Rattle.std.specs.Option.{option_flatten};
 
-use crate::changing::{actor_of, change};
+use crate::changing::{actor_of, change, change_within};
 use crate::opening::open_records;
 use crate::outcome::Outcome;
 use crate::reading::{is_reading, read};
@@ -55,6 +57,8 @@ pub struct Card {
     index: RowIndex,
     sessions: [Option<Session>; 4],
     chains: Chains,
+    // the channel that has the open transaction
+    transaction: Option<u8>,
     live: bool,
 }
 
@@ -65,7 +69,7 @@ impl Model for Card {
 
     ghost Value = { Kept };
 
-    ghost view = { λ card. record { store = card.store; index = card.index; sessions = sessions_of card.sessions card.chains; live = card.live } };
+    ghost view = { λ card. record { store = card.store; index = card.index; sessions = sessions_of card.sessions card.chains; transaction = card.transaction; live = card.live } };
 
     ghost invariant = { λ card. (length card.sessions ≡ 4) × (length card.chains ≡ 4) };
 }
@@ -122,6 +126,7 @@ impl Card {
             index: opened.index,
             sessions: first_sessions(),
             chains: Chains::new(),
+            transaction: None,
             live: true,
         })
     }
@@ -141,9 +146,9 @@ impl Card {
         // A power loss leaves the database as it was, or one that the step commits.
         ensures moments { (m : machine.Machine) → IsAt self.old (B.chip bench.old) m
             → LeavesOneOf (m.committed ∷ (stepping.step m command.now).commits) (B.chip bench.old) (B.chip bench.new) }
-        // What commits nothing writes nothing.
+        // What may write no octets, as a command that reads, writes nothing.
         ensures unwritten { (m : machine.Machine) → IsAt self.old (B.chip bench.old) m → result ≡ Outcome.Replied
-            → (stepping.step m command.now).commits ≡ [] → B.chip bench.new ≡ B.chip bench.old }
+            → octets_bound m command.now ≡ 0 → B.chip bench.new ≡ B.chip bench.old }
         // A word that doesn't accept the command says that nothing was written and all is as it was, but that its channel may have lost the
         // parts of a command.
         ensures refused { (m : machine.Machine) → IsAt self.old (B.chip bench.old) m → result ≡ Outcome.Replied
@@ -182,13 +187,16 @@ impl Card {
         self.live
     }
 
-    /// Ends all sessions. Channel 0 is then open, without a user.
+    /// Ends all sessions, and undoes a transaction that is open. Channel 0 is then open, without a user.
     pub fn reset(&mut self)
-        requires live { IsTrue self.old.live }
+        requires ready { (chip : Chip) × IsReady self.old chip }
         ensures at { (chip : Chip) (m : machine.Machine) → IsAt self.old chip m → IsAt self.new chip (machine.reset m) }
         ensures ready { (chip : Chip) → IsReady self.old chip → IsReady self.new chip }
-        ensures store { self.new.store ≡ self.old.store }
+        ensures cells { self.new.store.chains.cells ≡ self.old.store.chains.cells }
     {
+        if self.transaction.is_some() {
+            self.undo();
+        }
         self.sessions = first_sessions();
         self.chains.clear();
     }
@@ -233,7 +241,7 @@ impl Card {
         requires built { IsBuilt (kind_of command.now.operation) }
         requires fits { FitsCard self.old.store.row_limit command.now.operation }
         requires open { is_open self.old.sessions command.now.channel ≡ true }
-        ensures performs { (m : machine.Machine) → StepsFrom self.old (B.chip bench.old) m
+        ensures performs { (m : machine.Machine) → IsAt self.old (B.chip bench.old) m
             → Performs m (stepping.answered m (stepping.carried_out m command.now)) (or_nothing (octets_carried_out m command.now)) reply.new.body result self.new (B.chip bench.old) (B.chip bench.new) }
         ensures ready { OnOk result (IsReady self.new (B.chip bench.new)) }
         ensures cause { Counts (B.faults bench.old) (B.faults bench.new) result }
@@ -241,11 +249,17 @@ impl Card {
         ensures behind { Keeps (drop (image_size self.old.store.chains.cells)) (B.chip bench.old) (B.chip bench.new) }
         ensures unsaid { OnErr result (reply.new.body ≡ []) }
     {
+        if self.keeps_waiting(command) {
+            return Ok(StatusWord::CONDITIONS_NOT_SATISFIED);
+        }
         if is_reading(&command.operation) {
             return self.read(bench, command, reply);
         }
         let channel = command.channel;
         match &command.operation {
+            Operation::Begin => Ok(self.begin(channel)),
+            Operation::Commit => self.commit(bench, channel),
+            Operation::Rollback => Ok(self.roll_back(channel)),
             Operation::PresentUser { name } => self.present_user(bench, channel, name.copy()),
             Operation::OpenChannel { number } => Ok(self.open_channel(channel, *number, reply)),
             Operation::CloseChannel { number } => {
@@ -267,7 +281,7 @@ impl Card {
         requires formed { IsWellFormed command.now }
         requires reads { reading.is_reading (kind_of command.now.operation) ≡ true }
         requires open { is_open self.old.sessions command.now.channel ≡ true }
-        ensures performs { (m : machine.Machine) → StepsFrom self.old (B.chip bench.old) m
+        ensures performs { (m : machine.Machine) → IsAt self.old (B.chip bench.old) m
             → Performs m (stepping.answered m (stepping.carried_out m command.now)) (or_nothing (octets_carried_out m command.now)) reply.new.body result self.new (B.chip bench.old) (B.chip bench.new) }
         ensures ready { OnOk result (IsReady self.new (B.chip bench.new)) }
         ensures cause { Counts (B.faults bench.old) (B.faults bench.new) result }
@@ -276,7 +290,8 @@ impl Card {
         ensures unsaid { OnErr result (reply.new.body ≡ []) }
     {
         let user = self.proved_user(command.channel);
-        let actor = actor_of(&self.store, bench, Side::Committed, user)?;
+        let side = self.side(command.channel);
+        let actor = actor_of(&self.store, bench, side, user)?;
         let Some(session) = &mut self.sessions[usize::from(command.channel)] else {
             unreachable!();
         };
@@ -284,11 +299,123 @@ impl Card {
             &self.store,
             bench,
             &self.index,
+            side,
             session,
             actor,
             command,
             reply,
         )
+    }
+
+    // Whether the open transaction keeps a command waiting: reading waits for none, and neither does opening or closing a channel; what says
+    // who acts, or takes a user away, waits for any; and all else for those of other channels.
+    fn keeps_waiting(&self, command: &Command) -> bool
+        ensures { result ≡ keeps_waiting (waits (kind_of command.now.operation)) self.now.transaction command.now.channel }
+    {
+        let Some(own) = self.transaction else {
+            return false;
+        };
+        match &command.operation {
+            Operation::OpenChannel { .. } | Operation::CloseChannel { .. } => false,
+            Operation::PresentUser { .. } | Operation::DeleteUser { .. } | Operation::Verify { .. } => true,
+            operation => !is_reading(operation) && own != command.channel,
+        }
+    }
+
+    // Whether a channel has the open transaction.
+    fn has_transaction(&self, channel: u8) -> bool
+        ensures { result ≡ has_own self.now.transaction channel }
+    {
+        match self.transaction {
+            Some(own) => own == channel,
+            None => false,
+        }
+    }
+
+    // The side that a channel reads and changes: the working one where it has the open transaction.
+    fn side(&self, channel: u8) -> Side
+        ensures { result ≡ side_of self.now.transaction channel }
+    {
+        if self.has_transaction(channel) {
+            Side::Working
+        } else {
+            Side::Committed
+        }
+    }
+
+    // Begins a transaction of a channel, where none is open.
+    fn begin(&mut self, channel: u8) -> StatusWord
+        requires channel { channel < 4 }
+        requires begun { self.old.store.begun ≡ is_some self.old.transaction }
+        requires index_begun { self.old.index.begun ≡ is_some self.old.transaction }
+        ensures step { (chip : Chip) (m : machine.Machine) → IsAt self.old chip m
+            → HoldsAnswer (stepping.answered m (stepping.transaction_begun m channel)) (model.said result) self.new chip }
+        ensures ready { (chip : Chip) → IsReady self.old chip → IsReady self.new chip }
+        ensures cells { self.new.store.chains.cells ≡ self.old.store.chains.cells }
+    {
+        if self.transaction.is_some() {
+            return StatusWord::CONDITIONS_NOT_SATISFIED;
+        }
+        self.store.begin();
+        self.index.begin();
+        self.transaction = Some(channel);
+        self.drop_pending(channel);
+        StatusWord::DONE
+    }
+
+    // Commits the transaction of a channel, where it has one.
+    fn commit<B: Eeprom>(&mut self, bench: &mut B, channel: u8) -> Result<StatusWord, EepromFault>
+        requires ready { IsReady self.old (B.chip bench.old) }
+        requires channel { channel < 4 }
+        ensures performs { (m : machine.Machine) → IsAt self.old (B.chip bench.old) m
+            → Performs m (stepping.answered m (stepping.transaction_committed m channel)) (or_nothing (octets_committed m channel)) [] result self.new (B.chip bench.old) (B.chip bench.new) }
+        ensures ready { OnOk result (IsReady self.new (B.chip bench.new)) }
+        ensures cause { Counts (B.faults bench.old) (B.faults bench.new) result }
+        ensures cells { OnOk result (self.new.store.chains.cells ≡ self.old.store.chains.cells) }
+        ensures behind { Keeps (drop (image_size self.old.store.chains.cells)) (B.chip bench.old) (B.chip bench.new) }
+    {
+        if !self.has_transaction(channel) {
+            return Ok(StatusWord::CONDITIONS_NOT_SATISFIED);
+        }
+        self.store.commit(bench)?;
+        self.index.commit();
+        self.transaction = None;
+        self.drop_pending(channel);
+        Ok(StatusWord::DONE)
+    }
+
+    // Drops the transaction of a channel, where it has one, and the channel's cursor.
+    fn roll_back(&mut self, channel: u8) -> StatusWord
+        requires channel { channel < 4 }
+        requires begun { self.old.store.begun ≡ is_some self.old.transaction }
+        requires index_begun { self.old.index.begun ≡ is_some self.old.transaction }
+        ensures step { (chip : Chip) (m : machine.Machine) → HoldsMachine self.old chip m
+            → HoldsAnswer (stepping.answered m (stepping.transaction_rolled_back m channel)) (model.said result) self.new chip }
+        ensures ready { (chip : Chip) → IsReady self.old chip → IsReady self.new chip }
+        ensures cells { self.new.store.chains.cells ≡ self.old.store.chains.cells }
+    {
+        if !self.has_transaction(channel) {
+            return StatusWord::CONDITIONS_NOT_SATISFIED;
+        }
+        self.undo();
+        self.drop_cursor(channel);
+        self.drop_pending(channel);
+        StatusWord::DONE
+    }
+
+    // What was committed is all there is.
+    fn undo(&mut self)
+        requires begun { IsTrue self.old.store.begun }
+        requires index_begun { IsTrue self.old.index.begun }
+        ensures holds { (chip : Chip) (m : machine.Machine) → HoldsMachine self.old chip m → HoldsMachine self.new chip (record m { transaction = None }) }
+        ensures ready { (chip : Chip) → IsReady self.old chip → IsReady self.new chip }
+        ensures sessions { self.new.sessions ≡ self.old.sessions }
+        ensures closed { self.new.transaction ≡ None }
+        ensures cells { self.new.store.chains.cells ≡ self.old.store.chains.cells }
+    {
+        self.store.rollback();
+        self.index.rollback();
+        self.transaction = None;
     }
 
     fn open_channels(&self) -> [bool; 4]
@@ -311,7 +438,8 @@ impl Card {
     ) -> Result<StatusWord, EepromFault>
         requires ready { IsReady self.old (B.chip bench.old) }
         requires channel { channel < 4 }
-        ensures step { (m : machine.Machine) → StepsFrom self.old (B.chip bench.old) m
+        requires closed { self.old.transaction ≡ None }
+        ensures step { (m : machine.Machine) → IsAt self.old (B.chip bench.old) m
             → IfOk result (λ word. HoldsAnswer (stepping.answered m (stepping.user_presented m channel name)) (model.said word) self.new (B.chip bench.new)) }
         ensures ready { OnOk result (IsReady self.new (B.chip bench.new)) }
         ensures cause { Counts (B.faults bench.old) (B.faults bench.new) result }
@@ -327,7 +455,7 @@ impl Card {
         Ok(StatusWord::DONE)
     }
 
-    // Changes the database for who acts on a channel.
+    // Changes the database for who acts on a channel, in its transaction or in one of its own.
     fn change<B: Eeprom>(
         &mut self,
         bench: &mut B,
@@ -340,7 +468,7 @@ impl Card {
         requires changes { IsChange operation.now }
         requires formed { HasForm operation.now }
         requires fits { FitsCard self.old.store.row_limit operation.now }
-        ensures performs { (m : machine.Machine) → StepsFrom self.old (B.chip bench.old) m
+        ensures performs { (m : machine.Machine) → IsAt self.old (B.chip bench.old) m → keeps_waiting for_others self.old.transaction channel ≡ false
             → Performs m (stepping.answered m (stepping.changed m channel operation.now)) (or_nothing (octets_changed m channel operation.now)) [] result self.new (B.chip bench.old) (B.chip bench.new) }
         ensures ready { OnOk result (IsReady self.new (B.chip bench.new)) }
         ensures cause { Counts (B.faults bench.old) (B.faults bench.new) result }
@@ -352,13 +480,17 @@ impl Card {
             store,
             index,
             sessions,
+            transaction,
             ..
         } = self;
         let sessions = &*sessions;
         let Some(session) = &sessions[usize::from(channel)] else {
             unreachable!();
         };
-        let word = change(store, bench, index, user, &session.cursor, operation)?;
+        let word = match transaction {
+            None => change(store, bench, index, user, &session.cursor, operation)?,
+            Some(_) => change_within(store, bench, index, user, &session.cursor, operation)?,
+        };
         self.settle(channel, word);
         Ok(word)
     }
@@ -444,6 +576,9 @@ impl Card {
         if !self.is_open(number) {
             return StatusWord::CHANNEL_NOT_SUPPORTED;
         }
+        if self.has_transaction(number) {
+            return StatusWord::CONDITIONS_NOT_SATISFIED;
+        }
         self.set_session(number, None);
         self.drop_pending(asking);
         StatusWord::DONE
@@ -487,6 +622,17 @@ impl Card {
         ensures { self.new ≡ changing_session without_pending self.old channel }
     {
         if let Some(session) = &mut self.sessions[channel as usize] {
+            session.pending.forget();
+        }
+    }
+
+    // A channel has no cursor any more, nor is anything pending on it.
+    fn drop_cursor(&mut self, channel: u8)
+        requires channel { channel < 4 }
+        ensures { self.new ≡ changing_session without_cursor self.old channel }
+    {
+        if let Some(session) = &mut self.sessions[channel as usize] {
+            session.cursor = None;
             session.pending.forget();
         }
     }

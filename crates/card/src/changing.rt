@@ -1,11 +1,11 @@
 // Changes of the database, each for who acts, in a transaction of its own.
-ghost use Rattle.std.specs.Prelude.{◌≡◌, ℕ, Option, drop, false, true, is_some, IfOk, IfSome, IsTrue, IsErrOf, OnOk};
+ghost use Rattle.std.specs.Prelude.{◌≡◌, ℕ, ◌≤◌, Option, drop, false, true, is_some, IfOk, IfSome, IsTrue, IsErrOf, OnOk};
 ghost use Rattle.eeprom.specs.Chip.{Keeps};
 ghost use Rattle.eeprom.specs.Fault.{Counts, CountsFaults, each_error};
 ghost use Rattle.eeprom.specs.Frame.{Reads};
 ghost use Rattle.eeprom.specs.StoreOf.{store_of, image_size};
 ghost use Rattle.record_store.specs.Held.{IsOver};
-ghost use Rattle.record_store.specs.declared.side.Side.TheVariants.{Working};
+ghost use Rattle.record_store.specs.declared.side.Side.TheVariants.{Committed, Working};
 ghost use Rattle.scql_base.specs.declared.cursor.Cursor as model;
 ghost use Rattle.scql_model.specs.Changing.{edits_of};
 ghost use Rattle.scql_model.specs.Creating.{IsActorOf};
@@ -13,10 +13,11 @@ ghost use Rattle.scql_model.specs.Cursors.{IsCursorOf};
 ghost use Rattle.scql_model.specs.Database.{Database};
 ghost use Rattle.scql_model.specs.Operations.{kind_of};
 ghost use Rattle.scql_model.specs.WellFormed.{HasForm, FitsCard};
+ghost use Rattle.record_table.specs.Listed.{slots_of};
 ghost use Rattle.record_table.specs.Making.{IsHeld, Ends, GoesOn, is_stop_fault};
 ghost use Rattle.row_index.specs.Index.{Indexes, is_above};
 ghost use Rattle.card.specs.Card.{HoldsSome, IsAtRest};
-ghost use Rattle.card.specs.Changing.{IsChange, Changes, acting, goes_through_cursor};
+ghost use Rattle.card.specs.Changing.{IsChange, Changes, ConcludesWithin, acting, goes_through_cursor};
 
 use db_access::{create_user, grant, revoke};
 use db_define::{create_dictionary, create_table, create_view, drop_table, drop_view};
@@ -40,7 +41,7 @@ pub(crate) fn change<B: Eeprom>(
 ) -> Result<StatusWord, EepromFault>
     requires idle { store.old.begun ≡ false }
     requires over { IsOver store.old (B.chip bench.old) }
-    requires holds { HoldsSome store.old (B.chip bench.old) }
+    requires holds { HoldsSome store.old Committed (B.chip bench.old) }
     requires index_idle { index.old.begun ≡ false }
     requires index { Indexes index.old store.old (B.chip bench.old) }
     requires changes { IsChange operation.now }
@@ -50,7 +51,7 @@ pub(crate) fn change<B: Eeprom>(
         → Changes db (edits_of db (acting db user) cursor.now operation.now) result store.new (B.chip bench.old) (B.chip bench.new) }
     ensures over { OnOk result (IsOver store.new (B.chip bench.new)) }
     ensures idle { OnOk result (store.new.begun ≡ false) }
-    ensures holds { OnOk result (HoldsSome store.new (B.chip bench.new)) }
+    ensures holds { OnOk result (HoldsSome store.new Committed (B.chip bench.new)) }
     ensures index_idle { OnOk result (index.new.begun ≡ false) }
     ensures index { OnOk result (Indexes index.new store.new (B.chip bench.new)) }
     ensures cells { OnOk result (store.new.chains.cells ≡ store.old.chains.cells) }
@@ -71,6 +72,45 @@ pub(crate) fn change<B: Eeprom>(
             index.rollback();
             Ok(word)
         }
+        Err(Stop::Fault) => Err(EepromFault),
+    }
+}
+
+/// Changes the working database of a transaction that is open, as `change` does a committed one. What is committed stays.
+pub(crate) fn change_within<B: Eeprom>(
+    store: &mut Store,
+    bench: &mut B,
+    index: &mut RowIndex,
+    user: Option<u32>,
+    cursor: &Option<Cursor>,
+    operation: &Operation,
+) -> Result<StatusWord, EepromFault>
+    requires begun { IsTrue store.old.begun }
+    requires over { IsOver store.old (B.chip bench.old) }
+    requires works { HoldsSome store.old Working (B.chip bench.old) }
+    requires index_begun { IsTrue index.old.begun }
+    requires index { Indexes index.old store.old (B.chip bench.old) }
+    requires last { (db : Database) → IsHeld store.old Working (B.chip bench.old) db → is_above db.next index.old.committed ≡ true }
+    requires changes { IsChange operation.now }
+    requires formed { HasForm operation.now }
+    requires fits { FitsCard store.old.row_limit operation.now }
+    ensures changes { (db : Database) → IsHeld store.old Working (B.chip bench.old) db → IfSome cursor.now (IsCursorOf db)
+        → IfOk result (λ word. ConcludesWithin db (edits_of db (acting db user) cursor.now operation.now) word store.old store.new (B.chip bench.old) (B.chip bench.new)) }
+    ensures works { OnOk result (HoldsSome store.new Working (B.chip bench.new)) }
+    // Whatever the cursor is, no stamp that was given out is left again.
+    ensures stamps { (db next : Database) → IsHeld store.old Working (B.chip bench.old) db → OnOk result (IsHeld store.new Working (B.chip bench.new) next → db.next ≤ next.next) }
+    ensures committed { OnOk result (slots_of store.new Committed (B.chip bench.new) ≡ slots_of store.old Committed (B.chip bench.old)) }
+    ensures goes_on { OnOk result (GoesOn store.old store.new (B.chip bench.old) (B.chip bench.new)) }
+    ensures index { OnOk result (Indexes index.new store.new (B.chip bench.new)) }
+    ensures index_begun { OnOk result (IsTrue index.new.begun) }
+    ensures moments { Keeps store_of (B.chip bench.old) (B.chip bench.new) }
+    ensures behind { Keeps (drop (image_size store.old.chains.cells)) (B.chip bench.old) (B.chip bench.new) }
+    ensures cause { Counts (B.faults bench.old) (B.faults bench.new) result }
+{
+    let actor = actor_of(store, bench, Side::Working, user)?;
+    match make(store, bench, index, actor, cursor, operation) {
+        Ok(()) => Ok(StatusWord::DONE),
+        Err(Stop::Refused { word }) => Ok(word),
         Err(Stop::Fault) => Err(EepromFault),
     }
 }

@@ -59,7 +59,7 @@ pub(crate) fn open_records<B: Eeprom>(alloc: Global, bench: &mut B) -> Result<Op
     ensures told { OnOk result (is_some (B.chip bench.new).image ≡ is_some (B.chip bench.old).image) }
     ensures stored { IfOk result (λ opened. IfSome (B.chip bench.new).image (λ image. store_of image ≡ stored opened.store Committed image)) }
     ensures idle { IfOk result (λ opened. opened.store.begun ≡ false) }
-    ensures holds { IfOk result (λ opened. HoldsSome opened.store (B.chip bench.new)) }
+    ensures holds { IfOk result (λ opened. HoldsSome opened.store Committed (B.chip bench.new)) }
     ensures index { IfOk result (λ opened. Indexes opened.index opened.store (B.chip bench.new)) }
     ensures index_idle { IfOk result (λ opened. opened.index.begun ≡ false) }
     ensures opens { OnOk result (IfSome (B.chip bench.old).image (λ image. (db : Database) × Opens image db)) }

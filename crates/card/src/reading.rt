@@ -3,7 +3,6 @@ ghost use Rattle.std.specs.Prelude.{◌≡◌, ◌≤◌, [], Ok, Option, Some, 
 ghost use Rattle.eeprom.specs.Fault.{each_error};
 ghost use Rattle.eeprom.specs.Frame.{Reads};
 ghost use Rattle.record_store.specs.Held.{IsOver};
-ghost use Rattle.record_store.specs.declared.side.Side.TheVariants.{Committed};
 ghost use Rattle.record_table.specs.Making.{IsHeld, is_stop_fault};
 ghost use Rattle.row_index.specs.Index.{Indexes};
 ghost use Rattle.scql_base.specs.declared.cursor.Cursor as model;
@@ -18,7 +17,6 @@ ghost use Rattle.scql_model.specs.Rights.{seen_stamped};
 ghost use Rattle.scql_model.specs.WellFormed.{IsWellFormed};
 ghost use Rattle.cursor.specs.Moved as outcomes;
 ghost use Rattle.db_read.specs.Answered.{Stops, given, selectable};
-ghost use Rattle.card.specs.Card.{IsAtRest};
 ghost use Rattle.card.specs.Reading as specs;
 ghost use Rattle.card.specs.Reading.{Goes, MovesSo, move_to};
 ghost use Rattle.card.specs.Sessions.{reading_in};
@@ -51,11 +49,12 @@ pub(crate) fn is_reading(operation: &Operation) -> bool
 }
 
 /// Carries a reading command out for who acts on a session's channel: the answer and what the session reads then are those of
-/// the model's move. The rows are those that are committed.
+/// the model's move over the rows of a side.
 pub(crate) fn read<B: Eeprom>(
     store: &Store,
     bench: &mut B,
     index: &RowIndex,
+    side: Side,
     session: &mut Session,
     actor: Actor,
     command: &Command,
@@ -66,7 +65,7 @@ pub(crate) fn read<B: Eeprom>(
     requires formed { IsWellFormed command.now }
     requires reads { specs.is_reading (kind_of command.now.operation) ≡ true }
     requires empty { reply.old.body ≡ [] }
-    ensures moves { (db : Database) → IsAtRest store.now (B.chip bench.old) db → IfSome session.old.cursor (IsCursorOf db)
+    ensures moves { (db : Database) → IsHeld store.now side (B.chip bench.old) db → IfSome session.old.cursor (IsCursorOf db)
         → IfOk result (λ word. MovesSo db actor command.now (reading_in session.old) (move_to reply.new.body word session.new.cursor session.new.pending)) }
     ensures user { session.new.user ≡ session.old.user }
     ensures unsaid { OnErr result (reply.new.body ≡ []) }
@@ -74,14 +73,14 @@ pub(crate) fn read<B: Eeprom>(
 {
     let le = command.le.unwrap_or(Command::LARGEST_LE);
     match &command.operation {
-        Operation::GetResponse => give_rest(store, bench, session, actor, le, reply),
+        Operation::GetResponse => give_rest(store, bench, side, session, actor, le, reply),
         Operation::Fetch => {
             let mut row = Row::new();
             let cursor = &mut session.cursor;
             let word = fetch_row(
                 store,
                 bench,
-                Side::Committed,
+                side,
                 actor,
                 cursor,
                 le,
@@ -96,7 +95,7 @@ pub(crate) fn read<B: Eeprom>(
             let word = fetch_next_row(
                 store,
                 bench,
-                Side::Committed,
+                side,
                 actor,
                 cursor,
                 le,
@@ -106,7 +105,15 @@ pub(crate) fn read<B: Eeprom>(
             Ok(give(word, &row, le, &mut session.pending, reply))
         }
         operation => {
-            let word = go(store, bench, index, &mut session.cursor, actor, operation)?;
+            let word = go(
+                store,
+                bench,
+                index,
+                side,
+                &mut session.cursor,
+                actor,
+                operation,
+            )?;
             Ok(settle(word, &mut session.pending))
         }
     }
@@ -117,6 +124,7 @@ fn go<B: Eeprom>(
     store: &Store,
     bench: &mut B,
     index: &RowIndex,
+    side: Side,
     cursor: &mut Option<Cursor>,
     actor: Actor,
     operation: &Operation,
@@ -124,7 +132,7 @@ fn go<B: Eeprom>(
     requires over { IsOver store.now (B.chip bench.old) }
     requires index { Indexes index.now store.now (B.chip bench.old) }
     requires goes { specs.is_going (kind_of operation.now) ≡ true }
-    ensures moves { (db : Database) → IsAtRest store.now (B.chip bench.old) db → IfSome cursor.old (IsCursorOf db)
+    ensures moves { (db : Database) → IsHeld store.now side (B.chip bench.old) db → IfSome cursor.old (IsCursorOf db)
         → IfOk result (λ word. Goes db actor operation.now word cursor.old cursor.new) }
     ensures frame { Reads each_error B.chip B.faults bench.old bench.new result }
 {
@@ -136,7 +144,7 @@ fn go<B: Eeprom>(
         } => declare(
             store,
             bench,
-            Side::Committed,
+            side,
             actor,
             cursor,
             object.copy(),
@@ -144,8 +152,8 @@ fn go<B: Eeprom>(
             conditions,
             index,
         ),
-        Operation::OpenCursor => open_cursor(store, bench, Side::Committed, actor, cursor, index),
-        Operation::Next => next_row(store, bench, Side::Committed, actor, cursor, index),
+        Operation::OpenCursor => open_cursor(store, bench, side, actor, cursor, index),
+        Operation::Next => next_row(store, bench, side, actor, cursor, index),
         _ => unreachable!(),
     }
 }
@@ -154,6 +162,7 @@ fn go<B: Eeprom>(
 fn give_rest<B: Eeprom>(
     store: &Store,
     bench: &mut B,
+    side: Side,
     session: &mut Session,
     actor: Actor,
     le: u16,
@@ -163,7 +172,7 @@ fn give_rest<B: Eeprom>(
     requires least { 1 ≤ le }
     requires most { le ≤ 256 }
     requires empty { reply.old.body ≡ [] }
-    ensures moves { (db : Database) → IsHeld store.now Committed (B.chip bench.old) db
+    ensures moves { (db : Database) → IsHeld store.now side (B.chip bench.old) db
         → IfOk result (λ word. move_of db actor (reading_in session.old) (commands.get_response le) ≡ move_to reply.new.body word session.new.cursor session.new.pending) }
     ensures user { session.new.user ≡ session.old.user }
     ensures unsaid { OnErr result (reply.new.body ≡ []) }
@@ -172,7 +181,7 @@ fn give_rest<B: Eeprom>(
     let Some(cursor) = &session.cursor else {
         return Ok(StatusWord::CONDITIONS_NOT_SATISFIED);
     };
-    match ask(store, bench, actor, cursor.object) {
+    match ask(store, bench, side, actor, cursor.object) {
         Ok(()) => Ok(give_more(le, &mut session.pending, reply)),
         Err(Stop::Refused { word }) => Ok(word),
         Err(Stop::Fault) => Err(EepromFault),
@@ -180,24 +189,30 @@ fn give_rest<B: Eeprom>(
 }
 
 // Whether the actor may select from the object of a stamp, or the first refusal.
-fn ask<B: Eeprom>(store: &Store, bench: &mut B, actor: Actor, stamp: u32) -> Result<(), Stop>
+fn ask<B: Eeprom>(
+    store: &Store,
+    bench: &mut B,
+    side: Side,
+    actor: Actor,
+    stamp: u32,
+) -> Result<(), Stop>
     requires over { IsOver store.now (B.chip bench.old) }
-    ensures may { (db : Database) → IsHeld store.now Committed (B.chip bench.old) db
+    ensures may { (db : Database) → IsHeld store.now side (B.chip bench.old) db
         → IfOk result (λ _. (o : Object) × (selectable db actor (seen_stamped db actor stamp) ≡ Ok o)) }
-    ensures refused { (db : Database) → IsHeld store.now Committed (B.chip bench.old) db → IfErr result (Stops (selectable db actor (seen_stamped db actor stamp))) }
+    ensures refused { (db : Database) → IsHeld store.now side (B.chip bench.old) db → IfErr result (Stops (selectable db actor (seen_stamped db actor stamp))) }
     ensures frame { Reads is_stop_fault B.chip B.faults bench.old bench.new result }
 {
-    let Some(found) = find_stamp(store, bench, Side::Committed, stamp)? else {
+    let Some(found) = find_stamp(store, bench, side, stamp)? else {
         return refused(StatusWord::NOT_FOUND);
     };
     let object = found.value;
-    if !appears(store, bench, Side::Committed, actor, &object)? {
+    if !appears(store, bench, side, actor, &object)? {
         return refused(StatusWord::NOT_FOUND);
     }
     if !holds(
         store,
         bench,
-        Side::Committed,
+        side,
         actor,
         &object,
         Privilege::Select,

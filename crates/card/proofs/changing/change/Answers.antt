@@ -75,7 +75,7 @@ followed : (g : _) (c : After-make g) → ¬ IsErrOf c.make.result Fault → Ind
 followed g c whole =
     let old = g.B.Eeprom.chip c.args.bench.now in
     let goes_on = c.make.ensures.goes_on whole in
-    Indexes-held c.make.new.index c.make.new.store c.args.store.now old (g.B.Eeprom.chip c.make.new.bench) c.requires.holds
+    Indexes-held c.make.new.index c.make.new.store c.args.store.now Committed old (g.B.Eeprom.chip c.make.new.bench) c.requires.holds
     (goes_on.told ∙ ap (λ (chip : Chip). is_some chip.image) c.in_ok-actor.ensures.frame.same)
     (c.make.ensures.index_cells ∙ (ap (λ (i : Index). i.cells) c.begin-2.ensures.begun ∙ (c.requires.index.cells ∙ sym (goes_on.cells ∙ ap (λ (h : Held). h.chains.cells) c.begin.ensures.begun)))) (λ db rest.
     c.make.ensures.index db (held-made g c db rest) (acts-made g c db rest) c.requires.formed (fits-made g c db rest) whole)
@@ -161,7 +161,7 @@ make-requires-clause-last g c = λ db held.
 
 pub returns-in_ok-commit-in-Ok-clause-holds : goal.returns-in_ok-commit-in-Ok-clause-holds
 returns-in_ok-commit-in-Ok-clause-holds g c =
-    HoldsSome-changed c.commit.new.self c.args.store.now (g.B.Eeprom.chip c.args.bench.now) (g.B.Eeprom.chip c.commit.new.bench) c.requires.holds
+    HoldsSome-changed c.commit.new.self c.args.store.now Committed (g.B.Eeprom.chip c.args.bench.now) (g.B.Eeprom.chip c.commit.new.bench) c.requires.holds
     (c.in_ok-commit-in-Ok.ensures.told ∙ ((c.in-Ok.ensures.goes_on (λ wrong. cc)).told ∙ ap (λ (chip : Chip). is_some chip.image) c.in_ok-actor.ensures.frame.same))
     (λ db rest.
     let ends = through g (goal.at.returns-in_ok-commit-in-Ok-clause-changes g c).After-make db rest in
@@ -176,7 +176,7 @@ returns-in_ok-commit-in-Ok-clause-index g c =
 
 pub returns-in-Err-Refused-clause-holds : goal.returns-in-Err-Refused-clause-holds
 returns-in-Err-Refused-clause-holds g c =
-    HoldsSome-changed c.rollback.new.self c.args.store.now (g.B.Eeprom.chip c.args.bench.now) (g.B.Eeprom.chip c.make.new.bench) c.requires.holds
+    HoldsSome-changed c.rollback.new.self c.args.store.now Committed (g.B.Eeprom.chip c.args.bench.now) (g.B.Eeprom.chip c.make.new.bench) c.requires.holds
     ((c.in-Err-Refused.ensures.goes_on (λ wrong. cc)).told ∙ ap (λ (chip : Chip). is_some chip.image) c.in_ok-actor.ensures.frame.same)
     (λ db rest.
     let ends = through g (goal.at.returns-in-Err-Refused-clause-changes g c).After-make db rest in
@@ -190,7 +190,7 @@ returns-in-Err-Refused-clause-index g c =
     let cells : c.rollback.new.self.chains.cells ≡ c.args.store.now.chains.cells = c.rollback.ensures.cells ∙ (goes_on.cells ∙ ap (λ (h : Held). h.chains.cells) c.begin.ensures.begun) in
     let is : c.rollback-in-Err-Refused.new.self ≡ record { cells = c.args.index.now.cells; begun = false; committed = c.args.index.now.committed; working = c.args.index.now.committed }
     = c.rollback-in-Err-Refused.ensures.rolled_back ∙ rw (c.make.ensures.index_cells, c.make.ensures.index_committed, c.begin-2.ensures.begun) refl in
-    Indexes-held c.rollback-in-Err-Refused.new.self c.rollback.new.self c.args.store.now old (g.B.Eeprom.chip c.make.new.bench) c.requires.holds
+    Indexes-held c.rollback-in-Err-Refused.new.self c.rollback.new.self c.args.store.now Committed old (g.B.Eeprom.chip c.make.new.bench) c.requires.holds
     (goes_on.told ∙ ap (λ (chip : Chip). is_some chip.image) c.in_ok-actor.ensures.frame.same)
     (ap (λ (i : Index). i.cells) is ∙ (c.requires.index.cells ∙ sym cells)) (λ db rest.
     let ends = through g w db rest in

@@ -2,7 +2,9 @@ use Rattle.std.proofs.Common.{sym, ap, subst, ◌∙◌, inl, inr, arith}
 use Rattle.scql_model.specs.Accepting.{Accepts}
 use Rattle.scql_model.specs.Operations.{built_operations}
 use Rattle.scql_model.specs.Replies.{Reply}
+use Rattle.scql_model.specs.Bound.{octets_bound}
 use Rattle.scql_model.specs.Step.{step}
+use Rattle.scql_model.proofs.NothingWritten.{octets_bound_by-accepts}
 use Rattle.scql_model.proofs.AnswerWords.{step-costs, step-ends}
 use Rattle.scql_model.proofs.Refusing.{step-accepts_or_leaves}
 use Rattle.scql_model.proofs.ValidSteps.{IsValidAnswer-step}
@@ -30,14 +32,17 @@ pub returns-in-Ok-clause-octets_written : goal.returns-in-Ok-clause-octets_writt
 returns-in-Ok-clause-octets_written g c = λ m at is. (c.in-Ok.ensures.performs m at).octets
 
 pub returns-in-Ok-clause-refused : goal.returns-in-Ok-clause-refused
-unfolding step
+unfolding step octets_bound
 returns-in-Ok-clause-refused g c = λ m at is.
     let performs = c.in-Ok.ensures.performs m at in
     let says = performs.step in
+    let accepts_so = λ (accepts : Accepts (step m c.args.command.now).reply.word). subst Accepts (sym (ap (λ (sent : Reply). sent.word) says.reply)) accepts in
     elim (step-accepts_or_leaves built_operations m c.args.command.now) [
-      | inl accepts ↦ inl (subst Accepts (sym (ap (λ (sent : Reply). sent.word) says.reply)) accepts)
-      | inr leaves ↦ inr (
-        performs.unwritten leaves.0,
+      | inl accepts ↦ inl (accepts_so accepts)
+      | inr leaves ↦ elim (octets_bound_by-accepts built_operations m c.args.command.now) [
+        | inl accepts ↦ inl (accepts_so accepts)
+        | inr none ↦ inr (
+        performs.unwritten none,
         (
           _,
           leaves.1,
@@ -47,6 +52,7 @@ returns-in-Ok-clause-refused g c = λ m at is.
           },
         ),
       )
+      ]
     ]
 
 pub returns-in-Ok-clause-at_its_end : goal.returns-in-Ok-clause-at_its_end

@@ -1,40 +1,98 @@
--- A command reads, is PRESENT USER or MANAGE CHANNEL, or changes the database.
-use Rattle.std.proofs.Common.{◌≡◌, ℕ, List, [], drop, Result, Ok, refl, sym, ap, subst, ◌∙◌, arith}
+-- A command waits, reads, has an arm of its own, or changes the database.
+use Rattle.std.proofs.Common.{◌≡◌, Bool, true, false, ℕ, List, [], drop, Result, Ok, Err, refl, sym, ap, subst, ◌∙◌, arith}
 use Rattle.std.specs.Prelude.{IfOk}
 use Rattle.eeprom.specs.Chip.{Chip}
 use Rattle.eeprom.specs.StoreOf.{image_size}
 use Rattle.eeprom.specs.declared.EepromFault.{EepromFault}
+use Rattle.scql_base.specs.Words.{conditions_not_satisfied}
 use Rattle.scql_base.specs.declared.words.StatusWord.{StatusWord}
 use Rattle.scql_base.specs.declared.operation.Command.{Command}
 use Rattle.scql_base.specs.declared.operation.Operation.{Operation}
-use Rattle.scql_base.specs.declared.operation.Operation.TheVariants.{OpenChannel, CloseChannel}
-use Rattle.scql_model.specs.Bound.{octets_carried_out, or_nothing}
+use Rattle.scql_base.specs.declared.operation.Operation.TheVariants.{Begin, Commit, Rollback, PresentUser, OpenChannel, CloseChannel}
+use Rattle.scql_model.specs.Bound.{octets_carried_out, octets_committed, or_nothing}
 use Rattle.scql_model.specs.Machine.{Machine}
-use Rattle.scql_model.specs.Step.{Answer, answered, carried_out, changed, user_presented, channel_opened, channel_closed}
+use Rattle.scql_model.specs.Operations.{kind_of}
+use Rattle.scql_model.specs.Replies.{said}
+use Rattle.scql_model.specs.Step.{Answer, answered, carried_out, changed, user_presented, channel_opened, channel_closed, transaction_begun, transaction_committed, transaction_rolled_back}
+use Rattle.scql_model.specs.Transactions.{Waits, for_any, for_others, is_kept_waiting, waits}
 use Rattle.scql_model.specs.WellFormed.{HasForm}
 use Rattle.card.specs.Answering.{HoldsAnswer, Performs, replied}
-use Rattle.card.specs.Card.{Kept, IsReady, StepsFrom}
+use Rattle.card.specs.Card.{Kept, HoldsMachine, IsAt, IsReady}
+use Rattle.card.specs.Waiting.{keeps_waiting}
 use Rattle.card.proofs.BuiltLines.{IsChange-built, IsNoneOfThose}
 use Rattle.card.proofs.Leaving.{Keeps-none}
 use Rattle.card.proofs.Performing.{Performs-unwritten}
-use Rattle.card.proofs.UnreadSteps.{carried_out-presents, carried_out-changes, carried_out-opens, carried_out-closes, octets-carried_out}
+use Rattle.card.proofs.FreeCommands.{any-none, carried_out-arm, carried_out-changes, carried_out-waits, octets-arm, octets-carried_out, waiting-at, waits-changes}
 use Rattle.card.proofs.card.Card.carry_out.Goals.{In_default}
 use Rattle.card.proofs.card.Card.carry_out.Goals as goal
 
--- a command that changes sessions alone is carried out so, and writes nothing
-of_sessions : (card after : Kept) (old new : Chip) (m : Machine) (c : Command) (outcome : Result Answer StatusWord) (body : List ℕ) (result : Result StatusWord EepromFault) → IsReady card old → StepsFrom card old m → new ≡ old
+-- what the card says of waiting is so of the machine
+told-waiting : (card : Kept) (chip : Chip) (m : Machine) (c : Command) (told answer : Bool) → HoldsMachine card chip m → told ≡ keeps_waiting (waits (kind_of c.operation)) card.transaction c.channel → told ≡ answer
+    → is_kept_waiting (waits (kind_of c.operation)) m.transaction c.channel ≡ answer
+told-waiting card chip m c told answer at says is = waiting-at (waits (kind_of c.operation)) m.transaction card.transaction c.channel at.transaction ∙ (sym says ∙ is)
+
+-- a command that leaves the EEPROM as it is is carried out so
+of_sessions : (card after : Kept) (old new : Chip) (m : Machine) (c : Command) (outcome : Result Answer StatusWord) (body : List ℕ) (result : Result StatusWord EepromFault) → IsReady card old → IsAt card old m → new ≡ old
     → carried_out m c ≡ outcome → IfOk result (λ word. HoldsAnswer (answered m outcome) (replied body word) after new) → Performs m (answered m (carried_out m c)) (or_nothing (octets_carried_out m c)) body result after old new
 of_sessions card after old new m c outcome body result ready at same is step =
     subst (λ (outcome : Result Answer StatusWord). Performs m (answered m outcome) (or_nothing (octets_carried_out m c)) body result after old new) (sym is)
     (Performs-unwritten card after old new m _ _ body result ready at same step)
 
+pub returns-then-keeps_waiting-clause-performs : goal.returns-then-keeps_waiting-clause-performs
+returns-then-keeps_waiting-clause-performs g c = λ m at.
+    let old = g.B.Eeprom.chip c.args.bench.now in
+    subst (λ (body : List ℕ). Performs m (answered m (carried_out m c.args.command.now)) (or_nothing (octets_carried_out m c.args.command.now)) body (Ok conditions_not_satisfied) c.args.self.now old old) (sym c.requires.empty)
+    (of_sessions c.args.self.now c.args.self.now old old m c.args.command.now (Err conditions_not_satisfied) [] (Ok conditions_not_satisfied) c.requires.ready at refl
+    (carried_out-waits m c.args.command.now (told-waiting c.args.self.now old m c.args.command.now c.keeps_waiting.result true at.held c.keeps_waiting.ensures c.if-keeps_waiting.true)) (record { reply = refl; held = at.held }))
+
+pub returns-then-keeps_waiting-clause-behind : goal.returns-then-keeps_waiting-clause-behind
+returns-then-keeps_waiting-clause-behind g c = Keeps-none (drop (image_size c.args.self.now.store.chains.cells)) (g.B.Eeprom.chip c.args.bench.now) (g.B.Eeprom.chip c.args.bench.now) refl
+
+pub returns-in-Begin-clause-performs : goal.returns-in-Begin-clause-performs
+returns-in-Begin-clause-performs g c = λ m at.
+    let old = g.B.Eeprom.chip c.args.bench.now in
+    let free = told-waiting c.args.self.now old m c.args.command.now c.keeps_waiting.result false at.held c.keeps_waiting.ensures c.if-keeps_waiting.false in
+    subst (λ (body : List ℕ). Performs m (answered m (carried_out m c.args.command.now)) (or_nothing (octets_carried_out m c.args.command.now)) body (Ok c.begin.result) c.begin.new.self old old) (sym c.requires.empty)
+    (of_sessions c.args.self.now c.begin.new.self old old m c.args.command.now (transaction_begun m c.args.command.now.channel) [] (Ok c.begin.result) c.requires.ready at refl
+    (carried_out-arm m c.args.command.now Begin c.in-Begin.is free refl) (c.begin.ensures.step old m at))
+
+pub returns-in-Begin-clause-behind : goal.returns-in-Begin-clause-behind
+returns-in-Begin-clause-behind g c = Keeps-none (drop (image_size c.args.self.now.store.chains.cells)) (g.B.Eeprom.chip c.args.bench.now) (g.B.Eeprom.chip c.args.bench.now) refl
+
+pub returns-in-Commit-clause-performs : goal.returns-in-Commit-clause-performs
+returns-in-Commit-clause-performs g c = λ m at.
+    let channel = c.args.command.now.channel in
+    let old = g.B.Eeprom.chip c.args.bench.now in
+    let new = g.B.Eeprom.chip c.commit.new.bench in
+    let free = told-waiting c.args.self.now old m c.args.command.now c.keeps_waiting.result false at.held c.keeps_waiting.ensures c.if-keeps_waiting.false in
+    subst (λ (body : List ℕ). Performs m (answered m (carried_out m c.args.command.now)) (or_nothing (octets_carried_out m c.args.command.now)) body c.commit.result c.commit.new.self old new) (sym c.requires.empty)
+    (subst (λ (outcome : Result Answer StatusWord). Performs m (answered m outcome) (or_nothing (octets_carried_out m c.args.command.now)) [] c.commit.result c.commit.new.self old new)
+    (sym (carried_out-arm m c.args.command.now Commit c.in-Commit.is free refl))
+    (subst (λ (most : Result ℕ StatusWord). Performs m (answered m (transaction_committed m channel)) (or_nothing most) [] c.commit.result c.commit.new.self old new)
+    (sym (octets-arm m c.args.command.now Commit c.in-Commit.is free)) (c.commit.ensures.performs m at)))
+
+pub returns-in-Rollback-clause-performs : goal.returns-in-Rollback-clause-performs
+returns-in-Rollback-clause-performs g c = λ m at.
+    let old = g.B.Eeprom.chip c.args.bench.now in
+    let free = told-waiting c.args.self.now old m c.args.command.now c.keeps_waiting.result false at.held c.keeps_waiting.ensures c.if-keeps_waiting.false in
+    subst (λ (body : List ℕ). Performs m (answered m (carried_out m c.args.command.now)) (or_nothing (octets_carried_out m c.args.command.now)) body (Ok c.roll_back.result) c.roll_back.new.self old old) (sym c.requires.empty)
+    (of_sessions c.args.self.now c.roll_back.new.self old old m c.args.command.now (transaction_rolled_back m c.args.command.now.channel) [] (Ok c.roll_back.result) c.requires.ready at refl
+    (carried_out-arm m c.args.command.now Rollback c.in-Rollback.is free refl) (c.roll_back.ensures.step old m at.held))
+
+pub returns-in-Rollback-clause-behind : goal.returns-in-Rollback-clause-behind
+returns-in-Rollback-clause-behind g c = Keeps-none (drop (image_size c.args.self.now.store.chains.cells)) (g.B.Eeprom.chip c.args.bench.now) (g.B.Eeprom.chip c.args.bench.now) refl
+
+pub present_user-requires-clause-closed : goal.present_user-requires-clause-closed
+present_user-requires-clause-closed g c =
+    any-none c.args.self.now.transaction c.args.command.now.channel
+    (subst (λ (operation : Operation). keeps_waiting (waits (kind_of operation)) c.args.self.now.transaction c.args.command.now.channel ≡ false) c.in-PresentUser.is (sym c.keeps_waiting.ensures ∙ c.if-keeps_waiting.false))
+
 pub returns-in-PresentUser-clause-performs : goal.returns-in-PresentUser-clause-performs
 returns-in-PresentUser-clause-performs g c = λ m at.
     let old = g.B.Eeprom.chip c.args.bench.now in
     let new = g.B.Eeprom.chip c.present_user.new.bench in
-    let presents : carried_out m c.args.command.now ≡ user_presented m c.args.command.now.channel c.in-PresentUser.name =
-    ap (λ (operation : Operation). carried_out m (record { channel = c.args.command.now.channel; operation = operation; le = c.args.command.now.le })) c.in-PresentUser.is
-    ∙ carried_out-presents m c.args.command.now.channel c.in-PresentUser.name c.args.command.now.le at.held.transaction in
+    let free = told-waiting c.args.self.now old m c.args.command.now c.keeps_waiting.result false at.held c.keeps_waiting.ensures c.if-keeps_waiting.false in
+    let presents = carried_out-arm m c.args.command.now (PresentUser c.in-PresentUser.name) c.in-PresentUser.is free refl in
     subst (λ (body : List ℕ). Performs m (answered m (carried_out m c.args.command.now)) (or_nothing (octets_carried_out m c.args.command.now)) body c.present_user.result c.present_user.new.self old new) (sym c.requires.empty)
     (of_sessions c.args.self.now c.present_user.new.self old new m c.args.command.now (user_presented m c.args.command.now.channel c.in-PresentUser.name) [] c.present_user.result c.requires.ready at c.present_user.ensures.same presents
     (rw c.copy.ensures at (c.present_user.ensures.step m at)))
@@ -49,9 +107,8 @@ open_channel-requires-clause-number g c = let few : HasForm (OpenChannel c.in-Op
 pub returns-in-OpenChannel-clause-performs : goal.returns-in-OpenChannel-clause-performs
 returns-in-OpenChannel-clause-performs g c = λ m at.
     let old = g.B.Eeprom.chip c.args.bench.now in
-    let opens : carried_out m c.args.command.now ≡ channel_opened m c.args.command.now.channel c.in-OpenChannel.number =
-    ap (λ (operation : Operation). carried_out m (record { channel = c.args.command.now.channel; operation = operation; le = c.args.command.now.le })) c.in-OpenChannel.is
-    ∙ carried_out-opens m c.args.command.now.channel c.in-OpenChannel.number c.args.command.now.le at.held.transaction in
+    let free = told-waiting c.args.self.now old m c.args.command.now c.keeps_waiting.result false at.held c.keeps_waiting.ensures c.if-keeps_waiting.false in
+    let opens = carried_out-arm m c.args.command.now (OpenChannel c.in-OpenChannel.number) c.in-OpenChannel.is free refl in
     of_sessions c.args.self.now c.open_channel.new.self old old m c.args.command.now (channel_opened m c.args.command.now.channel c.in-OpenChannel.number) c.open_channel.new.reply.body (Ok c.open_channel.result) c.requires.ready at refl opens
     (c.open_channel.ensures.step old m at.held)
 
@@ -65,10 +122,9 @@ channel_meant-requires-clause-number g c = let few : HasForm (CloseChannel c.in-
 pub returns-in-CloseChannel-clause-performs : goal.returns-in-CloseChannel-clause-performs
 returns-in-CloseChannel-clause-performs g c = λ m at.
     let old = g.B.Eeprom.chip c.args.bench.now in
+    let free = told-waiting c.args.self.now old m c.args.command.now c.keeps_waiting.result false at.held c.keeps_waiting.ensures c.if-keeps_waiting.false in
     let closes : carried_out m c.args.command.now ≡ channel_closed m c.args.command.now.channel c.channel_meant.result =
-    ap (λ (operation : Operation). carried_out m (record { channel = c.args.command.now.channel; operation = operation; le = c.args.command.now.le })) c.in-CloseChannel.is
-    ∙ (carried_out-closes m c.args.command.now.channel c.in-CloseChannel.number c.args.command.now.le at.held.transaction
-    ∙ ap (channel_closed m c.args.command.now.channel) (sym c.channel_meant.ensures.meant)) in
+    carried_out-arm m c.args.command.now (CloseChannel c.in-CloseChannel.number) c.in-CloseChannel.is free refl ∙ ap (channel_closed m c.args.command.now.channel) (sym c.channel_meant.ensures.meant) in
     subst (λ (body : List ℕ). Performs m (answered m (carried_out m c.args.command.now)) (or_nothing (octets_carried_out m c.args.command.now)) body (Ok c.close_channel.result) c.close_channel.new.self old old) (sym c.requires.empty)
     (of_sessions c.args.self.now c.close_channel.new.self old old m c.args.command.now (channel_closed m c.args.command.now.channel c.channel_meant.result) [] (Ok c.close_channel.result) c.requires.ready at refl closes
     (c.close_channel.ensures.step old m at.held))
@@ -84,6 +140,9 @@ none g c = record {
   not_presents = c.in_default.not-PresentUser;
   not_opens = c.in_default.not-OpenChannel;
   not_closes = c.in_default.not-CloseChannel;
+  not_begins = c.in_default.not-Begin;
+  not_commits = c.in_default.not-Commit;
+  not_rolls_back = c.in_default.not-Rollback;
 }
 
 pub change-requires : goal.change-requires
@@ -103,8 +162,10 @@ returns-in_default-clause-performs g c = λ m at.
     let changes = IsChange-built operation c.requires.built (none g (goal.at.returns-in_default-clause-performs g c).In_default) in
     let old = g.B.Eeprom.chip c.args.bench.now in
     let new = g.B.Eeprom.chip c.change.new.bench in
+    let free = told-waiting c.args.self.now old m c.args.command.now c.keeps_waiting.result false at.held c.keeps_waiting.ensures c.if-keeps_waiting.false in
+    let others = subst (λ (w : Waits). keeps_waiting w c.args.self.now.transaction channel ≡ false) (waits-changes operation changes.1) (sym c.keeps_waiting.ensures ∙ c.if-keeps_waiting.false) in
     subst (λ (body : List ℕ). Performs m (answered m (carried_out m c.args.command.now)) (or_nothing (octets_carried_out m c.args.command.now)) body c.change.result c.change.new.self old new) (sym c.requires.empty)
     (subst (λ (outcome : Result Answer StatusWord). Performs m (answered m outcome) (or_nothing (octets_carried_out m c.args.command.now)) [] c.change.result c.change.new.self old new)
-    (sym (carried_out-changes m channel operation c.args.command.now.le changes.1 at.held.transaction))
+    (sym (carried_out-changes m channel operation c.args.command.now.le changes.1 free))
     (subst (λ (most : Result ℕ StatusWord). Performs m (answered m (changed m channel operation)) (or_nothing most) [] c.change.result c.change.new.self old new)
-    (sym (octets-carried_out m channel operation c.args.command.now.le changes.1 at.held.transaction)) (c.change.ensures.performs m at)))
+    (sym (octets-carried_out m channel operation c.args.command.now.le changes.1 free)) (c.change.ensures.performs m at others)))

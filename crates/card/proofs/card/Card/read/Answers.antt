@@ -7,18 +7,20 @@ use Rattle.scql_model.specs.Machine.{Reading, actor, base}
 use Rattle.scql_model.specs.Sessions.{reading_of, reading_so}
 use Rattle.scql_model.specs.Step.{answered, carried_out}
 use Rattle.card.specs.Answering.{HoldsAnswer, replied}
-use Rattle.card.specs.Card.{Kept, IsAtRest}
+use Rattle.record_store.specs.declared.side.Side.{Side}
+use Rattle.record_table.specs.Making.{IsHeld}
+use Rattle.card.specs.Card.{Kept, IsReady}
+use Rattle.card.specs.Waiting.{side_of}
 use Rattle.card.specs.Reading.{move_to}
 use Rattle.card.specs.Sessions as opened
 use Rattle.card.specs.Sessions.{reading_in, sessions_of}
-use Rattle.scql_model.specs.Database.{Database}
 use Rattle.scql_model.specs.Cursors.{StandsOn}
 use Rattle.std.specs.Prelude.{IfSome, Some, slice_set}
-use Rattle.card.proofs.Performing.{IsAtRest-at, Performs-unwritten, actor-at}
-use Rattle.card.proofs.ReadingCard.{HoldsAnswer-read, err-ok, move-there, of_database, reading-card, reads-command, reads-so}
+use Rattle.card.proofs.Performing.{Performs-unwritten, actor-at}
+use Rattle.card.proofs.Sides.{IsHeld-base, IsReady-sessions}
+use Rattle.card.proofs.ReadingCard.{HoldsAnswer-read, err-ok, on-any, move-there, of_database, reading-card, reads-command, reads-so}
 use Rattle.card.proofs.ReadingMoves.{if_ok-then}
 use Rattle.card.proofs.SeenSessions.{card-changed, closed-none, index-there}
-use Rattle.card.proofs.UnreadSteps.{committed-base}
 use Rattle.card.proofs.card.Card.read.Goals as goal
 
 pub returns-in_err-actor-clause-performs : goal.returns-in_err-actor-clause-performs
@@ -39,21 +41,29 @@ returns-clause-performs g c = λ m from.
     let command = c.args.command.now in
     let session = c.in-Some.session in
     let after = c.read.new.session in
+    let db = base m command.channel in
     let same : new ≡ old = c.read.ensures.frame.same ∙ c.in_ok-actor.ensures.frame.same in
-    let rest : IsAtRest c.self.inside.store old m.committed = subst (λ (kept : Kept). IsAtRest kept.store old m.committed) (sym c.self.view_is) (IsAtRest-at c.args.self.now old m c.requires.ready from) in
+    let held : IsHeld c.self.inside.store c.side-side.result old db = subst (λ (side : Side). IsHeld c.self.inside.store side old db) (sym c.side-side.ensures)
+    (subst (λ (kept : Kept). IsHeld kept.store (side_of c.args.self.now.transaction command.channel) old db) (sym c.self.view_is) (IsHeld-base c.args.self.now old m command.channel c.requires.ready from)) in
     let there = index-there c.self.inside.sessions c.from.result c.index-self-from.result (omega (arith, c.from.ensures, c.requires.formed.channel, c.self.invariant.0)) c.index-self-from.is ∙ (c.index-self-from.is ∙ c.in-Some.is) in
     let seen = reading-card c.args.self.now old m c.self.inside.sessions c.self.inside.chains command.channel session from.held (ap (λ (kept : Kept). kept.sessions) (sym c.self.view_is)) (c.self.invariant.0 ∙ sym c.self.invariant.1)
     (rw c.from.ensures at there) in
-    let who = actor-at c.args.self.now old m command.channel c.proved_user-user.result from.held c.proved_user-user.ensures ∙ sym (c.in_ok-actor.ensures.actor m.committed rest) in
-    let cursors = of_database m.committed session.cursor (subst (λ (reading : Reading). IfSome reading.cursor (StandsOn m.committed)) seen (from.readings command.channel).cursor) in
+    let who = actor-at c.args.self.now old m command.channel c.proved_user-user.result from.held c.proved_user-user.ensures ∙ sym (c.in_ok-actor.ensures.actor db held) in
+    let cursors = of_database db session.cursor (subst (λ (reading : Reading). IfSome reading.cursor (StandsOn db)) seen (from.valid.readings command.channel).cursor) in
     let reads = reads-command command c.requires.formed c.requires.reads in
-    let there_still = subst (λ (chip : Chip). IsAtRest c.self.inside.store chip m.committed) (sym c.in_ok-actor.ensures.frame.same) rest in
-    let set = rw c.from.ensures at (card-changed (reading_so (reading_in after)) c.self.inside.store c.self.inside.index c.self.inside.live c.self.inside.sessions c.self.inside.chains c.from.result session after c.args.self.now c.self.view_is
+    let there_still = subst (λ (chip : Chip). IsHeld c.self.inside.store c.side-side.result chip db) (sym c.in_ok-actor.ensures.frame.same) held in
+    let set = rw c.from.ensures at (card-changed (reading_so (reading_in after)) c.self.inside.store c.self.inside.index c.self.inside.transaction c.self.inside.live c.self.inside.sessions c.self.inside.chains c.from.result session after c.args.self.now c.self.view_is
     (λ chain. reads-so after session c.read.ensures.user chain) there) in
-    let kept : Kept = record { store = c.self.inside.store; index = c.self.inside.index; sessions = sessions_of (slice_set c.self.inside.sessions c.from.result (Some after)) c.self.inside.chains; live = c.self.inside.live } in
+    let kept : Kept = record { store = c.self.inside.store; index = c.self.inside.index; sessions = sessions_of (slice_set c.self.inside.sessions c.from.result (Some after)) c.self.inside.chains; transaction = c.self.inside.transaction; live = c.self.inside.live } in
     Performs-unwritten c.args.self.now kept old new m _ _ c.read.new.reply.body c.read.result c.requires.ready from same
     (if_ok-then c.read.result (λ word moves.
     subst (λ (chip : Chip). HoldsAnswer (answered m (carried_out m command)) (replied c.read.new.reply.body word) kept chip) (sym same)
     (HoldsAnswer-read c.args.self.now kept old m command reads.0 c.read.new.reply.body word (reading_in after) from.held reads.1
-    (move-there m.committed (base m command.channel) c.in_ok-actor.actor (actor m command.channel) (reading_in session) (reading_of m command.channel) reads.0 (move_to c.read.new.reply.body word after.cursor after.pending) (committed-base m command.channel from.held.transaction) who seen (moves reads.0 reads.1)) (rw c.from.ensures set)))
-    (c.read.ensures.moves m.committed there_still cursors))
+    (move-there db db c.in_ok-actor.actor (actor m command.channel) (reading_in session) (reading_of m command.channel) reads.0 (move_to c.read.new.reply.body word after.cursor after.pending) refl who seen (moves reads.0 reads.1)) (rw c.from.ensures set)))
+    (c.read.ensures.moves db there_still cursors))
+
+pub returns-clause-ready : goal.returns-clause-ready
+returns-clause-ready g c =
+    let after : Kept = record { store = c.self.inside.store; index = c.self.inside.index; sessions = sessions_of (slice_set c.self.inside.sessions c.from.result (Some c.read.new.session)) c.self.inside.chains; transaction = c.self.inside.transaction; live = c.self.inside.live } in
+    on-any (IsReady after (g.B.Eeprom.chip c.read.new.bench)) c.read.result (IsReady-sessions c.args.self.now after (g.B.Eeprom.chip c.args.bench.now) (g.B.Eeprom.chip c.read.new.bench) after.sessions (ap (λ (kept : Kept). let set : Kept = record kept { sessions = after.sessions } in set) c.self.view_is)
+    (c.read.ensures.frame.same ∙ c.in_ok-actor.ensures.frame.same) c.requires.ready)

@@ -13,12 +13,13 @@ use Rattle.scql_model.specs.Replies.{said}
 use Rattle.scql_model.specs.Step.{Answer, answered, carried_out, done_with, step}
 use Rattle.scql_model.specs.WellFormed.{FitsCard}
 use Rattle.apdu_chain.specs.Chaining.{chain_on}
-use Rattle.card.specs.Card.{Kept, IsAt, StepsFrom}
+use Rattle.card.specs.Card.{Kept, IsAt, IsReady}
 use Rattle.card.specs.Answering.{HoldsAnswer, Performs}
 use Rattle.card.specs.Sessions.{sessions_of}
-use Rattle.card.proofs.TakenForms.{taken_at, outcome_of, step-taken, StepsFrom-taken, bound-taken, octets_taken, octets-whole, taken-committed, taken-refused, taken-kept, named-taken, open-taken, outcome-whole, built-taken, fits-taken, readings-committed}
+use Rattle.card.proofs.TakenForms.{taken_at, outcome_of, step-taken, IsAt-taken, bound-taken, octets_taken, octets-whole, taken-committed, taken-refused, taken-kept, named-taken, open-taken, outcome-whole, built-taken, fits-taken}
 use Rattle.card.proofs.Leaving.{Keeps-none}
 use Rattle.card.proofs.Performing.{HoldsAnswer-done, Performs-from, Performs-unwritten}
+use Rattle.card.proofs.Sides.{IsReady-sessions}
 use Rattle.card.proofs.card.Card.word_of.Goals.{After-take}
 use Rattle.card.proofs.card.Card.word_of.Goals as goal
 
@@ -28,7 +29,7 @@ rows limit own most is = omega (arith, most, is)
 
 -- the card once octets were taken
 abbrev after_take : (g : _) → After-take g → Kept
-after_take g c = record { store = c.self.inside.store; index = c.self.inside.index; sessions = sessions_of c.self.inside.sessions c.take.new.self; live = c.self.inside.live }
+after_take g c = record { store = c.self.inside.store; index = c.self.inside.index; sessions = sessions_of c.self.inside.sessions c.take.new.self; transaction = c.self.inside.transaction; live = c.self.inside.live }
 
 -- what they are
 abbrev form : (g : _) → After-take g → Form
@@ -45,13 +46,9 @@ bounds g c m at =
     bound-taken c.args.self.now (g.B.Eeprom.chip c.args.bench.now) m c.args.command.now c.open_channels-channels.result c.self.inside.sessions c.self.inside.chains (min c.row_limit.result 1020) at
     c.open_channels-channels.ensures (ap (λ (kept : Kept). kept.sessions) (sym c.self.view_is)) (rows c.row_limit.result _ c.row_limit.ensures.most (c.row_limit.ensures.limit ∙ ap (λ (kept : Kept). kept.store.row_limit) c.self.view_is))
 
-at-taken : (g : _) (c : After-take g) (m : Machine) → IsAt c.args.self.now (g.B.Eeprom.chip c.args.bench.now) m → StepsFrom (after_take g c) (g.B.Eeprom.chip c.args.bench.now) (taken_at m (form g c))
+at-taken : (g : _) (c : After-take g) (m : Machine) → IsAt c.args.self.now (g.B.Eeprom.chip c.args.bench.now) m → IsAt (after_take g c) (g.B.Eeprom.chip c.args.bench.now) (taken_at m (form g c))
 at-taken g c m at =
-    StepsFrom-taken c.self.inside.store c.self.inside.index c.self.inside.live c.self.inside.sessions c.self.inside.chains c.take.new.self c.args.self.now (g.B.Eeprom.chip c.args.bench.now) m (form g c) at c.self.view_is c.take.ensures.chains
-
--- the machine as it is holds from its step
-from : (g : _) (c : After-take g) (m : Machine) → IsAt c.args.self.now (g.B.Eeprom.chip c.args.bench.now) m → StepsFrom c.args.self.now (g.B.Eeprom.chip c.args.bench.now) m
-from g c m at = record { held = at.held; valid = at.valid.committed; readings = λ channel. readings-committed m channel at.valid at.held.transaction }
+    IsAt-taken c.self.inside.store c.self.inside.index c.self.inside.transaction c.self.inside.live c.self.inside.sessions c.self.inside.chains c.take.new.self c.args.self.now (g.B.Eeprom.chip c.args.bench.now) m (form g c) at c.self.view_is c.take.ensures.chains
 
 -- nothing is written for what is no command, nor said
 unwritten : (g : _) (c : After-take g) (m : Machine) (answer : Answer) (word : StatusWord) (after : Kept) → IsAt c.args.self.now (g.B.Eeprom.chip c.args.bench.now) m
@@ -61,7 +58,7 @@ unwritten g c m answer word after at is says empty =
     let chip = g.B.Eeprom.chip c.args.bench.now in
     subst (λ (answer : Answer). Performs m answer (octets_bound m c.args.command.now) c.args.reply.now.body (Ok word) after chip chip) (sym (steps g c m at ∙ is))
     (subst (λ (body : List ℕ). Performs m answer (octets_bound m c.args.command.now) body (Ok word) after chip chip) (sym empty)
-    (Performs-unwritten c.args.self.now after chip chip m answer (octets_bound m c.args.command.now) [] (Ok word) c.requires.ready (from g c m at) refl says))
+    (Performs-unwritten c.args.self.now after chip chip m answer (octets_bound m c.args.command.now) [] (Ok word) c.requires.ready at refl says))
 
 pub returns-in-Refused-clause-performs : goal.returns-in-Refused-clause-performs
 returns-in-Refused-clause-performs g c = λ m at.
@@ -114,3 +111,22 @@ returns-in-Kept-clause-behind g c = Keeps-none (drop (image_size c.args.self.now
 pub returns-in-Whole-clause-behind : goal.returns-in-Whole-clause-behind
 returns-in-Whole-clause-behind g c =
     subst (λ (kept : Kept). Keeps (drop (image_size kept.store.chains.cells)) (g.B.Eeprom.chip c.args.bench.now) (g.B.Eeprom.chip c.carry_out.new.bench)) c.self.view_is c.carry_out.ensures.behind
+
+-- a card is ready still once octets were taken
+ready-taken : (g : _) (c : After-take g) → IsReady (after_take g c) (g.B.Eeprom.chip c.args.bench.now)
+ready-taken g c =
+    let chip = g.B.Eeprom.chip c.args.bench.now in
+    IsReady-sessions c.args.self.now (after_take g c) chip chip (sessions_of c.self.inside.sessions c.take.new.self)
+    (ap (λ (kept : Kept). let taken : Kept = record kept { sessions = sessions_of c.self.inside.sessions c.take.new.self } in taken) c.self.view_is) refl c.requires.ready
+
+pub carry_out-requires-clause-ready : goal.carry_out-requires-clause-ready
+carry_out-requires-clause-ready g c = ready-taken g (goal.at.carry_out-requires-clause-ready g c).After-take
+
+pub returns-in-Refused-clause-ready : goal.returns-in-Refused-clause-ready
+returns-in-Refused-clause-ready g c = ready-taken g (goal.at.returns-in-Refused-clause-ready g c).After-take
+
+pub returns-in-Kept-clause-ready : goal.returns-in-Kept-clause-ready
+returns-in-Kept-clause-ready g c =
+    let chip = g.B.Eeprom.chip c.args.bench.now in
+    let w = (goal.at.returns-in-Kept-clause-ready g c).After-take in
+    IsReady-sessions (after_take g w) c.drop_pending.new.self chip chip _ c.drop_pending.ensures refl (ready-taken g w)

@@ -1,0 +1,156 @@
+-- The sides of the store of a card that is at a machine.
+use Rattle.std.proofs.Common.{◌≡◌, ◌≤◌, ◌==◌, ◌&&◌, ℕ, Bool, true, false, ltb, List, [], ◌∷◌, length, Option, Some, None, is_some, option_map, if◌then◌else◌, refl, sym, ap, subst, ◌∙◌, inl, inr, arith}
+use Rattle.std.specs.Prelude.{IfSome, IsTrue, option_and_then}
+use Rattle.std.specs.List.{list_all}
+use Rattle.std.proofs.lemmas.Bool.{and_parts, and_from, cases_Bool, false≢true, lt-ltb, ltb-true}
+use Rattle.std.proofs.lemmas.Option.{none-some, same_Some}
+use Rattle.eeprom.specs.Chip.{Chip}
+use Rattle.eeprom.specs.Slots.{kept}
+use Rattle.eeprom.specs.StoreOf.{Slots}
+use Rattle.scql_model.specs.Opens.{counter_stamp}
+use Rattle.scql_model.specs.Records.{counter_in}
+use Rattle.record_store.specs.Held.{Held, contents, IsOver}
+use Rattle.record_store.specs.declared.side.Side.{Side}
+use Rattle.record_store.specs.declared.side.Side.TheVariants.{Committed, Working}
+use Rattle.record_table.specs.Listed.{slots_of}
+use Rattle.record_table.specs.Making.{GoesOn, IsHeld}
+use Rattle.row_index.specs.Index.{Index, Indexes, is_above}
+use Rattle.row_index.specs.Places.{place_stamp}
+use Rattle.row_index.specs.declared.place.RowPlace.{RowPlace}
+use Rattle.scql_base.specs.declared.words.StatusWord.{StatusWord}
+use Rattle.scql_base.specs.Words.{done}
+use Rattle.scql_model.specs.Database.{Database, IsValid}
+use Rattle.scql_model.specs.Sessions.{without_pending}
+use Rattle.scql_model.specs.Machine.{Machine, Session, Transaction, base, base_of}
+use Rattle.scql_model.specs.ValidMachine.{IsValidWork}
+use Rattle.card.specs.Answering.{changing_session, settled}
+use Rattle.card.specs.Card.{Kept, IsReady, IsAt, HoldsSome, KeepsStamps, WorksOn}
+use Rattle.card.specs.Waiting.{side_of}
+use Rattle.card.proofs.ChangedStore.{held-same, told-image}
+use Rattle.card.proofs.IndexedStore.{last-held, working-idle}
+use Rattle.card.proofs.Performing.{IsAtRest-at}
+
+-- where slots are told, a side holds some database
+pub some-held : (store : Held) (side : Side) (chip : Chip) → HoldsSome store side chip → (image : List ℕ) → chip.image ≡ Some image → (db : Database) × IsHeld store side chip db
+some-held store side chip holds image is = subst (λ (o : Option (List ℕ)). IfSome o (λ image. (db : Database) × IsHeld store side chip db)) is holds
+
+-- a side that holds a database has as many slots as cells
+length-held : (store : Held) (side : Side) (chip : Chip) (db : Database) (slots : Slots) → IsHeld store side chip db → slots_of store side chip ≡ Some slots → length slots ≡ store.chains.cells
+length-held store side chip db slots held told = ap length (sym (same_Some held.slots slots (sym held.told ∙ told))) ∙ (held.holds.cells ∙ held.cells)
+
+-- The working side of a card holds the database that its transaction works on.
+pub IsHeld-works : (card : Kept) (chip : Chip) (committed : Slots) (t : Transaction) → IsReady card chip → WorksOn card.store chip committed t → IsValid t.working → IsHeld card.store Working chip t.working
+IsHeld-works card chip committed t ready works valid =
+    let image = told-image card.store Working chip works.slots works.told in
+    let some = some-held card.store Working chip ready.works image.0 image.1 in
+    record {
+      slots = works.slots;
+      told = works.told;
+      cells = sym works.holds.cells ∙ length-held card.store Working chip some.0 works.slots some.1 works.told;
+      limit = works.limit;
+      holds = works.holds;
+      valid = valid;
+    }
+
+-- A channel's side holds what the channel reads and changes.
+pub IsHeld-base : (card : Kept) (chip : Chip) (m : Machine) (channel : ℕ) → IsReady card chip → IsAt card chip m → IsHeld card.store (side_of card.transaction channel) chip (base m channel)
+IsHeld-base card chip m channel ready at =
+    subst (λ (own : Option ℕ). IsHeld card.store (side_of own channel) chip (base m channel)) at.held.transaction (each m.transaction at.held.works at.valid.transaction)
+  where
+    either : (t : Transaction) (b : Bool) → WorksOn card.store chip at.held.slots t → IsValidWork m t → IsHeld card.store (if b then Working else Committed) chip (if b then t.working else m.committed)
+    either t true works valid = IsHeld-works card chip at.held.slots t ready works valid.working
+    either t false works valid = let rest : IsHeld card.store Committed chip m.committed = IsAtRest-at card chip m ready at in rest
+
+    each : (t : Option Transaction) → IfSome t (WorksOn card.store chip at.held.slots) → IfSome t (IsValidWork m)
+        → IsHeld card.store (side_of (option_map (λ (t : Transaction). t.channel) t) channel) chip (base_of t m.committed channel)
+    each None works valid = let rest : IsHeld card.store Committed chip m.committed = IsAtRest-at card chip m ready at in rest
+    each (Some t) works valid = either t (t.channel == channel) works valid
+
+-- sides with the same slots hold databases with the same next stamp
+pub stamps-held : (store other : Held) (side from : Side) (chip old : Chip) (a b : Database) → slots_of store side chip ≡ slots_of other from old → IsHeld store side chip a → IsHeld other from old b → a.next ≡ b.next
+stamps-held store other side from chip old a b same held was =
+    let slots : held.slots ≡ was.slots = same_Some held.slots was.slots (sym held.told ∙ (same ∙ was.told)) in
+    let counts : a.next ∷ [] ≡ b.next ∷ [] = sym held.holds.counter ∙ (ap (kept counter_stamp counter_in) slots ∙ was.holds.counter) in
+    cc
+
+pub KeepsStamps-same : (store : Held) (chip : Chip) → slots_of store Working chip ≡ slots_of store Committed chip → KeepsStamps store chip
+KeepsStamps-same store chip same = λ db working held works. (let next = stamps-held store store Working Committed chip chip working db same works held in omega (arith, next))
+
+-- A side that has the slots of another holds what that one holds.
+pub HoldsSome-same : (store other : Held) (side from : Side) (old new : Chip) → HoldsSome other from old → is_some new.image ≡ is_some old.image → slots_of store side new ≡ slots_of other from old
+    → store.chains.cells ≡ other.chains.cells → store.row_limit ≡ other.row_limit → HoldsSome store side new
+HoldsSome-same store other side from old new holds told same cells rows = of old.image new.image holds told
+  where
+    of : (was now : Option (List ℕ)) → IfSome was (λ image. (db : Database) × IsHeld other from old db) → is_some now ≡ is_some was → IfSome now (λ image. (db : Database) × IsHeld store side new db)
+    of was None holds told = tt
+    of (Some image) (Some now) holds told = (holds.0, held-same other store from side old new holds.0 holds.1 same cells rows)
+    of None (Some now) holds told = absurd (false≢true (sym told))
+
+-- Without a transaction a card is ready that holds a database.
+pub IsReady-idle : (card : Kept) (chip : Chip) → IsTrue card.live → card.transaction ≡ None → card.store.begun ≡ false → IsOver card.store chip → HoldsSome card.store Committed chip → card.index.begun ≡ false
+    → Indexes card.index card.store chip → IsReady card chip
+IsReady-idle card chip live none idle over holds index_idle index = record {
+  live = live;
+  begun = idle ∙ sym (ap is_some none);
+  over = over;
+  holds = holds;
+  works = HoldsSome-same card.store card.store Working Committed chip chip holds refl (working-idle card.store chip idle) refl refl;
+  stamps = KeepsStamps-same card.store chip (working-idle card.store chip idle);
+  index_begun = index_idle ∙ sym (ap is_some none);
+  index = index;
+}
+
+-- no place is above a later stamp either
+above-more : (stamp next : ℕ) (places : List RowPlace) → stamp ≤ next → is_above stamp places ≡ true → is_above next places ≡ true
+above-more stamp next [] le all = refl
+above-more stamp next (place ∷ places) le all =
+    let parts = and_parts (ltb (place_stamp place) stamp) (is_above stamp places) all in
+    and_from (ltb (place_stamp place) next) (is_above next places) (lt-ltb (place_stamp place) next (omega (arith, le, ltb-true (place_stamp place) stamp parts.0))) (above-more stamp next places le parts.1)
+
+-- The next stamp of what a channel works on is above those of all rows that are committed.
+pub last-works : (card : Kept) (chip : Chip) (working : Database) → IsReady card chip → IsHeld card.store Working chip working → is_above working.next card.index.committed ≡ true
+last-works card chip working ready works =
+    let image = told-image card.store Working chip works.slots works.told in
+    let some = some-held card.store Committed chip ready.holds image.0 image.1 in
+    above-more some.0.next working.next card.index.committed (ready.stamps some.0 working some.1 works) (last-held card.index card.store chip some.0 ready.index some.1)
+
+-- A card is ready still where nothing but sessions changed.
+pub IsReady-sessions : (card after : Kept) (old new : Chip) (sessions : List (Option Session)) → after ≡ record card { sessions = sessions } → new ≡ old → IsReady card old → IsReady after new
+IsReady-sessions card after old new sessions is same ready = subst (λ (kept : Kept). IsReady kept new) (sym is) (subst (λ (chip : Chip). IsReady (record card { sessions = sessions }) chip) (sym same) (record {
+  live = ready.live;
+  begun = ready.begun;
+  over = ready.over;
+  holds = ready.holds;
+  works = ready.works;
+  stamps = ready.stamps;
+  index_begun = ready.index_begun;
+  index = ready.index;
+}))
+
+-- or where a channel's command was settled.
+pub IsReady-settled : (word : StatusWord) (card : Kept) (channel : ℕ) (chip : Chip) → IsReady card chip → IsReady (settled word card channel) chip
+IsReady-settled word card channel chip ready = elim (cases_Bool (word.word == done.word)) [
+  | inl e ↦ rw e (IsReady-sessions card (changing_session without_pending card channel) chip chip _ refl refl ready)
+  | inr f ↦ rw f ready
+]
+
+-- Within a transaction a card stays ready whose working side goes on, and whose committed one stays.
+pub IsReady-within : (card : Kept) (store : Held) (index : Index) (old new : Chip) → IsReady card old → is_some card.transaction ≡ true → GoesOn card.store store old new
+    → slots_of store Committed new ≡ slots_of card.store Committed old → HoldsSome store Working new → ((db next : Database) → IsHeld card.store Working old db → IsHeld store Working new next → db.next ≤ next.next)
+    → IsTrue index.begun → Indexes index store new → IsReady (record card { store = store; index = index }) new
+IsReady-within card store index old new ready there goes_on stays works later begun stands = record {
+  live = ready.live;
+  begun = goes_on.begun ∙ ready.begun;
+  over = goes_on.over;
+  holds = HoldsSome-same store card.store Committed Committed old new ready.holds goes_on.told stays goes_on.cells goes_on.rows;
+  works = works;
+  stamps = λ db working held worked.
+      let image = told-image card.store Committed old held.slots (sym stays ∙ held.told) in
+      let some = some-held card.store Working old ready.works image.0 image.1 in
+      let back = held-same store card.store Committed Committed new old db held (sym stays) (sym goes_on.cells) (sym goes_on.rows) in
+      let first = ready.stamps db some.0 back some.1 in
+      let second = later some.0 working some.1 worked in
+      omega (arith, first, second);
+  index_begun = begun ∙ sym there;
+  index = stands;
+}

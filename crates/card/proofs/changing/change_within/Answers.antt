@@ -1,0 +1,119 @@
+-- Each way in which a change within a transaction ends.
+use Rattle.std.proofs.Common.{◌≡◌, ◌≤◌, ℕ, List, Option, Some, Result, Ok, Err, is_some, refl, sym, ap, subst, ◌∙◌, inl, inr, arith}
+use Rattle.std.specs.Prelude.{IfSome, IsErrOf}
+use Rattle.eeprom.specs.Chip.{Chip}
+use Rattle.record_store.specs.Held.{Held}
+use Rattle.record_store.specs.declared.side.Side.TheVariants.{Working}
+use Rattle.scql_base.specs.declared.cursor.Cursor.{Cursor}
+use Rattle.scql_base.specs.declared.words.StatusWord.{StatusWord}
+use Rattle.scql_model.specs.Changing.{edits_of, with_edits}
+use Rattle.scql_model.specs.Edits.{Edit}
+use Rattle.scql_model.specs.Refusals.{◌>>=◌}
+use Rattle.scql_model.specs.Creating.{IsActorOf}
+use Rattle.scql_model.specs.Cursors.{IsCursorOf}
+use Rattle.scql_model.specs.Database.{Database}
+use Rattle.scql_model.specs.WellFormed.{FitsCard}
+use Rattle.scql_model.proofs.ObjectsFollow.{Follows-edits_of}
+use Rattle.record_table.specs.Making.{Ends, IsHeld, Makes}
+use Rattle.record_table.specs.declared.stop.Stop.{Stop}
+use Rattle.record_table.specs.declared.stop.Stop.TheVariants.{Fault, Refused}
+use Rattle.row_index.specs.Index.{Index, Indexes}
+use Rattle.card.specs.Changing.{acting}
+use Rattle.card.proofs.ChangingOperations.{IsActorOf-acting}
+use Rattle.card.proofs.IndexedStore.{HoldsSome-changed, Indexes-held}
+use Rattle.card.proofs.Sides.{stamps-held}
+use Rattle.card.proofs.changing.change_within.Goals.{After-make}
+use Rattle.card.proofs.changing.change_within.Goals as goal
+
+-- the operation that was made ended as through a cursor
+abbrev EndsThrough : (g : _) (c : After-make g) → Database → Option Cursor → Type 0
+EndsThrough g c db cursor =
+    Ends db (edits_of db (acting db c.args.user) cursor c.args.operation.now) c.make.result c.args.store.now c.make.new.store (g.B.Eeprom.chip c.actor_of.new.bench) (g.B.Eeprom.chip c.make.new.bench)
+
+-- what is held when it is made, and for whom
+held-made : (g : _) (c : After-make g) (db : Database) → IsHeld c.args.store.now Working (g.B.Eeprom.chip c.args.bench.now) db → IsHeld c.args.store.now Working (g.B.Eeprom.chip c.actor_of.new.bench) db
+held-made g c db held = subst (λ (chip : Chip). IsHeld c.args.store.now Working chip db) (sym c.in_ok-actor.ensures.frame.same) held
+
+acts-made : (g : _) (c : After-make g) (db : Database) → IsHeld c.args.store.now Working (g.B.Eeprom.chip c.args.bench.now) db → IsActorOf db c.in_ok-actor.actor
+acts-made g c db held = subst (IsActorOf db) (sym (c.in_ok-actor.ensures.actor db held)) (IsActorOf-acting db c.args.user)
+
+fits-made : (g : _) (c : After-make g) (db : Database) → IsHeld c.args.store.now Working (g.B.Eeprom.chip c.args.bench.now) db → FitsCard db.limit c.args.operation.now
+fits-made g c db held = subst (λ (limit : ℕ). FitsCard limit c.args.operation.now) (sym held.limit) c.requires.fits
+
+-- It ended as through the cursor that it was given, where that is one of the database,
+ended : (g : _) (c : After-make g) (db : Database) → IsHeld c.args.store.now Working (g.B.Eeprom.chip c.args.bench.now) db → IfSome c.args.cursor.now (IsCursorOf db) → EndsThrough g c db c.args.cursor.now
+ended g c db held of =
+    subst (λ actor. Ends db (edits_of db actor c.args.cursor.now c.args.operation.now) c.make.result c.args.store.now c.make.new.store (g.B.Eeprom.chip c.actor_of.new.bench) (g.B.Eeprom.chip c.make.new.bench))
+    (c.in_ok-actor.ensures.actor db held) (c.make.ensures.ends db (held-made g c db held) of (acts-made g c db held) c.requires.formed (fits-made g c db held))
+
+-- and as through some cursor in any case.
+through : (g : _) (c : After-make g) (db : Database) → IsHeld c.args.store.now Working (g.B.Eeprom.chip c.args.bench.now) db → (cursor : Option Cursor) × EndsThrough g c db cursor
+through g c db held =
+    let ends = c.make.ensures.through db (held-made g c db held) (acts-made g c db held) c.requires.formed (fits-made g c db held) in
+    (ends.0, subst (λ actor. Ends db (edits_of db actor ends.0 c.args.operation.now) c.make.result c.args.store.now c.make.new.store (g.B.Eeprom.chip c.actor_of.new.bench) (g.B.Eeprom.chip c.make.new.bench))
+    (c.in_ok-actor.ensures.actor db held) ends.1)
+
+-- the index stands for what was made, where nothing failed
+followed : (g : _) (c : After-make g) → ¬ IsErrOf c.make.result Fault → Indexes c.make.new.index c.make.new.store (g.B.Eeprom.chip c.make.new.bench)
+followed g c whole =
+    let goes_on = c.make.ensures.goes_on whole in
+    Indexes-held c.make.new.index c.make.new.store c.args.store.now Working (g.B.Eeprom.chip c.args.bench.now) (g.B.Eeprom.chip c.make.new.bench) c.requires.works
+    (goes_on.told ∙ ap (λ (chip : Chip). is_some chip.image) c.in_ok-actor.ensures.frame.same) (c.make.ensures.index_cells ∙ (c.requires.index.cells ∙ sym goes_on.cells)) (λ db held.
+    c.make.ensures.index db (held-made g c db held) (acts-made g c db held) c.requires.formed (fits-made g c db held) whole)
+
+-- what is so of an operation that was done, and of one that was refused
+of-ok : {T : Type 0} (db : Database) (outcome : Result (List Edit) StatusWord) (result : Result T Stop) (x : T) (old new : Held) (before after : Chip) → result ≡ Ok x → Ends db outcome result old new before after
+    → (edits : List Edit) × (outcome ≡ Ok edits) × Makes db edits old new before after
+of-ok {T} db outcome result x old new before after is ends = subst (λ (r : Result T Stop). Ends db outcome r old new before after) is ends
+
+of-refused : {T : Type 0} (db : Database) (outcome : Result (List Edit) StatusWord) (result : Result T Stop) (word : StatusWord) (old new : Held) (before after : Chip) → result ≡ Err (Refused word) → Ends db outcome result old new before after
+    → ((outcome >>= with_edits db) ≡ Err word) × (new ≡ old) × (after ≡ before)
+of-refused {T} db outcome result word old new before after is ends = subst (λ (r : Result T Stop). Ends db outcome r old new before after) is ends
+
+pub returns-in-Ok-clause-changes : goal.returns-in-Ok-clause-changes
+returns-in-Ok-clause-changes g c = λ db held of.
+    let made = rw c.in-Ok.is at (ended g (goal.at.returns-in-Ok-clause-changes g c).After-make db held of) in
+    inl (made.0, made.1, refl, subst (λ (chip : Chip). Makes db made.0 c.args.store.now c.make.new.store chip (g.B.Eeprom.chip c.make.new.bench)) c.in_ok-actor.ensures.frame.same made.2)
+
+pub returns-in-Err-Refused-clause-changes : goal.returns-in-Err-Refused-clause-changes
+returns-in-Err-Refused-clause-changes g c = λ db held of.
+    let refused = rw (c.in-Err-Refused.is, c.in-Err-Refused.field-0-is) at (ended g (goal.at.returns-in-Err-Refused-clause-changes g c).After-make db held of) in
+    inr (refused.0, refused.1, refused.2 ∙ c.in_ok-actor.ensures.frame.same)
+
+pub returns-in-Ok-clause-works : goal.returns-in-Ok-clause-works
+returns-in-Ok-clause-works g c =
+    HoldsSome-changed c.make.new.store c.args.store.now Working (g.B.Eeprom.chip c.args.bench.now) (g.B.Eeprom.chip c.make.new.bench) c.requires.works
+    ((c.in-Ok.ensures.goes_on (λ wrong. cc)).told ∙ ap (λ (chip : Chip). is_some chip.image) c.in_ok-actor.ensures.frame.same) (λ db held.
+    let made = of-ok db _ c.make.result _ c.args.store.now c.make.new.store (g.B.Eeprom.chip c.actor_of.new.bench) (g.B.Eeprom.chip c.make.new.bench) c.in-Ok.is (through g (goal.at.returns-in-Ok-clause-works g c).After-make db held).1 in
+    (_, made.2.held))
+
+pub returns-in-Err-Refused-clause-works : goal.returns-in-Err-Refused-clause-works
+returns-in-Err-Refused-clause-works g c =
+    HoldsSome-changed c.make.new.store c.args.store.now Working (g.B.Eeprom.chip c.args.bench.now) (g.B.Eeprom.chip c.make.new.bench) c.requires.works
+    ((c.in-Err-Refused.ensures.goes_on (λ wrong. cc)).told ∙ ap (λ (chip : Chip). is_some chip.image) c.in_ok-actor.ensures.frame.same) (λ db held.
+    let refused = of-refused db _ c.make.result c.in-Err-Refused.word c.args.store.now c.make.new.store (g.B.Eeprom.chip c.actor_of.new.bench) (g.B.Eeprom.chip c.make.new.bench) (c.in-Err-Refused.is ∙ ap Err c.in-Err-Refused.field-0-is) (through g (goal.at.returns-in-Err-Refused-clause-works g c).After-make db held).1 in
+    (db, subst (λ (store : Held). IsHeld store Working (g.B.Eeprom.chip c.make.new.bench) db) (sym refused.1) (subst (λ (chip : Chip). IsHeld c.args.store.now Working chip db) (sym (refused.2 ∙ c.in_ok-actor.ensures.frame.same)) held)))
+
+pub returns-in-Ok-clause-stamps : goal.returns-in-Ok-clause-stamps
+returns-in-Ok-clause-stamps g c = λ db next held then.
+    let ends = through g (goal.at.returns-in-Ok-clause-stamps g c).After-make db held in
+    let made = of-ok db _ c.make.result _ c.args.store.now c.make.new.store (g.B.Eeprom.chip c.actor_of.new.bench) (g.B.Eeprom.chip c.make.new.bench) c.in-Ok.is ends.1 in
+    let later = (Follows-edits_of db (acting db c.args.user) ends.0 c.args.operation.now made.0 made.1).next in
+    let chip = g.B.Eeprom.chip c.make.new.bench in
+    let same = stamps-held c.make.new.store c.make.new.store Working Working chip chip _ next refl made.2.held then in
+    omega (arith, later, same)
+
+pub returns-in-Err-Refused-clause-stamps : goal.returns-in-Err-Refused-clause-stamps
+returns-in-Err-Refused-clause-stamps g c = λ db next held then.
+    let ends = through g (goal.at.returns-in-Err-Refused-clause-stamps g c).After-make db held in
+    let refused = of-refused db _ c.make.result c.in-Err-Refused.word c.args.store.now c.make.new.store (g.B.Eeprom.chip c.actor_of.new.bench) (g.B.Eeprom.chip c.make.new.bench) (c.in-Err-Refused.is ∙ ap Err c.in-Err-Refused.field-0-is) ends.1 in
+    let old = g.B.Eeprom.chip c.args.bench.now in
+    let back = subst (λ (chip : Chip). IsHeld c.args.store.now Working chip next) (refused.2 ∙ c.in_ok-actor.ensures.frame.same) (subst (λ (store : Held). IsHeld store Working (g.B.Eeprom.chip c.make.new.bench) next) refused.1 then) in
+    let same = stamps-held c.args.store.now c.args.store.now Working Working old old db next refl held back in
+    omega (arith, same)
+
+pub returns-in-Ok-clause-index : goal.returns-in-Ok-clause-index
+returns-in-Ok-clause-index g c = followed g (goal.at.returns-in-Ok-clause-changes g c).After-make (λ wrong. cc)
+
+pub returns-in-Err-Refused-clause-index : goal.returns-in-Err-Refused-clause-index
+returns-in-Err-Refused-clause-index g c = followed g (goal.at.returns-in-Err-Refused-clause-changes g c).After-make (λ wrong. cc)
