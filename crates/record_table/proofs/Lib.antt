@@ -17,4 +17,5 @@ pub mod Stamping
 pub mod StampsInSlots
 pub mod Steps
 pub mod SweptSlots
+pub mod TouchedRecords
 pub mod TouchedSlots

@@ -1,10 +1,9 @@
 -- The stamps of the records in slots that hold a database: each stands in one slot, and the database has it.
-use Rattle.std.proofs.Common.{◌≡◌, ℕ, zero, suc, ◌+◌, ◌<◌, ◌≤◌, ◌==◌, ◌||◌, nat_le, nat_lt, Bool, true, false, cond, eqb, count_by, List, [], ◌∷◌, ◌++◌, map, Option, Some, None, option_map, get_or, inl, inr, refl, sym, ap, subst, ◌∙◌, arith}
-use Rattle.std.specs.List.{cons_option, filter_map, list_all, sum_by}
+use Rattle.std.proofs.Common.{◌≡◌, ℕ, zero, suc, ◌+◌, ◌<◌, ◌≤◌, ◌==◌, ◌||◌, nat_le, nat_lt, Bool, true, false, cond, eqb, count_by, List, [], ◌∷◌, ◌++◌, map, Option, Some, None, is_some, option_map, get_or, inl, inr, refl, sym, ap, subst, ◌∙◌, arith}
+use Rattle.std.specs.List.{cons_option, filter_map, list_all}
 use Rattle.std.specs.Option.{option_map_or, option_or}
 use Rattle.std.proofs.lemmas.Bool.{cases_Bool, and_parts, eq-eqb, eqb-true, false≢true, ltb-true, ne_eqb}
 use Rattle.std.proofs.lemmas.List.Sums.{sum_by-append, sum_by-cons}
-use Rattle.std.proofs.lemmas.Option.{none-some, same_Some}
 use Rattle.cell_store.specs.Chains.{is_among}
 use Rattle.eeprom.specs.Slots.{has, in_slot}
 use Rattle.eeprom.specs.StoreOf.{Slots}
@@ -15,8 +14,8 @@ use Rattle.scql_base.specs.declared.records.Grant.{Grant}
 use Rattle.scql_base.specs.declared.records.RowRecord.{RowRecord}
 use Rattle.scql_model.specs.Database.{Database, IsValid, records_of, stored_grant, stored_object, stored_row, stored_user}
 use Rattle.scql_model.specs.Edits.{has_record}
-use Rattle.scql_model.specs.Opens.{Holds, counter_stamp}
-use Rattle.scql_model.specs.Records.{AnyRecord, counter_in, grant_in, object_in, of_counter, of_grant, of_object, of_row, of_user, record_stamp, row_in, user_in}
+use Rattle.scql_model.specs.Opens.{Holds, counter_stamp, is_spelled}
+use Rattle.scql_model.specs.Records.{counter_in, grant_in, object_in, of_counter, of_grant, of_object, of_row, of_user, record_stamp, row_in, user_in}
 use Rattle.scql_model.specs.Stored.{StoredRecord, is_given_out}
 use Rattle.record_table.specs.Touching.{Stands, stamp_in}
 
@@ -198,3 +197,24 @@ stands-once i j stamp slots db holds valid first second =
       | inr f ↦ omega (arith, most, apart, ap (λ (b : Bool). cond {A = ℕ} b 1 0) f)
     ] in
     one_place (has_stamp stamp) slots i j None refl one (has-stands stamp i slots first) (has-stands stamp j slots second)
+
+-- In each filled slot a record stands.
+pub stands-some : (slot : ℕ) (octets : List ℕ) (slots : Slots) (db : Database) → Holds slots db → get_or slots slot None ≡ Some octets → (stamp : ℕ) × Stands stamp slot slots
+stands-some slot octets slots db holds filled =
+    let spelled : is_spelled (Some octets) ≡ true = subst (λ v. is_spelled v ≡ true) filled (all-at slots slot holds.spelled) in
+    let stamp = go (counter_in octets) (user_in octets) (object_in octets) (grant_in octets) (row_in octets) spelled in
+    (stamp.0, ap (in_slot stamp_in) filled ∙ stamp.1)
+  where
+    all-at : (slots : Slots) (slot : ℕ) → list_all is_spelled slots ≡ true → is_spelled (get_or slots slot None) ≡ true
+    all-at [] slot all = refl
+    all-at (v ∷ slots) zero all = (and_parts (is_spelled v) (list_all is_spelled slots) all).0
+    all-at (v ∷ slots) (suc slot) all = all-at slots slot (and_parts (is_spelled v) (list_all is_spelled slots) all).1
+
+    go : (c : Option ℕ) (u : Option User) (o : Option Object) (g : Option Grant) (r : Option RowRecord) → is_some c || is_some u || is_some o || is_some g || is_some r ≡ true
+        → (stamp : ℕ) × (option_map record_stamp (option_or (option_map of_counter c) (option_or (option_map of_user u) (option_or (option_map of_object o) (option_or (option_map of_grant g) (option_map of_row r))))) ≡ Some stamp)
+    go (Some c) u o g r some = (0, refl)
+    go None (Some u) o g r some = (u.stamp, refl)
+    go None None (Some o) g r some = (o.stamp, refl)
+    go None None None (Some g) r some = (g.stamp, refl)
+    go None None None None (Some r) some = (r.stamp, refl)
+    go None None None None None some = absurd (false≢true some)

@@ -1,21 +1,20 @@
 -- How a change of one slot, or of several, touches records.
-use Rattle.std.proofs.Common.{◌≡◌, ◌⊎◌, ℕ, zero, suc, ◌<◌, ◌≤◌, ◌==◌, ◌||◌, Bool, true, false, List, [], ◌∷◌, length, Option, Some, None, option_map, get_or, map, inl, inr, refl, sym, ap, subst, ◌∙◌, arith}
-use Rattle.std.specs.List.{filter, find}
+use Rattle.std.proofs.Common.{◌≡◌, ◌⊎◌, ℕ, zero, suc, ◌<◌, ◌≤◌, ◌==◌, ◌||◌, Bool, true, false, List, [], ◌∷◌, length, Option, Some, None, get_or, inl, inr, refl, sym, ap, subst, ◌∙◌}
 use Rattle.std.specs.Option.{option_map_or}
 use Rattle.std.proofs.Math.ListN.{set}
-use Rattle.std.proofs.lemmas.Bool.{cases_Bool, eq-eqb, eqb-false, eqb-true, false≢true}
+use Rattle.std.proofs.lemmas.Bool.{cases_Bool, eqb-false, eqb-true, false≢true}
 use Rattle.std.proofs.lemmas.List.{get_or-set_other, get_or-set_same}
 use Rattle.std.proofs.lemmas.Option.{none-some, same_Some}
 use Rattle.cell_store.specs.Chains.{is_among}
-use Rattle.eeprom.specs.Slots.{has, in_slot}
+use Rattle.eeprom.specs.Slots.{in_slot}
 use Rattle.eeprom.specs.StoreOf.{Slots}
-use Rattle.record_store.specs.Held.{Held, firsts}
-use Rattle.record_store.specs.Transaction.{ChangesOnly, ChangesWhere, KeepsChain}
+use Rattle.record_store.specs.Held.{Held}
+use Rattle.record_store.specs.Transaction.{ChangesOnly, ChangesWhere}
 use Rattle.catalog_codec.specs.Kinds.{Kind, IsKind, read_as}
 use Rattle.record_table.specs.Changed.{IsAdded, IsChanged, IsEmptied}
 use Rattle.record_table.specs.Listed.{at_slot}
 use Rattle.record_table.specs.Swept.{all_without, has_passing, without_passing}
-use Rattle.record_table.specs.Touching.{KeepsSlot, Stands, Touches, stamp_in}
+use Rattle.record_table.specs.Touching.{Stands, Touches, stamp_in}
 use Rattle.record_table.proofs.ListedChanges.{within-at}
 
 -- Changes of chains.
@@ -64,16 +63,16 @@ Touches-then first second stamps next a b c old mid new one two more_1 more_2 = 
   committed = two.committed ∙ one.committed;
   others = λ slot. elim (one.others slot) [
     | inl kept ↦ elim (two.others slot) [
-        | inl still ↦ inl (still.0 ∙ kept.0, still.1 ∙ kept.1)
-        | inr touched ↦ inr (λ stamp stands. more_2 stamp (touched stamp (elim stands [ inl before ↦ inl (ap (in_slot stamp_in) kept.1 ∙ before) | inr after ↦ inr after ])))
-      ]
+      | inl still ↦ inl (still.0 ∙ kept.0, still.1 ∙ kept.1)
+      | inr touched ↦ inr (λ stamp stands. more_2 stamp (touched stamp (elim stands [ inl before ↦ inl (ap (in_slot stamp_in) kept.1 ∙ before) | inr after ↦ inr after ])))
+    ]
     | inr changed ↦ inr (λ stamp stands. elim stands [
-        | inl before ↦ more_1 stamp (changed stamp (inl before))
-        | inr after ↦ elim (two.others slot) [
-            | inl still ↦ more_1 stamp (changed stamp (inr (ap (in_slot stamp_in) (sym still.1) ∙ after)))
-            | inr touched ↦ more_2 stamp (touched stamp (inr after))
-          ]
-      ])
+      | inl before ↦ more_1 stamp (changed stamp (inl before))
+      | inr after ↦ elim (two.others slot) [
+        | inl still ↦ more_1 stamp (changed stamp (inr (ap (in_slot stamp_in) (sym still.1) ∙ after)))
+        | inr touched ↦ more_2 stamp (touched stamp (inr after))
+      ]
+    ])
   ];
   places = λ slot stamp stands. elim (two.places slot stamp stands) [
     | inl between ↦ one.places slot stamp between
@@ -105,10 +104,10 @@ Touches-set stamps next slot entry was old new within only before after =
     Touches-where (λ other. other == slot) stamps next was (set was slot entry) old new only (λ other (apart : (other == slot) ≡ false). get_or-set_other was slot other entry None (eqb-false other slot apart))
     (λ other stamp (here : (other == slot) ≡ true) stands. before stamp (subst (λ n. Stands stamp n was) (eqb-true other slot here) stands))
     (λ other stamp (here : (other == slot) ≡ true) stands.
-        let same = eqb-true other slot here in
-        let given = ap (in_slot stamp_in) (sym (get_or-set_same was slot entry None within)) ∙ subst (λ n. Stands stamp n (set was slot entry)) same stands in
-        let last = after stamp given in
-        (last.0, subst (λ n. Stands stamp n was ⊎ (next ≤ stamp)) (sym same) last.1))
+    let same = eqb-true other slot here in
+    let given = ap (in_slot stamp_in) (sym (get_or-set_same was slot entry None within)) ∙ subst (λ n. Stands stamp n (set was slot entry)) same stands in
+    let last = after stamp given in
+    (last.0, subst (λ n. Stands stamp n was ⊎ (next ≤ stamp)) (sym same) last.1))
 
 -- Records of a kind, of which each has its stamp.
 module _ {X : Type 0} (kind : Kind X) (key : X → ℕ) (named : (octets : List ℕ) (x : X) → read_as kind octets ≡ Some x → stamp_in octets ≡ Some (key x)) where
@@ -130,8 +129,8 @@ module _ {X : Type 0} (kind : Kind X) (key : X → ℕ) (named : (octets : List 
       subst (λ now. Touches stamps next was now old new) (sym added.is)
       (Touches-set stamps next slot (Some (kind.form.spell x)) was old new within only (λ stamp stands. absurd (none-some stamp (ap (in_slot stamp_in) (sym added.empty) ∙ stands)))
       (λ stamp given.
-          let same : key x ≡ stamp = same_Some (key x) stamp (sym (named (kind.form.spell x) x (is.again x fits)) ∙ given) in
-          (subst (λ n. is_among n stamps ≡ true) same among, inr (subst (λ n. next ≤ n) same later))))
+      let same : key x ≡ stamp = same_Some (key x) stamp (sym (named (kind.form.spell x) x (is.again x fits)) ∙ given) in
+      (subst (λ n. is_among n stamps ≡ true) same among, inr (subst (λ n. next ≤ n) same later))))
 
   pub Touches-changed : IsKind kind → (stamps : List ℕ) (next slot : ℕ) (x y : X) (was now : Slots) (old new : Held) → at_slot kind slot was ≡ Some x → key x ≡ key y → IsChanged kind y slot was now
       → kind.form.fits y ≡ true → is_among (key y) stamps ≡ true → ChangesOnly slot old new → Touches stamps next was now old new
@@ -140,8 +139,8 @@ module _ {X : Type 0} (kind : Kind X) (key : X → ℕ) (named : (octets : List 
       (Touches-set stamps next slot (Some (kind.form.spell y)) was old new (within-at kind was slot x at) only
       (λ stamp stands. subst (λ n. is_among n stamps ≡ true) (sym same ∙ at-stands slot stamp was x at stands) among)
       (λ stamp given.
-          let mine : key y ≡ stamp = same_Some (key y) stamp (sym (named (kind.form.spell y) y (is.again y fits)) ∙ given) in
-          (subst (λ n. is_among n stamps ≡ true) mine among, inl (subst (λ n. Stands n slot was) (same ∙ mine) (stands-at slot was x at)))))
+      let mine : key y ≡ stamp = same_Some (key y) stamp (sym (named (kind.form.spell y) y (is.again y fits)) ∙ given) in
+      (subst (λ n. is_among n stamps ≡ true) mine among, inl (subst (λ n. Stands n slot was) (same ∙ mine) (stands-at slot was x at)))))
 
   pub Touches-removed : (stamps : List ℕ) (next slot : ℕ) (x : X) (was now : Slots) (old new : Held) → at_slot kind slot was ≡ Some x → IsEmptied slot was now → is_among (key x) stamps ≡ true
       → ChangesOnly slot old new → Touches stamps next was now old new
@@ -158,11 +157,11 @@ module _ {X : Type 0} (kind : Kind X) (key : X → ℕ) (named : (octets : List 
       Touches-where (λ slot. has_passing kind p (get_or was slot None)) stamps next was (all_without kind p was) old new changes
       (λ slot (stays : has_passing kind p (get_or was slot None) ≡ false). left was slot ∙ rw stays refl)
       (λ slot stamp (passes : has_passing kind p (get_or was slot None) ≡ true) stands.
-          let there = passing (get_or was slot None) passes in
-          subst (λ n. is_among n stamps ≡ true) (at-stands slot stamp was there.0 there.1 stands) (among slot there.0 there.1 there.2))
+      let there = passing (get_or was slot None) passes in
+      subst (λ n. is_among n stamps ≡ true) (at-stands slot stamp was there.0 there.1 stands) (among slot there.0 there.1 there.2))
       (λ slot stamp (passes : has_passing kind p (get_or was slot None) ≡ true) stands.
-          let gone : get_or (all_without kind p was) slot None ≡ None = left was slot ∙ rw passes refl in
-          absurd (none-some stamp (ap (in_slot stamp_in) (sym gone) ∙ stands)))
+      let gone : get_or (all_without kind p was) slot None ≡ None = left was slot ∙ rw passes refl in
+      absurd (none-some stamp (ap (in_slot stamp_in) (sym gone) ∙ stands)))
     where
       left : (slots : Slots) (slot : ℕ) → get_or (all_without kind p slots) slot None ≡ without_passing kind p (get_or slots slot None)
       left [] slot = refl

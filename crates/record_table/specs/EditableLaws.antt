@@ -92,8 +92,13 @@ named-row : (octets : List ℕ) (x : RowRecord) → row_in octets ≡ Some x →
 named-row octets x read =
     let most = one_kind octets in
     let here : given (row_in octets) ≡ 1 = ap given read in
-    rw (none-given (counter_in octets) (omega (arith, most, here)), none-given (user_in octets) (omega (arith, most, here)), none-given (object_in octets) (omega (arith, most, here)),
-        none-given (grant_in octets) (omega (arith, most, here)), read) refl
+    rw (
+      none-given (counter_in octets) (omega (arith, most, here)),
+      none-given (user_in octets) (omega (arith, most, here)),
+      none-given (object_in octets) (omega (arith, most, here)),
+      none-given (grant_in octets) (omega (arith, most, here)),
+      read,
+    ) refl
 
 pub IsEditable-user : IsEditable user_kind of_user
 IsEditable-user = record {
