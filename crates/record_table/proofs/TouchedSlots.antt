@@ -17,29 +17,6 @@ use Rattle.record_table.specs.Swept.{all_without, has_passing, without_passing}
 use Rattle.record_table.specs.Touching.{Stands, Touches, stamp_in}
 use Rattle.record_table.proofs.ListedChanges.{within-at}
 
--- Changes of chains.
-
--- two changes, one after the other
-pub ChangesWhere-then : (may might : ℕ → Bool) (old mid new : Held) → ChangesWhere may old mid → ChangesWhere might mid new → ChangesWhere (λ slot. may slot || might slot) old new
-ChangesWhere-then may might old mid new first second = record {
-  committed = second.committed ∙ first.committed;
-  others = λ slot (neither : (may slot || might slot) ≡ false). (let both = none-of (may slot) (might slot) neither in second.others slot both.1 ∙ first.others slot both.0);
-}
-  where
-    none-of : (a b : Bool) → (a || b) ≡ false → (a ≡ false) × (b ≡ false)
-    none-of true b neither = absurd (false≢true (sym neither))
-    none-of false b neither = (refl, neither)
-
--- more slots may have another chain
-pub ChangesWhere-more : (may might : ℕ → Bool) (old new : Held) → ((slot : ℕ) → might slot ≡ false → may slot ≡ false) → ChangesWhere may old new → ChangesWhere might old new
-ChangesWhere-more may might old new fewer changes = record { committed = changes.committed; others = λ slot not_there. changes.others slot (fewer slot not_there) }
-
--- nothing was done
-pub ChangesWhere-none : (may : ℕ → Bool) (held : Held) → ChangesWhere may held held
-ChangesWhere-none may held = record { committed = refl; others = λ slot not_there. refl }
-
--- What they touch.
-
 -- Where the slots that may have another chain are known, and all others have what they had.
 Touches-where : (may : ℕ → Bool) (stamps : List ℕ) (next : ℕ) (was now : Slots) (old new : Held) → ChangesWhere may old new → ((slot : ℕ) → may slot ≡ false → get_or now slot None ≡ get_or was slot None)
     → ((slot stamp : ℕ) → may slot ≡ true → Stands stamp slot was → is_among stamp stamps ≡ true)
