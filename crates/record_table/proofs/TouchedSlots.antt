@@ -6,13 +6,15 @@ use Rattle.std.proofs.lemmas.Bool.{cases_Bool, eqb-false, eqb-true, false≢true
 use Rattle.std.proofs.lemmas.List.{get_or-set_other, get_or-set_same}
 use Rattle.std.proofs.lemmas.Option.{none-some, same_Some}
 use Rattle.cell_store.specs.Chains.{is_among}
+use Rattle.eeprom.specs.Chip.{Chip}
 use Rattle.eeprom.specs.Slots.{in_slot}
 use Rattle.eeprom.specs.StoreOf.{Slots}
 use Rattle.record_store.specs.Held.{Held}
 use Rattle.record_store.specs.Transaction.{ChangesOnly, ChangesWhere}
+use Rattle.record_store.specs.declared.side.Side.TheVariants.{Working}
 use Rattle.catalog_codec.specs.Kinds.{Kind, IsKind, read_as}
 use Rattle.record_table.specs.Changed.{IsAdded, IsChanged, IsEmptied}
-use Rattle.record_table.specs.Listed.{at_slot}
+use Rattle.record_table.specs.Listed.{at_slot, slots_of}
 use Rattle.record_table.specs.Swept.{all_without, has_passing, without_passing}
 use Rattle.record_table.specs.Touching.{Stands, Touches, stamp_in}
 use Rattle.record_table.proofs.ListedChanges.{within-at}
@@ -68,6 +70,12 @@ Touches-more first stamps next was now old new touches more = record {
   ];
   places = touches.places;
 }
+
+-- of slots that are told, whatever they are called
+pub Touches-told : (stamps : List ℕ) (next : ℕ) (old new : Held) (before after : Chip) (slots end : Slots) → slots_of old Working before ≡ Some slots → slots_of new Working after ≡ Some end → Touches stamps next slots end old new
+    → (was now : Slots) → slots_of old Working before ≡ Some was → slots_of new Working after ≡ Some now → Touches stamps next was now old new
+Touches-told stamps next old new before after slots end told_1 told_2 touches was now is_1 is_2 =
+    subst (λ was. Touches stamps next was now old new) (same_Some slots was (sym told_1 ∙ is_1)) (subst (λ now. Touches stamps next slots now old new) (same_Some end now (sym told_2 ∙ is_2)) touches)
 
 -- no slot may have another chain, and none has another record
 pub Touches-none : (stamps : List ℕ) (next : ℕ) (slots : Slots) (held : Held) → Touches stamps next slots slots held held
