@@ -1,7 +1,7 @@
 -- How a change of one slot, or of several, touches records.
-use Rattle.std.proofs.Common.{◌≡◌, ◌⊎◌, ℕ, zero, suc, ◌<◌, ◌≤◌, ◌==◌, ◌||◌, Bool, true, false, List, [], ◌∷◌, length, Option, Some, None, get_or, inl, inr, refl, sym, ap, subst, ◌∙◌}
+use Rattle.std.proofs.Common.{◌≡◌, ◌⊎◌, ℕ, ◌<◌, ◌≤◌, ◌==◌, if◌then◌else◌, Bool, true, false, List, length, Option, Some, None, get_or, inl, inr, refl, sym, ap, subst, ◌∙◌}
 use Rattle.std.specs.Option.{option_map_or}
-use Rattle.std.proofs.Math.ListN.{set}
+use Rattle.std.proofs.Math.ListN.{get_or-map, set}
 use Rattle.std.proofs.lemmas.Bool.{cases_Bool, eqb-false, eqb-true, false≢true}
 use Rattle.std.proofs.lemmas.List.{get_or-set_other, get_or-set_same}
 use Rattle.std.proofs.lemmas.Option.{none-some, same_Some}
@@ -34,6 +34,13 @@ Touches-where may stamps next was now old new changes still before after = recor
     | inr f ↦ inl (ap (in_slot stamp_in) (sym (still slot f)) ∙ stands)
   ];
 }
+
+-- where such slots are empty then
+pub Touches-emptied : (may : ℕ → Bool) (stamps : List ℕ) (next : ℕ) (was now : Slots) (old new : Held) → ChangesWhere may old new → ((slot : ℕ) → get_or now slot None ≡ (if may slot then None else get_or was slot None))
+    → ((slot stamp : ℕ) → may slot ≡ true → Stands stamp slot was → is_among stamp stamps ≡ true) → Touches stamps next was now old new
+Touches-emptied may stamps next was now old new changes left before =
+    Touches-where may stamps next was now old new changes (λ slot stays. left slot ∙ ap (λ (b : Bool). if b then None else get_or was slot None) stays) before
+    (λ slot stamp there stands. absurd (none-some stamp (ap (in_slot stamp_in) (sym (left slot ∙ ap (λ (b : Bool). if b then None else get_or was slot None) there)) ∙ stands)))
 
 -- one touch after another
 pub Touches-then : (first second stamps : List ℕ) (next : ℕ) (a b c : Slots) (old mid new : Held) → Touches first next a b old mid → Touches second next b c mid new
@@ -134,28 +141,21 @@ module _ {X : Type 0} (kind : Kind X) (key : X → ℕ) (named : (octets : List 
       (Touches-set stamps next slot None was old new (within-at kind was slot x at) only (λ stamp stands. subst (λ n. is_among n stamps ≡ true) (at-stands slot stamp was x at stands) among)
       (λ stamp none. absurd (none-some stamp none)))
 
+  -- where a record goes that passes, its stamp is among those of the records that do
+  pub swept-stands : (p : X → Bool) (slot stamp : ℕ) (stamps : List ℕ) (was : Slots) → ((x : X) → at_slot kind slot was ≡ Some x → p x ≡ true → is_among (key x) stamps ≡ true) → has_passing kind p (get_or was slot None) ≡ true
+      → Stands stamp slot was → is_among stamp stamps ≡ true
+  swept-stands p slot stamp stamps was among passes stands =
+      let there = passing (in_slot (read_as kind) (get_or was slot None)) passes in
+      subst (λ n. is_among n stamps ≡ true) (at-stands slot stamp was there.0 there.1 stands) (among there.0 there.1 there.2)
+    where
+      passing : (o : Option X) → option_map_or p o false ≡ true → (x : X) × (o ≡ Some x) × (p x ≡ true)
+      passing None wrong = absurd (false≢true wrong)
+      passing (Some x) is = (x, refl, is)
+
   -- all records that pass a test are taken out
   pub Touches-swept : (p : X → Bool) (stamps : List ℕ) (next : ℕ) (was : Slots) (old new : Held)
       → ((slot : ℕ) (x : X) → at_slot kind slot was ≡ Some x → p x ≡ true → is_among (key x) stamps ≡ true) → ChangesWhere (λ slot. has_passing kind p (get_or was slot None)) old new
       → Touches stamps next was (all_without kind p was) old new
   Touches-swept p stamps next was old new among changes =
-      Touches-where (λ slot. has_passing kind p (get_or was slot None)) stamps next was (all_without kind p was) old new changes
-      (λ slot (stays : has_passing kind p (get_or was slot None) ≡ false). left was slot ∙ rw stays refl)
-      (λ slot stamp (passes : has_passing kind p (get_or was slot None) ≡ true) stands.
-      let there = passing (get_or was slot None) passes in
-      subst (λ n. is_among n stamps ≡ true) (at-stands slot stamp was there.0 there.1 stands) (among slot there.0 there.1 there.2))
-      (λ slot stamp (passes : has_passing kind p (get_or was slot None) ≡ true) stands.
-      let gone : get_or (all_without kind p was) slot None ≡ None = left was slot ∙ rw passes refl in
-      absurd (none-some stamp (ap (in_slot stamp_in) (sym gone) ∙ stands)))
-    where
-      left : (slots : Slots) (slot : ℕ) → get_or (all_without kind p slots) slot None ≡ without_passing kind p (get_or slots slot None)
-      left [] slot = refl
-      left (v ∷ slots) zero = refl
-      left (v ∷ slots) (suc slot) = left slots slot
-
-      passing : (v : Option (List ℕ)) → has_passing kind p v ≡ true → (x : X) × (in_slot (read_as kind) v ≡ Some x) × (p x ≡ true)
-      passing v passes = go (in_slot (read_as kind) v) passes
-        where
-          go : (o : Option X) → option_map_or p o false ≡ true → (x : X) × (o ≡ Some x) × (p x ≡ true)
-          go None wrong = absurd (false≢true wrong)
-          go (Some x) is = (x, refl, is)
+      Touches-emptied (λ slot. has_passing kind p (get_or was slot None)) stamps next was (all_without kind p was) old new changes (λ slot. get_or-map (without_passing kind p) was slot None)
+      (λ slot stamp (passes : has_passing kind p (get_or was slot None) ≡ true) stands. swept-stands p slot stamp stamps was (among slot) passes stands)
