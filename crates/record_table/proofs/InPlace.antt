@@ -20,7 +20,7 @@ use Rattle.scql_model.specs.Opens.{Holds}
 use Rattle.scql_model.proofs.EditLaws.{IsAmong, applied-cells, sum-removed, sum-replaced}
 use Rattle.scql_model.proofs.Room.{cells-filled}
 use Rattle.catalog_codec.specs.Kinds.{Kind, IsKind, read_as}
-use Rattle.record_table.specs.Listed.{at_slot}
+use Rattle.record_table.specs.Listed.{at_slot, listed}
 use Rattle.record_table.specs.Changed.{IsChanged, IsEmptied}
 use Rattle.record_table.specs.Editable.{IsEditable}
 use Rattle.record_table.specs.Making.{IsValidWith}
@@ -58,18 +58,23 @@ all-replaced key p x y (z ∷ zs) found all =
       | inr f ↦ all-replaced key p x y zs (rw f at found) (and_parts (p z) (list_all p (replaced key y zs)) (rw f at all)).1
     ]
 
+-- the record of a slot is the one of its stamp in the list of its kind
+pub found-at : {X : Type 0} (kind : Kind X) (slots : Slots) (slot : ℕ) (x : X) → Rises kind.key (listed kind slots) → at_slot kind slot slots ≡ Some x → find (has kind.key (kind.key x)) (listed kind slots) ≡ Some x
+found-at kind slots slot x rises at =
+    let f = in_slot (read_as kind) in
+    let before = filter_map f (take slot slots) in
+    let behind = filter_map f (drop (suc slot) slots) in
+    let split : filter_map f slots ≡ before ++ x ∷ behind = kept-split f slots slot (within-at kind slots slot x at) ∙ ap (λ o. before ++ cons_option o behind) at in
+    let one = subst (λ xs. count_by (has kind.key (kind.key x)) xs ≤ 1) split (AreApart-in_slots kind slots rises (kind.key x)) in
+    let found = subst (λ xs. find (has kind.key (kind.key x)) xs ≡ Some x) (sym split) (find-middle kind.key x before behind one) in
+    sym (stamped-listed kind (kind.key x) slots rises) ∙ found
+
 module _ {X : Type 0} (kind : Kind X) (any : X → AnyRecord) (is : IsKind kind) (edits : IsEditable kind any) where
   -- the record of a slot is the one of its stamp that the database has
   pub among-slots : (slots : Slots) (slot : ℕ) (x : X) (db : Database) → Holds slots db → Rises kind.key (edits.records db) → at_slot kind slot slots ≡ Some x → IsAmong kind.key x (edits.records db)
   among-slots slots slot x db holds rises at =
-      let f = in_slot (read_as kind) in
       let list = edits.held slots db holds in
-      let rises' = subst (Rises kind.key) (sym list) rises in
-      let split : filter_map f slots ≡ filter_map f (take slot slots) ++ x ∷ filter_map f (drop (suc slot) slots)
-      = kept-split f slots slot (within-at kind slots slot x at) ∙ ap (λ o. filter_map f (take slot slots) ++ cons_option o (filter_map f (drop (suc slot) slots))) at in
-      let one = subst (λ xs. count_by (has kind.key (kind.key x)) xs ≤ 1) split (AreApart-in_slots kind slots rises' (kind.key x)) in
-      let found = subst (λ xs. find (has kind.key (kind.key x)) xs ≡ Some x) (sym split) (find-middle kind.key x (filter_map f (take slot slots)) (filter_map f (drop (suc slot) slots)) one) in
-      (ap (find (has kind.key (kind.key x))) (sym list) ∙ (sym (stamped-listed kind (kind.key x) slots rises') ∙ found), AreApart-rising kind.key (edits.records db) rises (kind.key x))
+      (ap (find (has kind.key (kind.key x))) (sym list) ∙ found-at kind slots slot x (subst (Rises kind.key) (sym list) rises) at, AreApart-rising kind.key (edits.records db) rises (kind.key x))
 
   -- a record in a slot takes the cells of its spelling
   cells-at : (slots : Slots) (slot : ℕ) (x : X) → at_slot kind slot slots ≡ Some x → cells_of (get_or slots slot None) ≡ cells_for (length (kind.form.spell x))

@@ -17,5 +17,6 @@ pub mod Stamping
 pub mod StampsInSlots
 pub mod Steps
 pub mod SweptSlots
+pub mod TouchedEdits
 pub mod TouchedRecords
 pub mod TouchedSlots
