@@ -112,7 +112,7 @@ module _ {X : Type 0} (kind : Kind X) (key : X → ℕ) (named : (octets : List 
       go (Some octets) read = named octets x read
 
   -- and no other does
-  at-stands : (slot stamp : ℕ) (slots : Slots) (x : X) → at_slot kind slot slots ≡ Some x → Stands stamp slot slots → key x ≡ stamp
+  pub at-stands : (slot stamp : ℕ) (slots : Slots) (x : X) → at_slot kind slot slots ≡ Some x → Stands stamp slot slots → key x ≡ stamp
   at-stands slot stamp slots x at stands = same_Some (key x) stamp (sym (stands-at slot slots x at) ∙ stands)
 
   pub Touches-added : IsKind kind → (stamps : List ℕ) (next slot : ℕ) (x : X) (was now : Slots) (old new : Held) → slot < length was → IsAdded kind x slot was now → kind.form.fits x ≡ true → next ≤ key x

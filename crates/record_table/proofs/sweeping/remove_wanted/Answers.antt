@@ -1,5 +1,5 @@
 -- The slot is emptied where its record is wanted, and else it stays.
-use Rattle.std.proofs.Common.{refl, sym, ◌∙◌}
+use Rattle.std.proofs.Common.{sym, ◌∙◌}
 use Rattle.record_table.proofs.SweptSlots.{emptied-told, only-passing, only-unchanged, removed-none, removed-passing}
 use Rattle.record_table.proofs.sweeping.remove_wanted.Goals as goal
 use Rattle.record_table.proofs.sweeping.remove_wanted.Goals.{then-is, else-is}
