@@ -7,7 +7,7 @@ use Rattle.std.proofs.lemmas.List.{length-map}
 use Rattle.eeprom.specs.Chip.{Chip}
 use Rattle.eeprom.specs.StoreOf.{Slots}
 use Rattle.record_store.specs.Held.{Held, StandsFor}
-use Rattle.record_store.specs.Transaction.{entries}
+use Rattle.record_store.specs.Transaction.{ChangesOnly, ChangesWhere, entries}
 use Rattle.record_store.specs.declared.side.Side.TheVariants.{Committed, Working}
 use Rattle.scql_base.specs.Words.{conditions_not_satisfied, not_found, security_not_satisfied}
 use Rattle.scql_base.specs.declared.words.Actor.{Actor}
@@ -24,14 +24,17 @@ use Rattle.scql_model.proofs.Removing.{applied-removing_user}
 use Rattle.catalog_codec.specs.Catalog.{grant_kind, row_kind, user_kind}
 use Rattle.catalog_codec.specs.CatalogLaws.{IsKind-grant, IsKind-row, IsKind-user, HaveOtherMarks-row-grant, HaveOtherMarks-row-user}
 use Rattle.catalog_codec.specs.KindLaws.{HaveOtherMarks-sym}
-use Rattle.record_table.specs.EditableLaws.{IsEditable-user}
+use Rattle.record_table.specs.EditableLaws.{IsEditable-grant, IsEditable-user}
 use Rattle.record_table.specs.Listed.{at_slot, slots_of}
 use Rattle.record_table.specs.Making.{IsHeld, KeepsRows, Makes}
 use Rattle.record_table.specs.Swept.{all_without, has_passing}
+use Rattle.record_table.specs.Touching.{Touches}
 use Rattle.record_table.proofs.ChangedDatabase.{Holds-removed}
+use Rattle.record_table.proofs.InPlace.{Touches-taken_out}
 use Rattle.record_table.proofs.LeftRecords.{Holds-without_grants, at_slot-without, count-passing}
 use Rattle.record_table.proofs.ListedChanges.{at_slot-kept, is_of-read}
 use Rattle.record_table.proofs.MadeLeft.{KeepsRows-left, Makes-left, less-emptied, less-without, of-told}
+use Rattle.record_table.proofs.TouchedEdits.{Touches-all_removed, Touches-parts}
 use Rattle.db_access.specs.Depending.{is_for, is_object_of, is_user_of}
 
 -- a user who owns a user is needed
@@ -96,6 +99,14 @@ module _ (db : Database) (u : User) (slot : ℕ) (slots : Slots) (holds : Holds 
   count-grants : count_by (has_passing grant_kind (is_for u.stamp)) (slots_without_user slot slots) ≡ length (filter (is_for u.stamp) db.grants)
   count-grants = count-passing grant_kind (is_for u.stamp) (slots_without_user slot slots) ∙ ap (λ (grants : List Grant). length (filter (is_for u.stamp) grants)) Holds-user.grants
 
+  -- the user and the grants to it are touched
+  Touches-left : (old mid new : Held) → ChangesOnly slot old mid → ChangesWhere (λ s. has_passing grant_kind (is_for u.stamp) (get_or (slots_without_user slot slots) s None)) mid new
+      → Touches (touched (removing_user db u)) db.next slots (slots_left slot u.stamp slots) old new
+  Touches-left old mid new only swept =
+      Touches-parts (removing (of_user u) ∷ []) (map (λ (g : Grant). removing (of_grant g)) (filter (is_for u.stamp) db.grants)) db.next slots (slots_without_user slot slots) (slots_left slot u.stamp slots) old mid new
+      (Touches-taken_out user_kind of_user IsKind-user IsEditable-user slots (slots_without_user slot slots) slot u db old mid at refl only)
+      (Touches-all_removed grant_kind of_grant IsEditable-grant (is_for u.stamp) db.next (slots_without_user slot slots) db.grants mid new Holds-user.grants valid.grants.rises swept)
+
 -- A store from which a user was taken, and then the grants to it, has made the edits.
 pub Makes-user_deleted : (db : Database) (actor : Actor) (name : List ℕ) (u : User) (slot : ℕ) (old mid new : Held) (chip : Chip) → IsHeld old Working chip db → user_deleted db actor name ≡ Ok (removing_user db u)
     → IfSome (slots_of old Working chip) (λ slots. Some u ≡ at_slot user_kind slot slots)
@@ -103,17 +114,19 @@ pub Makes-user_deleted : (db : Database) (actor : Actor) (name : List ℕ) (u : 
     → IfSome (slots_of mid Working chip) (λ slots. slots_of new Working chip ≡ Some (all_without grant_kind (is_for u.stamp) slots))
     → new.chains.cells ≡ old.chains.cells → new.row_limit ≡ old.row_limit → slots_of new Committed chip ≡ slots_of old Committed chip → entries mid ≤ entries old + 1
     → IfSome (slots_of mid Working chip) (λ slots. entries new ≤ entries mid + count_by (has_passing grant_kind (is_for u.stamp)) slots)
+    → ChangesOnly slot old mid → IfSome (slots_of mid Working chip) (λ slots. ChangesWhere (λ slot. has_passing grant_kind (is_for u.stamp) (get_or slots slot None)) mid new)
     → Makes db (removing_user db u) old new chip chip
-Makes-user_deleted db actor name u slot old mid new chip held is found one two cells limit committed few_1 few_2 =
+Makes-user_deleted db actor name u slot old mid new chip held is found one two cells limit committed few_1 few_2 only_1 only_2 =
     let slots = held.slots in
     let at = sym (of-told old chip slots (λ slots. Some u ≡ at_slot user_kind slot slots) held.told found) in
     let told_1 = of-told old chip slots (λ slots. slots_of mid Working chip ≡ Some (slots_without_user slot slots)) held.told one in
     let told_2 = of-told mid chip (slots_without_user slot slots) (λ slots. slots_of new Working chip ≡ Some (all_without grant_kind (is_for u.stamp) slots)) told_1 two in
     let grants = of-told mid chip (slots_without_user slot slots) (λ slots. entries new ≤ entries mid + count_by (has_passing grant_kind (is_for u.stamp)) slots) told_1 few_2 in
+    let swept = of-told mid chip (slots_without_user slot slots) (λ slots. ChangesWhere (λ slot. has_passing grant_kind (is_for u.stamp) (get_or slots slot None)) mid new) told_1 only_2 in
     Makes-left db (removing_user db u) (user_deleted db actor name) (slots_left slot u.stamp slots) old new chip held (user_deleted-keeps db actor name held.valid) is
     (Holds-left db u slot slots held.holds held.valid at) (grants-take_none (filter (λ (g : Grant). g.grantee == u.stamp) db.grants))
     (omega (arith, less-without grant_kind (is_for u.stamp) (slots_without_user slot slots), less-emptied slots slot)) told_2 cells limit committed
-    (omega (arith, few_1, grants, count-grants db u slot slots held.holds held.valid at, count-touched db u))
+    (omega (arith, few_1, grants, count-grants db u slot slots held.holds held.valid at, count-touched db u)) (Touches-left db u slot slots held.holds held.valid at old mid new only_1 swept)
 
 -- and all rows stay
 pub KeepsRows-user_deleted : (u : User) (slot stamp : ℕ) (old mid new : Held) (chip : Chip) → IfSome chip.image (StandsFor old) → IfSome (slots_of old Working chip) (λ slots. Some u ≡ at_slot user_kind slot slots)

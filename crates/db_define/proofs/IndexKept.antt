@@ -24,7 +24,8 @@ use Rattle.row_index.proofs.IndexLaws.{Indexes-kept}
 use Rattle.db_define.specs.Dependent.{is_on}
 use Rattle.record_table.specs.Swept.{without_passing}
 use Rattle.db_define.proofs.RowsLeft.{rows-kept}
-use Rattle.db_define.proofs.ObjectLeft.{of-told, slots_without_grants, slots_without_object}
+use Rattle.record_table.proofs.MadeLeft.{of-told}
+use Rattle.db_define.proofs.ObjectLeft.{slots_without_grants, slots_without_object}
 
 -- a store that holds a database has as many working slots as cells
 many-held : (store : Held) (chip : Chip) (db : Database) → IsHeld store Working chip db → IfSome (slots_of store Working chip) (λ slots. length slots ≡ store.chains.cells)

@@ -25,7 +25,7 @@ use Rattle.db_define.specs.Layers.{IsBase, layer_found, layer_of, reaches_table}
 use Rattle.db_define.specs.declared.base.Base.{Base}
 use Rattle.db_define.specs.declared.base.Layer.{Layer}
 use Rattle.db_define.specs.declared.base.Layer.TheVariants.{Table, View, Other}
-use Rattle.db_define.proofs.ObjectLeft.{of-told}
+use Rattle.record_table.proofs.MadeLeft.{of-told}
 
 at-table : (n : ℕ) (objects : List Object) → reaches_table n objects Table ≡ true
 at-table zero objects = refl

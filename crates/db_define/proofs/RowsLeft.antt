@@ -39,7 +39,7 @@ length-without_places : (places : List RowPlace) (slots : Slots) → length (wit
 length-without_places [] slots = refl
 length-without_places (place ∷ places) slots = length-without_places places (set slots place.slot None) ∙ length-set slots place.slot None
 
-set-none : (slots : Slots) (slot : ℕ) → get_or (set slots slot None) slot None ≡ None
+pub set-none : (slots : Slots) (slot : ℕ) → get_or (set slots slot None) slot None ≡ None
 set-none [] slot = refl
 set-none (entry ∷ slots) zero = refl
 set-none (entry ∷ slots) (suc slot) = set-none slots slot
@@ -100,7 +100,7 @@ any-in_table table (suc slot) first (entry ∷ slots) =
     one None rest = rest
     one (Some row) rest = rw (and_right (is_in_table table (place_of first row)) (has place_slot (first + suc slot) (place_of first row)) (ne_eqb first (first + suc slot) (omega arith))) rest
 
-at-places : (table slot : ℕ) (slots : Slots) → list_any (has place_slot slot) (filter (is_in_table table) (row_places slots)) ≡ has_passing row_kind (is_in table) (get_or slots slot None)
+pub at-places : (table slot : ℕ) (slots : Slots) → list_any (has place_slot slot) (filter (is_in_table table) (row_places slots)) ≡ has_passing row_kind (is_in table) (get_or slots slot None)
 at-places table slot slots =
     any-filter (has place_slot slot) (is_in_table table) (row_places slots)
     ∙ list_any-in_order place_stamp (λ place. is_in_table table place && has place_slot slot place) (places_from 0 slots)

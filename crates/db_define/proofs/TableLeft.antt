@@ -1,12 +1,12 @@
 -- What is left where a table is dropped, with the grants on it and its rows.
-use Rattle.std.proofs.Common.{◌≡◌, ℕ, ◌+◌, ◌≤◌, false, not, ◌==◌, List, [], ◌∷◌, ◌++◌, length, map, count_by, Some, Ok, refl, sym, ap, subst, ◌∙◌, arith}
+use Rattle.std.proofs.Common.{◌≡◌, ℕ, ◌+◌, ◌≤◌, false, not, ◌==◌, ◌||◌, List, [], ◌∷◌, ◌++◌, length, map, count_by, get_or, None, Some, Ok, refl, sym, ap, subst, ◌∙◌, arith}
 use Rattle.std.specs.Prelude.{IfSome}
 use Rattle.std.specs.List.{filter, sum_by}
 use Rattle.std.proofs.lemmas.List.{length-append, length-map}
 use Rattle.eeprom.specs.Chip.{Chip}
 use Rattle.eeprom.specs.StoreOf.{Slots, cells_of}
 use Rattle.record_store.specs.Held.{Held}
-use Rattle.record_store.specs.Transaction.{entries}
+use Rattle.record_store.specs.Transaction.{ChangesWhere, entries}
 use Rattle.record_store.specs.declared.side.Side.TheVariants.{Committed, Working}
 use Rattle.scql_base.specs.declared.words.Actor.{Actor}
 use Rattle.scql_base.specs.declared.records.Grant.{Grant}
@@ -20,12 +20,16 @@ use Rattle.scql_model.specs.Records.{of_grant, of_object, of_row, record_stamp}
 use Rattle.scql_model.proofs.KeepsObjects.{table_dropped-keeps}
 use Rattle.scql_model.proofs.Removing.{applied-removing_table}
 use Rattle.catalog_codec.specs.Catalog.{object_kind, grant_kind, row_kind}
+use Rattle.record_table.specs.EditableLaws.{IsEditable-row}
 use Rattle.record_table.specs.Listed.{at_slot, slots_of}
 use Rattle.record_table.specs.Making.{IsHeld, Makes}
 use Rattle.db_define.specs.Dependent.{is_in, is_on}
 use Rattle.record_table.specs.Swept.{all_without, has_passing}
+use Rattle.record_table.specs.Touching.{Touches}
 use Rattle.record_table.proofs.LeftRecords.{Holds-without_rows, count-passing}
-use Rattle.db_define.proofs.ObjectLeft.{Holds-granted, Makes-left, count-grants, less-granted, less-without, of-told, slots_without_grants, slots_without_object}
+use Rattle.record_table.proofs.MadeLeft.{Makes-left, less-without, of-told}
+use Rattle.record_table.proofs.TouchedEdits.{Touches-all_removed, Touches-parts}
+use Rattle.db_define.proofs.ObjectLeft.{Holds-granted, Touches-granted, count-grants, less-granted, slots_without_grants, slots_without_object}
 
 -- the edits of a table that is dropped
 abbrev pub dropping_edits : Database → Object → List Edit
@@ -69,6 +73,13 @@ module _ (db : Database) (o : Object) (slot : ℕ) (slots : Slots) (holds : Hold
   less-left : sum_by cells_of (slots_left slot o.stamp slots) ≤ sum_by cells_of slots
   less-left = omega (arith, less-without row_kind (is_in o.stamp) (slots_without_grants slot o.stamp slots), less-granted slot o.stamp slots)
 
+  -- the table, the grants on it and its rows are touched
+  Touches-left : (old mid new : Held) → ChangesWhere (λ s. s == slot || has_passing grant_kind (is_on o.stamp) (get_or slots s None)) old mid
+      → ChangesWhere (λ s. has_passing row_kind (is_in o.stamp) (get_or (slots_without_grants slot o.stamp slots) s None)) mid new → Touches (touched (dropping_edits db o)) db.next slots (slots_left slot o.stamp slots) old new
+  Touches-left old mid new granted swept =
+      Touches-parts (removing_object db o) (removing_rows db o) db.next slots (slots_without_grants slot o.stamp slots) (slots_left slot o.stamp slots) old mid new (Touches-granted db o slot slots holds valid at old mid granted)
+      (Touches-all_removed row_kind of_row IsEditable-row (is_in o.stamp) db.next (slots_without_grants slot o.stamp slots) db.rows mid new (Holds-granted db o slot slots holds valid at).rows valid.rows.rises swept)
+
 -- A store from which a table was taken with the grants on it, and then its rows, has made the edits.
 pub Makes-table_dropped : (db : Database) (actor : Actor) (name : List ℕ) (o : Object) (slot : ℕ) (old mid new : Held) (chip : Chip) → IsHeld old Working chip db → table_dropped db actor name ≡ Ok (dropping_edits db o)
     → IfSome (slots_of old Working chip) (λ slots. Some o ≡ at_slot object_kind slot slots)
@@ -77,15 +88,20 @@ pub Makes-table_dropped : (db : Database) (actor : Actor) (name : List ℕ) (o :
     → new.chains.cells ≡ old.chains.cells → new.row_limit ≡ old.row_limit → slots_of new Committed chip ≡ slots_of old Committed chip
     → IfSome (slots_of old Working chip) (λ slots. entries mid ≤ entries old + 1 + count_by (has_passing grant_kind (is_on o.stamp)) (slots_without_object slot slots))
     → IfSome (slots_of mid Working chip) (λ slots. entries new ≤ entries mid + count_by (has_passing row_kind (is_in o.stamp)) slots)
+    → IfSome (slots_of old Working chip) (λ slots. ChangesWhere (λ s. s == slot || has_passing grant_kind (is_on o.stamp) (get_or slots s None)) old mid)
+    → IfSome (slots_of mid Working chip) (λ slots. ChangesWhere (λ s. has_passing row_kind (is_in o.stamp) (get_or slots s None)) mid new)
     → Makes db (dropping_edits db o) old new chip chip
-Makes-table_dropped db actor name o slot old mid new chip held is found one two cells limit committed few_1 few_2 =
+Makes-table_dropped db actor name o slot old mid new chip held is found one two cells limit committed few_1 few_2 only_1 only_2 =
     let slots = held.slots in
     let granted = slots_without_grants slot o.stamp slots in
     let at = sym (of-told old chip slots (λ slots. Some o ≡ at_slot object_kind slot slots) held.told found) in
     let told = of-told old chip slots (λ slots. slots_of mid Working chip ≡ Some (slots_without_grants slot o.stamp slots)) held.told one in
     let grants = of-told old chip slots (λ slots. entries mid ≤ entries old + 1 + count_by (has_passing grant_kind (is_on o.stamp)) (slots_without_object slot slots)) held.told few_1 in
     let rows = of-told mid chip granted (λ slots. entries new ≤ entries mid + count_by (has_passing row_kind (is_in o.stamp)) slots) told few_2 in
+    let of_grants = of-told old chip slots (λ slots. ChangesWhere (λ s. s == slot || has_passing grant_kind (is_on o.stamp) (get_or slots s None)) old mid) held.told only_1 in
+    let of_rows = of-told mid chip granted (λ slots. ChangesWhere (λ s. has_passing row_kind (is_in o.stamp) (get_or slots s None)) mid new) told only_2 in
     Makes-left db (dropping_edits db o) (table_dropped db actor name) (slots_left slot o.stamp slots) old new chip held (table_dropped-keeps db actor name held.valid) is
     (Holds-left db o slot slots held.holds held.valid at) (takes_none db o) (less-left db o slot slots held.holds held.valid at)
     (of-told mid chip granted (λ slots. slots_of new Working chip ≡ Some (all_without row_kind (is_in o.stamp) slots)) told two) cells limit committed
     (omega (arith, grants, rows, count-grants db o slot slots held.holds held.valid at, count-rows db o slot slots held.holds held.valid at, count-touched db o))
+    (Touches-left db o slot slots held.holds held.valid at old mid new of_grants of_rows)

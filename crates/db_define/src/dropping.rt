@@ -1,10 +1,10 @@
 // What the operations have in common that drop objects.
-ghost use Rattle.std.specs.Prelude.{◌≡◌, ◌<◌, ◌≤◌, ◌+◌, Some, None, Ok, Err, IsTrue, IfOk, IfErr, IfSome, OnOk, count_by, slice_set};
+ghost use Rattle.std.specs.Prelude.{◌≡◌, ◌<◌, ◌≤◌, ◌+◌, ◌==◌, ◌||◌, Some, None, Ok, Err, IsTrue, IfOk, IfErr, IfSome, OnOk, count_by, slice_index_or, slice_set};
 ghost use Rattle.std.specs.List.{list_any};
 ghost use Rattle.eeprom.specs.Fault.{each_error};
 ghost use Rattle.eeprom.specs.Frame.{Reads};
 ghost use Rattle.record_store.specs.Held.{IsOver};
-ghost use Rattle.record_store.specs.Transaction.{entries};
+ghost use Rattle.record_store.specs.Transaction.{ChangesWhere, entries};
 ghost use Rattle.record_store.specs.declared.side.Side.TheVariants.{Committed, Working};
 ghost use Rattle.scql_model.specs.Database.{Database};
 ghost use Rattle.scql_base.specs.declared.records.Object.{Object};
@@ -71,6 +71,8 @@ pub(crate) fn remove_object<B: Eeprom>(
     ensures begun { OnOk result (store.new.begun ≡ store.old.begun) }
     ensures cells { OnOk result (store.new.chains.cells ≡ store.old.chains.cells) }
     ensures rows { OnOk result (store.new.row_limit ≡ store.old.row_limit) }
+    ensures only { OnOk result (IfSome (slots_of store.old Working (B.chip bench.old))
+        (λ slots. ChangesWhere (λ slot. slot == object.now.slot || has_passing grant_kind (is_on object.now.value.stamp) (slice_index_or slots slot None)) store.old store.new)) }
     ensures entries { OnOk result (IfSome (slots_of store.old Working (B.chip bench.old))
         (λ slots. entries store.new ≤ entries store.old + 1 + count_by (has_passing grant_kind (is_on object.now.value.stamp)) (slice_set slots object.now.slot None))) }
     ensures frame { Reads each_error B.chip B.faults bench.old bench.new result }

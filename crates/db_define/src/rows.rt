@@ -1,9 +1,9 @@
 // All rows of a table are removed, where its index says that they are.
-ghost use Rattle.std.specs.Prelude.{◌≡◌, ◌+◌, ◌≤◌, Some, IsTrue, IfSome, count_by, not, true};
+ghost use Rattle.std.specs.Prelude.{◌≡◌, ◌+◌, ◌≤◌, Some, None, IsTrue, IfSome, count_by, not, slice_index_or, true};
 ghost use Rattle.std.specs.List.{filter};
 ghost use Rattle.eeprom.specs.Chip.{Chip};
 ghost use Rattle.record_store.specs.Held.{IsOver};
-ghost use Rattle.record_store.specs.Transaction.{entries};
+ghost use Rattle.record_store.specs.Transaction.{ChangesWhere, entries};
 ghost use Rattle.record_store.specs.declared.side.Side.TheVariants.{Committed, Working};
 ghost use Rattle.catalog_codec.specs.Catalog.{row_kind};
 ghost use Rattle.record_table.specs.Listed.{slots_of};
@@ -30,6 +30,8 @@ pub(crate) fn remove_rows(store: &mut Store, table: u32, index: &mut RowIndex)
     ensures begun { store.new.begun ≡ store.old.begun }
     ensures cells { store.new.chains.cells ≡ store.old.chains.cells }
     ensures rows { store.new.row_limit ≡ store.old.row_limit }
+    ensures only { (chip : Chip) → Indexes index.old store.old chip → IfSome (slots_of store.old Working chip)
+        (λ slots. ChangesWhere (λ slot. has_passing row_kind (is_in table) (slice_index_or slots slot None)) store.old store.new) }
     ensures entries { (chip : Chip) → Indexes index.old store.old chip → IfSome (slots_of store.old Working chip)
         (λ slots. entries store.new ≤ entries store.old + count_by (has_passing row_kind (is_in table)) slots) }
 {

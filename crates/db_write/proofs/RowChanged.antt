@@ -6,7 +6,7 @@ use Rattle.eeprom.specs.Chip.{Becomes, Chip, RisesBy}
 use Rattle.eeprom.specs.StoreOf.{cell_size, cells_for}
 use Rattle.record_store.specs.Held.{Held}
 use Rattle.record_store.specs.Put.{IsFull, IsWithin, weight_with}
-use Rattle.record_store.specs.Transaction.{entries}
+use Rattle.record_store.specs.Transaction.{ChangesOnly, entries}
 use Rattle.record_store.specs.declared.refusal.StoreRefusal.{StoreRefusal}
 use Rattle.record_store.specs.declared.refusal.StoreRefusal.TheVariants.{Full, Fault as StoreFault}
 use Rattle.record_store.specs.declared.side.Side.TheVariants.{Working}
@@ -27,9 +27,10 @@ use Rattle.record_table.specs.Making.{Ends, IsHeld, IsValidWith, Makes}
 use Rattle.record_table.specs.declared.stop.Stop.{Stop}
 use Rattle.record_table.specs.declared.stop.Stop.TheVariants.{Refused, Fault}
 use Rattle.record_table.proofs.Ending.{Ends-store, at-told}
-use Rattle.record_table.proofs.InPlace.{IsEditedTo-changed, full-changed}
+use Rattle.record_table.proofs.InPlace.{IsEditedTo-changed, Touches-in_place, full-changed}
 use Rattle.record_table.proofs.Made.{cells-any}
 use Rattle.record_table.proofs.Steps.{StepsTo-told}
+use Rattle.record_table.proofs.TouchedSlots.{Touches-told}
 use Rattle.row_table.specs.Found.{HasRowLike}
 
 -- what a put of a row in the place of another ensures
@@ -40,6 +41,7 @@ pub record PutsInPlace (old new : Held) (before after : Chip) (slot : ℕ) (r : 
   pub cells : new.chains.cells ≡ old.chains.cells
   pub rows : new.row_limit ≡ old.row_limit
   pub entries : entries new ≤ entries old + 1
+  pub only : ChangesOnly slot old new
   pub octets : Becomes (RisesBy (cell_size * cells_for (length (row_kind.form.spell r)))) before.written after.written
 
 pub Makes-changed : (old new : Held) (before after : Chip) (db : Database) (slot : ℕ) (r : RowRecord) → IsHeld old Working before db → IfSome (slots_of old Working before) (HasRowLike r slot) → IsValidWith db (changing (of_row r) ∷ [])
@@ -64,6 +66,8 @@ Makes-changed old new before after db slot r held like with puts =
       committed = end.committed;
       octets = λ written told. (let wrote = puts.octets written told in (wrote.0, wrote.1, omega (arith, wrote.2, cells)));
       entries = puts.entries;
+      touches = Touches-told _ db.next old new before after held.slots end.now held.told end.told (Touches-in_place row_kind of_row IsKind-row IsEditable-row held.slots end.now slot there.was r db old new held.holds held.valid there.at
+          (sym there.stamp) end.is edited.valid puts.only);
     }
 
 -- where the row has no room, the database has none for it

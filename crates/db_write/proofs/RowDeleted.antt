@@ -4,7 +4,7 @@ use Rattle.std.specs.Prelude.{IfSome}
 use Rattle.std.proofs.lemmas.Bool.{cases_Bool, ltb-false}
 use Rattle.eeprom.specs.Chip.{Chip}
 use Rattle.record_store.specs.Held.{Held, IsOver, StandsFor}
-use Rattle.record_store.specs.Transaction.{entries}
+use Rattle.record_store.specs.Transaction.{ChangesOnly, entries}
 use Rattle.record_store.specs.declared.side.Side.TheVariants.{Working}
 use Rattle.scql_base.specs.Words.{conditions_not_satisfied, record_not_found}
 use Rattle.scql_base.specs.declared.cursor.Cursor.{Cursor}
@@ -30,8 +30,9 @@ use Rattle.record_table.specs.Listed.{at_slot, slots_of}
 use Rattle.record_table.specs.Making.{Ends, IsHeld, IsValidWith, Makes}
 use Rattle.record_table.specs.declared.stop.Stop.{Stop}
 use Rattle.record_table.specs.declared.stop.Stop.TheVariants.{Refused, Fault}
-use Rattle.record_table.proofs.InPlace.{IsEditedTo-removed}
+use Rattle.record_table.proofs.InPlace.{IsEditedTo-removed, Touches-taken_out}
 use Rattle.record_table.proofs.Steps.{StepsTo-told}
+use Rattle.record_table.proofs.TouchedSlots.{Touches-told}
 use Rattle.db_write.specs.Reached.{IsStopOf, without_conditions}
 
 same-ok : {A : Type 0} (x y : A) → ◌≡◌ {A = Result A StatusWord} (Ok x) (Ok y) → x ≡ y
@@ -77,8 +78,8 @@ valid-deleted db actor cursor edits valid is = λ room.
 -- The slot of a row is emptied, and the store holds the database without it.
 pub Makes-removed : (old new : Held) (chip : Chip) (db : Database) (slot : ℕ) (r : RowRecord) → IsHeld old Working chip db → IsOver old chip → IfSome (slots_of old Working chip) (λ slots. Some r ≡ at_slot row_kind slot slots)
     → IsValidWith db (removing (of_row r) ∷ []) → ((image : List ℕ) → StandsFor old image → Rewrites (IsEmptied slot) old new image image) → new.chains.cells ≡ old.chains.cells → new.row_limit ≡ old.row_limit
-    → entries new ≤ entries old + 1 → Makes db (removing (of_row r) ∷ []) old new chip chip
-Makes-removed old new chip db slot r held over there with removed cells limit few =
+    → entries new ≤ entries old + 1 → ChangesOnly slot old new → Makes db (removing (of_row r) ∷ []) old new chip chip
+Makes-removed old new chip db slot r held over there with removed cells limit few only =
     let change = removing (of_row r) ∷ [] in
     let end = StepsTo-told (IsEmptied slot) old new chip chip held.slots held.told refl (λ image told. (image, told, removed image (subst (λ o. IfSome o (StandsFor old)) told over.stands))) in
     let at = subst (λ o. IfSome o (λ slots. Some r ≡ at_slot row_kind slot slots)) held.told there in
@@ -96,16 +97,17 @@ Makes-removed old new chip db slot r held over there with removed cells limit fe
       committed = end.committed;
       octets = λ after told. (after, told, omega arith);
       entries = few;
+      touches = Touches-told _ db.next old new chip chip held.slots end.now held.told end.told (Touches-taken_out row_kind of_row IsKind-row IsEditable-row held.slots end.now slot r db old new (sym at) end.is only);
     }
 
 -- the row that was reached is deleted
 pub Ends-deleted : (old new : Held) (before after : Chip) (db : Database) (actor : Actor) (cursor : Option Cursor) (slot : ℕ) (r : RowRecord) → after ≡ before → IsHeld old Working before db → IsOver old before
     → IfSome (slots_of old Working before) (λ slots. Some r ≡ at_slot row_kind slot slots) → row_deleted db actor cursor ≡ Ok (removing (of_row r) ∷ [])
     → ((image : List ℕ) → StandsFor old image → Rewrites (IsEmptied slot) old new image image) → new.chains.cells ≡ old.chains.cells → new.row_limit ≡ old.row_limit → entries new ≤ entries old + 1
-    → Ends {T = Unit {0}} db (row_deleted db actor cursor) (Ok tt) old new before after
-Ends-deleted old new before after db actor cursor slot r still held over there is removed cells limit few =
+    → ChangesOnly slot old new → Ends {T = Unit {0}} db (row_deleted db actor cursor) (Ok tt) old new before after
+Ends-deleted old new before after db actor cursor slot r still held over there is removed cells limit few only =
     let change = removing (of_row r) ∷ [] in
-    let makes = Makes-removed old new before db slot r held over there (valid-deleted db actor cursor change held.valid is) removed cells limit few in
+    let makes = Makes-removed old new before db slot r held over there (valid-deleted db actor cursor change held.valid is) removed cells limit few only in
     (change, is, subst (λ chip. Makes db change old new before chip) (sym still) makes)
 
 -- a cursor that was opened is so without its conditions, and at the end

@@ -5,7 +5,7 @@ ghost use Rattle.eeprom.specs.Fault.{CountsFaults, each_error};
 ghost use Rattle.eeprom.specs.Frame.{Reads};
 ghost use Rattle.eeprom.specs.StoreOf.{store_of, image_size, cell_size};
 ghost use Rattle.record_store.specs.Held.{IsOver};
-ghost use Rattle.record_store.specs.Transaction.{entries};
+ghost use Rattle.record_store.specs.Transaction.{ChangesOnly, entries};
 ghost use Rattle.record_store.specs.declared.side.Side.TheVariants.{Working};
 ghost use Rattle.catalog_codec.specs.Catalog.{counter_kind};
 ghost use Rattle.record_table.specs.Changed.{IsChanged, Rewrites};
@@ -57,6 +57,7 @@ pub fn set_counter<B: Eeprom>(
     ensures begun { OnOk result (store.new.begun ≡ store.old.begun) }
     ensures cells { OnOk result (store.new.chains.cells ≡ store.old.chains.cells) }
     ensures rows { OnOk result (store.new.row_limit ≡ store.old.row_limit) }
+    ensures only { OnOk result (ChangesOnly slot store.old store.new) }
     ensures entries { OnOk result (entries store.new ≤ entries store.old + 1) }
     ensures octets_written { OnOk result (Becomes (RisesAtMost cell_size) (B.chip bench.old).written (B.chip bench.new).written) }
     ensures moments { Keeps store_of (B.chip bench.old) (B.chip bench.new) }

@@ -1,7 +1,7 @@
 -- Entries for the slots that have another chain now.
 use Rattle.std.proofs.Common.{◌≡◌, ◌⊎◌, inl, inr, ℕ, zero, suc, ◌+◌, ◌*◌, ◌<◌, ◌≤◌, ◌≢◌, ◌==◌, ◌||◌, if◌then◌else◌, true, false, Bool, List, [], ◌∷◌, ◌++◌, length, set, slice_index, nat_lt, sym, refl, ap, ◌∙◌, true≢false, eqb-true, arith, subst, length-append, eq-eqb}
 use Rattle.std.specs.List.{list_all}
-use Rattle.std.proofs.lemmas.Bool.{cases_Bool, or_cases}
+use Rattle.std.proofs.lemmas.Bool.{cases_Bool, eqb-false, false≢true, or_cases}
 use Rattle.std.proofs.lemmas.Bool.Decides.{nat_tests}
 use Rattle.std.proofs.lemmas.Grind.{same_number_lists}
 use Rattle.std.proofs.lemmas.List.{length-set, get_or-set_same, get_or-set_other}
@@ -15,7 +15,7 @@ use Rattle.record_store.specs.Put.{emptied}
 use Rattle.record_store.specs.Slots.{AreFirsts, changed}
 use Rattle.record_store.specs.Sound.{IsSound}
 use Rattle.record_store.specs.Touched.{SameOutside}
-use Rattle.record_store.specs.Transaction.{begun_from, entries}
+use Rattle.record_store.specs.Transaction.{ChangesOnly, ChangesWhere, begun_from, entries}
 use Rattle.record_store.proofs.Putting.{set-again}
 use Rattle.record_store.proofs.Sides.{same-or-other}
 use Rattle.record_store.proofs.Touching.{among-last, none-last}
@@ -139,3 +139,39 @@ entries-emptied held new slot used sound begun is = rw (is, begun) (changed-set 
 pub entries-filled : (held mid : Held) (chains : Cells) (octets : List ℕ) (slot first : ℕ) (used : List Bool) → held.begun ≡ true → mid ≡ emptied held slot used → entries (record mid { chains = chains; working = set mid.working slot first; first_octets = octets }) ≤ entries held + 1
 entries-filled held mid chains octets slot first used begun is =
     rw (is, begun, set-again held.working slot 65535 first) (changed-set held.committed held.working slot first)
+
+-- no other slot has another chain then
+only-set : (held new : Held) (slot first : ℕ) → held.begun ≡ true → new.begun ≡ true → new.committed ≡ held.committed → new.working ≡ set held.working slot first → ChangesOnly slot held new
+only-set held new slot first begun still committed working = record {
+  committed = committed;
+  others = λ other (apart : (other == slot) ≡ false). rw (begun, still, working) (get_or-set_other held.working slot other first 0 (eqb-false other slot apart));
+}
+
+pub only-emptied : (held new : Held) (slot : ℕ) (used : List Bool) → IsSound new → held.begun ≡ true → new ≡ emptied held slot used → ChangesOnly slot held new
+only-emptied held new slot used sound begun is =
+    only-set held new slot 65535 begun (ap (λ (h : Held). h.begun) is ∙ begun) (ap (λ (h : Held). h.committed) is) (ap (λ (h : Held). h.working) is)
+
+pub only-filled : (held mid : Held) (chains : Cells) (octets : List ℕ) (slot first : ℕ) (used : List Bool) → held.begun ≡ true → mid ≡ emptied held slot used
+    → ChangesOnly slot held (record mid { chains = chains; working = set mid.working slot first; first_octets = octets })
+only-filled held mid chains octets slot first used begun is =
+    only-set held (record mid { chains = chains; working = set mid.working slot first; first_octets = octets }) slot first begun (ap (λ (h : Held). h.begun) is ∙ begun) (ap (λ (h : Held). h.committed) is)
+    (ap (λ (h : Held). set h.working slot first) is ∙ set-again held.working slot 65535 first)
+
+-- two changes, one after the other
+pub ChangesWhere-then : (may might : ℕ → Bool) (old mid new : Held) → ChangesWhere may old mid → ChangesWhere might mid new → ChangesWhere (λ slot. may slot || might slot) old new
+ChangesWhere-then may might old mid new first second = record {
+  committed = second.committed ∙ first.committed;
+  others = λ slot (neither : (may slot || might slot) ≡ false). (let both = none-of (may slot) (might slot) neither in second.others slot both.1 ∙ first.others slot both.0);
+}
+  where
+    none-of : (a b : Bool) → (a || b) ≡ false → (a ≡ false) × (b ≡ false)
+    none-of true b neither = absurd (false≢true (sym neither))
+    none-of false b neither = (refl, neither)
+
+-- more slots may have another chain
+pub ChangesWhere-more : (may might : ℕ → Bool) (old new : Held) → ((slot : ℕ) → might slot ≡ false → may slot ≡ false) → ChangesWhere may old new → ChangesWhere might old new
+ChangesWhere-more may might old new fewer changes = record { committed = changes.committed; others = λ slot not_there. changes.others slot (fewer slot not_there) }
+
+-- nothing was done
+pub ChangesWhere-none : (may : ℕ → Bool) (held : Held) → ChangesWhere may held held
+ChangesWhere-none may held = record { committed = refl; others = λ slot not_there. refl }

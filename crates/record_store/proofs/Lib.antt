@@ -2,6 +2,7 @@ pub mod Appending
 pub mod ChangedSlots
 pub mod ClaimedSlots
 pub mod Commit
+pub mod CountedSlots
 pub mod DirectoryRead
 pub mod Emptying
 pub mod Filling

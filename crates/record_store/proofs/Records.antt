@@ -1,15 +1,16 @@
 -- The chain of a slot, and its record.
-use Rattle.std.proofs.Common.{◌≡◌, ℕ, zero, suc, ◌*◌, ◌<◌, ◌≢◌, ◌&&◌, Bool, true, false, List, [], ◌∷◌, length, map, slice_index, slice_index_or, Option, Some, None, IsSome, option_and_then, IfSome, if◌then◌else◌, sym, refl, ap, ◌∙◌, arith, subst}
+use Rattle.std.proofs.Common.{◌≡◌, ℕ, zero, suc, ◌*◌, ◌<◌, ◌≢◌, ◌==◌, ◌&&◌, Bool, true, false, List, [], ◌∷◌, length, map, slice_index, slice_index_or, Option, Some, None, IsSome, option_and_then, IfSome, if◌then◌else◌, sym, refl, ap, ◌∙◌, arith, subst}
 use Rattle.std.specs.List.{list_all}
-use Rattle.std.proofs.lemmas.Bool.{and_parts}
+use Rattle.std.proofs.lemmas.Bool.{and_parts, eqb-true}
+use Rattle.std.proofs.lemmas.Option.{none-some, same_Some}
 use Rattle.eeprom.specs.Chip.{Becomes}
-use Rattle.eeprom.specs.StoreOf.{chain_of, chains_of, is_record, slot_of, slots_at, are_apart}
+use Rattle.eeprom.specs.StoreOf.{Slots, are_apart, chain_of, chains_of, is_record, no_cell, slot_of, slots_at}
 use Rattle.cell_store.specs.Chains.{IsRecordChain}
 use Rattle.cell_store.specs.Reading.{ReadsRecord}
 use Rattle.cell_store.proofs.Chains.{chains-parts, chain-empty, chain-nowhere}
 use Rattle.record_store.specs.declared.side.Side.{Side}
 use Rattle.record_store.specs.declared.side.Side.TheVariants.{Committed, Working}
-use Rattle.record_store.specs.Held.{Held, firsts, contents, record_at, StandsFor}
+use Rattle.record_store.specs.Held.{AreKept, Held, StandsFor, contents, first_octet, firsts, record_at}
 
 -- the chain of a slot
 pub record ChainOf (image : List ℕ) (n : ℕ) (first : ℕ) (entry : Option (List ℕ)) : Type 0 where
@@ -97,3 +98,20 @@ record-nowhere held side slot first (Some image) start inside none stands =
 pub reads-nothing : (image : Option (List ℕ)) (count : Option ℕ) → IfSome image (λ _. Becomes (ReadsRecord None) count count)
 reads-nothing None count = tt
 reads-nothing (Some image) count = λ after e. (after, e, refl)
+
+-- a slot in which no other chain begins has one record on both sides
+pub same-record : (image : List ℕ) (n : ℕ) (committed working : List ℕ) (was now : Slots) (slot : ℕ) → slots_at image n committed ≡ Some was → slots_at image n working ≡ Some now → slot < length committed → slot < length working
+    → slice_index working slot ≡ slice_index committed slot → slice_index_or now slot None ≡ slice_index_or was slot None
+same-record image n committed working was now slot told_1 told_2 within there same =
+    let first = subst (λ (o : Option Slots). ChainOf image n (slice_index committed slot) (option_and_then (λ slots. slice_index_or slots slot None) o)) told_1 (chain-entry image n committed slot within (rw told_1 refl)) in
+    let last = subst (λ (o : Option Slots). ChainOf image n (slice_index working slot) (option_and_then (λ slots. slice_index_or slots slot None) o)) told_2 (chain-entry image n working slot there (rw told_2 refl)) in
+    let chains : last.chain ≡ first.chain = same_Some last.chain first.chain (sym last.of ∙ (ap (chain_of image n (2 * n)) same ∙ first.of)) in
+    last.entry_is ∙ (ap (slot_of image n) chains ∙ sym first.entry_is)
+
+-- an empty slot begins nowhere
+pub nowhere-empty : (octets firsts : List ℕ) (slots : Slots) (slot : ℕ) → AreKept octets firsts (Some slots) → slot < length firsts → slice_index_or slots slot None ≡ None → slice_index firsts slot ≡ no_cell
+nowhere-empty octets firsts slots slot kept within empty = go (slice_index firsts slot == no_cell) refl (sym (ap first_octet empty) ∙ kept slot within)
+  where
+    go : (b : Bool) → (slice_index firsts slot == no_cell) ≡ b → None ≡ (if b then None else Some (slice_index octets (slice_index firsts slot))) → slice_index firsts slot ≡ no_cell
+    go true is none = eqb-true (slice_index firsts slot) no_cell is
+    go false is none = absurd (none-some (slice_index octets (slice_index firsts slot)) none)

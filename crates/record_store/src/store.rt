@@ -14,7 +14,7 @@ ghost use Rattle.record_store.specs.Put.{IsPut, IsRemoved, IsFull, IsWithin, emp
 ghost use Rattle.record_store.specs.Slots.{steps_without};
 ghost use Rattle.cell_store.specs.Marks.{StaysMarked};
 ghost use Rattle.cell_store.specs.Reading.{ReadsRecord};
-ghost use Rattle.record_store.specs.Transaction.{begun_from, entries, IsCommitted, Commits};
+ghost use Rattle.record_store.specs.Transaction.{begun_from, entries, ChangesOnly, IsCommitted, Commits};
 ghost use Rattle.record_store.specs.declared.side.Side.{Side};
 ghost use Rattle.record_store.specs.declared.side.Side.TheVariants.{Committed, Working};
 
@@ -235,6 +235,7 @@ impl Store {
         ensures cells { OnOk result (self.new.chains.cells ≡ self.old.chains.cells) }
         ensures rows { OnOk result (self.new.row_limit ≡ self.old.row_limit) }
         ensures octets_written { OnOk result (Becomes (RisesBy (cell_size * image.cells_for (length octets.now))) (B.chip bench.old).written (B.chip bench.new).written) }
+        ensures only { IfOk result (λ found. ChangesOnly found self.old self.new) }
         ensures entries { OnOk result (entries self.new ≤ entries self.old + 1) }
         ensures moments { Keeps store_of (B.chip bench.old) (B.chip bench.new) }
         ensures behind { Keeps (drop (image.image_size self.old.chains.cells)) (B.chip bench.old) (B.chip bench.new) }
@@ -277,6 +278,7 @@ impl Store {
         ensures rows { self.new.row_limit ≡ self.old.row_limit }
         ensures emptied { self.new ≡ emptied self.old slot self.new.chains.used }
         ensures fewer { StaysMarked self.new.chains.used self.old.chains.used }
+        ensures only { ChangesOnly slot self.old self.new }
         ensures entries { entries self.new ≤ entries self.old + 1 }
     {
         let weight = self.weight_without(slot);

@@ -14,5 +14,9 @@ pub mod Rewriting
 pub mod Scan
 pub mod SlotReads
 pub mod Stamping
+pub mod StampsInSlots
 pub mod Steps
 pub mod SweptSlots
+pub mod TouchedEdits
+pub mod TouchedRecords
+pub mod TouchedSlots

@@ -1,29 +1,37 @@
 -- A new record that takes the next stamp, and the counter that counts on: the database then, and whether it has room.
 use Rattle.std.proofs.Common.{◌≡◌, ◌≢◌, ℕ, ◌+◌, ◌*◌, ◌^◌, ◌<◌, ◌≤◌, ◌==◌, ◌||◌, Bool, true, false, List, [], ◌∷◌, ◌++◌, length, Option, Some, None, Err, get_or, refl, sym, ap, subst, ◌∙◌, arith}
 use Rattle.std.specs.List.{list_all, AllByRecursion}
-use Rattle.std.proofs.lemmas.Bool.{and_parts, lt-ltb, le-ltb, ne_eqb}
+use Rattle.std.proofs.lemmas.Bool.{and_parts, eq-eqb, lt-ltb, le-ltb, ne_eqb}
 use Rattle.std.proofs.lemmas.Option.{none-some}
 use Rattle.std.proofs.lemmas.List.Folds.{list_all-append}
 use Rattle.std.proofs.lemmas.List.Sums.{sum_by-set}
 use Rattle.eeprom.specs.StoreOf.{Slots, cells_for, cells_of, weight_of}
 use Rattle.eeprom.specs.Slots.{in_slot}
+use Rattle.cell_store.specs.Chains.{is_among}
+use Rattle.record_store.specs.Held.{Held}
 use Rattle.record_store.specs.Put.{weight_with}
+use Rattle.record_store.specs.Transaction.{ChangesOnly}
 use Rattle.record_store.proofs.Emptying.{weight-more}
 use Rattle.scql_base.specs.Words.{no_space}
-use Rattle.scql_model.specs.Records.{AnyRecord, of_counter, of_user, of_object, of_grant, of_row, counter_record, counter_in}
+use Rattle.scql_model.specs.Records.{AnyRecord, of_counter, of_user, of_object, of_grant, of_row, counter_record, counter_in, record_stamp}
 use Rattle.scql_model.specs.Database.{Database, IsValid, weight}
-use Rattle.scql_model.specs.Edits.{applied, cells_of_record, cells_written, edited, is_counter, is_overfull, lacks_room, making, octets_for_cells, stamps_end, to_add, with_edits}
+use Rattle.scql_model.specs.Edits.{applied, cells_of_record, cells_written, edited, is_counter, is_overfull, lacks_room, making, octets_for_cells, stamps_end, to_add, touched, with_edits}
 use Rattle.scql_model.proofs.EditLaws.{applied-cells, own_cells, weight-making}
 use Rattle.scql_model.proofs.Room.{cells-filled}
 use Rattle.scql_model.proofs.SpellingLengths.{length-counter_in}
-use Rattle.scql_model.specs.Opens.{Holds}
+use Rattle.scql_model.specs.Opens.{Holds, counter_stamp}
 use Rattle.catalog_codec.specs.Kinds.{Kind, IsKind}
 use Rattle.catalog_codec.specs.Catalog.{counter_kind}
+use Rattle.catalog_codec.specs.CatalogLaws.{IsKind-counter}
+use Rattle.record_table.specs.Changed.{IsAdded}
+use Rattle.record_table.specs.EditableLaws.{named-counter}
 use Rattle.record_table.specs.Listed.{at_slot}
+use Rattle.record_table.specs.Touching.{Touches}
 use Rattle.record_table.specs.Editable.{IsEditable}
 use Rattle.record_table.specs.Making.{IsMade, IsValidWith}
 use Rattle.record_table.proofs.ListedChanges.{at_slot-other}
 use Rattle.record_table.proofs.ChangedDatabase.{Holds-added, Holds-counted}
+use Rattle.record_table.proofs.TouchedSlots.{Touches-added, Touches-changed, Touches-then}
 
 either_way : (b : Bool) → b || true ≡ true
 either_way true = refl
@@ -58,6 +66,11 @@ counter-room slots slot was next within at =
 pub other_slot : (slots : Slots) (counter slot was : ℕ) → at_slot counter_kind counter slots ≡ Some was → get_or slots slot None ≡ None → counter ≢ slot
 other_slot slots counter slot was at empty same = none-some was (ap (in_slot counter_in) (sym empty ∙ ap (λ i. get_or slots i None) (sym same)) ∙ at)
 
+-- and the counter is where it was once another slot has a record
+counter-still : {X : Type 0} (kind : Kind X) (x : X) (slot counter next : ℕ) (was between : Slots) → at_slot counter_kind counter was ≡ Some next → IsAdded kind x slot was between → at_slot counter_kind counter between ≡ Some next
+counter-still kind x slot counter next was between at added =
+    ap (at_slot counter_kind counter) added.is ∙ (at_slot-other counter_kind was slot counter (Some (kind.form.spell x)) (other_slot was counter slot next at added.empty) ∙ at)
+
 -- the next stamp has a spelling
 next-fits : (next : ℕ) → next < stamps_end → counter_record.fits (next + 1) ≡ true
 next-fits next left = lt-ltb (next + 1) (2 ^ 32) (omega (arith, left))
@@ -88,7 +101,7 @@ module _ {X : Type 0} (kind : Kind X) (any : X → AnyRecord) (is : IsKind kind)
       rw (over, last) refl
 
   -- the record is within the limits of its kind, where the new database is valid
-  fits-made : (db : Database) (x : X) → IsValid (applied db (making db (any x))) → kind.form.fits x ≡ true
+  pub fits-made : (db : Database) (x : X) → IsValid (applied db (making db (any x))) → kind.form.fits x ≡ true
   fits-made db x valid =
       all-last kind.form.fits (edits.records (record db { next = db.next + 1 })) x
       (subst (λ xs. list_all kind.form.fits xs ≡ true) (edits.after to_add x (record db { next = db.next + 1 })) (edits.limits (applied db (making db (any x))) valid))
@@ -109,8 +122,7 @@ module _ {X : Type 0} (kind : Kind X) (any : X → AnyRecord) (is : IsKind kind)
       let fits = fits-made db x new_valid in
       let below : AllByRecursion (λ y. kind.key y < kind.key x) (edits.records db) = subst (λ n. AllByRecursion (λ y. kind.key y < n) (edits.records db)) (sym key) (edits.below db valid) in
       let between = Holds-added kind any is edits x slot was made.between db holds below fits within made.added in
-      let still : at_slot counter_kind counter made.between ≡ Some db.next =
-      ap (at_slot counter_kind counter) made.added.is ∙ (at_slot-other counter_kind was slot counter (Some (kind.form.spell x)) (other_slot was counter slot db.next at made.added.empty) ∙ at) in
+      let still = counter-still kind x slot counter db.next was made.between at made.added in
       let counted = Holds-counted db.next (db.next + 1) counter made.between now (edited to_add (any x) db) between (next-fits db.next left) still made.counted in
       record {
         room = room;
@@ -121,3 +133,20 @@ module _ {X : Type 0} (kind : Kind X) (any : X → AnyRecord) (is : IsKind kind)
   -- the octets that are written
   pub octets-made : (db : Database) (x : X) → octets_for_cells (cells_written (making db (any x))) ≡ 32 * (cells_for (length (counter_record.spell (db.next + 1))) + cells_for (length (kind.form.spell x)))
   octets-made db x = ap (λ n. 32 * (cells_for (length (counter_record.spell (db.next + 1))) + n)) (cells-any x)
+
+  -- the record and the counter are touched, in their slots
+  pub Touches-made : (db : Database) (x : X) (slot counter : ℕ) (was now : Slots) (old mid new : Held) → kind.key x ≡ db.next → db.next < stamps_end → slot < length was → at_slot counter_kind counter was ≡ Some db.next
+      → IsMade kind x slot counter (db.next + 1) was now → IsValid (applied db (making db (any x))) → ChangesOnly slot old mid → ChangesOnly counter mid new → Touches (touched (making db (any x))) db.next was now old new
+  Touches-made db x slot counter was now old mid new key left within at made valid first second =
+      let stamps = touched (making db (any x)) in
+      let still = counter-still kind x slot counter db.next was made.between at made.added in
+      Touches-then stamps stamps stamps db.next was made.between now old mid new
+      (Touches-added kind kind.key edits.named is stamps db.next slot x was made.between old mid within made.added (fits-made db x valid) (omega (arith, key)) (among-second 0 (kind.key x) (record_stamp (any x)) (edits.stamps x)) first)
+      (Touches-changed counter_kind counter_stamp named-counter IsKind-counter stamps db.next counter db.next (db.next + 1) made.between now mid new still refl made.counted (next-fits db.next left) refl second) (λ stamp among. among) (λ stamp among. among)
+    where
+      among-second : (a b c : ℕ) → c ≡ b → is_among b (a ∷ c ∷ []) ≡ true
+      among-second a b c same = rw (eq-eqb b c (sym same)) (last (b == a))
+        where
+          last : (d : Bool) → (d || true) ≡ true
+          last true = refl
+          last false = refl

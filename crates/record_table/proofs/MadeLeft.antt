@@ -23,8 +23,10 @@ use Rattle.catalog_codec.specs.Catalog.{row_kind}
 use Rattle.catalog_codec.specs.Kinds.{Kind}
 use Rattle.record_table.specs.Listed.{at_slot, slots_of}
 use Rattle.record_table.specs.Making.{IsHeld, KeepsRows, Makes}
+use Rattle.record_table.specs.Touching.{Touches}
 use Rattle.record_table.specs.Swept.{all_without, has_passing, without_passing}
 use Rattle.record_table.proofs.Steps.{unless-told}
+use Rattle.record_table.proofs.TouchedSlots.{Touches-told}
 
 -- no more cells are taken than before
 pub less-without : {X : Type 0} (kind : Kind X) (p : X → Bool) (slots : Slots) → sum_by cells_of (all_without kind p slots) ≤ sum_by cells_of slots
@@ -71,8 +73,8 @@ KeepsRows-left old new before after stands told left = go (slots_of old Working 
 pub Makes-left : (db : Database) (edits : List Edit) (outcome : Result (List Edit) StatusWord) (left : Slots) (old new : Held) (chip : Chip) (held : IsHeld old Working chip db) → Gives (Keeps db) outcome → outcome ≡ Ok edits
     → Holds left (applied db edits) → takes_stamp edits ≡ false → sum_by cells_of left ≤ sum_by cells_of held.slots → slots_of new Working chip ≡ Some left
     → new.chains.cells ≡ old.chains.cells → new.row_limit ≡ old.row_limit → slots_of new Committed chip ≡ slots_of old Committed chip → entries new ≤ entries old + length (touched edits)
-    → Makes db edits old new chip chip
-Makes-left db edits outcome left old new chip held keeps is holds none less told cells limit committed few =
+    → Touches (touched edits) db.next held.slots left old new → Makes db edits old new chip chip
+Makes-left db edits outcome left old new chip held keeps is holds none less told cells limit committed few touches =
     let after = applied db edits in
     let room : weight db ≤ db.cells = held.valid.stored.room in
     let weighs : weight after ≤ after.cells = omega (arith, room, less, cells-filled held.slots db held.holds, cells-filled left after holds, applied-cells db edits) in
@@ -93,4 +95,5 @@ Makes-left db edits outcome left old new chip held keeps is holds none less told
       committed = committed;
       octets = λ after told. (after, told, omega arith);
       entries = few;
+      touches = Touches-told (touched edits) db.next old new chip chip held.slots left held.told told touches;
     }

@@ -1,14 +1,16 @@
 -- Slots from which all records of a kind that pass a test are taken, one slot after another.
-use Rattle.std.proofs.Common.{◌≡◌, ℕ, zero, suc, ◌+◌, ◌≤◌, Bool, true, false, cond, List, [], ◌∷◌, drop, count_by, Option, Some, None, get_or, refl, sym, ap, subst, ◌∙◌, arith, add-one}
+use Rattle.std.proofs.Common.{◌≡◌, ℕ, zero, suc, ◌+◌, ◌≤◌, ◌==◌, ◌&&◌, ◌||◌, Bool, true, false, cond, List, [], ◌∷◌, drop, count_by, Option, Some, None, get_or, inl, inr, refl, sym, ap, subst, ◌∙◌, arith, add-one}
 use Rattle.std.specs.Prelude.{IfSome, option_and_then}
 use Rattle.std.proofs.Math.ListN.{set}
 use Rattle.std.proofs.Math.Seq.{drop-nil}
+use Rattle.std.proofs.lemmas.Bool.{cases_Bool, eqb-true, false≢true}
 use Rattle.std.proofs.lemmas.List.Sums.{sum_by-cons}
 use Rattle.eeprom.specs.Chip.{Chip}
 use Rattle.eeprom.specs.Slots.{in_slot}
 use Rattle.eeprom.specs.StoreOf.{Slots}
 use Rattle.record_store.specs.Held.{Held, StandsFor, contents}
-use Rattle.record_store.specs.Transaction.{entries}
+use Rattle.record_store.specs.Transaction.{ChangesOnly, ChangesWhere, entries}
+use Rattle.record_store.proofs.ChangedSlots.{ChangesWhere-more, ChangesWhere-none, ChangesWhere-then}
 use Rattle.record_store.specs.declared.side.Side.TheVariants.{Working}
 use Rattle.catalog_codec.specs.Kinds.{Kind, read_as}
 use Rattle.record_table.specs.Changed.{IsEmptied, Rewrites}
@@ -137,3 +139,55 @@ pub swept-all : {X : Type 0} (kind : Kind X) (p : X → Bool) (new : Held) (chip
     → IfSome slots (λ slots. slots_of new Working chip ≡ Some (changed_front (without_passing kind p) n slots)) → IfSome slots (λ slots. slots_of new Working chip ≡ Some (all_without kind p slots))
 swept-all kind p new chip end n None behind empty done = tt
 swept-all kind p new chip end n (Some slots) behind empty done = done ∙ ap Some (front-all kind p n slots (λ slot later. empty slot (omega (arith, behind, later))))
+
+-- Which slots have another chain.
+
+-- a slot whose record passes may have another
+pub only-passing : {X : Type 0} (kind : Kind X) (p : X → Bool) (old new : Held) (chip : Chip) (slot : ℕ) (x : X) → IfSome (slots_of old Working chip) (λ slots. Some x ≡ at_slot kind slot slots) → p x ≡ true → ChangesOnly slot old new
+    → IfSome (slots_of old Working chip) (λ slots. ChangesWhere (λ other. other == slot && has_passing kind p (get_or slots slot None)) old new)
+only-passing kind p old new chip slot x at passes only = go (slots_of old Working chip) at
+  where
+    go : (o : Option Slots) → IfSome o (λ slots. Some x ≡ at_slot kind slot slots) → IfSome o (λ slots. ChangesWhere (λ other. other == slot && has_passing kind p (get_or slots slot None)) old new)
+    go None at = tt
+    go (Some slots) at = ChangesWhere-more (λ other. other == slot) (λ other. other == slot && has_passing kind p (get_or slots slot None)) old new
+        (λ other (apart : (other == slot && has_passing kind p (get_or slots slot None)) ≡ false). other-is (other == slot) (has_passing kind p (get_or slots slot None)) (passing (get_or slots slot None) at) apart) only
+      where
+        passing : (entry : Option (List ℕ)) → Some x ≡ in_slot (read_as kind) entry → has_passing kind p entry ≡ true
+        passing entry is = rw (sym is) passes
+
+        other-is : (a b : Bool) → b ≡ true → (a && b) ≡ false → a ≡ false
+        other-is true b is wrong = absurd (false≢true (sym wrong ∙ is))
+        other-is false b is apart = refl
+
+-- and where nothing was done none has
+pub only-unchanged : {X : Type 0} (kind : Kind X) (p : X → Bool) (held : Held) (chip : Chip) (slot : ℕ)
+    → IfSome (slots_of held Working chip) (λ slots. ChangesWhere (λ other. other == slot && has_passing kind p (get_or slots slot None)) held held)
+only-unchanged kind p held chip slot = go (slots_of held Working chip)
+  where
+    go : (o : Option Slots) → IfSome o (λ slots. ChangesWhere (λ other. other == slot && has_passing kind p (get_or slots slot None)) held held)
+    go None = tt
+    go (Some slots) = ChangesWhere-none (λ other. other == slot && has_passing kind p (get_or slots slot None)) held
+
+pub only-none : {X : Type 0} (kind : Kind X) (p : X → Bool) (held : Held) (slots : Option Slots) → IfSome slots (λ slots. ChangesWhere (λ slot. has_passing kind p (get_or slots slot None)) held held)
+only-none kind p held None = tt
+only-none kind p held (Some slots) = ChangesWhere-none (λ slot. has_passing kind p (get_or slots slot None)) held
+
+-- one more slot is done
+pub only-more : {X : Type 0} (kind : Kind X) (p : X → Bool) (old mid new : Held) (chip : Chip) (n : ℕ) (slots : Option Slots) → IfSome slots (λ slots. slots_of mid Working chip ≡ Some (changed_front (without_passing kind p) n slots))
+    → IfSome (slots_of mid Working chip) (λ slots. ChangesWhere (λ other. other == n && has_passing kind p (get_or slots n None)) mid new)
+    → IfSome slots (λ slots. ChangesWhere (λ slot. has_passing kind p (get_or slots slot None)) old mid) → IfSome slots (λ slots. ChangesWhere (λ slot. has_passing kind p (get_or slots slot None)) old new)
+only-more kind p old mid new chip n None so_far here only = tt
+only-more kind p old mid new chip n (Some slots) so_far here only =
+    let f = without_passing kind p in
+    let passes = λ (slot : ℕ). has_passing kind p (get_or slots slot None) in
+    let now = changed_front f n slots in
+    let one : ChangesWhere (λ other. other == n && has_passing kind p (get_or now n None)) mid new =
+    subst (λ o. IfSome o (λ slots. ChangesWhere (λ other. other == n && has_passing kind p (get_or slots n None)) mid new)) so_far here in
+    let same : ChangesWhere (λ other. other == n && passes n) mid new = subst (λ v. ChangesWhere (λ other. other == n && has_passing kind p v) mid new) (front-next f n slots None) one in
+    ChangesWhere-more (λ slot. passes slot || (slot == n && passes n)) passes old new
+    (λ slot (stays : passes slot ≡ false). elim (cases_Bool (slot == n)) [
+      | inl t ↦ let none : passes n ≡ false = subst (λ m. passes m ≡ false) (eqb-true slot n t) stays in
+          rw (stays, t, none) refl
+      | inr f ↦ rw (stays, f) refl
+    ])
+    (ChangesWhere-then passes (λ other. other == n && passes n) old mid new only same)

@@ -1,5 +1,5 @@
 -- A store outside of a transaction: the database that it holds, and another one that is committed in its place.
-use Rattle.std.specs.Prelude.{◌≡◌, ℕ, true, List, [], ◌∷◌, Result, Err, OnOk}
+use Rattle.std.specs.Prelude.{◌≡◌, ℕ, List, [], ◌∷◌, Result, Err, OnOk}
 use Rattle.eeprom.specs.Chip.{Chip, Becomes, Leaves, MayBeLeftSince, RisesAtMost}
 use Rattle.record_store.specs.Held.{Held}
 use Rattle.record_store.specs.declared.side.Side.TheVariants.{Committed}

@@ -9,6 +9,7 @@ use Rattle.scql_model.specs.Edits.{Action, edited, is_counter, list_after}
 use Rattle.catalog_codec.specs.Kinds.{Kind, HaveOtherMarks, read_as}
 use Rattle.catalog_codec.specs.Catalog.{counter_kind, user_kind, object_kind, grant_kind, row_kind}
 use Rattle.record_table.specs.Listed.{listed}
+use Rattle.record_table.specs.Touching.{stamp_in}
 use Rattle.scql_model.specs.Opens.{Holds, is_spelled, counter_stamp}
 
 -- There are as many slots as before, each is spelled, and the records of all kinds with other marks are as they were.
@@ -27,11 +28,12 @@ cells_of_list {X} kind xs = sum_by (λ x. cells_for (length (kind.form.spell x))
 
 -- What a kind owes towards a database, whose records of it stand among those of all kinds.
 pub record IsEditable {X : Type 0} (kind : Kind X) (any : X → AnyRecord) : Type 0 where
-  -- a record is spelled and named the same there, and is no counter; it is read of as many octets as it is spelled with
+  -- a record is spelled and named the same there, and is no counter; octets are read as a record of its stamp, and of as many octets as it is spelled with
   pub spells : (x : X) → record_spelling (any x) ≡ kind.form.spell x
   pub stamps : (x : X) → record_stamp (any x) ≡ kind.key x
   pub no_counter : (x : X) → is_counter (any x) ≡ false
   pub spelled : (x : X) → kind.form.fits x ≡ true → is_spelled (Some (kind.form.spell x)) ≡ true
+  pub named : (octets : List ℕ) (x : X) → read_as kind octets ≡ Some x → stamp_in octets ≡ Some (kind.key x)
   pub lengths : (octets : List ℕ) (x : X) → read_as kind octets ≡ Some x → length octets ≡ length (kind.form.spell x)
   -- the records of the kind that a database has are those that its slots list
   pub records : Database → List X

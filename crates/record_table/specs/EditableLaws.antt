@@ -1,5 +1,5 @@
 -- Users, objects, grants and rows owe what a kind owes towards a database.
-use Rattle.std.proofs.Common.{◌≡◌, ◌||◌, ℕ, Bool, true, false, List, [], Option, Some, is_some, refl, ap, ◌∙◌, arith}
+use Rattle.std.proofs.Common.{◌≡◌, ◌||◌, ℕ, Bool, true, false, List, [], Option, Some, None, is_some, refl, ap, ◌∙◌, arith}
 use Rattle.scql_base.specs.declared.records.User.{User}
 use Rattle.scql_base.specs.declared.records.Object.{Object}
 use Rattle.scql_base.specs.declared.records.Grant.{Grant}
@@ -8,6 +8,7 @@ use Rattle.scql_model.specs.Records.{of_user, of_object, of_grant, of_row, count
 use Rattle.scql_model.specs.Database.{stored_user, stored_object, stored_grant, stored_row}
 use Rattle.scql_model.specs.Edits.{edited}
 use Rattle.scql_model.proofs.EditLaws.{weight-kinds}
+use Rattle.scql_model.proofs.KindsApart.{given, one_kind}
 use Rattle.scql_model.proofs.RecordsOf.{before_rows, before_grants, behind_grants, before_objects, behind_objects, behind_users, records_of-users, records_of-objects, records_of-grants, records_of-rows}
 use Rattle.scql_model.proofs.SpellingLengths.{length-user_in, length-object_in, length-grant_in, length-row_in}
 use Rattle.scql_model.proofs.Stored.{below-of_kind}
@@ -16,6 +17,7 @@ use Rattle.catalog_codec.specs.KindLaws.{HaveOtherMarks-sym}
 use Rattle.catalog_codec.specs.CatalogLaws.{IsKind-user, IsKind-object, IsKind-grant, IsKind-row, HaveOtherMarks-counter-user, HaveOtherMarks-counter-object, HaveOtherMarks-counter-grant, HaveOtherMarks-user-object, HaveOtherMarks-user-grant, HaveOtherMarks-grant-object, HaveOtherMarks-row-counter, HaveOtherMarks-row-user, HaveOtherMarks-row-object, HaveOtherMarks-row-grant}
 use Rattle.scql_model.specs.Opens.{is_spelled}
 use Rattle.record_table.specs.Editable.{IsEditable}
+use Rattle.record_table.specs.Touching.{stamp_in}
 
 -- one of five readers gives something
 first : (a b c d e : Bool) → a ≡ true → a || b || c || d || e ≡ true
@@ -59,8 +61,48 @@ spelled-grant octets x read = fourth (is_some (counter_in octets)) (is_some (use
 spelled-row : (octets : List ℕ) (x : RowRecord) → row_in octets ≡ Some x → is_spelled (Some octets) ≡ true
 spelled-row octets x read = fifth (is_some (counter_in octets)) (is_some (user_in octets)) (is_some (object_in octets)) (is_some (grant_in octets)) (is_some (row_in octets)) (ap (λ (o : Option RowRecord). is_some o) read)
 
+-- octets that are a record of one kind are none of another
+none-given : {X : Type 0} (o : Option X) → given o ≡ 0 → o ≡ None
+none-given None is = refl
+none-given (Some x) is = absurd (omega (arith, is))
+
+-- so the stamp that octets have is that of the record which the kind's reader gives
+pub named-counter : (octets : List ℕ) (next : ℕ) → counter_in octets ≡ Some next → stamp_in octets ≡ Some 0
+named-counter octets next read = rw read refl
+
+named-user : (octets : List ℕ) (x : User) → user_in octets ≡ Some x → stamp_in octets ≡ Some x.stamp
+named-user octets x read =
+    let most = one_kind octets in
+    let here : given (user_in octets) ≡ 1 = ap given read in
+    rw (none-given (counter_in octets) (omega (arith, most, here)), read) refl
+
+named-object : (octets : List ℕ) (x : Object) → object_in octets ≡ Some x → stamp_in octets ≡ Some x.stamp
+named-object octets x read =
+    let most = one_kind octets in
+    let here : given (object_in octets) ≡ 1 = ap given read in
+    rw (none-given (counter_in octets) (omega (arith, most, here)), none-given (user_in octets) (omega (arith, most, here)), read) refl
+
+named-grant : (octets : List ℕ) (x : Grant) → grant_in octets ≡ Some x → stamp_in octets ≡ Some x.stamp
+named-grant octets x read =
+    let most = one_kind octets in
+    let here : given (grant_in octets) ≡ 1 = ap given read in
+    rw (none-given (counter_in octets) (omega (arith, most, here)), none-given (user_in octets) (omega (arith, most, here)), none-given (object_in octets) (omega (arith, most, here)), read) refl
+
+named-row : (octets : List ℕ) (x : RowRecord) → row_in octets ≡ Some x → stamp_in octets ≡ Some x.stamp
+named-row octets x read =
+    let most = one_kind octets in
+    let here : given (row_in octets) ≡ 1 = ap given read in
+    rw (
+      none-given (counter_in octets) (omega (arith, most, here)),
+      none-given (user_in octets) (omega (arith, most, here)),
+      none-given (object_in octets) (omega (arith, most, here)),
+      none-given (grant_in octets) (omega (arith, most, here)),
+      read,
+    ) refl
+
 pub IsEditable-user : IsEditable user_kind of_user
 IsEditable-user = record {
+  named = named-user;
   lengths = length-user_in;
   spells = λ u. refl;
   stamps = λ u. refl;
@@ -87,6 +129,7 @@ IsEditable-user = record {
 
 pub IsEditable-object : IsEditable object_kind of_object
 IsEditable-object = record {
+  named = named-object;
   lengths = length-object_in;
   spells = λ o. refl;
   stamps = λ o. refl;
@@ -113,6 +156,7 @@ IsEditable-object = record {
 
 pub IsEditable-grant : IsEditable grant_kind of_grant
 IsEditable-grant = record {
+  named = named-grant;
   lengths = length-grant_in;
   spells = λ g. refl;
   stamps = λ g. refl;
@@ -139,6 +183,7 @@ IsEditable-grant = record {
 
 pub IsEditable-row : IsEditable row_kind of_row
 IsEditable-row = record {
+  named = named-row;
   lengths = length-row_in;
   spells = λ r. refl;
   stamps = λ r. refl;

@@ -6,3 +6,4 @@ pub mod Listed
 pub mod Making
 pub mod Reading
 pub mod Swept
+pub mod Touching

@@ -1,9 +1,9 @@
 // All records of a kind that are wanted are removed, in one pass over the slots.
-ghost use Rattle.std.specs.Prelude.{◌≡◌, ◌+◌, ◌<◌, ◌≤◌, Some, None, IsTrue, IfSome, OnOk, cond, count_by, slice_index_or, slice_set};
+ghost use Rattle.std.specs.Prelude.{◌≡◌, ◌+◌, ◌<◌, ◌≤◌, ◌==◌, ◌&&◌, Some, None, IsTrue, IfSome, OnOk, cond, count_by, slice_index_or, slice_set};
 ghost use Rattle.eeprom.specs.Fault.{each_error};
 ghost use Rattle.eeprom.specs.Frame.{Reads};
 ghost use Rattle.record_store.specs.Held.{IsOver};
-ghost use Rattle.record_store.specs.Transaction.{entries};
+ghost use Rattle.record_store.specs.Transaction.{ChangesWhere, entries};
 ghost use Rattle.record_store.specs.declared.side.Side.TheVariants.{Committed, Working};
 ghost use Rattle.record_table.specs.Listed.{slots_of};
 ghost use Rattle.record_table.specs.Swept.{all_without, has_passing, without_passing};
@@ -28,6 +28,8 @@ pub fn remove_each<R: Record, W: Wanted<R>, B: Eeprom>(
     ensures begun { OnOk result (store.new.begun ≡ store.old.begun) }
     ensures cells { OnOk result (store.new.chains.cells ≡ store.old.chains.cells) }
     ensures rows { OnOk result (store.new.row_limit ≡ store.old.row_limit) }
+    ensures only { OnOk result (IfSome (slots_of store.old Working (B.chip bench.old))
+        (λ slots. ChangesWhere (λ slot. has_passing R.kind (W.wants wanted.now) (slice_index_or slots slot None)) store.old store.new)) }
     ensures entries { OnOk result (IfSome (slots_of store.old Working (B.chip bench.old))
         (λ slots. entries store.new ≤ entries store.old + count_by (has_passing R.kind (W.wants wanted.now)) slots)) }
     ensures frame { Reads each_error B.chip B.faults bench.old bench.new result }
@@ -57,6 +59,8 @@ fn remove_wanted<R: Record, W: Wanted<R>, B: Eeprom>(
     ensures begun { OnOk result (store.new.begun ≡ store.old.begun) }
     ensures cells { OnOk result (store.new.chains.cells ≡ store.old.chains.cells) }
     ensures rows { OnOk result (store.new.row_limit ≡ store.old.row_limit) }
+    ensures only { OnOk result (IfSome (slots_of store.old Working (B.chip bench.old))
+        (λ slots. ChangesWhere (λ other. other == slot && has_passing R.kind (W.wants wanted.now) (slice_index_or slots slot None)) store.old store.new)) }
     ensures entries { OnOk result (IfSome (slots_of store.old Working (B.chip bench.old))
         (λ slots. entries store.new ≤ entries store.old + cond (has_passing R.kind (W.wants wanted.now) (slice_index_or slots slot None)) 1 0)) }
     ensures frame { Reads each_error B.chip B.faults bench.old bench.new result }

@@ -7,7 +7,7 @@ ghost use Rattle.eeprom.specs.StoreOf.{store_of, image_size, cell_size, cells_fo
 ghost use Rattle.record_store.specs.Faults.{is_put_fault};
 ghost use Rattle.record_store.specs.Held.{IsOver, StandsFor};
 ghost use Rattle.record_store.specs.Put.{IsFull, IsWithin};
-ghost use Rattle.record_store.specs.Transaction.{entries};
+ghost use Rattle.record_store.specs.Transaction.{ChangesOnly, entries};
 ghost use Rattle.record_store.specs.declared.side.Side.{Side};
 ghost use Rattle.record_store.specs.declared.side.Side.TheVariants.{Working};
 ghost use Rattle.catalog_codec.specs.Catalog.{row_kind};
@@ -49,6 +49,7 @@ pub fn add<B: Eeprom>(
     ensures begun { OnOk result (store.new.begun ≡ store.old.begun) }
     ensures cells { OnOk result (store.new.chains.cells ≡ store.old.chains.cells) }
     ensures rows { OnOk result (store.new.row_limit ≡ store.old.row_limit) }
+    ensures only { IfOk result (λ slot. ChangesOnly slot store.old store.new) }
     ensures entries { OnOk result (entries store.new ≤ entries store.old + 1) }
     ensures octets_written { OnOk result (Becomes (RisesBy (cell_size * cells_for (length (row_kind.form.spell value.now)))) (B.chip bench.old).written (B.chip bench.new).written) }
     ensures moments { Keeps store_of (B.chip bench.old) (B.chip bench.new) }
@@ -85,6 +86,7 @@ pub fn change<B: Eeprom>(
     ensures begun { OnOk result (store.new.begun ≡ store.old.begun) }
     ensures cells { OnOk result (store.new.chains.cells ≡ store.old.chains.cells) }
     ensures rows { OnOk result (store.new.row_limit ≡ store.old.row_limit) }
+    ensures only { OnOk result (ChangesOnly slot store.old store.new) }
     ensures entries { OnOk result (entries store.new ≤ entries store.old + 1) }
     ensures octets_written { OnOk result (Becomes (RisesBy (cell_size * cells_for (length (row_kind.form.spell value.now)))) (B.chip bench.old).written (B.chip bench.new).written) }
     ensures moments { Keeps store_of (B.chip bench.old) (B.chip bench.new) }
@@ -106,6 +108,7 @@ pub fn remove(store: &mut Store, slot: u16, index: &mut RowIndex)
     ensures begun { store.new.begun ≡ store.old.begun }
     ensures cells { store.new.chains.cells ≡ store.old.chains.cells }
     ensures rows { store.new.row_limit ≡ store.old.row_limit }
+    ensures only { ChangesOnly slot store.old store.new }
     ensures entries { entries store.new ≤ entries store.old + 1 }
 {
     record_table::remove(store, slot);

@@ -34,7 +34,9 @@ returns-clause-ends g c = λ db held.
     (grants.rows ∙ c.remove.ensures.rows)
     ((rw (grants.frame.same, found) at grants.committed) ∙ stays)
     c.remove.ensures.entries
-    (rw found at grants.entries) in
+    (rw found at grants.entries)
+    c.remove.ensures.only
+    (rw found at grants.only) in
     (removing_user db u, is, rw (grants.frame.same, found) makes)
 
 pub returns-clause-rows : goal.returns-clause-rows

@@ -1,7 +1,7 @@
 -- The object's slot is emptied, and then those of the grants on it.
 use Rattle.std.proofs.Common.{◌∙◌}
 use Rattle.record_table.proofs.SweptSlots.{emptied-told}
-use Rattle.db_define.proofs.ObjectLeft.{committed-told, granted-entries, granted-told}
+use Rattle.db_define.proofs.ObjectLeft.{committed-told, granted-entries, granted-only, granted-told}
 use Rattle.db_define.proofs.dropping.remove_object.Goals as goal
 
 pub returns-clause-removed : goal.returns-clause-removed
@@ -21,3 +21,10 @@ returns-clause-entries g c =
     let slot = c.args.object.now.slot in
     granted-entries c.args.store.now c.remove.new.store c.remove_each.new.store chip slot c.args.object.now.value.stamp
     (emptied-told c.args.store.now c.remove.new.store chip slot c.requires.over.stands c.remove.ensures.removed) c.remove.ensures.entries c.in_ok-remove_each.ensures.entries
+
+pub returns-clause-only : goal.returns-clause-only
+returns-clause-only g c =
+    let chip = g.B.Eeprom.chip c.args.bench.now in
+    let slot = c.args.object.now.slot in
+    granted-only c.args.store.now c.remove.new.store c.remove_each.new.store chip slot c.args.object.now.value.stamp
+    (emptied-told c.args.store.now c.remove.new.store chip slot c.requires.over.stands c.remove.ensures.removed) c.remove.ensures.only c.in_ok-remove_each.ensures.only

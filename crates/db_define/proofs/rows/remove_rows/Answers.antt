@@ -3,7 +3,7 @@ use Rattle.std.proofs.Common.{refl, sym, subst, ◌∙◌, arith}
 use Rattle.record_store.specs.declared.side.Side.TheVariants.{Working}
 use Rattle.record_table.specs.Listed.{slots_of}
 use Rattle.row_index.specs.Index.{Indexes}
-use Rattle.db_define.proofs.RemovedRows.{Indexes-without_table, entries-rows, removed-row, removed-rows}
+use Rattle.db_define.proofs.RemovedRows.{Indexes-without_table, entries-rows, only-row, only-rows, removed-row, removed-rows}
 use Rattle.record_table.proofs.SweptSlots.{emptied-told}
 use Rattle.db_define.proofs.ObjectLeft.{committed-told}
 use Rattle.db_define.proofs.rows.remove_rows.Goals as goal
@@ -20,6 +20,7 @@ loop-place-preserved c =
       emptied = λ chip over. removed-row c.loop-place.store c.remove.new.store chip c.rows_of-place-items.result.now c.loop-place.place-index _ _ (slots_of c.args.store.now Working chip) c.loop-place-test.true (so_far.emptied chip over)
           (emptied-told c.loop-place.store c.remove.new.store chip _ (so_far.over chip over).stands done.removed) refl;
       committed = λ chip over. committed-told c.loop-place.store c.remove.new.store chip _ (so_far.over chip over).stands done.removed ∙ so_far.committed chip over;
+      only = only-row c.args.store.now c.loop-place.store c.remove.new.store c.rows_of-place-items.result.now c.loop-place.place-index _ _ c.loop-place-test.true so_far.only done.only refl;
       entries = omega (arith, done.entries, so_far.entries);
     }
 
@@ -37,3 +38,8 @@ pub returns-clause-entries : goal.returns-clause-entries
 returns-clause-entries c = λ chip is.
     entries-rows c.args.store.now c.loop-place.store c.args.table c.args.index.now.cells c.loop-place.place-index c.rows_of-place-items.result.now c.args.index.now.working (slots_of c.args.store.now Working chip)
     c.loop-place.auto.place-index-end c.rows_of-place-items.ensures.rows is.working c.loop-place.invariant.entries
+
+pub returns-clause-only : goal.returns-clause-only
+returns-clause-only c = λ chip is.
+    only-rows c.args.store.now c.loop-place.store c.args.table c.args.index.now.cells c.loop-place.place-index c.rows_of-place-items.result.now c.args.index.now.working (slots_of c.args.store.now Working chip)
+    c.loop-place-test.false c.rows_of-place-items.ensures.rows is.working c.loop-place.invariant.only

@@ -1,10 +1,13 @@
 use Rattle.std.proofs.Common.{◌≡◌, ◌+◌, ◌≤◌, Some, take}
 use Rattle.std.specs.Prelude.{IfSome}
+use Rattle.std.specs.List.{list_any}
+use Rattle.eeprom.specs.Slots.{has}
 use Rattle.eeprom.specs.Chip.{Chip}
 use Rattle.record_store.specs.Held.{IsOver}
-use Rattle.record_store.specs.Transaction.{entries}
+use Rattle.record_store.specs.Transaction.{ChangesWhere, entries}
 use Rattle.record_store.specs.declared.side.Side.TheVariants.{Committed, Working}
 use Rattle.record_table.specs.Listed.{slots_of}
+use Rattle.row_index.specs.Places.{place_slot}
 use Rattle.db_define.proofs.RowsLeft.{without_places}
 use Rattle.db_define.proofs.rows.remove_rows.Given as goal
 
@@ -17,5 +20,6 @@ invariant-loop-place l = record {
   emptied : (chip : Chip) → IsOver l.fn.store chip → IfSome (slots_of l.fn.store Working chip)
       (λ slots. slots_of l.store Working chip ≡ Some (without_places (take l.place-index l.place-items) slots));
   committed : (chip : Chip) → IsOver l.fn.store chip → slots_of l.store Committed chip ≡ slots_of l.fn.store Committed chip;
+  only : ChangesWhere (λ slot. list_any (has place_slot slot) (take l.place-index l.place-items)) l.fn.store l.store;
   entries : entries l.store ≤ entries l.fn.store + l.place-index;
 }

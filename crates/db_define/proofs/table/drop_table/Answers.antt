@@ -18,7 +18,8 @@ returns-clause-ends g c = λ db held.
     let over = rw (object.frame.same, found) at object.over in
     let stands = Indexes-ungranted c.args.index.now db o slot c.args.store.now c.remove_object.new.store chip held c.requires.index c.in_ok-table.ensures.at left object.cells committed in
     let makes = Makes-table_dropped db c.args.actor c.args.name o slot c.args.store.now c.remove_object.new.store c.remove_rows.new.store chip held is c.in_ok-table.ensures.at left
-    (rows.removed chip over stands) (rows.cells ∙ object.cells) (rows.rows ∙ object.rows) (rows.committed chip over ∙ committed) (rw found at object.entries) (rows.entries chip stands) in
+    (rows.removed chip over stands) (rows.cells ∙ object.cells) (rows.rows ∙ object.rows) (rows.committed chip over ∙ committed) (rw found at object.entries) (rows.entries chip stands)
+    (rw found at object.only) (rows.only chip stands) in
     (dropping_edits db o, is, rw (object.frame.same, found) makes)
 
 pub returns-clause-index : goal.returns-clause-index

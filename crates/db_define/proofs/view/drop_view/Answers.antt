@@ -12,7 +12,7 @@ returns-clause-ends g c = λ db held.
     let object = c.in_ok-remove_object.ensures in
     let is = c.in_ok-view.ensures.found db held in
     let makes = Makes-view_dropped db c.args.actor c.args.name o c.in_ok-view.view.slot c.args.store.now c.remove_object.new.store chip held is c.in_ok-view.ensures.at
-    (rw (object.frame.same, found) at object.removed) object.cells object.rows (rw (object.frame.same, found) at object.committed) (rw found at object.entries) in
+    (rw (object.frame.same, found) at object.removed) object.cells object.rows (rw (object.frame.same, found) at object.committed) (rw found at object.entries) (rw found at object.only) in
     (removing_object db o, is, rw (object.frame.same, found) makes)
 
 pub returns-clause-index : goal.returns-clause-index

@@ -72,7 +72,7 @@ returns-clause-ends g c = λ db held of.
     let at = rw c.in-Some-2.is at c.in_ok-reached.ensures.at in
     let before = subst (λ chip. IfSome (slots_of store Working chip) (λ slots. Some row ≡ at_slot row_kind c.in-Some-2.reached.slot slots)) first at in
     Ends-deleted store c.remove.new.store (g.B.Eeprom.chip c.args.bench.now) (g.B.Eeprom.chip c.find_row.new.bench) db c.args.actor c.args.cursor.now c.in-Some-2.reached.slot row (c.in_ok-reached.ensures.frame.same ∙ first) held c.requires.over before
-    (deletes db c.args.actor c.args.cursor.now cursor c.in_ok-object.object row c.in-Some.ensures written reached) c.remove.ensures.removed c.remove.ensures.cells c.remove.ensures.rows c.remove.ensures.entries
+    (deletes db c.args.actor c.args.cursor.now cursor c.in_ok-object.object row c.in-Some.ensures written reached) c.remove.ensures.removed c.remove.ensures.cells c.remove.ensures.rows c.remove.ensures.entries c.remove.ensures.only
 
 pub returns-clause-through : goal.returns-clause-through
 returns-clause-through g c = λ db held.
@@ -88,7 +88,7 @@ returns-clause-through g c = λ db held.
     let before = subst (λ chip. IfSome (slots_of store Working chip) (λ slots. Some row ≡ at_slot row_kind c.in-Some-2.reached.slot slots)) first at in (
       Some any,
       Ends-deleted store c.remove.new.store (g.B.Eeprom.chip c.args.bench.now) (g.B.Eeprom.chip c.find_row.new.bench) db c.args.actor (Some any) c.in-Some-2.reached.slot row (c.in_ok-reached.ensures.frame.same ∙ first) held c.requires.over before
-          (deletes db c.args.actor (Some any) any c.in_ok-object.object row (opened-without_conditions c.args.cursor.now c.in-Some.cursor.now c.in-Some.ensures) written of_object.row) c.remove.ensures.removed c.remove.ensures.cells c.remove.ensures.rows c.remove.ensures.entries,
+          (deletes db c.args.actor (Some any) any c.in_ok-object.object row (opened-without_conditions c.args.cursor.now c.in-Some.cursor.now c.in-Some.ensures) written of_object.row) c.remove.ensures.removed c.remove.ensures.cells c.remove.ensures.rows c.remove.ensures.entries c.remove.ensures.only,
     )
 
 pub returns-clause-index : goal.returns-clause-index

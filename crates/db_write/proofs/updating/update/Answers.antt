@@ -24,6 +24,7 @@ puts g c = record {
   cells = c.in_ok-change.ensures.cells;
   rows = c.in_ok-change.ensures.rows;
   entries = c.in_ok-change.ensures.entries;
+  only = c.in_ok-change.ensures.only;
   octets = c.in_ok-change.ensures.octets_written;
 }
 

@@ -10,9 +10,10 @@ use Rattle.scql_model.proofs.EditLaws.{applied-cells, applied-limit}
 use Rattle.record_table.specs.Changed.{IsChanged}
 use Rattle.record_table.specs.Listed.{at_slot, slots_of}
 use Rattle.record_table.proofs.Ending.{Ends-store, KeepsRows-one, at-told, full-store, not_fault}
-use Rattle.record_table.proofs.InPlace.{IsEditedTo-changed, full-changed}
+use Rattle.record_table.proofs.InPlace.{IsEditedTo-changed, Touches-in_place, full-changed}
 use Rattle.record_table.proofs.Made.{cells-any}
 use Rattle.record_table.proofs.Steps.{StepsTo-told, committed-stays, slots-same, slots-told}
+use Rattle.record_table.proofs.TouchedSlots.{Touches-told}
 use Rattle.record_table.proofs.in_place.change_in_place.Given.{Over}
 use Rattle.record_table.proofs.in_place.change_in_place.Goals as goal
 
@@ -70,6 +71,8 @@ returns-clause-ends g c = λ db was held there same with.
         committed = end.committed;
         octets = λ after told. (let wrote = c.in_ok-change.ensures.octets_written after told in (wrote.0, wrote.1, omega (arith, wrote.2, cells)));
         entries = c.in_ok-change.ensures.entries;
+        touches = Touches-told _ db.next c.args.store.now c.change.new.store chip (g.B.Eeprom.chip c.change.new.bench) held.slots end.now held.told end.told (Touches-in_place kind any g.met.R.Record.lawful g.met.R.Editable.edits held.slots end.now
+            c.args.slot was x db c.args.store.now c.change.new.store held.holds held.valid (sym at) same end.is new.valid c.in_ok-change.ensures.only);
       },
     )
 

@@ -7,8 +7,9 @@ use Rattle.scql_model.proofs.EditLaws.{applied-cells, applied-limit}
 use Rattle.record_table.specs.Changed.{IsEmptied}
 use Rattle.record_table.specs.Listed.{at_slot}
 use Rattle.record_table.proofs.Ending.{KeepsRows-one}
-use Rattle.record_table.proofs.InPlace.{IsEditedTo-removed}
+use Rattle.record_table.proofs.InPlace.{IsEditedTo-removed, Touches-taken_out}
 use Rattle.record_table.proofs.Steps.{StepsTo-told, committed-stays, slots-told}
+use Rattle.record_table.proofs.TouchedSlots.{Touches-told}
 use Rattle.record_table.proofs.in_place.take_out.Goals as goal
 
 pub returns-clause-makes : goal.returns-clause-makes
@@ -32,6 +33,8 @@ returns-clause-makes g c = λ db was chip held there over with.
       committed = end.committed;
       octets = λ after told. (after, told, omega arith);
       entries = c.remove.ensures.entries;
+      touches = Touches-told _ db.next c.args.store.now c.remove.new.store chip chip held.slots end.now held.told end.told (Touches-taken_out kind g.R.Editable.any g.met.R.Record.lawful g.met.R.Editable.edits held.slots end.now c.args.slot was
+          db c.args.store.now c.remove.new.store (sym at) end.is c.remove.ensures.only);
     }
 
 pub returns-clause-rows : goal.returns-clause-rows

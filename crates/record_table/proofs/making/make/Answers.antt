@@ -8,6 +8,7 @@ use Rattle.record_store.specs.Put.{weight_with}
 use Rattle.record_store.specs.declared.refusal.StoreRefusal.TheVariants.{Full}
 use Rattle.record_store.specs.declared.side.Side.{Side}
 use Rattle.record_store.specs.declared.side.Side.TheVariants.{Committed, Working}
+use Rattle.record_store.specs.Transaction.{ChangesOnly}
 use Rattle.record_store.proofs.Fronts.{Keeps-then}
 use Rattle.scql_model.specs.Records.{counter_record}
 use Rattle.scql_model.specs.Edits.{making}
@@ -19,8 +20,9 @@ use Rattle.record_table.specs.Making.{IsMade}
 use Rattle.record_table.proofs.HeldRecords.{counter-listed}
 use Rattle.record_table.proofs.ListedChanges.{alone-at}
 use Rattle.record_table.proofs.Ending.{Ends-store, KeepsRows-made, at-told, counter-fits, full-store, made-told, not_fault, octets-both, IsMade-both}
-use Rattle.record_table.proofs.Made.{IsMadeOf-slots, full-made, octets-made}
+use Rattle.record_table.proofs.Made.{IsMadeOf-slots, Touches-made, full-made, octets-made}
 use Rattle.record_table.proofs.Steps.{Both, StepsTo-told, committed-stays, rewrites-both, slots-same, slots-told, unless-told}
+use Rattle.record_table.proofs.TouchedSlots.{Touches-told}
 use Rattle.record_table.proofs.making.make.Given.{Over}
 use Rattle.record_table.proofs.making.make.Goals as goal
 
@@ -30,6 +32,10 @@ counted : (g : Over) (c : goal.In_ok-change g) → Becomes (Rewrites (IsChanged 
 counted g c =
     subst (λ counter. Becomes (Rewrites (IsChanged counter_kind (counter.value + 1) counter.slot) c.add.new.store c.change.new.store) (g.B.Eeprom.chip c.add.new.bench).image (g.B.Eeprom.chip c.change.new.bench).image)
     c.counter.view_is c.in_ok-change.ensures.changed
+
+-- in its slot alone
+only_counter : (g : Over) (c : goal.In_ok-change g) → ChangesOnly c.args.counter.now.slot c.add.new.store c.change.new.store
+only_counter g c = subst (λ counter. ChangesOnly counter.slot c.add.new.store c.change.new.store) c.counter.view_is c.in_ok-change.ensures.only
 
 -- both writes
 both : (g : Over) (c : goal.In_ok-change g)
@@ -134,6 +140,9 @@ returns-clause-ends g c = λ db held key with.
         committed = end.committed;
         octets = octets-both _ _ _ _ _ _ c.in_ok-slot.ensures.octets_written c.in_ok-change.ensures.octets_written (omega (arith, octets));
         entries = omega (arith, c.in_ok-slot.ensures.entries, c.in_ok-change.ensures.entries);
+        touches = Touches-told _ db.next c.args.store.now c.change.new.store chip (g.B.Eeprom.chip c.change.new.bench) held.slots end.now held.told end.told (Touches-made kind any g.met.R.Record.lawful edits db x slot counter.slot held.slots
+            end.now c.args.store.now c.add.new.store c.change.new.store key (omega (arith, next, c.requires.left)) (omega (arith, c.in_ok-slot.ensures.there, held.cells, held.holds.cells)) (sym at ∙ ap (λ n. Some n) next) made new.valid
+            c.in_ok-slot.ensures.only (only_counter g c));
       },
     )
 

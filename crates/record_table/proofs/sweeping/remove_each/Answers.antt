@@ -4,7 +4,7 @@ use Rattle.eeprom.specs.StoreOf.{Slots}
 use Rattle.record_store.specs.declared.side.Side.TheVariants.{Working}
 use Rattle.record_table.specs.Listed.{slots_of}
 use Rattle.record_table.proofs.Scan.{empty-told}
-use Rattle.record_table.proofs.SweptSlots.{entries-more, entries-none, swept-all, swept-more, swept-none}
+use Rattle.record_table.proofs.SweptSlots.{entries-more, entries-none, only-more, only-none, swept-all, swept-more, swept-none}
 use Rattle.record_table.proofs.sweeping.remove_each.Goals as goal
 
 pub loop-slot-init : goal.loop-slot-init
@@ -21,6 +21,7 @@ loop-slot-init g c =
       over = c.requires.over;
       swept = swept-none slots;
       committed = refl;
+      only = only-none g.R.Record.kind (g.W.Wanted.wants c.args.wanted.now) c.args.store.now slots;
       entries = entries-none g.R.Record.kind (g.W.Wanted.wants c.args.wanted.now) c.args.store.now slots;
     }
 
@@ -43,6 +44,7 @@ loop-slot-preserved g c =
       over = done.over;
       swept = swept-more kind wants c.loop-slot.store c.remove_wanted.new.store chip c.loop-slot.slot slots so_far.swept (rw (done.frame.same, so_far.same) at done.removed);
       committed = (rw (done.frame.same, so_far.same) at done.committed) ∙ so_far.committed;
+      only = only-more kind wants c.args.store.now c.loop-slot.store c.remove_wanted.new.store chip c.loop-slot.slot slots so_far.swept (rw so_far.same at done.only) so_far.only;
       entries = entries-more kind wants c.args.store.now c.loop-slot.store c.remove_wanted.new.store chip c.loop-slot.slot slots so_far.swept (rw so_far.same at done.entries) so_far.entries;
     }
 

@@ -5,7 +5,7 @@ use Rattle.eeprom.specs.StoreOf.{store_of, cells_for, image_size}
 use Rattle.record_store.specs.Held.{Held}
 use Rattle.record_store.specs.Slots.{steps_without}
 use Rattle.record_store.specs.Sound.{IsSound}
-use Rattle.record_store.proofs.ChangedSlots.{entries-filled}
+use Rattle.record_store.proofs.ChangedSlots.{entries-filled, only-filled}
 use Rattle.record_store.proofs.Emptying.{empty-record, full-found, full-none, working-of}
 use Rattle.record_store.proofs.Filling.{Emptied, room-enough, filled-becomes, filled-keeps}
 use Rattle.record_store.proofs.InUse.{in_use-filled, in_use-kept}
@@ -133,6 +133,11 @@ pub returns-in-Ok-clause-entries : goal.returns-in-Ok-clause-entries
 returns-in-Ok-clause-entries g c =
     let at = (goal.at.returns-in-Ok-clause-entries g c).After-write_chain in
     entries-filled c.args.self.now (mid g at) c.write_chain.new.self (set (mid g at).first_octets c.in-Ok.first (slice_index c.args.octets.now 0)) c.in-Some.slot c.in-Ok.first c.remove.new.self.chains.used c.requires.begun (emptied g at).is
+
+pub returns-in-Ok-clause-only : goal.returns-in-Ok-clause-only
+returns-in-Ok-clause-only g c =
+    let at = (goal.at.returns-in-Ok-clause-only g c).After-write_chain in
+    only-filled c.args.self.now (mid g at) c.write_chain.new.self (set (mid g at).first_octets c.in-Ok.first (slice_index c.args.octets.now 0)) c.in-Some.slot c.in-Ok.first c.remove.new.self.chains.used c.requires.begun (emptied g at).is
 
 behind : (g : _) (c : After-write_chain g) → Keeps (drop (image_size c.args.self.now.chains.cells)) (g.B.Eeprom.chip c.args.bench.now) (g.B.Eeprom.chip c.write_chain.new.bench)
 behind g c =

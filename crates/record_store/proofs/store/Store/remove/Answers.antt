@@ -6,7 +6,7 @@ use Rattle.record_store.specs.Slots.{steps_without}
 use Rattle.record_store.specs.Sound.{IsSound}
 use Rattle.record_store.specs.Kept.{IsInMemory}
 use Rattle.record_store.specs.declared.store.Store.TheInside.{Inside}
-use Rattle.record_store.proofs.ChangedSlots.{entries-emptied}
+use Rattle.record_store.proofs.ChangedSlots.{entries-emptied, only-emptied}
 use Rattle.record_store.proofs.Emptying.{removed-stands}
 use Rattle.record_store.proofs.Filling.{freed-sound, kept-sound}
 use Rattle.record_store.proofs.InUse.{in_use-emptied}
@@ -53,3 +53,6 @@ returns-clause-removed c = λ image stands.
 
 pub returns-clause-entries : goal.returns-clause-entries
 returns-clause-entries c = entries-emptied c.args.self.now _ c.args.slot c.if-first-index.self-inside.chains.used (invariant_of-self c).weighed.sound c.requires.begun (search rules)
+
+pub returns-clause-only : goal.returns-clause-only
+returns-clause-only c = only-emptied c.args.self.now _ c.args.slot c.if-first-index.self-inside.chains.used (invariant_of-self c).weighed.sound c.requires.begun (search rules)
