@@ -30,7 +30,6 @@ mod Sorting
 pub mod Stamped
 pub mod Starting
 mod TakenForms
-mod TouchedLaws
 mod Transacting
 pub mod Tested
 pub mod Told

@@ -22,7 +22,7 @@ use Rattle.scql_model.specs.Changing.{edits_of, transaction_after, with_edits}
 use Rattle.scql_model.specs.Database.{Database, IsValid}
 use Rattle.scql_model.specs.Edits.{Edit, applied, cells_written, lacks_room, octets_for_cells, octets_for_commit}
 use Rattle.scql_model.specs.Machine.{Machine, Session, Transaction, actor, base}
-use Rattle.scql_model.specs.Opens.{Opens}
+use Rattle.scql_model.specs.Opens.{Holds, Opens}
 use Rattle.scql_model.specs.Refusals.{◌>>=◌, or_refused, provided}
 use Rattle.scql_model.specs.Replies.{said}
 use Rattle.scql_model.specs.Sessions.{cursor_of, without_cursor, without_pending}
@@ -34,7 +34,7 @@ use Rattle.scql_model.specs.ValidMachine.{IsValidWork}
 use Rattle.record_table.specs.Listed.{slots_of}
 use Rattle.record_table.specs.Making.{GoesOn, IsHeld, Makes}
 use Rattle.row_index.specs.Index.{Index, side_places}
-use Rattle.card.specs.Touching.{IsTouched}
+use Rattle.record_table.specs.Touching.{IsTouched}
 use Rattle.card.specs.Answering.{HoldsAnswer, LeavesOneOf, Performs, changing_session, replied, settled}
 use Rattle.card.specs.Card.{Kept, HoldsMachine, HoldsSome, IsAt, IsAtRest, IsReady, KeepsStamps, WorksOn, committed_slots}
 use Rattle.card.specs.Changing.{Changes, ConcludesWithin, acting, new_of}
@@ -46,7 +46,7 @@ use Rattle.card.proofs.Leaving.{Keeps-none, rises-none}
 use Rattle.card.proofs.IndexedStore.{Indexes-begun, Indexes-ended}
 use Rattle.card.proofs.Performing.{HoldsAnswer-done, HoldsMachine-changing, HoldsMachine-rest, IsAtRest-at, Performs-changed, Performs-unwritten, actor-at, refused-not_done}
 use Rattle.card.proofs.Sides.{HoldsSome-same, IsHeld-works, IsReady-idle, KeepsStamps-same}
-use Rattle.card.proofs.TouchedLaws.{IsTouched-begun, entries-touched}
+use Rattle.record_table.proofs.TouchedRecords.{IsTouched-after, IsTouched-begun, entries-touched}
 
 -- Within a transaction nothing is committed.
 within-commits : (m : Machine) (channel : ℕ) (t : Transaction) (edited : Result (List Edit) StatusWord) → (answered m (outcome_with m channel (Some t) edited)).commits ≡ []
@@ -116,7 +116,9 @@ module _ (card : Kept) (store : Held) (index : Index) (old new : Chip) (m : Mach
       told = makes.held.told;
       limit = makes.held.limit;
       holds = makes.held.holds;
-      touched = ?;
+      touched = IsTouched-after m.committed (base m channel) (applied (base m channel) edits) t.touched edits at.held.slots works.slots makes.held.slots card.store store old at.held.committed works.told at.held.holds at.valid.committed
+          (subst (Holds works.slots) (sym base-is) works.holds) makes.held.holds ((IsAtRest-at card old m ready at).cells ∙ (sym held-work.cells ∙ ap (λ (db : Database). db.cells) (sym base-is)))
+          (subst (λ (db : Database). m.committed.next ≤ db.next) (sym base-is) valid-work.follows.next) works.touched (makes.touches works.slots makes.held.slots works.told makes.held.told);
     };
     sessions = at.held.sessions;
   }
@@ -166,7 +168,7 @@ module _ (card : Kept) (store : Held) (index : Index) (old new : Chip) (m : Mach
       idle : (r : Result StatusWord EepromFault) → IfOk r (λ word. ConcludesWithin (base m channel) edited word card.store store old new) → OnOk r (or_nothing (octets_changed m channel operation) ≡ 0 → new ≡ old)
       idle (Err fault) concluded = tt
       idle (Ok word) concluded = λ none. elim concluded [
-        | inl made ↦ ?
+        | inl made ↦ made.3.unwritten (let no_octets = sym (octets-within m channel operation t made.0 own made.1 made.3.room) ∙ none in omega (arith, no_octets))
         | inr refused ↦ refused.2
       ]
 

@@ -10,7 +10,7 @@ use Rattle.scql_model.specs.Records.{counter_record, user_record}
 use Rattle.record_store.specs.FreshImage.{fresh_image}
 use Rattle.record_table.specs.Listed.{slots_of}
 use Rattle.record_table.specs.Making.{IsHeld}
-use Rattle.card.specs.Touching.{IsTouched}
+use Rattle.record_table.specs.Touching.{IsTouched}
 use Rattle.row_index.specs.Index.{Index, Indexes}
 use Rattle.scql_model.specs.Machine.{Machine, Session, Transaction}
 use Rattle.scql_model.specs.ValidMachine.{IsValidMachine}

@@ -11,6 +11,5 @@ pub mod Pool
 pub mod Proved
 pub mod Reading
 pub mod Sessions
-pub mod Touching
 pub mod Validity
 pub mod Waiting

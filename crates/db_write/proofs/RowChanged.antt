@@ -66,6 +66,7 @@ Makes-changed old new before after db slot r held like with puts =
       committed = end.committed;
       octets = λ written told. (let wrote = puts.octets written told in (wrote.0, wrote.1, omega (arith, wrote.2, cells)));
       entries = puts.entries;
+      unwritten = λ none. absurd (omega (arith, none));
       touches = Touches-told _ db.next old new before after held.slots end.now held.told end.told (Touches-in_place row_kind of_row IsKind-row IsEditable-row held.slots end.now slot there.was r db old new held.holds held.valid there.at
           (sym there.stamp) end.is edited.valid puts.only);
     }

@@ -97,6 +97,7 @@ Makes-removed old new chip db slot r held over there with removed cells limit fe
       committed = end.committed;
       octets = λ after told. (after, told, omega arith);
       entries = few;
+      unwritten = λ none. refl;
       touches = Touches-told _ db.next old new chip chip held.slots end.now held.told end.told (Touches-taken_out row_kind of_row IsKind-row IsEditable-row held.slots end.now slot r db old new (sym at) end.is only);
     }
 

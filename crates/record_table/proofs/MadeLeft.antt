@@ -95,5 +95,6 @@ Makes-left db edits outcome left old new chip held keeps is holds none less told
       committed = committed;
       octets = λ after told. (after, told, omega arith);
       entries = few;
+      unwritten = λ none. refl;
       touches = Touches-told (touched edits) db.next old new chip chip held.slots left held.told told touches;
     }

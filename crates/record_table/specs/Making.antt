@@ -29,13 +29,15 @@ pub record IsHeld (store : Held) (side : Side) (chip : Chip) (db : Database) : T
   pub valid : IsValid db
 
 -- The working database has these edits, for which there was room; what is committed stays. At most as many octets were written as the cells of the records
--- that were added or changed have, and each record that was touched is an entry at most of a commit. Other chains are only in the slots of these records.
+-- that were added or changed have, and nothing where these have none; and each record that was touched is an entry at most of a commit. Other chains are only
+-- in the slots of these records.
 pub record Makes (db : Database) (edits : List Edit) (old new : Held) (before after : Chip) : Type 0 where
   pub room : lacks_room db edits ≡ false
   pub held : IsHeld new Working after (applied db edits)
   pub committed : slots_of new Committed after ≡ slots_of old Committed before
   pub octets : Becomes (RisesAtMost (octets_for_cells (cells_written edits))) before.written after.written
   pub entries : entries new ≤ entries old + length (touched edits)
+  pub unwritten : cells_written edits ≡ 0 → after ≡ before
   pub touches : (was now : Slots) → slots_of old Working before ≡ Some was → slots_of new Working after ≡ Some now → Touches (touched edits) db.next was now old new
 
 -- the database with the edits is valid, where there is room for them

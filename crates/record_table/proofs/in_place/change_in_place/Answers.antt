@@ -71,6 +71,7 @@ returns-clause-ends g c = λ db was held there same with.
         committed = end.committed;
         octets = λ after told. (let wrote = c.in_ok-change.ensures.octets_written after told in (wrote.0, wrote.1, omega (arith, wrote.2, cells)));
         entries = c.in_ok-change.ensures.entries;
+        unwritten = λ none. absurd (omega (arith, none));
         touches = Touches-told _ db.next c.args.store.now c.change.new.store chip (g.B.Eeprom.chip c.change.new.bench) held.slots end.now held.told end.told (Touches-in_place kind any g.met.R.Record.lawful g.met.R.Editable.edits held.slots end.now
             c.args.slot was x db c.args.store.now c.change.new.store held.holds held.valid (sym at) same end.is new.valid c.in_ok-change.ensures.only);
       },

@@ -33,6 +33,7 @@ returns-clause-makes g c = λ db was chip held there over with.
       committed = end.committed;
       octets = λ after told. (after, told, omega arith);
       entries = c.remove.ensures.entries;
+      unwritten = λ none. refl;
       touches = Touches-told _ db.next c.args.store.now c.remove.new.store chip chip held.slots end.now held.told end.told (Touches-taken_out kind g.R.Editable.any g.met.R.Record.lawful g.met.R.Editable.edits held.slots end.now c.args.slot was
           db c.args.store.now c.remove.new.store (sym at) end.is c.remove.ensures.only);
     }

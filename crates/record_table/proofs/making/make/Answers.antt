@@ -12,6 +12,7 @@ use Rattle.record_store.specs.Transaction.{ChangesOnly}
 use Rattle.record_store.proofs.Fronts.{Keeps-then}
 use Rattle.scql_model.specs.Records.{counter_record}
 use Rattle.scql_model.specs.Edits.{making}
+use Rattle.scql_model.proofs.Touching.{cells_written-making}
 use Rattle.scql_model.proofs.EditLaws.{applied-cells, applied-limit}
 use Rattle.catalog_codec.specs.Catalog.{counter_kind}
 use Rattle.record_table.specs.Changed.{IsAdded, IsChanged, Rewrites}
@@ -140,6 +141,7 @@ returns-clause-ends g c = λ db held key with.
         committed = end.committed;
         octets = octets-both _ _ _ _ _ _ c.in_ok-slot.ensures.octets_written c.in_ok-change.ensures.octets_written (omega (arith, octets));
         entries = omega (arith, c.in_ok-slot.ensures.entries, c.in_ok-change.ensures.entries);
+        unwritten = λ none. absurd (omega (arith, none, cells_written-making db (any x)));
         touches = Touches-told _ db.next c.args.store.now c.change.new.store chip (g.B.Eeprom.chip c.change.new.bench) held.slots end.now held.told end.told (Touches-made kind any g.met.R.Record.lawful edits db x slot counter.slot held.slots
             end.now c.args.store.now c.add.new.store c.change.new.store key (omega (arith, next, c.requires.left)) (omega (arith, c.in_ok-slot.ensures.there, held.cells, held.holds.cells)) (sym at ∙ ap (λ n. Some n) next) made new.valid
             c.in_ok-slot.ensures.only (only_counter g c));
