@@ -1,11 +1,13 @@
 mod BuiltLines
 mod ChangedStore
 mod ChangingOperations
+mod DeletedSessions
 mod GatheredSlots
 mod Founding
 mod Grouped
 mod HeldInOrder
 mod HeldKinds
+mod InTurn
 mod IndexedStore
 mod Labels
 pub mod Leaving
@@ -32,3 +34,4 @@ mod TakenForms
 pub mod Tested
 pub mod Told
 mod UnreadSteps
+mod Verifying

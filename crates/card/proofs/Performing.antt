@@ -73,7 +73,7 @@ IsAtRest-at card chip m ready from =
     record { slots = at.slots; told = at.committed; cells = sym at.holds.cells ∙ counted; limit = at.limit; holds = at.holds; valid = from.valid }
 
 -- and one that holds it holds the machine.
-HoldsMachine-rest : (card : Kept) (store : Held) (index : Index) (chip : Chip) (m : Machine) (db : Database) → m.transaction ≡ None → m.sessions ≡ card.sessions → IsAtRest store chip db
+pub HoldsMachine-rest : (card : Kept) (store : Held) (index : Index) (chip : Chip) (m : Machine) (db : Database) → m.transaction ≡ None → m.sessions ≡ card.sessions → IsAtRest store chip db
     → HoldsMachine (record card { store = store; index = index }) chip (record m { committed = db })
 unfolding committed_slots
 HoldsMachine-rest card store index chip m db none sessions rest = record {
@@ -133,7 +133,7 @@ actor-at card chip m channel user at is =
     ∙ ap (acting m.committed) (ap proved_user session ∙ sym is))
 
 -- a refusal of a change isn't 9000
-refused-not_done : (db : Database) (actor : Actor) (cursor : Option Cursor) (operation : Operation) (refused : StatusWord) → new_of db (edits_of db actor cursor operation) ≡ Err refused
+pub refused-not_done : (db : Database) (actor : Actor) (cursor : Option Cursor) (operation : Operation) (refused : StatusWord) → new_of db (edits_of db actor cursor operation) ≡ Err refused
     → (refused.word == done.word) ≡ false
 refused-not_done db actor cursor operation refused is =
     let gives = behind Anything (edits_of db actor cursor operation) (with_edits db) (gives-edits_of db actor cursor operation) (λ edits _. gives-with_edits db edits) in

@@ -6,6 +6,7 @@ use Rattle.std.proofs.lemmas.List.{length-set}
 use Rattle.eeprom.specs.Chip.{Chip}
 use Rattle.scql_base.specs.declared.words.StatusWord.{StatusWord}
 use Rattle.scql_base.specs.Words.{instruction_not_supported, channel_not_supported}
+use Rattle.scql_base.specs.declared.cursor.PresentedUser.{PresentedUser}
 use Rattle.scql_base.specs.declared.operation.Command.{Command}
 use Rattle.scql_base.specs.declared.operation.Line.{Line}
 use Rattle.scql_model.specs.Refusals.{◌>>=◌, provided}
@@ -14,7 +15,7 @@ use Rattle.scql_model.specs.Sessions.{changing_session, command_chain, reading_o
 use Rattle.scql_model.specs.Operations.{IsBuilt, built_operations, has_instruction, has_secrets, kind_of}
 use Rattle.scql_model.specs.Form.{Form, refused, refused_on, part_on, a_command, form_of, formed, formed_on, class_of, is_open, channel_asked, line_on, taken_in, is_chained, part_in, command_in, parts_of}
 use Rattle.scql_model.specs.Accepting.{channel_named}
-use Rattle.scql_model.specs.ValidMachine.{IsReadingOf, IsValidMachine}
+use Rattle.scql_model.specs.ValidMachine.{ArePresentedIn, IsPresentedIn, IsReadingOf, IsValidMachine}
 use Rattle.scql_model.specs.Bound.{octets_bound, octets_bound_by, octets_carried_out, octets_stepped, or_nothing}
 use Rattle.scql_model.specs.Database.{Database, IsValid}
 use Rattle.scql_model.specs.Opens.{Holds}
@@ -102,6 +103,20 @@ taken-reading m (refused_on on word) channel = reading-changed without_chain (λ
 taken-reading m (part_on on kind octets) channel = reading-changed (with_part kind octets) (λ s. refl) m.sessions on channel
 taken-reading m (a_command c) channel = reading-changed without_chain (λ s. refl) m.sessions c.channel channel
 
+-- and who is presented, where a session changes that presents the same
+presented-changed : (db : Database) (change : Seen → Seen) → ((s : Seen) → (change s).user ≡ s.user) → (sessions : List (Option Seen)) (i : ℕ) → ArePresentedIn db sessions
+    → ArePresentedIn db (slice_set sessions i (option_map change (option_flatten (slice_get sessions i))))
+presented-changed db change same [] i are = tt
+presented-changed db change same (None ∷ sessions) zero are = are
+presented-changed db change same (Some s ∷ sessions) zero are = (subst (λ (user : Option PresentedUser). IfSome user (IsPresentedIn db)) (sym (same s)) are.0, are.1)
+presented-changed db change same (s ∷ sessions) (suc i) are = (are.0, presented-changed db change same sessions i are.1)
+
+taken-presented : (db : Database) (m : Machine) (form : Form) → ArePresentedIn db m.sessions → ArePresentedIn db (taken_at m form).sessions
+taken-presented db m (refused word) are = are
+taken-presented db m (refused_on channel word) are = presented-changed db without_chain (λ s. refl) m.sessions channel are
+taken-presented db m (part_on channel kind octets) are = presented-changed db (with_part kind octets) (λ s. refl) m.sessions channel are
+taken-presented db m (a_command c) are = presented-changed db without_chain (λ s. refl) m.sessions c.channel are
+
 -- outside of a transaction each channel of a valid machine reads what is committed
 pub readings-committed : (m : Machine) (channel : ℕ) → IsValidMachine m → m.transaction ≡ None → IsReadingOf m.committed (reading_of m channel)
 readings-committed m channel valid none = subst (λ (db : Database). IsReadingOf db (reading_of m channel)) (committed-base m channel none) (valid.readings channel)
@@ -122,6 +137,7 @@ StepsFrom-taken store index live sessions chains after card chip m form at seen 
         sessions = taken-sessions sessions chains m form was.sessions ∙ ap (sessions_of sessions) (sym is);
       };
       valid = subst IsValid (sym (taken-committed m form)) at.valid.committed;
+      presented = subst (λ (db : Database). ArePresentedIn db (taken_at m form).sessions) (sym (taken-committed m form)) (taken-presented m.committed m form at.valid.presented);
       readings = λ channel.
           subst (λ (db : Database). IsReadingOf db (reading_of (taken_at m form) channel)) (sym (taken-committed m form))
           (subst (IsReadingOf m.committed) (sym (taken-reading m form channel)) (readings-committed m channel at.valid was.transaction));

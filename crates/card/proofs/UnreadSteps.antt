@@ -13,10 +13,10 @@ use Rattle.scql_model.specs.Sessions.{cursor_of}
 use Rattle.scql_model.specs.Transactions.{own_transaction}
 use Rattle.scql_model.specs.Operations.{kind_of}
 use Rattle.scql_model.specs.Edits.{Edit}
-use Rattle.scql_model.specs.Bound.{octets_for_change, octets_changed, octets_operated, octets_carried_out, or_nothing}
+use Rattle.scql_model.specs.Bound.{octets_for_change, octets_changed, octets_verified, octets_operated, octets_carried_out, or_nothing}
 use Rattle.scql_model.specs.Changing.{edits_of, with_edits}
 use Rattle.scql_model.specs.ReadingCommands.{ReadingCommand, reading_command}
-use Rattle.scql_model.specs.Step.{changed_to, changed, user_presented, channel_opened, channel_closed, reading_done, operated, carried_out}
+use Rattle.scql_model.specs.Step.{changed_to, changed, user_and_sessions_deleted, user_presented, verified, channel_opened, channel_closed, reading_done, operated, carried_out}
 use Rattle.card.specs.Answering.{committed_at_once}
 use Rattle.card.specs.Changing.{is_changing, new_of, octets_of}
 
@@ -52,25 +52,38 @@ octets-carried_out_none : (m : Machine) (channel : ℕ) (operation : Operation) 
     → octets_carried_out m (record { channel = channel; operation = operation; le = le }) ≡ octets_operated m channel operation
 octets-carried_out_none m channel operation le none = rw none refl
 
--- A change is carried out as one, and nothing else is written for it.
-pub carried_out-changes : (m : Machine) (channel : ℕ) (operation : Operation) (le : Option ℕ) → is_changing (kind_of operation) ≡ true → m.transaction ≡ None
+pub carried_out-verifies : (m : Machine) (channel : ℕ) (secret : List ℕ) (le : Option ℕ) → m.transaction ≡ None
+    → carried_out m (record { channel = channel; operation = asks.Verify secret; le = le }) ≡ verified m channel secret
+carried_out-verifies m channel secret le none = carried_out-none m channel (asks.Verify secret) le none
+
+pub octets-verifies : (m : Machine) (channel : ℕ) (secret : List ℕ) (le : Option ℕ) → m.transaction ≡ None
+    → octets_carried_out m (record { channel = channel; operation = asks.Verify secret; le = le }) ≡ octets_verified m channel secret
+octets-verifies m channel secret le none = octets-carried_out_none m channel (asks.Verify secret) le none
+
+pub carried_out-deletes : (m : Machine) (channel : ℕ) (name : List ℕ) (le : Option ℕ) → m.transaction ≡ None
+    → carried_out m (record { channel = channel; operation = asks.DeleteUser name; le = le }) ≡ user_and_sessions_deleted m channel name
+carried_out-deletes m channel name le none = carried_out-none m channel (asks.DeleteUser name) le none
+
+-- A change is carried out as one, where it isn't DELETE USER, and nothing else is written for it.
+pub carried_out-changes : (m : Machine) (channel : ℕ) (operation : Operation) (le : Option ℕ) → is_changing (kind_of operation) ≡ true → ((name : List ℕ) → operation ≡ asks.DeleteUser name → ⊥) → m.transaction ≡ None
     → carried_out m (record { channel = channel; operation = operation; le = le }) ≡ changed m channel operation
-carried_out-changes m channel operation le changes none = carried_out-none m channel operation le none ∙ of operation changes
+carried_out-changes m channel operation le changes other none = carried_out-none m channel operation le none ∙ of operation changes other
   where
-    of : (operation : Operation) → is_changing (kind_of operation) ≡ true
+    of : (operation : Operation) → is_changing (kind_of operation) ≡ true → ((name : List ℕ) → operation ≡ asks.DeleteUser name → ⊥)
         → option_map_or (λ command. Ok (reading_done m channel command)) (reading_command operation le) (operated m channel operation) ≡ changed m channel operation
-    of (asks.CreateTable name columns) is = refl
-    of (asks.CreateView name base columns conditions) is = refl
-    of (asks.CreateDictionary name subject) is = refl
-    of (asks.DropTable name) is = refl
-    of (asks.DropView name) is = refl
-    of (asks.Grant privileges object grantee) is = refl
-    of (asks.Revoke privileges object grantee) is = refl
-    of (asks.Insert table row) is = refl
-    of (asks.Update assignments) is = refl
-    of asks.Delete is = refl
-    of (asks.CreateUser name profile secret) is = refl
-    of operation is = absurd cc
+    of (asks.CreateTable name columns) is other = refl
+    of (asks.CreateView name base columns conditions) is other = refl
+    of (asks.CreateDictionary name subject) is other = refl
+    of (asks.DropTable name) is other = refl
+    of (asks.DropView name) is other = refl
+    of (asks.Grant privileges object grantee) is other = refl
+    of (asks.Revoke privileges object grantee) is other = refl
+    of (asks.Insert table row) is other = refl
+    of (asks.Update assignments) is other = refl
+    of asks.Delete is other = refl
+    of (asks.CreateUser name profile secret) is other = refl
+    of (asks.DeleteUser name) is other = absurd (other name refl)
+    of operation is other = absurd cc
 
 pub octets-carried_out : (m : Machine) (channel : ℕ) (operation : Operation) (le : Option ℕ) → is_changing (kind_of operation) ≡ true → m.transaction ≡ None
     → octets_carried_out m (record { channel = channel; operation = operation; le = le }) ≡ octets_changed m channel operation

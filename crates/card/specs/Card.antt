@@ -1,5 +1,5 @@
 -- What a card keeps in memory, and at which machine it is together with its EEPROM.
-use Rattle.std.specs.Prelude.{◌≡◌, ℕ, Bool, true, false, List, Option, Some, None, option_and_then, IsTrue, IfSome}
+use Rattle.std.specs.Prelude.{◌≡◌, ℕ, Bool, false, List, Option, Some, None, option_and_then, IsTrue, IfSome}
 use Rattle.eeprom.specs.Chip.{Chip}
 use Rattle.eeprom.specs.StoreOf.{Slots}
 use Rattle.record_store.specs.Held.{Held, contents, IsOver}
@@ -11,7 +11,7 @@ use Rattle.record_table.specs.Making.{IsHeld}
 use Rattle.row_index.specs.Index.{Index, Indexes}
 use Rattle.scql_model.specs.Machine.{Machine, Session}
 use Rattle.scql_model.specs.Sessions.{reading_of}
-use Rattle.scql_model.specs.ValidMachine.{IsReadingOf, IsValidMachine}
+use Rattle.scql_model.specs.ValidMachine.{ArePresentedIn, IsReadingOf, IsValidMachine}
 use Rattle.scql_model.specs.Opens.{Holds}
 
 -- its store, the index of its rows, a session or none for each channel, and whether it answers
@@ -56,10 +56,12 @@ pub record IsAt (card : Kept) (chip : Chip) (m : Machine) : Type 0 where
   pub held : HoldsMachine card chip m
   pub valid : IsValidMachine m
 
--- A command can be carried out from this machine: card and EEPROM hold it, its database is valid, and what each channel reads is of that database.
+-- A command can be carried out from this machine: card and EEPROM hold it, its database is valid, and what each channel reads and who is presented
+-- is of that database.
 pub record StepsFrom (card : Kept) (chip : Chip) (m : Machine) : Type 0 where
   pub held : HoldsMachine card chip m
   pub valid : IsValid m.committed
+  pub presented : ArePresentedIn m.committed m.sessions
   pub readings : (channel : ℕ) → IsReadingOf m.committed (reading_of m channel)
 
 -- the octets of a new card

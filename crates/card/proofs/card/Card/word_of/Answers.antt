@@ -1,5 +1,6 @@
 -- What was taken with the card's open channels and chains is what the machine takes with its own.
-use Rattle.std.proofs.Common.{◌≡◌, ◌≤◌, ◌∙◌, ℕ, min, List, [], drop, map, Option, is_some, ap, Ok, Err, refl, sym, subst, arith}
+use Rattle.std.proofs.Common.{◌≡◌, ◌≤◌, ◌∙◌, ℕ, min, List, [], ◌∷◌, drop, map, Option, is_some, ap, Ok, Err, refl, sym, subst, arith}
+use Rattle.std.specs.Prelude.{OnOk}
 use Rattle.eeprom.specs.Chip.{Keeps}
 use Rattle.eeprom.specs.StoreOf.{image_size}
 use Rattle.scql_base.specs.declared.words.StatusWord.{StatusWord}
@@ -14,7 +15,7 @@ use Rattle.scql_model.specs.Step.{Answer, answered, carried_out, done_with, step
 use Rattle.scql_model.specs.WellFormed.{FitsCard}
 use Rattle.apdu_chain.specs.Chaining.{chain_on}
 use Rattle.card.specs.Card.{Kept, IsAt, StepsFrom}
-use Rattle.card.specs.Answering.{HoldsAnswer, Performs}
+use Rattle.card.specs.Answering.{HoldsAnswer, LeavesFirstOfTwo, Performs}
 use Rattle.card.specs.Sessions.{sessions_of}
 use Rattle.card.proofs.TakenForms.{taken_at, outcome_of, step-taken, StepsFrom-taken, bound-taken, octets_taken, octets-whole, taken-committed, taken-refused, taken-kept, named-taken, open-taken, outcome-whole, built-taken, fits-taken, readings-committed}
 use Rattle.card.proofs.Leaving.{Keeps-none}
@@ -51,7 +52,7 @@ at-taken g c m at =
 
 -- the machine as it is holds from its step
 from : (g : _) (c : After-take g) (m : Machine) → IsAt c.args.self.now (g.B.Eeprom.chip c.args.bench.now) m → StepsFrom c.args.self.now (g.B.Eeprom.chip c.args.bench.now) m
-from g c m at = record { held = at.held; valid = at.valid.committed; readings = λ channel. readings-committed m channel at.valid at.held.transaction }
+from g c m at = record { held = at.held; valid = at.valid.committed; presented = at.valid.presented; readings = λ channel. readings-committed m channel at.valid at.held.transaction }
 
 -- nothing is written for what is no command, nor said
 unwritten : (g : _) (c : After-take g) (m : Machine) (answer : Answer) (word : StatusWord) (after : Kept) → IsAt c.args.self.now (g.B.Eeprom.chip c.args.bench.now) m
@@ -114,3 +115,29 @@ returns-in-Kept-clause-behind g c = Keeps-none (drop (image_size c.args.self.now
 pub returns-in-Whole-clause-behind : goal.returns-in-Whole-clause-behind
 returns-in-Whole-clause-behind g c =
     subst (λ (kept : Kept). Keeps (drop (image_size kept.store.chains.cells)) (g.B.Eeprom.chip c.args.bench.now) (g.B.Eeprom.chip c.carry_out.new.bench)) c.self.view_is c.carry_out.ensures.behind
+
+-- Nothing is committed by what is no command.
+pub returns-in-Refused-clause-lowered : goal.returns-in-Refused-clause-lowered
+returns-in-Refused-clause-lowered g c = λ m at first second rest twice.
+    let w = (goal.at.returns-in-Refused-clause-lowered g c).After-take in
+    let next = taken_at m (form g w) in
+    let is : step m c.args.command.now ≡ answered next (Err c.in-Refused.word) = steps g w m at ∙ ap (answered next) (taken-refused next (form g w) c.in-Refused.word (sym c.in-Refused.is ∙ c.take.ensures.taken)) in
+    let none : [] ≡ first ∷ second ∷ rest = sym (ap (λ (answer : Answer). answer.commits) is) ∙ twice in
+    absurd cc
+
+pub returns-in-Kept-clause-lowered : goal.returns-in-Kept-clause-lowered
+returns-in-Kept-clause-lowered g c = λ m at first second rest twice.
+    let w = (goal.at.returns-in-Kept-clause-lowered g c).After-take in
+    let next = taken_at m (form g w) in
+    let is : step m c.args.command.now ≡ done_with next (channel_named c.args.command.now) [] =
+    steps g w m at ∙ ap (answered next) (taken-kept next c.args.command.now (form g w) (named-taken c.args.command.now c.open_channels-channels.result (chain_on c.self.inside.chains) (min c.row_limit.result 1020)) (sym c.in-Kept.is ∙ c.take.ensures.taken)) in
+    let none : [] ≡ first ∷ second ∷ rest = sym (ap (λ (answer : Answer). answer.commits) is) ∙ twice in
+    absurd cc
+
+pub returns-in-Whole-clause-lowered : goal.returns-in-Whole-clause-lowered
+returns-in-Whole-clause-lowered g c = λ m at.
+    let w = (goal.at.returns-in-Whole-clause-lowered g c).After-take in
+    let next = taken_at m (form g w) in
+    let is = steps g w m at ∙ ap (answered next) (outcome-whole next (form g w) c.in-Whole.command (sym c.in-Whole.is ∙ c.take.ensures.taken)) in
+    subst (λ (answer : Answer). OnOk c.carry_out.result (LeavesFirstOfTwo answer (g.B.Eeprom.chip c.args.bench.now) (g.B.Eeprom.chip c.carry_out.new.bench))) (sym is)
+    (c.carry_out.ensures.lowered next (at-taken g w m at))
