@@ -1,12 +1,12 @@
 -- What is asked of each operation that is built is asked once of the table of operations, and computed.
-use Rattle.std.proofs.Common.{◌≡◌, ◌<◌, ◌&&◌, ◌||◌, ℕ, zero, suc, Bool, true, false, not, List, [], ◌∷◌, length, get_or, map, refl, subst, arith}
+use Rattle.std.proofs.Common.{◌≡◌, ◌<◌, ◌&&◌, ◌||◌, ℕ, zero, suc, Bool, true, false, List, [], ◌∷◌, length, get_or, map, refl, subst, arith}
 use Rattle.std.specs.List.{Contains, list_all, list_any}
-use Rattle.std.proofs.lemmas.Bool.{and_parts, and_from, not-true}
+use Rattle.std.proofs.lemmas.Bool.{and_parts, and_from}
 use Rattle.scql_base.specs.declared.operation.Line.{Line}
 use Rattle.scql_base.specs.declared.operation.Operation.{Operation}
 use Rattle.scql_base.specs.declared.operation.Operation.TheVariants as asks
 use Rattle.scql_base.specs.declared.operation.OperationKind.{OperationKind}
-use Rattle.scql_base.specs.declared.operation.OperationKind.TheVariants.{Begin, Commit, Rollback, PresentUser, OpenChannel, CloseChannel}
+use Rattle.scql_base.specs.declared.operation.OperationKind.TheVariants.{Begin, Commit, Rollback, PresentUser, DeleteUser, Verify, OpenChannel, CloseChannel}
 use Rattle.scql_model.specs.Operations.{IsBuilt, built_operations, kind_of}
 use Rattle.scql_model.specs.Spelling.{is_same}
 use Rattle.card.specs.Changing.{IsChange, is_changing}
@@ -41,6 +41,8 @@ is_of_its_own Begin = true
 is_of_its_own Commit = true
 is_of_its_own Rollback = true
 is_of_its_own PresentUser = true
+is_of_its_own DeleteUser = true
+is_of_its_own Verify = true
 is_of_its_own (OpenChannel number) = true
 is_of_its_own (CloseChannel number) = true
 is_of_its_own kind = false
@@ -49,6 +51,8 @@ is_of_its_own kind = false
 pub record IsNoneOfThose (operation : Operation) : Type 0 where
   pub not_reading : is_reading (kind_of operation) ≡ false
   pub not_presents : (name : List ℕ) → operation ≡ asks.PresentUser name → ⊥
+  pub not_deletes : (name : List ℕ) → operation ≡ asks.DeleteUser name → ⊥
+  pub not_verifies : (secret : List ℕ) → operation ≡ asks.Verify secret → ⊥
   pub not_opens : (number : ℕ) → operation ≡ asks.OpenChannel number → ⊥
   pub not_closes : (number : ℕ) → operation ≡ asks.CloseChannel number → ⊥
   pub not_begins : operation ≡ asks.Begin → ⊥
@@ -64,6 +68,8 @@ IsChange-built operation built others =
     of asks.Commit others is = absurd (others.not_commits refl)
     of asks.Rollback others is = absurd (others.not_rolls_back refl)
     of (asks.PresentUser name) others is = absurd (others.not_presents name refl)
+    of (asks.DeleteUser name) others is = absurd (others.not_deletes name refl)
+    of (asks.Verify secret) others is = absurd (others.not_verifies secret refl)
     of (asks.OpenChannel number) others is = absurd (others.not_opens number refl)
     of (asks.CloseChannel number) others is = absurd (others.not_closes number refl)
     of operation others is = (let reads = others.not_reading in cc)

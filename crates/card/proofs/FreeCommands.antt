@@ -122,25 +122,26 @@ carried_out-reads m c command is =
     free asks.GetResponse le is = free-none m.transaction c.channel
     free operation le is = absurd cc
 
--- A change is carried out as one, and nothing else is written for it.
-pub carried_out-changes : (m : Machine) (channel : ℕ) (operation : Operation) (le : Option ℕ) → is_changing (kind_of operation) ≡ true → is_kept_waiting (waits (kind_of operation)) m.transaction channel ≡ false
-    → carried_out m (record { channel = channel; operation = operation; le = le }) ≡ changed m channel operation
-carried_out-changes m channel operation le changes free = carried_out-free m channel operation le free ∙ of operation changes
+-- A change is carried out as one, where it isn't DELETE USER, and nothing else is written for it.
+pub carried_out-changes : (m : Machine) (channel : ℕ) (operation : Operation) (le : Option ℕ) → is_changing (kind_of operation) ≡ true → ((name : List ℕ) → operation ≡ asks.DeleteUser name → ⊥)
+    → is_kept_waiting (waits (kind_of operation)) m.transaction channel ≡ false → carried_out m (record { channel = channel; operation = operation; le = le }) ≡ changed m channel operation
+carried_out-changes m channel operation le changes other free = carried_out-free m channel operation le free ∙ of operation changes other
   where
-    of : (operation : Operation) → is_changing (kind_of operation) ≡ true
+    of : (operation : Operation) → is_changing (kind_of operation) ≡ true → ((name : List ℕ) → operation ≡ asks.DeleteUser name → ⊥)
         → option_map_or (λ command. Ok (reading_done m channel command)) (reading_command operation le) (operated m channel operation) ≡ changed m channel operation
-    of (asks.CreateTable name columns) is = refl
-    of (asks.CreateView name base columns conditions) is = refl
-    of (asks.CreateDictionary name subject) is = refl
-    of (asks.DropTable name) is = refl
-    of (asks.DropView name) is = refl
-    of (asks.Grant privileges object grantee) is = refl
-    of (asks.Revoke privileges object grantee) is = refl
-    of (asks.Insert table row) is = refl
-    of (asks.Update assignments) is = refl
-    of asks.Delete is = refl
-    of (asks.CreateUser name profile secret) is = refl
-    of operation is = absurd cc
+    of (asks.CreateTable name columns) is other = refl
+    of (asks.CreateView name base columns conditions) is other = refl
+    of (asks.CreateDictionary name subject) is other = refl
+    of (asks.DropTable name) is other = refl
+    of (asks.DropView name) is other = refl
+    of (asks.Grant privileges object grantee) is other = refl
+    of (asks.Revoke privileges object grantee) is other = refl
+    of (asks.Insert table row) is other = refl
+    of (asks.Update assignments) is other = refl
+    of asks.Delete is other = refl
+    of (asks.CreateUser name profile secret) is other = refl
+    of (asks.DeleteUser name) is other = absurd (other name refl)
+    of operation is other = absurd cc
 
 pub octets-carried_out : (m : Machine) (channel : ℕ) (operation : Operation) (le : Option ℕ) → is_changing (kind_of operation) ≡ true → is_kept_waiting (waits (kind_of operation)) m.transaction channel ≡ false
     → octets_carried_out m (record { channel = channel; operation = operation; le = le }) ≡ octets_changed m channel operation
@@ -151,20 +152,21 @@ octets-carried_out m channel operation le changes free = octets_carried_out-free
     of (asks.Verify secret) is = absurd cc
     of operation is = refl
 
--- a change waits for the transactions of other channels
-pub waits-changes : (operation : Operation) → is_changing (kind_of operation) ≡ true → waits (kind_of operation) ≡ for_others
-waits-changes (asks.CreateTable name columns) is = refl
-waits-changes (asks.CreateView name base columns conditions) is = refl
-waits-changes (asks.CreateDictionary name subject) is = refl
-waits-changes (asks.DropTable name) is = refl
-waits-changes (asks.DropView name) is = refl
-waits-changes (asks.Grant privileges object grantee) is = refl
-waits-changes (asks.Revoke privileges object grantee) is = refl
-waits-changes (asks.Insert table row) is = refl
-waits-changes (asks.Update assignments) is = refl
-waits-changes asks.Delete is = refl
-waits-changes (asks.CreateUser name profile secret) is = refl
-waits-changes operation is = absurd cc
+-- such a change waits for the transactions of other channels
+pub waits-changes : (operation : Operation) → is_changing (kind_of operation) ≡ true → ((name : List ℕ) → operation ≡ asks.DeleteUser name → ⊥) → waits (kind_of operation) ≡ for_others
+waits-changes (asks.CreateTable name columns) is other = refl
+waits-changes (asks.CreateView name base columns conditions) is other = refl
+waits-changes (asks.CreateDictionary name subject) is other = refl
+waits-changes (asks.DropTable name) is other = refl
+waits-changes (asks.DropView name) is other = refl
+waits-changes (asks.Grant privileges object grantee) is other = refl
+waits-changes (asks.Revoke privileges object grantee) is other = refl
+waits-changes (asks.Insert table row) is other = refl
+waits-changes (asks.Update assignments) is other = refl
+waits-changes asks.Delete is other = refl
+waits-changes (asks.CreateUser name profile secret) is other = refl
+waits-changes (asks.DeleteUser name) is other = absurd (other name refl)
+waits-changes operation is other = absurd cc
 
 -- what becomes of a change with these edits, by the channel's own transaction
 abbrev pub outcome_with : Machine → ℕ → Option Transaction → Result (List Edit) StatusWord → Result Answer StatusWord

@@ -1,10 +1,10 @@
 -- The index of a card stands for its store before, in and after each change.
-use Rattle.std.proofs.Common.{◌≡◌, ◌<◌, ℕ, suc, ◌&&◌, Bool, true, false, ltb, List, [], ◌∷◌, length, Option, Some, None, is_some, Result, Ok, Err, refl, sym, ap, subst, ◌∙◌}
-use Rattle.std.specs.Prelude.{IfSome, OnOk, IsErrOf, option_and_then, if◌then◌else◌}
-use Rattle.std.specs.List.{filter_map, list_all, AllByRecursion}
+use Rattle.std.proofs.Common.{◌≡◌, ◌<◌, ℕ, suc, ◌&&◌, Bool, true, false, ltb, List, [], ◌∷◌, length, Option, Some, None, is_some, Result, Ok, Err, refl, sym, ap, arith, subst, ◌∙◌}
+use Rattle.std.specs.Prelude.{IfSome, IsErrOf, option_and_then, option_map, if◌then◌else◌}
+use Rattle.std.specs.List.{cons_option, filter_map, list_all, AllByRecursion}
 use Rattle.std.proofs.lemmas.Bool.{and_from, lt-ltb}
 use Rattle.eeprom.specs.Chip.{Chip}
-use Rattle.eeprom.specs.Slots.{in_slot}
+use Rattle.eeprom.specs.Slots.{in_order, in_slot}
 use Rattle.eeprom.specs.StoreOf.{Slots, slots_at}
 use Rattle.eeprom.proofs.InOrder.{list_all-in_order}
 use Rattle.record_store.specs.Held.{Held, contents}
@@ -15,20 +15,23 @@ use Rattle.scql_base.specs.declared.records.RowRecord.{RowRecord}
 use Rattle.scql_base.specs.declared.words.StatusWord.{StatusWord}
 use Rattle.scql_model.specs.Database.{Database, stored_row}
 use Rattle.scql_model.specs.Edits.{Edit}
+use Rattle.catalog_codec.specs.Catalog.{row_kind}
+use Rattle.catalog_codec.specs.Kinds.{read_as}
 use Rattle.scql_model.specs.Records.{row_in}
 use Rattle.scql_model.proofs.RecordsOf.{before_rows, records_of-rows}
 use Rattle.scql_model.proofs.Stored.{below-of_kind}
-use Rattle.record_table.specs.Listed.{slots_of}
+use Rattle.record_table.specs.Listed.{at_slot, slots_of}
 use Rattle.record_table.specs.Making.{IsHeld, Ends, GoesOn, KeepsRows}
 use Rattle.record_table.specs.declared.stop.Stop.{Stop}
 use Rattle.record_table.specs.declared.stop.Stop.TheVariants.{Refused, Fault}
 use Rattle.row_index.specs.Index.{HasRows, Index, Indexes, is_above, side_places}
 use Rattle.row_index.proofs.IndexLaws.{Indexes-kept, Indexes-untold}
-use Rattle.row_index.specs.Places.{numbered, place_in, place_stamp}
+use Rattle.row_index.specs.Places.{numbered, place_in, place_of, place_stamp}
 use Rattle.row_index.specs.declared.place.RowPlace.{RowPlace}
-use Rattle.card.specs.Card.{HoldsSome, IsAtRest}
+use Rattle.card.specs.Card.{HoldsSome, IsAtRest, committed_slots}
 use Rattle.card.specs.Changing.{Concludes}
 use Rattle.card.proofs.ChangedStore.{same-slots}
+use Rattle.card.proofs.SlotCount.{length-committed_slots}
 use Rattle.card.proofs.Told.{if_some-at}
 
 -- the rows of a side are those of its slots
@@ -127,3 +130,33 @@ last-held index store chip db stands held =
     let before : list_all is_before db.rows ≡ true = all-before db.next db.rows (below-of_kind stored_row (before_rows db) [] db.rows (records_of-rows db) held.valid.stored) in
     ap (is_above db.next) rows.are ∙ (list_all-in_order place_stamp (λ (place : RowPlace). ltb (place_stamp place) db.next) (filter_map place_in (numbered 0 held.slots))
     ∙ (places-before db.next 0 held.slots ∙ (sym (list_all-in_order (λ (r : RowRecord). r.stamp) is_before (filter_map (in_slot row_in) held.slots)) ∙ (ap (list_all is_before) held.holds.rows ∙ before))))
+
+-- Slots that have the same rows have the same places of rows, and rows that stay in their slots stay where an index has them.
+places-same : (slot : ℕ) (old new : Slots) → length new ≡ length old → ((at : ℕ) → at_slot row_kind at new ≡ at_slot row_kind at old) → filter_map place_in (numbered slot new) ≡ filter_map place_in (numbered slot old)
+places-same slot [] [] many same = refl
+places-same slot [] (y ∷ ys) many same = absurd (omega (arith, many))
+places-same slot (x ∷ xs) [] many same = absurd (omega (arith, many))
+places-same slot (x ∷ xs) (y ∷ ys) many same =
+    ap (λ (row : Option RowRecord). cons_option (option_map (place_of slot) row) (filter_map place_in (numbered (suc slot) ys))) (same 0)
+    ∙ ap (cons_option (option_map (place_of slot) (in_slot (read_as row_kind) x))) (places-same (suc slot) xs ys (omega (arith, many)) (λ at. same (suc at)))
+
+HasRows-same : (cells : ℕ) (places : List RowPlace) (old new : Option Slots) → IfSome old (HasRows cells places) → IfSome new (λ slots. length slots ≡ cells) → KeepsRows old new → IfSome new (HasRows cells places)
+HasRows-same cells places old None are many keeps = tt
+HasRows-same cells places old (Some after) are many keeps =
+    let kept = keeps after refl in
+    let before = if_some-at (HasRows cells places) old kept.0 kept.1 are in
+    record { all = many; are = before.are ∙ sym (ap (in_order place_stamp) (places-same 0 kept.0 after (many ∙ sym before.all) kept.2)) }
+
+-- So an index stands for a store that goes on with every row in its slot, on both sides.
+pub Indexes-on : (index : Index) (old new : Held) (before after : Chip) → Indexes index old before → GoesOn old new before after → new.begun ≡ false
+    → ((side : Side) → KeepsRows (slots_of old side before) (slots_of new side after)) → Indexes index new after
+unfolding committed_slots
+Indexes-on index old new before after stands goes_on idle keeps =
+    let cells : index.cells ≡ new.chains.cells = stands.cells ∙ sym goes_on.cells in
+    let many = subst (λ (n : ℕ). IfSome (slots_of new Committed after) (λ slots. length slots ≡ n)) (sym cells) (length-committed_slots new after.image goes_on.over.stands) in
+    record {
+      cells = cells;
+      committed = HasRows-same index.cells index.committed (slots_of old Committed before) (slots_of new Committed after) stands.committed many (keeps Committed);
+      working = HasRows-same index.cells index.working (slots_of old Working before) (slots_of new Working after) stands.working
+          (subst (λ o. IfSome o (λ (slots : Slots). length slots ≡ index.cells)) (sym (working-idle new after idle)) many) (keeps Working);
+    }

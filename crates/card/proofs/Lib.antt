@@ -1,11 +1,13 @@
 mod BuiltLines
 mod ChangedStore
 mod ChangingOperations
+mod DeletedSessions
 mod GatheredSlots
 mod Founding
 mod Grouped
 mod HeldInOrder
 mod HeldKinds
+mod InTurn
 mod IndexedStore
 mod Labels
 pub mod Leaving
@@ -34,3 +36,4 @@ mod Transacting
 pub mod Tested
 pub mod Told
 mod FreeCommands
+mod Verifying

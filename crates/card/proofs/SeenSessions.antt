@@ -1,5 +1,5 @@
 -- The sessions and the chains of a card, as the model sees them.
-use Rattle.std.proofs.Common.{◌≡◌, ◌<◌, ℕ, zero, suc, Bool, true, false, List, [], ◌∷◌, get_or, length, Option, Some, None, is_some, refl, ap, sym, subst, ◌∙◌, arith}
+use Rattle.std.proofs.Common.{◌≡◌, ◌<◌, ℕ, zero, suc, Bool, true, false, List, [], ◌∷◌, get_or, length, Option, Some, None, is_some, refl, ap, sym, ◌∙◌, arith}
 use Rattle.std.specs.Prelude.{map, option_map, option_and_then, slice_get, slice_index_or, slice_set}
 use Rattle.std.specs.Option.{option_flatten}
 use Rattle.std.proofs.lemmas.Option.{none-some, same_Some}
@@ -10,7 +10,7 @@ use Rattle.scql_model.specs.Machine as machine
 use Rattle.scql_model.specs.Machine.{Chain}
 use Rattle.row_index.specs.Index.{Index}
 use Rattle.card.specs.Card.{Kept}
-use Rattle.card.specs.Sessions.{is_open, session_seen, sessions_of, proved_stamp, proved_user}
+use Rattle.card.specs.Sessions.{is_open, session_seen, sessions_of}
 use Rattle.card.specs.Answering.{changing_session, with_session}
 use Rattle.card.specs.declared.session.Session.{Session}
 
@@ -47,7 +47,7 @@ open-sessions (Some session ∷ sessions) (chain ∷ chains) same = ap (λ rest.
 
 -- the user of a session is the program's
 user-seen : (sessions : List (Option Session)) (chains : List (Option Chain)) (channel : ℕ) → length sessions ≡ length chains
-    → proved_user (option_flatten (slice_get (sessions_of sessions chains) channel)) ≡ option_and_then proved_stamp (option_and_then (λ (s : Session). s.user) (slice_index_or sessions channel None))
+    → option_and_then (λ (s : machine.Session). s.user) (option_flatten (slice_get (sessions_of sessions chains) channel)) ≡ option_and_then (λ (s : Session). s.user) (slice_index_or sessions channel None)
 user-seen [] chains channel same = refl
 user-seen (session ∷ sessions) [] channel same = absurd cc
 user-seen (None ∷ sessions) (chain ∷ chains) zero same = refl
@@ -60,11 +60,11 @@ module _ (store : Held) (index : Index) (transaction : Option ℕ) (live : Bool)
   open-card same = open-sessions sessions chains same ∙ ap (λ (kept : Kept). map (λ (s : Option machine.Session). is_some s) kept.sessions) is
 
   pub user-card : length sessions ≡ length chains → (channel : ℕ) (session : Session) → slice_index_or sessions channel None ≡ Some session
-      → proved_user (option_flatten (slice_get card.sessions channel)) ≡ option_and_then proved_stamp session.user
+      → option_and_then (λ (s : machine.Session). s.user) (option_flatten (slice_get card.sessions channel)) ≡ session.user
   user-card same channel session there =
-      ap (λ (kept : Kept). proved_user (option_flatten (slice_get kept.sessions channel))) (sym is)
+      ap (λ (kept : Kept). option_and_then (λ (s : machine.Session). s.user) (option_flatten (slice_get kept.sessions channel))) (sym is)
       ∙ (user-seen sessions chains channel same
-      ∙ ap (λ (s : Option Session). option_and_then proved_stamp (option_and_then (λ (s : Session). s.user) s)) there)
+      ∙ ap (λ (s : Option Session). option_and_then (λ (s : Session). s.user) s) there)
 
 -- an open channel's session has the parts of its channel
 pub chain-seen : (sessions : List (Option Session)) (chains : List (Option Chain)) (channel : ℕ)

@@ -1,7 +1,9 @@
 -- What an answer leaves.
 use Rattle.std.specs.Prelude.{◌≡◌, ◌==◌, if◌then◌else◌, ℕ, List, [], ◌∷◌, Option, Some, Result, Ok, Err, IfOk, OnOk, option_map, slice_get, slice_set}
+use Rattle.std.specs.List.{AllByRecursion}
 use Rattle.std.specs.Option.{option_flatten}
 use Rattle.eeprom.specs.Chip.{Chip, Becomes, Leaves, RisesAtMost}
+use Rattle.record_table.specs.AtRest.{LeavesOnce}
 use Rattle.scql_model.specs.Database.{Database}
 use Rattle.scql_model.specs.Opens.{OpensToOneOf}
 use Rattle.eeprom.specs.declared.EepromFault.{EepromFault}
@@ -28,6 +30,14 @@ pub record HoldsAnswer (answer : Answer) (sent : model.Reply) (card : Kept) (chi
 -- at each moment a power loss leaves an image that opens to one of these databases, and nothing was given meanwhile
 abbrev pub LeavesOneOf : List Database → Chip → Chip → Type 0
 LeavesOneOf dbs old new = Leaves (OpensToOneOf dbs) old new
+
+-- each of these databases a power loss may leave at some moment
+abbrev pub LeavesEach : List Database → Chip → Chip → Type 0
+LeavesEach dbs old new = AllByRecursion (λ (db : Database). LeavesOnce db old new) dbs
+
+-- where an answer commits a second database, so it may the first
+abbrev pub LeavesFirstOfTwo : Answer → Chip → Chip → Type 0
+LeavesFirstOfTwo answer old new = (first second : Database) (rest : List Database) → answer.commits ≡ first ∷ second ∷ rest → LeavesOnce first old new
 
 -- an answer with this body and word
 abbrev pub replied : List ℕ → StatusWord → model.Reply

@@ -6,7 +6,7 @@ use Rattle.eeprom.specs.declared.EepromFault.{EepromFault}
 use Rattle.record_store.specs.Held.{Held}
 use Rattle.scql_base.specs.declared.operation.Operation.{Operation}
 use Rattle.scql_base.specs.declared.operation.OperationKind.{OperationKind}
-use Rattle.scql_base.specs.declared.operation.OperationKind.TheVariants.{CreateTable, CreateView, CreateDictionary, DropTable, DropView, Grant, Revoke, Insert, Update, Delete, CreateUser}
+use Rattle.scql_base.specs.declared.operation.OperationKind.TheVariants.{CreateTable, CreateView, CreateDictionary, DropTable, DropView, Grant, Revoke, Insert, Update, Delete, CreateUser, DeleteUser}
 use Rattle.scql_base.specs.declared.records.User.{User}
 use Rattle.scql_base.specs.declared.words.Actor.{Actor}
 use Rattle.scql_base.specs.declared.words.Actor.TheVariants.{Public, User as a_user}
@@ -21,7 +21,7 @@ use Rattle.record_table.specs.Making.{Makes}
 use Rattle.card.specs.Card.{IsAtRest}
 use Rattle.card.specs.Answering.{LeavesOneOf}
 
--- the operations that change the database, and nothing else of the machine
+-- the operations that change the database; DELETE USER changes sessions besides
 abbrev pub is_changing : OperationKind → Bool
 is_changing CreateTable = true
 is_changing CreateView = true
@@ -34,6 +34,7 @@ is_changing Insert = true
 is_changing Update = true
 is_changing Delete = true
 is_changing CreateUser = true
+is_changing DeleteUser = true
 is_changing kind = false
 
 -- those of them that change the row at a cursor

@@ -1,10 +1,10 @@
 -- The program's sessions, as the model's.
-use Rattle.std.specs.Prelude.{ℕ, Bool, not, List, [], ◌∷◌, Option, Some, None, is_some, option_map, option_and_then, slice_get}
+use Rattle.std.specs.Prelude.{ℕ, Bool, not, List, [], ◌∷◌, Option, None, is_some, option_map, option_and_then, slice_get, if◌then◌else◌}
 use Rattle.std.specs.List.{find}
 use Rattle.std.specs.Option.{option_flatten}
 use Rattle.scql_model.specs.Machine as machine
 use Rattle.card.specs.declared.session.Session.{Session}
-pub use Rattle.card.specs.Proved.{proved_stamp}
+pub use Rattle.card.specs.Proved.{presents, proved_stamp, unproved_stamp}
 
 -- what a session reads
 abbrev pub reading_in : Session → machine.Reading
@@ -23,6 +23,14 @@ sessions_of (session ∷ sessions) (chain ∷ chains) = option_map (session_seen
 -- the stamp of a session's user, where there is one that is proved
 abbrev pub proved_user : Option machine.Session → Option ℕ
 proved_user session = option_and_then proved_stamp (option_and_then (λ (s : machine.Session). s.user) session)
+
+-- where it isn't proved
+abbrev pub unproved_user : Option machine.Session → Option ℕ
+unproved_user session = option_and_then unproved_stamp (option_and_then (λ (s : machine.Session). s.user) session)
+
+-- a session of the program is left, where it presents the user of a stamp
+abbrev pub left_session : ℕ → Session → Session
+left_session stamp s = if presents stamp s.user then record { user = None; cursor = None; pending = [] } else s
 
 -- Which channels are open.
 abbrev pub is_open : List (Option machine.Session) → ℕ → Bool

@@ -18,7 +18,7 @@ ghost use Rattle.scql_model.specs.Database.{Database, fresh};
 ghost use Rattle.eeprom.specs.Image.{overwrite};
 ghost use Rattle.card.specs.Behind.{KeepsBehind, own_cells};
 ghost use Rattle.card.specs.Card.{Kept, IsReady, IsAt, HoldsMachine, fresh_card};
-ghost use Rattle.card.specs.Answering.{Answers, HoldsAnswer, IsAtAsBefore, LeavesOneOf, Performs, changing_session, replied, settled, with_session, with_session_for};
+ghost use Rattle.card.specs.Answering.{Answers, HoldsAnswer, IsAtAsBefore, LeavesEach, LeavesFirstOfTwo, LeavesOneOf, Performs, changing_session, replied, settled, with_session, with_session_for};
 ghost use Rattle.card.specs.Changing.{IsChange};
 ghost use Rattle.card.specs.Making.{LeavesMade};
 ghost use Rattle.card.specs.Opening.{ReadsCard};
@@ -33,6 +33,9 @@ ghost use Rattle.card.specs.Waiting.{has_own, keeps_waiting, side_of};
 ghost use Rattle.scql_model.specs.Operations.{IsBuilt, kind_of};
 ghost use Rattle.scql_model.specs.WellFormed.{HasForm, FitsCard, IsWellFormed};
 ghost use Rattle.std.specs.Option.{option_flatten};
+
+mod deleting;
+mod verifying;
 
 use crate::changing::{actor_of, change, change_within};
 use crate::opening::open_records;
@@ -146,6 +149,9 @@ impl Card {
         // A power loss leaves the database as it was, or one that the step commits.
         ensures moments { (m : machine.Machine) → IsAt self.old (B.chip bench.old) m
             → LeavesOneOf (m.committed ∷ (stepping.step m command.now).commits) (B.chip bench.old) (B.chip bench.new) }
+        // Each database that the step commits a power loss may leave at some moment: so before a secret is compared one try less is committed.
+        ensures in_turn { (m : machine.Machine) → IsAt self.old (B.chip bench.old) m → result ≡ Outcome.Replied
+            → LeavesEach (stepping.step m command.now).commits (B.chip bench.old) (B.chip bench.new) }
         // What may write no octets, as a command that reads, writes nothing.
         ensures unwritten { (m : machine.Machine) → IsAt self.old (B.chip bench.old) m → result ≡ Outcome.Replied
             → octets_bound m command.now ≡ 0 → B.chip bench.new ≡ B.chip bench.old }
@@ -212,6 +218,8 @@ impl Card {
         requires empty { reply.old.body ≡ [] }
         ensures performs { (m : machine.Machine) → IsAt self.old (B.chip bench.old) m
             → Performs m (stepping.step m command.now) (octets_bound m command.now) reply.new.body result self.new (B.chip bench.old) (B.chip bench.new) }
+        ensures lowered { (m : machine.Machine) → IsAt self.old (B.chip bench.old) m
+            → OnOk result (LeavesFirstOfTwo (stepping.step m command.now) (B.chip bench.old) (B.chip bench.new)) }
         ensures ready { OnOk result (IsReady self.new (B.chip bench.new)) }
         ensures cause { Counts (B.faults bench.old) (B.faults bench.new) result }
         ensures cells { OnOk result (self.new.store.chains.cells ≡ self.old.store.chains.cells) }
@@ -243,6 +251,9 @@ impl Card {
         requires open { is_open self.old.sessions command.now.channel ≡ true }
         ensures performs { (m : machine.Machine) → IsAt self.old (B.chip bench.old) m
             → Performs m (stepping.answered m (stepping.carried_out m command.now)) (or_nothing (octets_carried_out m command.now)) reply.new.body result self.new (B.chip bench.old) (B.chip bench.new) }
+        // A second database is committed by VERIFY alone. Then there was a moment at which a power loss may leave the first.
+        ensures lowered { (m : machine.Machine) → IsAt self.old (B.chip bench.old) m
+            → OnOk result (LeavesFirstOfTwo (stepping.answered m (stepping.carried_out m command.now)) (B.chip bench.old) (B.chip bench.new)) }
         ensures ready { OnOk result (IsReady self.new (B.chip bench.new)) }
         ensures cause { Counts (B.faults bench.old) (B.faults bench.new) result }
         ensures cells { OnOk result (self.new.store.chains.cells ≡ self.old.store.chains.cells) }
@@ -264,6 +275,10 @@ impl Card {
             Operation::OpenChannel { number } => Ok(self.open_channel(channel, *number, reply)),
             Operation::CloseChannel { number } => {
                 Ok(self.close_channel(channel, channel_meant(channel, *number)))
+            }
+            Operation::Verify { secret } => self.verify(bench, channel, secret.as_slice()),
+            Operation::DeleteUser { name } => {
+                self.delete_user(bench, channel, name.copy(), &command.operation)
             }
             operation => self.change(bench, channel, operation),
         }

@@ -19,7 +19,7 @@ ghost use Rattle.row_index.specs.Index.{Indexes, is_above};
 ghost use Rattle.card.specs.Card.{HoldsSome, IsAtRest};
 ghost use Rattle.card.specs.Changing.{IsChange, Changes, ConcludesWithin, acting, goes_through_cursor};
 
-use db_access::{create_user, grant, revoke};
+use db_access::{create_user, delete_user, grant, revoke};
 use db_define::{create_dictionary, create_table, create_view, drop_table, drop_view};
 use db_write::{delete, insert, update};
 use eeprom::{Eeprom, EepromFault};
@@ -235,6 +235,7 @@ fn make_without_cursor<B: Eeprom>(
             profile,
             secret,
         } => create_user(store, bench, actor, name.copy(), *profile, secret),
+        Operation::DeleteUser { name } => delete_user(store, bench, actor, name.copy()),
         _ => unreachable!(),
     }
 }

@@ -1,5 +1,6 @@
 -- VERIFY on a channel of a machine, by what it comes to over the machine's database.
-use Rattle.std.proofs.Common.{◌≡◌, ◌≢◌, ◌⊎◌, ℕ, ◌-◌, ◌==◌, Bool, true, false, List, [], ◌∷◌, Option, Some, None, Err, refl, sym, ap, ◌∙◌, inl, inr, arith}
+use Rattle.std.proofs.Common.{◌≡◌, ◌≢◌, ◌⊎◌, ℕ, ◌-◌, ◌==◌, Bool, true, false, not, List, [], ◌∷◌, Option, Some, None, Result, Ok, Err, if◌then◌else◌, refl, sym, ap, ◌∙◌, inl, inr, arith}
+use Rattle.std.specs.Prelude.{IfOk}
 use Rattle.std.specs.Str.{bytes_eq}
 use Rattle.std.proofs.lemmas.Bool.{eqb-true}
 use Rattle.scql_base.specs.declared.cursor.PresentedUser.{PresentedUser}
@@ -10,8 +11,11 @@ use Rattle.scql_model.specs.Bound.{octets_verified, or_nothing}
 use Rattle.scql_model.specs.Database.{Database, user_stamped}
 use Rattle.scql_model.specs.Machine.{Machine}
 use Rattle.scql_model.specs.Sessions.{changing_session, proving, user_of, without_pending}
+use Rattle.scql_model.specs.Refusals.{or_refused, provided}
 use Rattle.scql_model.specs.Replies.{said}
-use Rattle.scql_model.specs.Step.{Answer, answered, secret_right, verified, with_tries}
+use Rattle.scql_model.specs.Step.{Answer, answered, secret_right, secret_wrong, verified, with_tries}
+use Rattle.scql_model.proofs.FormedCommands.{bound, not_refused}
+use Rattle.scql_model.proofs.LastCommits.{of_outcome}
 use Rattle.scql_model.proofs.RefusalWords.{plain-done}
 use Rattle.db_access.specs.Verifying.{octets_for_verdict, presenting, verdict}
 use Rattle.db_access.proofs.Verdicts.{verdict-blocked, verdict-none, verdict-right, verdict-wrong}
@@ -103,3 +107,54 @@ module _ (m : Machine) (channel : ℕ) where
         found : (o : Option User) → user_stamped m.committed.users p.stamp ≡ o → or_nothing (octets_verified m channel secret) ≡ octets_for_verdict m.committed p.stamp secret
         found None none = rw (at, unproved, none) refl
         found (Some u) is = tried u is (u.tries == 0) refl
+
+-- VERIFY answers a word alone.
+pub said-verified : (m : Machine) (channel : ℕ) (secret : List ℕ) → (answered m (verified m channel secret)).reply ≡ said (answered m (verified m channel secret)).reply.word
+said-verified m channel secret = go (verified m channel secret) says
+  where
+    Says : Answer → Type 0
+    Says answer = answer.reply ≡ said answer.reply.word
+
+    compared : (u : User) (right : Bool) → Says (if right then secret_right m channel u else secret_wrong m u)
+    compared u true = refl
+    compared u false = refl
+
+    says : IfOk (verified m channel secret) Says
+    says =
+        of_outcome Says (or_refused (user_of m channel) conditions_not_satisfied) _ (λ p.
+        of_outcome Says (provided (not p.proved) conditions_not_satisfied) _ (λ _.
+        of_outcome Says (or_refused (user_stamped m.committed.users p.stamp) conditions_not_satisfied) _ (λ u.
+        of_outcome Says (provided (not (u.tries == 0)) authentication_blocked) _ (λ _. compared u (bytes_eq secret u.secret)))))
+
+    go : (r : Result Answer StatusWord) → IfOk r Says → Says (answered m r)
+    go (Ok answer) is = is
+    go (Err word) is = refl
+
+-- What commits twice is done, and its first database has one try less.
+pub record CommitsTwice (m : Machine) (channel : ℕ) (answer : Answer) (first : Database) : Type 0 where
+  pub who : PresentedUser
+  pub presented : user_of m channel ≡ Some who
+  pub user : User
+  pub stored : user_stamped m.committed.users who.stamp ≡ Some user
+  pub lowered : first ≡ with_tries m.committed user (user.tries - 1)
+  pub is_done : answer.reply.word ≡ done
+
+pub twice-verified : (m : Machine) (channel : ℕ) (secret : List ℕ) (first second : Database) (rest : List Database) → (answered m (verified m channel secret)).commits ≡ first ∷ second ∷ rest
+    → CommitsTwice m channel (answered m (verified m channel secret)) first
+twice-verified m channel secret first second rest twice = go (verified m channel secret) refl twice
+  where
+    compared : (p : PresentedUser) (u : User) → user_of m channel ≡ Some p → user_stamped m.committed.users p.stamp ≡ Some u → (right : Bool)
+        → (if right then secret_right m channel u else secret_wrong m u).commits ≡ first ∷ second ∷ rest → CommitsTwice m channel (if right then secret_right m channel u else secret_wrong m u) first
+    compared p u at stored true is = record { who = p; presented = at; user = u; stored = stored; lowered = cc; is_done = refl }
+    compared p u at stored false is = absurd cc
+
+    go : (r : Result Answer StatusWord) → verified m channel secret ≡ r → (answered m r).commits ≡ first ∷ second ∷ rest → CommitsTwice m channel (answered m r) first
+    go (Err word) is twice = absurd cc
+    go (Ok answer) is twice =
+        bound (or_refused (user_of m channel) conditions_not_satisfied) _ answer is (λ p at is.
+        bound (provided (not p.proved) conditions_not_satisfied) _ answer is (λ _ _ is.
+        bound (or_refused (user_stamped m.committed.users p.stamp) conditions_not_satisfied) _ answer is (λ u stored is.
+        bound (provided (not (u.tries == 0)) authentication_blocked) _ answer is (λ _ _ is.
+        let same : (if bytes_eq secret u.secret then secret_right m channel u else secret_wrong m u) ≡ answer = cc in
+        rw (sym same) (compared p u (not_refused (user_of m channel) conditions_not_satisfied p at) (not_refused (user_stamped m.committed.users p.stamp) conditions_not_satisfied u stored) (bytes_eq secret u.secret)
+        (ap (λ (a : Answer). a.commits) same ∙ twice))))))

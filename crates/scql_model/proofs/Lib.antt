@@ -27,6 +27,7 @@ pub mod Creating
 pub mod CursorsStand
 pub mod Depths
 pub mod EditLaws
+pub mod FewCommits
 pub mod FewerObjects
 pub mod FewerUsers
 pub mod FieldLaws

@@ -14,6 +14,7 @@ use Rattle.scql_model.specs.Granting.{privileges_granted, privileges_revoked}
 use Rattle.scql_model.specs.Writing.{row_inserted, row_updated, row_deleted}
 use Rattle.scql_model.specs.Contents.{contents_of}
 use Rattle.scql_model.specs.Moves.{move_of}
+use Rattle.scql_model.specs.Users.{user_deleted}
 use Rattle.scql_model.specs.Lines.{lines, line_text, line_step, run_text, machine_after}
 
 abbrev card : Machine
@@ -44,7 +45,7 @@ nobody_creates = refl
 
 -- a profile of OWNER's, no octet of a profile, nobody who makes a user, too few parameters and too many
 wrong_creations : run_text card (lines (codes "001400810703414E4E010100\n0014008106 03414E4E0000\n001400810B03424F4201030431323334\n001400810603414E4E0103\n001400810803414E4E01030000\n0014008100\n") true)
-    ≡ codes "6A80\n6A80\n6A80\n6A80\n6A80\n6700\n"
+    ≡ codes "6A80\n6A80\n6982\n6A80\n6A80\n6700\n"
 unfolding line_text line_step step step_by form_of edits_of params_of pieces_of hex_on_literals
 wrong_creations = refl
 
@@ -66,7 +67,7 @@ unfolding line_text line_step step step_by form_of edits_of move_of params_of pi
 nothing_yet = refl
 
 -- operations that aren't built yet
-not_built : run_text card (lines (codes "0010008F\n00140082020154\n00120080\n00120081\n00120082\n0020000004 30303030\n") true) ≡ codes "6A86\n6A86\n6D00\n6D00\n6D00\n6D00\n"
+not_built : run_text card (lines (codes "0010008F\n00120080\n00120081\n00120082\n") true) ≡ codes "6A86\n6D00\n6D00\n6D00\n"
 unfolding line_text line_step step step_by form_of edits_of params_of pieces_of hex_on_literals
 not_built = refl
 
@@ -114,10 +115,25 @@ row_deleted_elsewhere : run_text two_rows (lines (codes "0070000001\n01140080060
 unfolding line_text line_step step step_by form_of edits_of move_of contents_of object_created table_dropped row_inserted row_updated row_deleted privileges_granted privileges_revoked appears holds params_of pieces_of hex_on_literals
 row_deleted_elsewhere = refl
 
--- a privilege is given and taken
-user_reads : run_text two_rows (lines (codes "001400810703414E4E010300\n00100085080101015403414E4E\n0070000001\n011400800403414E4E\n011000870401540100\n01100088\n0110008A00\n0110008E\n00100086080101015403414E4E\n0110008A00\n") true) ≡ codes "9000\n9000\n019000\n9000\n9000\n9000\n0178009000\n6982\n9000\n6A88\n"
-unfolding line_text line_step step step_by form_of edits_of move_of contents_of object_created table_dropped row_inserted row_updated row_deleted privileges_granted privileges_revoked appears holds params_of pieces_of hex_on_literals
+-- a privilege is given and taken, and a user deleted, whose session is nobody's then
+user_reads : run_text two_rows (lines (codes "001400810703414E4E010300\n00100085080101015403414E4E\n0070000001\n011400800403414E4E\n011000870401540100\n01100088\n0110008A00\n0110008E\n00100086080101015403414E4E\n0110008A00\n001400820403414E4E\n0110008A00\n001400820403414E4E\n") true) ≡ codes "9000\n9000\n019000\n9000\n9000\n9000\n0178009000\n6982\n9000\n6A88\n9000\n6985\n6A88\n"
+unfolding line_text line_step step step_by form_of edits_of move_of contents_of object_created table_dropped row_inserted row_updated row_deleted user_deleted privileges_granted privileges_revoked appears holds params_of pieces_of hex_on_literals
 user_reads = refl
+
+-- a secret has four octets at least; OWNER has none to show
+short_secret : run_text card (lines (codes "0014008006054F574E4552\n001400810A03424F42010303313233\n0020000003313233\n") true) ≡ codes "9000\n6A80\n6985\n"
+unfolding line_text line_step step step_by form_of edits_of move_of contents_of object_created table_dropped row_inserted row_updated row_deleted user_deleted privileges_granted privileges_revoked appears holds params_of pieces_of hex_on_literals
+short_secret = refl
+
+-- three wrong secrets block the user
+secret_blocked : run_text card (lines (codes "0014008006054F574E4552\n001400810B03424F4201030431323334\n001400800403424F42\n002000000430303030\n002000000430303030\n002000000430303030\n002000000431323334\n") true) ≡ codes "9000\n9000\n9000\n63C2\n63C1\n63C0\n6983\n"
+unfolding line_text line_step step step_by form_of edits_of move_of contents_of object_created table_dropped row_inserted row_updated row_deleted user_deleted privileges_granted privileges_revoked appears holds params_of pieces_of hex_on_literals
+secret_blocked = refl
+
+-- the right one gives all tries back, and is asked once
+secret_shown : run_text card (lines (codes "0014008006054F574E4552\n001400810B03424F4201030431323334\n001400800403424F42\n002000000430303030\n002000000431323334\n002000000431323334\n001400800403424F42\n002000000430303030\n") true) ≡ codes "9000\n9000\n9000\n63C2\n9000\n6985\n9000\n63C2\n"
+unfolding line_text line_step step step_by form_of edits_of move_of contents_of object_created table_dropped row_inserted row_updated row_deleted user_deleted privileges_granted privileges_revoked appears holds params_of pieces_of hex_on_literals
+secret_shown = refl
 
 -- Channels: the least that is closed is opened and its number answered, a named one is opened once; a channel closes another, or itself, and channel 0 stays open.
 channels_opened : run_text card (lines (codes "0070000001\n00700002\n00700002\n0070000001\n0070000001\n00708002\n00708002\n01708000\n00708000\n") true) ≡ codes "019000\n9000\n6985\n039000\n6A81\n9000\n6881\n9000\n6A86\n"

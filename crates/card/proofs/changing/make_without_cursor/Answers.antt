@@ -2,7 +2,7 @@
 use Rattle.std.proofs.Common.{◌≡◌, ℕ, false, true, List, refl}
 use Rattle.scql_base.specs.declared.condition.Condition.{Condition}
 use Rattle.scql_base.specs.declared.operation.Operation.{Operation}
-use Rattle.scql_base.specs.declared.operation.Operation.TheVariants.{CreateTable, CreateView, CreateDictionary, DropTable, DropView, Grant, Revoke, Insert, Update, Delete, CreateUser}
+use Rattle.scql_base.specs.declared.operation.Operation.TheVariants.{CreateTable, CreateView, CreateDictionary, DropTable, DropView, Grant, Revoke, Insert, Update, Delete, CreateUser, DeleteUser}
 use Rattle.scql_base.specs.declared.words.Profile.{Profile}
 use Rattle.scql_base.specs.declared.words.Subject.{Subject}
 use Rattle.scql_model.specs.Changing.{edits_of}
@@ -17,24 +17,26 @@ no-other : (operation : Operation) → is_change (kind_of operation) ≡ true �
     → ((name base : List ℕ) (columns : List (List ℕ)) (conditions : List Condition) → operation ≡ CreateView name base columns conditions → ⊥) → ((name : List ℕ) (subject : Subject) → operation ≡ CreateDictionary name subject → ⊥)
     → ((name : List ℕ) → operation ≡ DropTable name → ⊥) → ((name : List ℕ) → operation ≡ DropView name → ⊥)
     → ((privileges : ℕ) (object grantee : List ℕ) → operation ≡ Grant privileges object grantee → ⊥) → ((privileges : ℕ) (object grantee : List ℕ) → operation ≡ Revoke privileges object grantee → ⊥)
-    → ((table : List ℕ) (row : List (List ℕ)) → operation ≡ Insert table row → ⊥) → ((name : List ℕ) (profile : Profile) (secret : List ℕ) → operation ≡ CreateUser name profile secret → ⊥) → ⊥
-no-other (CreateTable name columns) change without table view dictionary drop drop_view grant revoke row user = table name columns refl
-no-other (CreateView name base columns conditions) change without table view dictionary drop drop_view grant revoke row user = view name base columns conditions refl
-no-other (CreateDictionary name subject) change without table view dictionary drop drop_view grant revoke row user = dictionary name subject refl
-no-other (DropTable name) change without table view dictionary drop drop_view grant revoke row user = drop name refl
-no-other (DropView name) change without table view dictionary drop drop_view grant revoke row user = drop_view name refl
-no-other (Grant privileges object grantee) change without table view dictionary drop drop_view grant revoke row user = grant privileges object grantee refl
-no-other (Revoke privileges object grantee) change without table view dictionary drop drop_view grant revoke row user = revoke privileges object grantee refl
-no-other (Insert name values) change without table view dictionary drop drop_view grant revoke row user = row name values refl
-no-other (Update changes) change without table view dictionary drop drop_view grant revoke row user = absurd (cc)
-no-other Delete change without table view dictionary drop drop_view grant revoke row user = absurd (cc)
-no-other (CreateUser name profile secret) change without table view dictionary drop drop_view grant revoke row user = user name profile secret refl
-no-other operation change without table view dictionary drop drop_view grant revoke row user = cc
+    → ((table : List ℕ) (row : List (List ℕ)) → operation ≡ Insert table row → ⊥) → ((name : List ℕ) (profile : Profile) (secret : List ℕ) → operation ≡ CreateUser name profile secret → ⊥)
+    → ((name : List ℕ) → operation ≡ DeleteUser name → ⊥) → ⊥
+no-other (CreateTable name columns) change without table view dictionary drop drop_view grant revoke row user gone = table name columns refl
+no-other (CreateView name base columns conditions) change without table view dictionary drop drop_view grant revoke row user gone = view name base columns conditions refl
+no-other (CreateDictionary name subject) change without table view dictionary drop drop_view grant revoke row user gone = dictionary name subject refl
+no-other (DropTable name) change without table view dictionary drop drop_view grant revoke row user gone = drop name refl
+no-other (DropView name) change without table view dictionary drop drop_view grant revoke row user gone = drop_view name refl
+no-other (Grant privileges object grantee) change without table view dictionary drop drop_view grant revoke row user gone = grant privileges object grantee refl
+no-other (Revoke privileges object grantee) change without table view dictionary drop drop_view grant revoke row user gone = revoke privileges object grantee refl
+no-other (Insert name values) change without table view dictionary drop drop_view grant revoke row user gone = row name values refl
+no-other (Update changes) change without table view dictionary drop drop_view grant revoke row user gone = absurd (cc)
+no-other Delete change without table view dictionary drop drop_view grant revoke row user gone = absurd (cc)
+no-other (CreateUser name profile secret) change without table view dictionary drop drop_view grant revoke row user gone = user name profile secret refl
+no-other (DeleteUser name) change without table view dictionary drop drop_view grant revoke row user gone = gone name refl
+no-other operation change without table view dictionary drop drop_view grant revoke row user gone = cc
 
 pub unreachable-requires : goal.unreachable-requires
 unreachable-requires g c =
     no-other c.args.operation.now (is_change-IsChange c.args.operation.now c.requires.changes) c.requires.no_cursor c.in_default.not-CreateTable c.in_default.not-CreateView c.in_default.not-CreateDictionary c.in_default.not-DropTable
-    c.in_default.not-DropView c.in_default.not-Grant c.in_default.not-Revoke c.in_default.not-Insert c.in_default.not-CreateUser
+    c.in_default.not-DropView c.in_default.not-Grant c.in_default.not-Revoke c.in_default.not-Insert c.in_default.not-CreateUser c.in_default.not-DeleteUser
 
 pub create_view-requires-clause-short : goal.create_view-requires-clause-short
 create_view-requires-clause-short g c = rw c.in-CreateView.is at c.requires.fits
@@ -123,3 +125,14 @@ returns-in-Revoke-clause-index g c = λ db held acts form fits ended.
     let made = (rw (c.copy-in-Revoke.ensures, c.copy-in-Revoke-2.ensures) at c.revoke.ensures.ends) db held in
     Indexes-ends db _ c.revoke.result c.args.index.now c.args.store.now c.revoke.new.store (g.B.Eeprom.chip c.args.bench.now) (g.B.Eeprom.chip c.revoke.new.bench)
     c.requires.index made c.revoke.ensures.goes_on c.revoke.ensures.rows ended
+
+pub returns-in-DeleteUser-clause-ends : goal.returns-in-DeleteUser-clause-ends
+unfolding edits_of
+returns-in-DeleteUser-clause-ends g c = λ db cursor held acts form fits.
+    rw c.in-DeleteUser.is ((rw c.copy-in-DeleteUser.ensures at c.delete_user.ensures.ends) db held)
+
+pub returns-in-DeleteUser-clause-index : goal.returns-in-DeleteUser-clause-index
+returns-in-DeleteUser-clause-index g c = λ db held acts form fits ended.
+    let made = (rw c.copy-in-DeleteUser.ensures at c.delete_user.ensures.ends) db held in
+    Indexes-ends db _ c.delete_user.result c.args.index.now c.args.store.now c.delete_user.new.store (g.B.Eeprom.chip c.args.bench.now) (g.B.Eeprom.chip c.delete_user.new.bench)
+    c.requires.index made c.delete_user.ensures.goes_on c.delete_user.ensures.rows ended

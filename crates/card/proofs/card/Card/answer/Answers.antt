@@ -8,7 +8,10 @@ use Rattle.scql_model.proofs.NothingWritten.{octets_bound_by-accepts}
 use Rattle.scql_model.proofs.AnswerWords.{step-costs, step-ends}
 use Rattle.scql_model.proofs.Refusing.{step-accepts_or_leaves}
 use Rattle.scql_model.proofs.ValidSteps.{IsValidAnswer-step}
+use Rattle.scql_model.proofs.FewCommits.{two-step}
+use Rattle.scql_model.proofs.LastCommits.{last-step}
 use Rattle.card.specs.Answering.{replied}
+use Rattle.card.proofs.InTurn.{leaves-each}
 use Rattle.card.proofs.card.Card.answer.Goals as goal
 
 pub returns-in-Ok-clause-step : goal.returns-in-Ok-clause-step
@@ -66,3 +69,10 @@ unfolding step
 returns-in-Ok-clause-costs_a_try g c = λ m left at is costs.
     let says = (c.in-Ok.ensures.performs m at).step in
     step-costs built_operations m c.args.command.now left (sym (ap (λ (sent : Reply). sent.word) says.reply) ∙ costs)
+
+pub returns-in-Ok-clause-in_turn : goal.returns-in-Ok-clause-in_turn
+returns-in-Ok-clause-in_turn g c = λ m at is.
+    let performs = c.in-Ok.ensures.performs m at in
+    let says = performs.step in
+    leaves-each _ _ _ m (step m c.args.command.now) performs.moments c.in-Ok.ensures.ready says.held
+    (IsValidAnswer-step m c.args.command.now (λ i. omega (arith, c.type_inv.command i)) at.valid).machine.committed (last-step m c.args.command.now) (two-step m c.args.command.now) (c.in-Ok.ensures.lowered m at)

@@ -1,6 +1,6 @@
 -- A command waits, reads, has an arm of its own, or changes the database.
-use Rattle.std.proofs.Common.{◌≡◌, Bool, true, false, ℕ, List, [], drop, Result, Ok, Err, refl, sym, ap, subst, ◌∙◌, arith}
-use Rattle.std.specs.Prelude.{IfOk}
+use Rattle.std.proofs.Common.{◌≡◌, Bool, true, false, ℕ, List, [], ◌∷◌, drop, Result, Ok, Err, refl, sym, ap, subst, ◌∙◌, arith}
+use Rattle.std.specs.Prelude.{IfOk, OnOk}
 use Rattle.eeprom.specs.Chip.{Chip}
 use Rattle.eeprom.specs.StoreOf.{image_size}
 use Rattle.eeprom.specs.declared.EepromFault.{EepromFault}
@@ -8,15 +8,16 @@ use Rattle.scql_base.specs.Words.{conditions_not_satisfied}
 use Rattle.scql_base.specs.declared.words.StatusWord.{StatusWord}
 use Rattle.scql_base.specs.declared.operation.Command.{Command}
 use Rattle.scql_base.specs.declared.operation.Operation.{Operation}
-use Rattle.scql_base.specs.declared.operation.Operation.TheVariants.{Begin, Commit, Rollback, PresentUser, OpenChannel, CloseChannel}
-use Rattle.scql_model.specs.Bound.{octets_carried_out, octets_committed, or_nothing}
+use Rattle.scql_base.specs.declared.operation.Operation.TheVariants.{Begin, Commit, Rollback, PresentUser, DeleteUser, Verify, OpenChannel, CloseChannel}
+use Rattle.scql_model.specs.Bound.{octets_carried_out, octets_changed, octets_verified, or_nothing}
+use Rattle.scql_model.proofs.FewCommits.{one-answered}
 use Rattle.scql_model.specs.Machine.{Machine}
 use Rattle.scql_model.specs.Operations.{kind_of}
 use Rattle.scql_model.specs.Replies.{said}
-use Rattle.scql_model.specs.Step.{Answer, answered, carried_out, changed, user_presented, channel_opened, channel_closed, transaction_begun, transaction_committed, transaction_rolled_back}
+use Rattle.scql_model.specs.Step.{Answer, answered, carried_out, changed, user_and_sessions_deleted, user_presented, verified, channel_opened, channel_closed, transaction_begun, transaction_committed, transaction_rolled_back}
 use Rattle.scql_model.specs.Transactions.{Waits, for_any, for_others, is_kept_waiting, waits}
 use Rattle.scql_model.specs.WellFormed.{HasForm}
-use Rattle.card.specs.Answering.{HoldsAnswer, Performs, replied}
+use Rattle.card.specs.Answering.{HoldsAnswer, LeavesFirstOfTwo, Performs, replied}
 use Rattle.card.specs.Card.{Kept, HoldsMachine, IsAt, IsReady}
 use Rattle.card.specs.Waiting.{keeps_waiting}
 use Rattle.card.proofs.BuiltLines.{IsChange-built, IsNoneOfThose}
@@ -138,6 +139,8 @@ none : (g : _) (c : In_default g) → IsNoneOfThose c.args.command.now.operation
 none g c = record {
   not_reading = sym c.is_reading.ensures ∙ c.if-is_reading.false;
   not_presents = c.in_default.not-PresentUser;
+  not_deletes = c.in_default.not-DeleteUser;
+  not_verifies = c.in_default.not-Verify;
   not_opens = c.in_default.not-OpenChannel;
   not_closes = c.in_default.not-CloseChannel;
   not_begins = c.in_default.not-Begin;
@@ -163,9 +166,93 @@ returns-in_default-clause-performs g c = λ m at.
     let old = g.B.Eeprom.chip c.args.bench.now in
     let new = g.B.Eeprom.chip c.change.new.bench in
     let free = told-waiting c.args.self.now old m c.args.command.now c.keeps_waiting.result false at.held c.keeps_waiting.ensures c.if-keeps_waiting.false in
-    let others = subst (λ (w : Waits). keeps_waiting w c.args.self.now.transaction channel ≡ false) (waits-changes operation changes.1) (sym c.keeps_waiting.ensures ∙ c.if-keeps_waiting.false) in
+    let others = subst (λ (w : Waits). keeps_waiting w c.args.self.now.transaction channel ≡ false) (waits-changes operation changes.1 c.in_default.not-DeleteUser) (sym c.keeps_waiting.ensures ∙ c.if-keeps_waiting.false) in
     subst (λ (body : List ℕ). Performs m (answered m (carried_out m c.args.command.now)) (or_nothing (octets_carried_out m c.args.command.now)) body c.change.result c.change.new.self old new) (sym c.requires.empty)
     (subst (λ (outcome : Result Answer StatusWord). Performs m (answered m outcome) (or_nothing (octets_carried_out m c.args.command.now)) [] c.change.result c.change.new.self old new)
-    (sym (carried_out-changes m channel operation c.args.command.now.le changes.1 free))
+    (sym (carried_out-changes m channel operation c.args.command.now.le changes.1 c.in_default.not-DeleteUser free))
     (subst (λ (most : Result ℕ StatusWord). Performs m (answered m (changed m channel operation)) (or_nothing most) [] c.change.result c.change.new.self old new)
     (sym (octets-carried_out m channel operation c.args.command.now.le changes.1 free)) (c.change.ensures.performs m at others)))
+
+-- VERIFY and DELETE USER wait for any transaction, so none is open.
+pub verify-requires-clause-closed : goal.verify-requires-clause-closed
+verify-requires-clause-closed g c =
+    any-none c.args.self.now.transaction c.args.command.now.channel
+    (subst (λ (operation : Operation). keeps_waiting (waits (kind_of operation)) c.args.self.now.transaction c.args.command.now.channel ≡ false) c.in-Verify.is (sym c.keeps_waiting.ensures ∙ c.if-keeps_waiting.false))
+
+pub returns-in-Verify-clause-performs : goal.returns-in-Verify-clause-performs
+returns-in-Verify-clause-performs g c = λ m at.
+    let old = g.B.Eeprom.chip c.args.bench.now in
+    let new = g.B.Eeprom.chip c.verify.new.bench in
+    let channel = c.args.command.now.channel in
+    let free = told-waiting c.args.self.now old m c.args.command.now c.keeps_waiting.result false at.held c.keeps_waiting.ensures c.if-keeps_waiting.false in
+    let carried : carried_out m c.args.command.now ≡ verified m channel c.as_slice.result.now = rw c.as_slice.ensures.octets (carried_out-arm m c.args.command.now (Verify _) c.in-Verify.is free refl) in
+    let most : octets_carried_out m c.args.command.now ≡ octets_verified m channel c.as_slice.result.now = rw c.as_slice.ensures.octets (octets-arm m c.args.command.now (Verify _) c.in-Verify.is free) in
+    subst (λ (body : List ℕ). Performs m (answered m (carried_out m c.args.command.now)) (or_nothing (octets_carried_out m c.args.command.now)) body c.verify.result c.verify.new.self old new) (sym c.requires.empty)
+    (subst (λ (outcome : Result Answer StatusWord). Performs m (answered m outcome) (or_nothing (octets_carried_out m c.args.command.now)) [] c.verify.result c.verify.new.self old new) (sym carried)
+    (subst (λ (most : Result ℕ StatusWord). Performs m (answered m (verified m channel c.as_slice.result.now)) (or_nothing most) [] c.verify.result c.verify.new.self old new) (sym most) (c.verify.ensures.performs m at)))
+
+pub delete_user-requires-clause-closed : goal.delete_user-requires-clause-closed
+delete_user-requires-clause-closed g c =
+    any-none c.args.self.now.transaction c.args.command.now.channel
+    (subst (λ (operation : Operation). keeps_waiting (waits (kind_of operation)) c.args.self.now.transaction c.args.command.now.channel ≡ false) c.in-DeleteUser.is (sym c.keeps_waiting.ensures ∙ c.if-keeps_waiting.false))
+
+pub returns-in-DeleteUser-clause-performs : goal.returns-in-DeleteUser-clause-performs
+returns-in-DeleteUser-clause-performs g c = λ m at.
+    let old = g.B.Eeprom.chip c.args.bench.now in
+    let new = g.B.Eeprom.chip c.delete_user.new.bench in
+    let channel = c.args.command.now.channel in
+    let free = told-waiting c.args.self.now old m c.args.command.now c.keeps_waiting.result false at.held c.keeps_waiting.ensures c.if-keeps_waiting.false in
+    let carried : carried_out m c.args.command.now ≡ user_and_sessions_deleted m channel c.in-DeleteUser.name = carried_out-arm m c.args.command.now (DeleteUser c.in-DeleteUser.name) c.in-DeleteUser.is free refl in
+    let most : octets_carried_out m c.args.command.now ≡ octets_changed m channel c.args.command.now.operation =
+    octets-carried_out m channel c.args.command.now.operation c.args.command.now.le (rw c.in-DeleteUser.is refl) free in
+    subst (λ (body : List ℕ). Performs m (answered m (carried_out m c.args.command.now)) (or_nothing (octets_carried_out m c.args.command.now)) body c.delete_user.result c.delete_user.new.self old new) (sym c.requires.empty)
+    (subst (λ (outcome : Result Answer StatusWord). Performs m (answered m outcome) (or_nothing (octets_carried_out m c.args.command.now)) [] c.delete_user.result c.delete_user.new.self old new) (sym carried)
+    (subst (λ (most : Result ℕ StatusWord). Performs m (answered m (user_and_sessions_deleted m channel c.in-DeleteUser.name)) (or_nothing most) [] c.delete_user.result c.delete_user.new.self old new) (sym most)
+    (rw c.copy-in-DeleteUser.ensures at (c.delete_user.ensures.performs m at))))
+
+-- VERIFY alone commits a second database.
+not_twice : (m : Machine) (c : Command) (result : Result StatusWord EepromFault) (old new : Chip) → ((secret : List ℕ) → c.operation ≡ Verify secret → ⊥) → OnOk result (LeavesFirstOfTwo (answered m (carried_out m c)) old new)
+not_twice m c (Ok word) old new other = λ first second rest twice. absurd (one-answered m c first second rest other twice)
+not_twice m c (Err fault) old new other = tt
+
+pub returns-then-is_reading-clause-lowered : goal.returns-then-is_reading-clause-lowered
+returns-then-is_reading-clause-lowered g c = λ m at. not_twice m c.args.command.now c.read.result _ _ (λ secret is. let reads = sym c.is_reading.ensures ∙ c.if-is_reading.true in let wrong = rw is at reads in absurd cc)
+
+pub returns-in-PresentUser-clause-lowered : goal.returns-in-PresentUser-clause-lowered
+returns-in-PresentUser-clause-lowered g c = λ m at. not_twice m c.args.command.now c.present_user.result _ _ (λ secret is. let other = sym c.in-PresentUser.is ∙ is in absurd cc)
+
+pub returns-in-OpenChannel-clause-lowered : goal.returns-in-OpenChannel-clause-lowered
+returns-in-OpenChannel-clause-lowered g c = λ m at. not_twice m c.args.command.now (Ok c.open_channel.result) _ _ (λ secret is. let other = sym c.in-OpenChannel.is ∙ is in absurd cc)
+
+pub returns-in-CloseChannel-clause-lowered : goal.returns-in-CloseChannel-clause-lowered
+returns-in-CloseChannel-clause-lowered g c = λ m at. not_twice m c.args.command.now (Ok c.close_channel.result) _ _ (λ secret is. let other = sym c.in-CloseChannel.is ∙ is in absurd cc)
+
+pub returns-in-DeleteUser-clause-lowered : goal.returns-in-DeleteUser-clause-lowered
+returns-in-DeleteUser-clause-lowered g c = λ m at. not_twice m c.args.command.now c.delete_user.result _ _ (λ secret is. let other = sym c.in-DeleteUser.is ∙ is in absurd cc)
+
+pub returns-in_default-clause-lowered : goal.returns-in_default-clause-lowered
+returns-in_default-clause-lowered g c = λ m at. not_twice m c.args.command.now c.change.result _ _ c.in_default.not-Verify
+
+pub returns-in-Verify-clause-lowered : goal.returns-in-Verify-clause-lowered
+returns-in-Verify-clause-lowered g c = λ m at.
+    let channel = c.args.command.now.channel in
+    let free = told-waiting c.args.self.now (g.B.Eeprom.chip c.args.bench.now) m c.args.command.now c.keeps_waiting.result false at.held c.keeps_waiting.ensures c.if-keeps_waiting.false in
+    let carried : carried_out m c.args.command.now ≡ verified m channel c.as_slice.result.now = rw c.as_slice.ensures.octets
+    (carried_out-arm m c.args.command.now (Verify _) c.in-Verify.is free refl) in
+    subst (λ (outcome : Result Answer StatusWord). OnOk c.verify.result (LeavesFirstOfTwo (answered m outcome) (g.B.Eeprom.chip c.args.bench.now) (g.B.Eeprom.chip c.verify.new.bench))) (sym carried) (c.verify.ensures.lowered m at)
+
+pub returns-in-Begin-clause-lowered : goal.returns-in-Begin-clause-lowered
+returns-in-Begin-clause-lowered g c = λ m at. not_twice m c.args.command.now (Ok c.begin.result) _ _ (λ secret is. let other = sym c.in-Begin.is ∙ is in absurd cc)
+
+pub returns-in-Commit-clause-lowered : goal.returns-in-Commit-clause-lowered
+returns-in-Commit-clause-lowered g c = λ m at. not_twice m c.args.command.now c.commit.result _ _ (λ secret is. let other = sym c.in-Commit.is ∙ is in absurd cc)
+
+pub returns-in-Rollback-clause-lowered : goal.returns-in-Rollback-clause-lowered
+returns-in-Rollback-clause-lowered g c = λ m at. not_twice m c.args.command.now (Ok c.roll_back.result) _ _ (λ secret is. let other = sym c.in-Rollback.is ∙ is in absurd cc)
+
+-- a command that waits commits nothing
+pub returns-then-keeps_waiting-clause-lowered : goal.returns-then-keeps_waiting-clause-lowered
+returns-then-keeps_waiting-clause-lowered g c = λ m at first second rest twice.
+    let waited = told-waiting c.args.self.now (g.B.Eeprom.chip c.args.bench.now) m c.args.command.now c.keeps_waiting.result true at.held c.keeps_waiting.ensures c.if-keeps_waiting.true in
+    let none : [] ≡ first ∷ second ∷ rest = sym (ap (λ (outcome : Result Answer StatusWord). (answered m outcome).commits) (carried_out-waits m c.args.command.now waited)) ∙ twice in
+    absurd cc

@@ -1,5 +1,6 @@
 -- What was taken with the card's open channels and chains is what the machine takes with its own.
-use Rattle.std.proofs.Common.{◌≡◌, ◌≤◌, ◌∙◌, ℕ, min, List, [], drop, map, Option, is_some, ap, Ok, Err, refl, sym, subst, arith}
+use Rattle.std.proofs.Common.{◌≡◌, ◌≤◌, ◌∙◌, ℕ, min, List, [], ◌∷◌, drop, map, Option, is_some, ap, Ok, Err, refl, sym, subst, arith}
+use Rattle.std.specs.Prelude.{OnOk}
 use Rattle.eeprom.specs.Chip.{Keeps}
 use Rattle.eeprom.specs.StoreOf.{image_size}
 use Rattle.scql_base.specs.declared.words.StatusWord.{StatusWord}
@@ -14,7 +15,7 @@ use Rattle.scql_model.specs.Step.{Answer, answered, carried_out, done_with, step
 use Rattle.scql_model.specs.WellFormed.{FitsCard}
 use Rattle.apdu_chain.specs.Chaining.{chain_on}
 use Rattle.card.specs.Card.{Kept, IsAt, IsReady}
-use Rattle.card.specs.Answering.{HoldsAnswer, Performs}
+use Rattle.card.specs.Answering.{HoldsAnswer, LeavesFirstOfTwo, Performs}
 use Rattle.card.specs.Sessions.{sessions_of}
 use Rattle.card.proofs.TakenForms.{taken_at, outcome_of, step-taken, IsAt-taken, bound-taken, octets_taken, octets-whole, taken-committed, taken-refused, taken-kept, named-taken, open-taken, outcome-whole, built-taken, fits-taken}
 use Rattle.card.proofs.Leaving.{Keeps-none}
@@ -130,3 +131,28 @@ returns-in-Kept-clause-ready g c =
     let chip = g.B.Eeprom.chip c.args.bench.now in
     let w = (goal.at.returns-in-Kept-clause-ready g c).After-take in
     IsReady-sessions (after_take g w) c.drop_pending.new.self chip chip _ c.drop_pending.ensures refl (ready-taken g w)
+-- Nothing is committed by what is no command.
+pub returns-in-Refused-clause-lowered : goal.returns-in-Refused-clause-lowered
+returns-in-Refused-clause-lowered g c = λ m at first second rest twice.
+    let w = (goal.at.returns-in-Refused-clause-lowered g c).After-take in
+    let next = taken_at m (form g w) in
+    let is : step m c.args.command.now ≡ answered next (Err c.in-Refused.word) = steps g w m at ∙ ap (answered next) (taken-refused next (form g w) c.in-Refused.word (sym c.in-Refused.is ∙ c.take.ensures.taken)) in
+    let none : [] ≡ first ∷ second ∷ rest = sym (ap (λ (answer : Answer). answer.commits) is) ∙ twice in
+    absurd cc
+
+pub returns-in-Kept-clause-lowered : goal.returns-in-Kept-clause-lowered
+returns-in-Kept-clause-lowered g c = λ m at first second rest twice.
+    let w = (goal.at.returns-in-Kept-clause-lowered g c).After-take in
+    let next = taken_at m (form g w) in
+    let is : step m c.args.command.now ≡ done_with next (channel_named c.args.command.now) [] =
+    steps g w m at ∙ ap (answered next) (taken-kept next c.args.command.now (form g w) (named-taken c.args.command.now c.open_channels-channels.result (chain_on c.self.inside.chains) (min c.row_limit.result 1020)) (sym c.in-Kept.is ∙ c.take.ensures.taken)) in
+    let none : [] ≡ first ∷ second ∷ rest = sym (ap (λ (answer : Answer). answer.commits) is) ∙ twice in
+    absurd cc
+
+pub returns-in-Whole-clause-lowered : goal.returns-in-Whole-clause-lowered
+returns-in-Whole-clause-lowered g c = λ m at.
+    let w = (goal.at.returns-in-Whole-clause-lowered g c).After-take in
+    let next = taken_at m (form g w) in
+    let is = steps g w m at ∙ ap (answered next) (outcome-whole next (form g w) c.in-Whole.command (sym c.in-Whole.is ∙ c.take.ensures.taken)) in
+    subst (λ (answer : Answer). OnOk c.carry_out.result (LeavesFirstOfTwo answer (g.B.Eeprom.chip c.args.bench.now) (g.B.Eeprom.chip c.carry_out.new.bench))) (sym is)
+    (c.carry_out.ensures.lowered next (at-taken g w m at))
