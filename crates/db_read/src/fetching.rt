@@ -1,22 +1,19 @@
 // FETCH and FETCH NEXT.
-ghost use Rattle.std.specs.Prelude.{◌≡◌, ◌*◌, ℕ, List, IfOk, IfSome, IsTrue, OnErr};
+ghost use Rattle.std.specs.Prelude.{◌≡◌, ℕ, List, IfOk, IfSome, IsTrue, OnErr};
 ghost use Rattle.eeprom.specs.Fault.{each_error};
 ghost use Rattle.eeprom.specs.Frame.{Reads};
 ghost use Rattle.record_store.specs.Held.{IsOver};
 ghost use Rattle.scql_base.specs.declared.cursor.Cursor.{Cursor};
 ghost use Rattle.scql_model.specs.Cursors.{IsCursorOf};
 ghost use Rattle.scql_model.specs.Database.{Database};
-ghost use Rattle.scql_model.specs.Moves.{gave, gave_next, moved, row_behind};
-ghost use Rattle.scql_model.specs.Objects.{StampedRow};
-ghost use Rattle.scql_model.specs.ReadBound.{IsOnTableOrView, RisesAtLeast, octets_for_operation, place_reached};
+ghost use Rattle.scql_model.specs.Moves.{moved};
+ghost use Rattle.scql_model.specs.ReadBound.{IsOnTableOrView, RisesAtLeast, octets_for_operation};
 ghost use Rattle.scql_model.specs.ReadingCommands as commands;
-ghost use Rattle.record_table.specs.Listed.{slots_of};
 ghost use Rattle.record_table.specs.Making.{IsHeld};
 ghost use Rattle.row_index.specs.Index.{Indexes};
-ghost use Rattle.cursor.specs.Moved.{fetched, refuses};
+ghost use Rattle.cursor.specs.Moved.{refuses};
 ghost use Rattle.db_read.specs.Answered.{given};
-ghost use Rattle.db_read.specs.Told.{Tells, costs_of};
-ghost use Rattle.cursor.specs.Costs.{RisesBetween, cost_at, cost_between, least_read};
+ghost use Rattle.cursor.specs.Costs.{least_read};
 ghost use Rattle.eeprom.specs.Chip.{Becomes, RisesAtMost};
 
 use crate::advancing::advance;

@@ -5,7 +5,6 @@ ghost use Rattle.eeprom.specs.Chip.{Becomes, RisesAtMost};
 ghost use Rattle.eeprom.specs.Frame.{Reads};
 ghost use Rattle.eeprom.specs.StoreOf.{cell_size};
 ghost use Rattle.record_store.specs.Held.{IsOver};
-ghost use Rattle.scql_model.specs.Cursors.{IsCursorOf};
 ghost use Rattle.scql_model.specs.Database.{Database};
 ghost use Rattle.scql_model.specs.Rights as model;
 ghost use Rattle.scql_model.specs.Rights.{seen_named, seen_stamped};
@@ -13,9 +12,7 @@ ghost use Rattle.catalog_codec.specs.Catalog.{grant_kind, object_kind};
 ghost use Rattle.record_table.specs.Listed.{cells_marked, slots_of};
 ghost use Rattle.record_table.specs.Making.{IsHeld, is_stop_fault};
 ghost use Rattle.record_table.specs.Reading.{NeverFalls};
-ghost use Rattle.db_read.specs.Answered.{Chooses, Stops, WhereRead, rows_under, selectable, stop_answer};
-ghost use Rattle.db_read.specs.Costs.{catalogue_cost};
-ghost use Rattle.db_read.specs.Told.{Tells, costs_of};
+ghost use Rattle.db_read.specs.Answered.{Stops, WhereRead, selectable, stop_answer};
 
 use crate::sight::{Sight, see};
 use eeprom::{Eeprom, EepromFault};
