@@ -1,15 +1,14 @@
 -- What the searches for an object and a move of its cursor read together.
-use Rattle.std.proofs.Common.{◌≡◌, ℕ, ◌+◌, ◌*◌, ◌≤◌, nat_le, nat_lt, ◌==◌, ◌&&◌, ◌||◌, Bool, true, false, if◌then◌else◌, List, [], ◌∷◌, Option, Some, None, Result, Ok, Err, refl, sym, ap, subst, ◌∙◌, inl, inr, arith}
+use Rattle.std.proofs.Common.{◌≡◌, ℕ, ◌+◌, ◌*◌, ◌≤◌, nat_lt, ◌==◌, Bool, List, [], ◌∷◌, Option, Result, refl, sym, subst, arith}
 use Rattle.std.specs.Prelude.{IfOk, IfSome}
 use Rattle.std.specs.List.{list_all}
 use Rattle.std.proofs.lemmas.Bool.{and_parts, not-true, or_parts}
 use Rattle.eeprom.specs.Chip.{Becomes, Chip, RisesAtMost}
-use Rattle.eeprom.specs.StoreOf.{Slots, cell_size}
+use Rattle.eeprom.specs.StoreOf.{cell_size}
 use Rattle.eeprom.specs.declared.fault.EepromFault.{EepromFault}
 use Rattle.record_store.specs.Held.{Held}
 use Rattle.record_store.specs.declared.side.Side.{Side}
 use Rattle.scql_base.specs.Words.{done, end_reached}
-use Rattle.scql_base.specs.declared.cursor.Cursor.{Cursor}
 use Rattle.scql_base.specs.declared.cursor.Place.{Place}
 use Rattle.scql_base.specs.declared.cursor.Place.TheVariants.{NotOpen, At, End}
 use Rattle.scql_base.specs.declared.words.StatusWord.{StatusWord}
@@ -17,7 +16,7 @@ use Rattle.scql_model.specs.Database.{Database}
 use Rattle.scql_model.specs.Matching.{Values}
 use Rattle.scql_model.specs.Moves.{first_row, row_behind}
 use Rattle.scql_model.specs.Objects.{StampedRow}
-use Rattle.scql_model.specs.ReadBound.{RisesAtLeast, is_at, is_passed, octets_of_searches, place_reached, row_cells}
+use Rattle.scql_model.specs.ReadBound.{RisesAtLeast, is_at, is_passed, octets_of_searches, row_cells}
 use Rattle.catalog_codec.specs.Catalog.{grant_kind, object_kind}
 use Rattle.privilege_table.proofs.Seen.{told-held}
 use Rattle.record_table.specs.Listed.{cells_marked, slots_of}

@@ -1,5 +1,5 @@
 -- What is chosen of the table under a cursor is what the rows under the cursor are.
-use Rattle.std.proofs.Common.{◌≡◌, ℕ, ◌≤◌, ◌==◌, nat_le, nat_lt, Bool, true, false, ◌&&◌, List, [], ◌∷◌, length, map, Option, option_map, Some, Ok, refl, sym, ap, subst, ◌∙◌, inl, inr, arith}
+use Rattle.std.proofs.Common.{◌≡◌, ℕ, ◌≤◌, ◌==◌, nat_le, nat_lt, Bool, true, false, ◌&&◌, List, [], ◌∷◌, length, map, Option, Some, Ok, refl, sym, ap, subst, ◌∙◌, inl, inr, arith}
 use Rattle.std.specs.Prelude.{IfSome}
 use Rattle.std.specs.List.{filter, list_all}
 use Rattle.std.specs.Option.{option_map_or}
@@ -13,6 +13,7 @@ use Rattle.scql_base.specs.Row.{is_narrow, row_size}
 use Rattle.scql_base.specs.declared.condition.Condition.{Condition}
 use Rattle.scql_base.specs.declared.cursor.Cursor.{Cursor}
 use Rattle.scql_base.specs.declared.records.Object.{Object}
+use Rattle.scql_base.specs.declared.records.ObjectKind.TheVariants.{Table}
 use Rattle.scql_base.specs.declared.records.RowRecord.{RowRecord}
 use Rattle.scql_base.specs.declared.words.Actor.{Actor}
 use Rattle.scql_model.specs.Contents.{Contents, contents_of, narrowed}
@@ -29,7 +30,8 @@ use Rattle.scql_model.proofs.SeenThrough.{IsSeenThrough-resolved_of}
 use Rattle.record_table.specs.Listed.{slots_of}
 use Rattle.record_table.specs.Making.{IsHeld}
 use Rattle.search_cond.specs.Bound.{Binds}
-use Rattle.views.specs.Resolved.{AreKnown, ArePlaces, Resolves}
+use Rattle.search_cond.specs.declared.placed.Placed.{Placed}
+use Rattle.views.specs.Resolved.{AreBound, AreKnown, ArePlaces, Resolves}
 use Rattle.views.specs.declared.resolving.Resolved.{Resolved}
 use Rattle.views.proofs.KnownNames.{IsKnown, IsKnown-resolved_of, among-within, names-valid}
 use Rattle.db_read.specs.Answered.{AreCostsOf, Chooses, selectable}
@@ -68,7 +70,7 @@ row-limits x fits =
     let parts = and_parts (is_count_of_columns (length x.row) && list_all is_narrow x.row) (nat_le (row_size x.row) 1020) row in
     ((and_parts (is_count_of_columns (length x.row)) (list_all is_narrow x.row) parts.0).1, leb-true (row_size x.row) 1020 parts.1)
 
-module _ (store : Held) (side : Side) (chip : Chip) (db : Database) (actor : Actor) (c : Cursor) (o : Object) (answer : Resolved) (held : IsHeld store side chip db) (cursor : IsCursorOf db c)
+module _ (store : Held) (side : Side) (chip : Chip) (db : Database) (actor : Actor) (c : Cursor) (o : Object) (held : IsHeld store side chip db) (cursor : IsCursorOf db c)
     (selects : selectable db actor (seen_stamped db actor c.object) ≡ Ok o) where
   pub at-object : object_stamped db.objects c.object ≡ Some o
   at-object = object-stamped db actor c.object o held.valid (selectable-parts db actor (seen_stamped db actor c.object) o selects).0
@@ -80,41 +82,41 @@ module _ (store : Held) (side : Side) (chip : Chip) (db : Database) (actor : Act
   pub at-stamp : object_stamped db.objects o.stamp ≡ Some o
   at-stamp = ap (object_stamped db.objects) own ∙ at-object
 
-  module _ (resolves : Resolves db.objects o.stamp answer) where
-    known : IsKnown db.objects o.stamp resolves.is
-    known = IsKnown-resolved_of db o.stamp resolves.is held.valid resolves.resolved
+  named-own : are_named_among (columns_of o.kind) c.columns c.conditions ≡ true
+  named-own = subst (λ (found : Option Object). IfSome found (λ x. are_named_among (columns_of x.kind) c.columns c.conditions ≡ true)) at-object cursor.named
 
-    named-shown : are_named_among resolves.is.columns c.columns c.conditions ≡ true
+  -- the cursor's names are columns of the object
+  pub named-columns : (all : Columns) → all ≡ columns_of o.kind → are_named_among all c.columns c.conditions ≡ true
+  named-columns all own-columns = subst (λ (x : Columns). are_named_among x c.columns c.conditions ≡ true) (sym own-columns) named-own
+
+  module _ (seen : model.Resolved) (resolved : model.resolved_of db.objects o.stamp ≡ Some seen) where
+    known : IsKnown db.objects o.stamp seen
+    known = IsKnown-resolved_of db o.stamp seen held.valid resolved
+
+    named-shown : are_named_among seen.columns c.columns c.conditions ≡ true
     named-shown =
-        let named : are_named_among (columns_of o.kind) c.columns c.conditions ≡ true = subst (λ (found : Option Object). IfSome found (λ x. are_named_among (columns_of x.kind) c.columns c.conditions ≡ true)) at-object cursor.named in
         let same = same_Some known.object o (sym known.found ∙ at-stamp) in
-        subst (λ (all : Columns). are_named_among all c.columns c.conditions ≡ true) (ap (λ (x : Object). columns_of x.kind) (sym same) ∙ known.columns) named
+        subst (λ (all : Columns). are_named_among all c.columns c.conditions ≡ true) (ap (λ (x : Object). columns_of x.kind) (sym same) ∙ known.columns) named-own
 
-    named-both : (are_among c.columns resolves.is.all ≡ true) × (AreKnown resolves.is.all c.conditions ≡ true)
+    named-both : (are_among c.columns seen.all ≡ true) × (AreKnown seen.all c.conditions ≡ true)
     named-both =
-        let parts = and_parts (are_among c.columns resolves.is.columns) (AreKnown resolves.is.columns c.conditions) named-shown in
-        (among-within c.columns resolves.is.columns resolves.is.all known.within parts.0, among-within (map (λ (x : Condition). x.column) c.conditions) resolves.is.columns resolves.is.all known.within parts.1)
+        let parts = and_parts (are_among c.columns seen.columns) (AreKnown seen.columns c.conditions) named-shown in
+        (among-within c.columns seen.columns seen.all known.within parts.0, among-within (map (λ (x : Condition). x.column) c.conditions) seen.columns seen.all known.within parts.1)
 
     -- the cursor's names are columns of the table
-    pub named-all : are_named_among answer.all c.columns c.conditions ≡ true
-    named-all =
-        subst (λ (all : Columns). are_named_among all c.columns c.conditions ≡ true) (sym resolves.stands.all)
-        (and_from (are_among c.columns resolves.is.all) (AreKnown resolves.is.all c.conditions) named-both.0 named-both.1)
+    pub named-all : (all : Columns) → all ≡ seen.all → are_named_among all c.columns c.conditions ≡ true
+    named-all all whole =
+        subst (λ (x : Columns). are_named_among x c.columns c.conditions ≡ true) (sym whole)
+        (and_from (are_among c.columns seen.all) (AreKnown seen.all c.conditions) named-both.0 named-both.1)
 
-    module _ (chosen : Chosen) (table : chosen.table ≡ answer.table) (filters : chosen.filters ≡ answer.filters) (places : ArePlaces chosen.places.items answer.all c.columns) (binds : Binds chosen.conditions answer.all c.conditions)
+    module _ (chosen : Chosen) (of_model : chosen.table ≡ seen.table) (filters : AreBound chosen.filters.now seen.all seen.filters) (placed : ArePlaces chosen.places.items seen.all c.columns) (binds : Binds chosen.conditions seen.all c.conditions)
         (few : length c.columns ≤ 15) where
-      of_model : chosen.table ≡ resolves.is.table
-      of_model = table ∙ resolves.stands.table
-
-      placed : ArePlaces chosen.places.items resolves.is.all c.columns
-      placed = subst (λ (all : Columns). ArePlaces chosen.places.items all c.columns) resolves.stands.all places
-
       can-cut : (x : RowRecord) → row_record.fits x ≡ true → has_table db.objects x ≡ true → is_chosen chosen x ≡ true → can_cut chosen x ≡ true
       can-cut x fits has is =
           let own = eqb-true x.table chosen.table (and_parts (x.table == chosen.table) (is_shown chosen x.row) is).0 in
           let there = table-row db.objects x known.table has (ap (object_stamped db.objects) (own ∙ of_model) ∙ known.found_table) in
           let limits = row-limits x fits in
-          cut-fits chosen.places.items resolves.is.all c.columns x.row placed few cursor.different named-both.0 (ap (length {A = List ℕ}) (sym known.all) ∙ there.0) limits.0 limits.1
+          cut-fits chosen.places.items seen.all c.columns x.row placed few cursor.different named-both.0 (ap (length {A = List ℕ}) (sym known.all) ∙ there.0) limits.0 limits.1
 
       stamped : (x : RowRecord) → row_record.fits x ≡ true → has_table db.objects x ≡ true → is_chosen chosen x ≡ true → nat_lt 0 x.stamp ≡ true
       stamped x fits has is =
@@ -131,12 +133,11 @@ module _ (store : Held) (side : Side) (chip : Chip) (db : Database) (actor : Act
 
       through : narrowed c.columns c.conditions (contents_of db o.stamp) ≡ chosen_rows chosen db.rows
       through =
-          (IsSeenThrough-resolved_of db o.stamp resolves.is (names-valid db held.valid) resolves.resolved).rows c.columns c.conditions named-shown
-          ∙ sym (chosen-through chosen resolves.is c.columns c.conditions of_model placed (subst (λ (all : Columns). Binds chosen.conditions all c.conditions) resolves.stands.all binds)
-          (rw filters resolves.stands.filters) db.rows)
+          (IsSeenThrough-resolved_of db o.stamp seen (names-valid db held.valid) resolved).rows c.columns c.conditions named-shown
+          ∙ sym (chosen-through chosen seen c.columns c.conditions of_model placed binds filters db.rows)
 
-      base : model.resolved_of db.objects c.object ≡ Some resolves.is
-      base = ap (model.resolved_of db.objects) (sym own) ∙ resolves.resolved
+      base : model.resolved_of db.objects c.object ≡ Some seen
+      base = ap (model.resolved_of db.objects) (sym own) ∙ resolved
 
       costs-are : AreCostsOf db c.object (costs_shown chosen (slots_of store side chip))
       costs-are = record {
@@ -154,3 +155,19 @@ module _ (store : Held) (side : Side) (chip : Chip) (db : Database) (actor : Act
             ∙ all-kept row_record.fits (has_table db.objects) (is_chosen chosen) (λ (x : RowRecord). nat_lt 0 x.stamp) db.rows held.valid.rows.limits held.valid.rows.tables stamped;
         costs_are = λ on_table. costs-are;
       }
+
+  -- what is chosen of a table
+  pub Chooses-table : (columns : Columns) (chosen : Chosen) → o.kind ≡ Table columns → chosen.table ≡ o.stamp → chosen.filters.now ≡ [] → ArePlaces chosen.places.items columns c.columns → Binds chosen.conditions columns c.conditions
+      → length c.columns ≤ 15 → Chooses db actor c (Tells (OfTable chosen) store side chip) (costs_of (OfTable chosen) (slots_of store side chip))
+  unfolding model.resolved_of
+  Chooses-table columns chosen kind table none places binds few =
+      let seen : model.Resolved = record { table = o.stamp; all = columns; columns = columns; filters = [] } in
+      let resolved : model.resolved_of db.objects o.stamp ≡ Some seen = rw (at-stamp, kind) refl in
+      Chooses-chosen seen resolved chosen table (subst (λ (filters : List (List Placed)). AreBound filters columns []) (sym none) tt) places binds few
+
+  -- what is chosen of the table under a view
+  pub Chooses-view : (answer : Resolved) (resolves : Resolves db.objects o.stamp answer) (chosen : Chosen) → chosen.table ≡ answer.table → chosen.filters.now ≡ answer.filters.items → ArePlaces chosen.places.items answer.all c.columns
+      → Binds chosen.conditions answer.all c.conditions → length c.columns ≤ 15 → Chooses db actor c (Tells (OfTable chosen) store side chip) (costs_of (OfTable chosen) (slots_of store side chip))
+  Chooses-view answer resolves chosen table filters places binds few =
+      Chooses-chosen resolves.is resolves.resolved chosen (table ∙ resolves.stands.table) (subst (λ (x : List (List Placed)). AreBound x resolves.is.all resolves.is.filters) (sym filters) resolves.stands.filters)
+      (subst (λ (all : Columns). ArePlaces chosen.places.items all c.columns) resolves.stands.all places) (subst (λ (all : Columns). Binds chosen.conditions all c.conditions) resolves.stands.all binds) few

@@ -1,5 +1,5 @@
 -- What is chosen of the dictionary under a cursor is what the rows under the cursor are.
-use Rattle.std.proofs.Common.{◌≡◌, ℕ, ◌+◌, ◌≤◌, ◌==◌, nat_le, nat_lt, ◌&&◌, Bool, true, false, List, [], ◌∷◌, ◌++◌, length, map, Option, Some, None, Ok, refl, sym, ap, subst, ◌∙◌, inl, inr, arith}
+use Rattle.std.proofs.Common.{◌≡◌, ℕ, ◌≤◌, nat_le, nat_lt, Bool, true, false, List, [], ◌∷◌, ◌++◌, length, map, Option, Some, None, Ok, refl, sym, ap, subst, ◌∙◌, inl, inr, arith}
 use Rattle.std.specs.Prelude.{IfSome}
 use Rattle.std.specs.List.{filter, list_all}
 use Rattle.std.proofs.lemmas.Bool.{and_parts, cases_Bool, false≢true, leb-true, lt-ltb}
@@ -21,23 +21,21 @@ use Rattle.scql_base.specs.declared.words.Subject.{Subject}
 use Rattle.scql_base.specs.declared.words.Subject.TheVariants.{Objects, Users, Grants}
 use Rattle.scql_model.specs.Contents.{Contents, contents_of, narrowed}
 use Rattle.scql_model.specs.Cursors.{IsCursorOf}
-use Rattle.scql_model.specs.Database.{Database, IsValid, are_among, are_named_among, object_stamped, records_of, stored_grant, stored_object, stored_row, stored_user}
+use Rattle.scql_model.specs.Database.{Database, IsValid, are_among, are_named_among, object_stamped, stored_grant, stored_object, stored_row, stored_user}
 use Rattle.scql_model.specs.Defining.{is_table_or_view}
 use Rattle.scql_model.specs.Dictionaries.{grant_told, object_owner, object_told, rows_told, tells_of, user_told}
 use Rattle.scql_model.specs.Matching.{Columns, Values}
 use Rattle.scql_model.specs.Moves as moves
 use Rattle.scql_model.specs.Objects.{StampedRow, columns_of, dictionary_columns}
-use Rattle.scql_model.specs.ReadBound.{IsOnTableOrView}
 use Rattle.scql_model.specs.Rights.{seen_stamped}
 use Rattle.scql_model.specs.Stored.{StoredRecord, is_given_out}
 use Rattle.scql_model.proofs.ContentsRise.{Rises-contents_of}
-use Rattle.scql_model.proofs.LongerLists.{find-passes}
 use Rattle.scql_model.proofs.ReadingIsShown.{IsReadable-valid}
 use Rattle.record_table.specs.Making.{IsHeld}
 use Rattle.search_cond.specs.Bound.{Binds}
 use Rattle.views.specs.Resolved.{ArePlaces}
 use Rattle.cursor.specs.Moved.{AreStamped}
-use Rattle.db_read.specs.Answered.{AreCostsOf, Chooses, selectable}
+use Rattle.db_read.specs.Answered.{Chooses, selectable}
 use Rattle.db_read.specs.Chosen.{values_at}
 use Rattle.db_read.specs.Told.{TellsRows, as_shown, chosen_told, meets}
 use Rattle.db_read.specs.declared.telling.Told.{Told}
@@ -125,23 +123,23 @@ module _ (store : Held) (side : Side) (chip : Chip) (db : Database) (actor : Act
   pub named-told : (all : Columns) → all ≡ columns_of o.kind → are_named_among all c.columns c.conditions ≡ true
   named-told all is = subst (λ (x : Columns). are_named_among x c.columns c.conditions ≡ true) (sym is) named
 
-  module _ (told : Told) (dictionary : told.dictionary ≡ o) (places : ArePlaces told.places.items (columns_of o.kind) c.columns) (binds : Binds told.conditions (columns_of o.kind) c.conditions)
+  module _ (told : Told) (dictionary : told.dictionary.now ≡ o) (places : ArePlaces told.places.items (columns_of o.kind) c.columns) (binds : Binds told.conditions (columns_of o.kind) c.conditions)
       (few : length c.columns ≤ 15) (subject : Subject) (kind : o.kind ≡ Dictionary subject) where
     columns : columns_of o.kind ≡ dictionary_columns subject
     columns = ap columns_of kind
 
-    contents : contents_of db o.stamp ≡ record { columns = columns_of o.kind; rows = rows_told db told.dictionary.owner subject }
+    contents : contents_of db o.stamp ≡ record { columns = columns_of o.kind; rows = rows_told db told.dictionary.now.owner subject }
     contents =
         dictionary-contents db o.stamp o subject at-own kind ∙ (ap (λ (x : Columns). let found : Contents = record { columns = x; rows = rows_told db o.owner subject } in found) (sym columns)
         ∙ ap (λ (x : Object). let found : Contents = record { columns = columns_of o.kind; rows = rows_told db x.owner subject } in found) (sym dictionary))
 
-    shown : narrowed c.columns c.conditions (contents_of db o.stamp) ≡ chosen_told told (rows_told db told.dictionary.owner subject)
-    shown = ap (narrowed c.columns c.conditions) contents ∙ told-narrowed told (columns_of o.kind) c.columns c.conditions (rows_told db told.dictionary.owner subject) places binds
+    shown : narrowed c.columns c.conditions (contents_of db o.stamp) ≡ chosen_told told (rows_told db told.dictionary.now.owner subject)
+    shown = ap (narrowed c.columns c.conditions) contents ∙ told-narrowed told (columns_of o.kind) c.columns c.conditions (rows_told db told.dictionary.now.owner subject) places binds
 
-    are-stamped : AreStamped (chosen_told told (rows_told db told.dictionary.owner subject))
+    are-stamped : AreStamped (chosen_told told (rows_told db told.dictionary.now.owner subject))
     are-stamped =
-        list_all-map (λ (r : StampedRow). nat_lt 0 r.stamp) (as_shown told) (filter (meets told) (rows_told db told.dictionary.owner subject))
-        ∙ kept-above (λ (r : StampedRow). nat_lt 0 r.stamp) (meets told) (rows_told db told.dictionary.owner subject) (stamped-told db told.dictionary.owner subject held.valid)
+        list_all-map (λ (r : StampedRow). nat_lt 0 r.stamp) (as_shown told) (filter (meets told) (rows_told db told.dictionary.now.owner subject))
+        ∙ kept-above (λ (r : StampedRow). nat_lt 0 r.stamp) (meets told) (rows_told db told.dictionary.now.owner subject) (stamped-told db told.dictionary.now.owner subject held.valid)
 
     cuts : (values : Values) → IsRow values → length values ≡ length (dictionary_columns subject) → are_a_row (values_at told.places.items values) ≡ true
     cuts values row wide =
@@ -151,7 +149,7 @@ module _ (store : Held) (side : Side) (chip : Chip) (db : Database) (actor : Act
 
     pub Chooses-told : Chooses db actor c (TellsRows told store side chip) None
     Chooses-told = record {
-      rows = chosen_told told (rows_told db told.dictionary.owner subject);
+      rows = chosen_told told (rows_told db told.dictionary.now.owner subject);
       under = asked-Ok db actor (seen_stamped db actor c.object) (λ (x : Object) (contents : Contents). Ok (moves.chosen contents c)) o selects ∙ ap Ok shown;
       told = record {
         db = db;

@@ -1,6 +1,5 @@
 -- DECLARE CURSOR: which cursor it makes, or the first refusal.
-use Rattle.std.proofs.Common.{◌≡◌, ℕ, true, false, List, Option, Ok, Err, Result, refl, sym, subst, ◌∙◌}
-use Rattle.std.specs.Prelude.{IfSome}
+use Rattle.std.proofs.Common.{◌≡◌, ℕ, true, false, List, Ok, Err, Result, refl, sym, ◌∙◌}
 use Rattle.scql_base.specs.Words.{done, not_found}
 use Rattle.scql_base.specs.declared.condition.Condition.{Condition}
 use Rattle.scql_base.specs.declared.cursor.Place.TheVariants.{NotOpen}

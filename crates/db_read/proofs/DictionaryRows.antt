@@ -1,7 +1,7 @@
 -- The rows of a dictionary that a cursor chooses: the next one behind a stamp, and that of a stamp.
 use Rattle.std.proofs.Common.{◌≡◌, ℕ, ◌+◌, ◌<◌, ◌≤◌, ◌==◌, nat_lt, Bool, true, false, ◌&&◌, List, [], ◌∷◌, length, map, find, Option, Some, None, option_map, refl, sym, ap, subst, ◌∙◌, inl, inr, arith}
 use Rattle.std.specs.List.{AllByRecursion, filter, list_all}
-use Rattle.std.proofs.lemmas.Bool.{and_parts, cases_Bool, eq-eqb, eqb-true, false≢true, le-ltb, lt-ltb, ltb-false, ltb-true, ne_eqb}
+use Rattle.std.proofs.lemmas.Bool.{and_parts, cases_Bool, eq-eqb, eqb-true, le-ltb, lt-ltb, ltb-false, ltb-true, ne_eqb}
 use Rattle.std.proofs.lemmas.Map.Entries.{option_filter}
 use Rattle.std.proofs.lemmas.Option.{none-some, same_Some}
 use Rattle.eeprom.specs.Chip.{Chip}
@@ -27,7 +27,7 @@ use Rattle.privilege_table.proofs.Seen.{find-both}
 use Rattle.record_table.specs.Making.{IsHeld}
 use Rattle.search_cond.specs.Bound.{passes}
 use Rattle.dictionaries.specs.Told.{IsNext, row_stamp}
-use Rattle.cursor.specs.Moved.{AreStamped, handed}
+use Rattle.cursor.specs.Moved.{AreStamped}
 use Rattle.db_read.specs.Chosen.{values_at}
 use Rattle.db_read.specs.Told.{TellsRows, as_shown, chosen_told, meets}
 use Rattle.db_read.specs.declared.telling.Told.{Told}
@@ -86,7 +86,7 @@ behind-chosen told k rows = find-map_filter (λ (x : StampedRow). nat_lt k x.sta
 -- what comes next, as a search in the rows that are told
 abbrev pub NextIs : Told → Held → Side → Chip → ℕ → Option ℕ → Values → Type 0
 NextIs told store side chip k next values =
-    (db : Database) (subject : Subject) → IsHeld store side chip db → told.dictionary.kind ≡ Dictionary subject → IsNext (rows_told db told.dictionary.owner subject) k next values
+    (db : Database) (subject : Subject) → IsHeld store side chip db → told.dictionary.now.kind ≡ Dictionary subject → IsNext (rows_told db told.dictionary.now.owner subject) k next values
 
 -- What is still to be found behind the rows that were passed.
 abbrev pub IsLeft : Told → Held → Side → Chip → ℕ → ℕ → Type 0
@@ -96,7 +96,7 @@ module _ (told : Told) (store : Held) (side : Side) (chip : Chip) where
   pub left-next : (stamp passed next : ℕ) (values : Values) → IsLeft told store side chip stamp passed → NextIs told store side chip passed (Some next) values → passes values told.conditions ≡ false
       → IsLeft told store side chip stamp next
   left-next stamp passed next values left is other = λ rows t.
-      let all = rows_told t.db told.dictionary.owner t.subject in
+      let all = rows_told t.db told.dictionary.now.owner t.subject in
       let r : StampedRow = record { stamp = next; values = values } in
       let skipped = next-skipped (meets told) passed all r t.rises (is t.db t.subject t.held t.kind) other in
       left rows t ∙ subst (λ (x : List StampedRow). row_behind (At passed) x ≡ row_behind (At next) x) (sym t.are)
@@ -105,7 +105,7 @@ module _ (told : Told) (store : Held) (side : Side) (chip : Chip) where
   pub left-found : (stamp passed next : ℕ) (values : Values) → IsLeft told store side chip stamp passed → NextIs told store side chip passed (Some next) values → passes values told.conditions ≡ true
       → (rows : List StampedRow) → TellsRows told store side chip rows → Some next ≡ option_map (λ row. row.stamp) (row_behind (At stamp) rows)
   left-found stamp passed next values left is own rows t =
-      let all = rows_told t.db told.dictionary.owner t.subject in
+      let all = rows_told t.db told.dictionary.now.owner t.subject in
       let r : StampedRow = record { stamp = next; values = values } in
       let found = next-found (meets told) passed all r (is t.db t.subject t.held t.kind) own in
       let behind : row_behind (At passed) rows ≡ Some (as_shown told r) =
@@ -115,7 +115,7 @@ module _ (told : Told) (store : Held) (side : Side) (chip : Chip) where
   pub left-none : (stamp passed : ℕ) (values : Values) → IsLeft told store side chip stamp passed → NextIs told store side chip passed None values
       → (rows : List StampedRow) → TellsRows told store side chip rows → None ≡ option_map (λ row. row.stamp) (row_behind (At stamp) rows)
   left-none stamp passed values left is rows t =
-      let all = rows_told t.db told.dictionary.owner t.subject in
+      let all = rows_told t.db told.dictionary.now.owner t.subject in
       let none = next-none (meets told) passed all (is t.db t.subject t.held t.kind) in
       let behind : row_behind (At passed) rows ≡ None =
       subst (λ (x : List StampedRow). row_behind (At passed) x ≡ None) (sym t.are) (behind-chosen told passed all ∙ ap (option_map (as_shown told)) none) in
@@ -125,7 +125,7 @@ module _ (told : Told) (store : Held) (side : Side) (chip : Chip) where
   pub left-early : (passed next : ℕ) (values : Values) (P : List StampedRow → Type 0) → NextIs told store side chip passed (Some next) values → next ≤ passed
       → (rows : List StampedRow) → TellsRows told store side chip rows → P rows
   left-early passed next values P is early rows t =
-      let all = rows_told t.db told.dictionary.owner t.subject in
+      let all = rows_told t.db told.dictionary.now.owner t.subject in
       let r : StampedRow = record { stamp = next; values = values } in
       let later = found-later passed all r (is t.db t.subject t.held t.kind) in
       absurd (omega (arith, later, early))
@@ -194,7 +194,7 @@ module _ (told : Told) (store : Held) (side : Side) (chip : Chip) where
   pub there-next : (stamp before : ℕ) (next : Option ℕ) (values : Values) → before + 1 ≡ stamp → NextIs told store side chip before next values
       → (rows : List StampedRow) → TellsRows told store side chip rows → shown_at told stamp next values ≡ option_map (λ row. row.values) (row_at stamp rows)
   there-next stamp before next values one is rows t =
-      let all = rows_told t.db told.dictionary.owner t.subject in
+      let all = rows_told t.db told.dictionary.now.owner t.subject in
       let behind = stamp-behind stamp before all one t.rises ∙ ap (option_filter (has row_stamp stamp)) (is t.db t.subject t.held t.kind) in
       let both = find-both (has row_stamp stamp) (meets told) all (one-rising row_stamp stamp all t.rises) in
       let chosen : row_at stamp (chosen_told told all) ≡ option_map (as_shown told) (find (λ (x : StampedRow). has row_stamp stamp x && meets told x) all) =
@@ -221,6 +221,6 @@ module _ (told : Told) (store : Held) (side : Side) (chip : Chip) where
       let there = there-next stamp before (Some next) values one is rows t in
       let here = rw (eq-eqb next stamp same, shown) at there in
       let r : StampedRow = record { stamp = next; values = values } in
-      let all = rows_told t.db told.dictionary.owner t.subject in
-      let wide = eqb-true (length values) (length (dictionary_columns t.subject)) (holds-found (is_wide t.subject) (is_after row_stamp before) all r (told-wide t.db told.dictionary.owner t.subject) (is t.db t.subject t.held t.kind)) in
+      let all = rows_told t.db told.dictionary.now.owner t.subject in
+      let wide = eqb-true (length values) (length (dictionary_columns t.subject)) (holds-found (is_wide t.subject) (is_after row_stamp before) all r (told-wide t.db told.dictionary.now.owner t.subject) (is t.db t.subject t.held t.kind)) in
       ap Some (cuts (t.cuts values row wide)) ∙ here

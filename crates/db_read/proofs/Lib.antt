@@ -4,8 +4,9 @@ pub mod ChoosesTold
 pub mod CutRows
 pub mod Declared
 pub mod DictionaryRows
-pub mod Going
+pub mod Went
 pub mod HeldCosts
+pub mod MotionLaws
 pub mod RowReads
 pub mod ShownRows
 pub mod Sighted

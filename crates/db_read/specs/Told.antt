@@ -1,5 +1,5 @@
 -- Which rows of a dictionary a cursor chooses, and which rows are told of whatever it chooses.
-use Rattle.std.specs.Prelude.{◌≡◌, ℕ, Bool, true, List, length, map, filter, Option, Some, None}
+use Rattle.std.specs.Prelude.{◌≡◌, Bool, true, List, length, map, filter, Option, Some, None}
 use Rattle.eeprom.specs.Chip.{Chip}
 use Rattle.eeprom.specs.Slots.{Rises}
 use Rattle.eeprom.specs.StoreOf.{Slots}
@@ -37,11 +37,11 @@ pub record TellsRows (told : Told) (store : Held) (side : Side) (chip : Chip) (r
   pub db : Database
   pub held : IsHeld store side chip db
   pub subject : Subject
-  pub kind : told.dictionary.kind ≡ Dictionary subject
-  pub rises : Rises (λ (r : StampedRow). r.stamp) (rows_told db told.dictionary.owner subject)
+  pub kind : told.dictionary.now.kind ≡ Dictionary subject
+  pub rises : Rises (λ (r : StampedRow). r.stamp) (rows_told db told.dictionary.now.owner subject)
   pub stamped : AreStamped rows
   pub cuts : (values : Values) → IsRow values → length values ≡ length (dictionary_columns subject) → are_a_row (values_at told.places.items values) ≡ true
-  pub are : rows ≡ chosen_told told (rows_told db told.dictionary.owner subject)
+  pub are : rows ≡ chosen_told told (rows_told db told.dictionary.now.owner subject)
 
 -- these are the rows that a cursor chooses
 abbrev pub Tells : Choice → Held → Side → Chip → List StampedRow → Type 0

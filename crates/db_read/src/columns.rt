@@ -1,6 +1,5 @@
 // The columns of an object.
 ghost use Rattle.std.specs.Prelude.{◌≡◌};
-ghost use Rattle.scql_model.specs.Defining as defining;
 ghost use Rattle.scql_model.specs.Objects as objects;
 
 use scql_base::{NameList, ObjectKind};
@@ -12,15 +11,5 @@ pub(crate) fn columns_of(kind: &ObjectKind) -> NameList
     match kind {
         ObjectKind::Table { columns } | ObjectKind::View { columns, .. } => columns.copy(),
         ObjectKind::Dictionary { subject } => dictionaries::columns_of(*subject),
-    }
-}
-
-/// Whether an object is a table or a view.
-pub(crate) fn is_table_or_view(kind: &ObjectKind) -> bool
-    ensures { result ≡ defining.is_table_or_view kind.now }
-{
-    match kind {
-        ObjectKind::Table { .. } | ObjectKind::View { .. } => true,
-        ObjectKind::Dictionary { .. } => false,
     }
 }

@@ -14,7 +14,7 @@ pub(crate) struct ChosenRows<'a, B: Eeprom> {
     pub(crate) store: &'a Store,
     pub(crate) bench: &'a mut B,
     pub(crate) side: Side,
-    pub(crate) choice: &'a Choice,
+    pub(crate) choice: &'a Choice<'a>,
     pub(crate) index: &'a RowIndex,
 }
 

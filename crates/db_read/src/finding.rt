@@ -1,11 +1,10 @@
-// The object from which a cursor reads, and what the cursor chooses of it.
+// The object from which a cursor reads.
 ghost use Rattle.std.specs.Prelude.{◌≡◌, ◌+◌, ◌*◌, Ok, IfOk, IfErr, IfSome, option_map};
 ghost use Rattle.std.proofs.lemmas.Map.Entries.{option_filter};
 ghost use Rattle.eeprom.specs.Chip.{Becomes, RisesAtMost};
 ghost use Rattle.eeprom.specs.Frame.{Reads};
 ghost use Rattle.eeprom.specs.StoreOf.{cell_size};
 ghost use Rattle.record_store.specs.Held.{IsOver};
-ghost use Rattle.scql_model.specs.Cursors.{IsCursorOf};
 ghost use Rattle.scql_model.specs.Database.{Database};
 ghost use Rattle.scql_model.specs.Rights as model;
 ghost use Rattle.scql_model.specs.Rights.{seen_named, seen_stamped};
@@ -13,54 +12,17 @@ ghost use Rattle.catalog_codec.specs.Catalog.{grant_kind, object_kind};
 ghost use Rattle.record_table.specs.Listed.{cells_marked, slots_of};
 ghost use Rattle.record_table.specs.Making.{IsHeld, is_stop_fault};
 ghost use Rattle.record_table.specs.Reading.{NeverFalls};
-ghost use Rattle.db_read.specs.Answered.{Chooses, Stops, WhereRead, rows_under, selectable, stop_answer};
-ghost use Rattle.db_read.specs.Costs.{catalogue_cost};
-ghost use Rattle.db_read.specs.Told.{Tells, costs_of};
+ghost use Rattle.db_read.specs.Answered.{Stops, WhereRead, selectable, stop_answer};
 
-use crate::choosing::{Choice, choose};
-use crate::columns::is_table_or_view;
 use crate::sight::{Sight, see};
-use crate::telling::tell;
 use eeprom::{Eeprom, EepromFault};
 use object_table::{find_name, find_stamp};
 use record_store::{Found, Side, Store};
 use record_table::{Stop, refused};
-use scql_base::{Actor, Cursor, Name, Object, StatusWord};
-use views::resolve;
+use scql_base::{Actor, Name, Object, StatusWord};
 
-/// What a cursor chooses of its object, or the first refusal.
-pub(crate) fn find_choice<B: Eeprom>(
-    store: &Store,
-    bench: &mut B,
-    side: Side,
-    actor: Actor,
-    cursor: &Cursor,
-) -> Result<Choice, Stop>
-    requires over { IsOver store.now (B.chip bench.old) }
-    ensures chosen { (db : Database) → IsHeld store.now side (B.chip bench.old) db → IsCursorOf db cursor.now
-        → IfOk result (λ choice. Chooses db actor cursor.now (Tells choice store.now side (B.chip bench.old)) (costs_of choice (slots_of store.now side (B.chip bench.old)))) }
-    ensures refused { (db : Database) → IsHeld store.now side (B.chip bench.old) db → IsCursorOf db cursor.now → IfErr result (Stops (rows_under db actor cursor.now)) }
-    ensures octets_read { WhereRead result (IfSome (slots_of store.now side (B.chip bench.old))
-        (λ slots. Becomes (RisesAtMost (catalogue_cost slots)) (B.octets_read bench.old) (B.octets_read bench.new))) }
-    ensures rises { WhereRead result (NeverFalls (slots_of store.now side (B.chip bench.old)) (B.octets_read bench.old) (B.octets_read bench.new)) }
-    ensures frame { Reads is_stop_fault B.chip B.faults bench.old bench.new result }
-{
-    let object = find_selected(store, bench, side, actor, cursor.object)?;
-    if !is_table_or_view(&object.kind) {
-        return match tell(object, &cursor.columns, &cursor.conditions) {
-            Some(told) => Ok(Choice::OfDictionary(told)),
-            None => refused(StatusWord::NOT_FOUND),
-        };
-    }
-    let resolved = resolve(store, bench, side, &object)?;
-    match choose(resolved, &cursor.columns, &cursor.conditions) {
-        Some(chosen) => Ok(Choice::OfTable(chosen)),
-        None => refused(StatusWord::NOT_FOUND),
-    }
-}
-
-// The object of a stamp, from which the actor may select, or the first refusal.
-fn find_selected<B: Eeprom>(
+/// The object of a stamp, from which the actor may select, or the first refusal.
+pub(crate) fn find_selected<B: Eeprom>(
     store: &Store,
     bench: &mut B,
     side: Side,

@@ -1,12 +1,15 @@
 //! Operations that read: a cursor is declared, opened, moved, and gives rows.
 #![tactic(auto)]
 
+mod advancing;
 mod choosing;
 mod columns;
 mod declaring;
 mod feed;
 mod fetching;
 mod finding;
+mod going;
+mod motion;
 mod moving;
 mod rows;
 mod sight;

@@ -7,28 +7,22 @@ ghost use Rattle.scql_base.specs.declared.cursor.Cursor.{Cursor};
 ghost use Rattle.scql_model.specs.Cursors.{IsCursorOf};
 ghost use Rattle.scql_model.specs.Database.{Database};
 ghost use Rattle.scql_model.specs.Moves as moves;
-ghost use Rattle.scql_model.specs.Moves.{first_row, moved, moved_to, row_behind, went_to};
-ghost use Rattle.scql_model.specs.Objects.{StampedRow};
+ghost use Rattle.scql_model.specs.Moves.{moved};
 ghost use Rattle.scql_model.specs.ReadBound.{IsOnTableOrView, octets_for_operation};
 ghost use Rattle.scql_model.specs.ReadingCommands as commands;
-ghost use Rattle.record_table.specs.Listed.{slots_of};
 ghost use Rattle.record_table.specs.Making.{IsHeld};
 ghost use Rattle.row_index.specs.Index.{Indexes};
-ghost use Rattle.cursor.specs.Moved.{AreStamped, refuses};
+ghost use Rattle.cursor.specs.Moved.{refuses};
 ghost use Rattle.db_read.specs.Answered.{answered};
-ghost use Rattle.db_read.specs.Told.{Tells, costs_of};
 ghost use Rattle.scql_base.specs.declared.cursor.Place.{Place};
-ghost use Rattle.cursor.specs.Costs.{RisesBetween, cost_between};
 ghost use Rattle.eeprom.specs.Chip.{Becomes, RisesAtMost};
 
-use crate::choosing::Choice;
-use crate::feed::ChosenRows;
-use crate::finding::{find_choice, stopped};
-use cursor::{first, step};
+use crate::advancing::advance;
+use crate::motion::Motion;
 use eeprom::{Eeprom, EepromFault};
 use record_store::{Side, Store};
 use row_index::RowIndex;
-use scql_base::{Actor, Cursor, Place, StatusWord};
+use scql_base::{Actor, Cursor, Place, Row, StatusWord};
 
 /// OPEN: the cursor goes to the first of its rows, or to its end where there is none.
 pub fn open_cursor<B: Eeprom>(
@@ -53,12 +47,19 @@ pub fn open_cursor<B: Eeprom>(
     let Some(held) = cursor else {
         return Ok(StatusWord::CONDITIONS_NOT_SATISFIED);
     };
-    let choice = match find_choice(store, bench, side, actor, held) {
-        Ok(choice) => choice,
-        Err(stop) => return stopped(stop),
-    };
+    let mut row = Row::new();
     let mut place = held.place;
-    let word = to_first(store, bench, side, &choice, &mut place, index)?;
+    let word = advance(
+        store,
+        bench,
+        side,
+        actor,
+        held,
+        Motion::Open,
+        &mut place,
+        &mut row,
+        index,
+    )?;
     held.place = place;
     Ok(word)
 }
@@ -89,12 +90,19 @@ pub fn next_row<B: Eeprom>(
     if !is_opened(held.place) {
         return Ok(StatusWord::CONDITIONS_NOT_SATISFIED);
     }
-    let choice = match find_choice(store, bench, side, actor, held) {
-        Ok(choice) => choice,
-        Err(stop) => return stopped(stop),
-    };
+    let mut row = Row::new();
     let mut place = held.place;
-    let word = to_next(store, bench, side, &choice, &mut place, index)?;
+    let word = advance(
+        store,
+        bench,
+        side,
+        actor,
+        held,
+        Motion::Next,
+        &mut place,
+        &mut row,
+        index,
+    )?;
     held.place = place;
     Ok(word)
 }
@@ -104,58 +112,4 @@ pub(crate) fn is_opened(place: Place) -> bool
     ensures { result ≡ moves.is_opened place }
 {
     !matches!(place, Place::NotOpen)
-}
-
-// The first of the chosen rows.
-fn to_first<B: Eeprom>(
-    store: &Store,
-    bench: &mut B,
-    side: Side,
-    choice: &Choice,
-    place: &mut Place,
-    index: &RowIndex,
-) -> Result<StatusWord, EepromFault>
-    requires over { IsOver store.now (B.chip bench.old) }
-    requires index { Indexes index.now store.now (B.chip bench.old) }
-    ensures moved { IfOk result (λ word. (rows : List StampedRow) → Tells choice.now store.now side (B.chip bench.old) rows
-        → AreStamped rows → (c : Cursor) → moved_to place.new c word ≡ went_to c (first_row rows)) }
-    ensures read { IfOk result (λ _. IfSome (costs_of choice.now (slots_of store.now side (B.chip bench.old)))
-        (λ costs. Becomes (RisesBetween 0 (cost_between (Place.At 0) place.new costs)) (B.octets_read bench.old) (B.octets_read bench.new))) }
-    ensures frame { Reads each_error B.chip B.faults bench.old bench.new result }
-{
-    let mut feed = ChosenRows {
-        store,
-        bench,
-        side,
-        choice,
-        index,
-    };
-    first(&mut feed, place)
-}
-
-// The next of the chosen rows.
-fn to_next<B: Eeprom>(
-    store: &Store,
-    bench: &mut B,
-    side: Side,
-    choice: &Choice,
-    place: &mut Place,
-    index: &RowIndex,
-) -> Result<StatusWord, EepromFault>
-    requires over { IsOver store.now (B.chip bench.old) }
-    requires index { Indexes index.now store.now (B.chip bench.old) }
-    ensures moved { IfOk result (λ word. (rows : List StampedRow) → Tells choice.now store.now side (B.chip bench.old) rows
-        → (c : Cursor) → moved_to place.new c word ≡ went_to c (row_behind place.old rows)) }
-    ensures read { IfOk result (λ _. IfSome (costs_of choice.now (slots_of store.now side (B.chip bench.old)))
-        (λ costs. Becomes (RisesBetween 0 (cost_between place.old place.new costs)) (B.octets_read bench.old) (B.octets_read bench.new))) }
-    ensures frame { Reads each_error B.chip B.faults bench.old bench.new result }
-{
-    let mut feed = ChosenRows {
-        store,
-        bench,
-        side,
-        choice,
-        index,
-    };
-    step(&mut feed, place)
 }

@@ -32,7 +32,7 @@ pub(crate) fn next_chosen<B: Eeprom>(
     store: &Store,
     bench: &mut B,
     side: Side,
-    chosen: &Chosen,
+    chosen: &Chosen<'_>,
     stamp: u32,
     index: &RowIndex,
 ) -> Result<Option<u32>, EepromFault>
@@ -59,7 +59,7 @@ pub(crate) fn chosen_row<B: Eeprom>(
     store: &Store,
     bench: &mut B,
     side: Side,
-    chosen: &Chosen,
+    chosen: &Chosen<'_>,
     stamp: u32,
     out: &mut Row,
     index: &RowIndex,

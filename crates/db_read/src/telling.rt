@@ -25,9 +25,9 @@ use views::{Places, places_of};
 
 /// The rows of a dictionary that a cursor chooses, and their values that it shows.
 #[derive(Drop)]
-pub(crate) struct Told {
+pub(crate) struct Told<'a> {
     /// The dictionary.
-    pub(crate) dictionary: Object,
+    pub(crate) dictionary: &'a Object,
     /// The places of the cursor's columns among the dictionary's.
     pub(crate) places: Places,
     /// The cursor's conditions.
@@ -35,11 +35,15 @@ pub(crate) struct Told {
 }
 
 /// What columns and conditions choose of a dictionary. None where one of them isn't on its columns.
-pub(crate) fn tell(dictionary: Object, columns: &NameList, conditions: &Conditions) -> Option<Told>
-    ensures told { IfSome result (λ told. (told.dictionary ≡ dictionary)
-        × ArePlaces told.places.items (objects.columns_of dictionary.kind) columns.now × Binds told.conditions (objects.columns_of dictionary.kind) conditions.now) }
+pub(crate) fn tell<'a>(
+    dictionary: &'a Object,
+    columns: &NameList,
+    conditions: &Conditions,
+) -> Option<Told<'a>>
+    ensures told { IfSome result (λ told. (told.dictionary.now ≡ dictionary.now)
+        × ArePlaces told.places.items (objects.columns_of dictionary.now.kind) columns.now × Binds told.conditions (objects.columns_of dictionary.now.kind) conditions.now) }
     ensures few { IfSome result (λ _. length columns.now ≤ MOST) }
-    ensures there { are_named_among (objects.columns_of dictionary.kind) columns.now conditions.now ≡ true → IsSome result }
+    ensures there { are_named_among (objects.columns_of dictionary.now.kind) columns.now conditions.now ≡ true → IsSome result }
 {
     prove!(columns.len() <= NameList::MOST);
     let all = columns_of(&dictionary.kind);
@@ -55,7 +59,7 @@ pub(crate) fn next_told<B: Eeprom>(
     store: &Store,
     bench: &mut B,
     side: Side,
-    told: &Told,
+    told: &Told<'_>,
     stamp: u32,
 ) -> Result<Option<u32>, EepromFault>
     requires over { IsOver store.now (B.chip bench.old) }
@@ -65,7 +69,7 @@ pub(crate) fn next_told<B: Eeprom>(
 {
     let mut row = Row::new();
     let mut passed = stamp;
-    while let Some(next) = next_after(store, bench, side, &told.dictionary, passed, &mut row)? {
+    while let Some(next) = next_after(store, bench, side, told.dictionary, passed, &mut row)? {
         // No stamp is passed twice, whatever an image tells that isn't a valid one.
         if next <= passed {
             return Ok(None);
@@ -83,7 +87,7 @@ pub(crate) fn told_row<B: Eeprom>(
     store: &Store,
     bench: &mut B,
     side: Side,
-    told: &Told,
+    told: &Told<'_>,
     stamp: u32,
     out: &mut Row,
 ) -> Result<bool, EepromFault>
@@ -96,7 +100,7 @@ pub(crate) fn told_row<B: Eeprom>(
         return Ok(false);
     }
     let mut row = Row::new();
-    let Some(next) = next_after(store, bench, side, &told.dictionary, stamp - 1, &mut row)? else {
+    let Some(next) = next_after(store, bench, side, told.dictionary, stamp - 1, &mut row)? else {
         return Ok(false);
     };
     if next != stamp {

@@ -1,6 +1,5 @@
 -- Names and parameters of known octets.
 use Rattle.std.proofs.Common.{◌≡◌, [], ◌∷◌, Some, None, true, false, refl}
-use Rattle.scql_base.specs.declared.words.StatusWord.{StatusWord}
 use Rattle.scql_base.specs.Words.{done, more_left, wrong_le}
 use Rattle.scql_base.specs.Name.{is_name}
 use Rattle.scql_base.specs.Strings.{pieces_of, params_of}

@@ -4,24 +4,25 @@ ghost use Rattle.std.specs.List.{list_all};
 ghost use Rattle.scql_base.specs.Name as names;
 ghost use Rattle.scql_base.specs.declared.name.TheConstants.Name.{LONGEST};
 
-use arrayvec::ArrayVec;
 use std::marker::Model;
 
 /// A name: 1 to 8 octets, a letter `A` to `Z`, then letters, digits `0` to `9` and `_`.
 #[derive(Drop)]
 pub struct Name {
-    held: ArrayVec<u8, { Name::LONGEST }>,
+    // The octets, and behind them such as aren't used.
+    octets: [u8; Name::LONGEST],
+    len: u8,
 }
 
 impl Model for Name {
-    ghost use Rattle.std.specs.Prelude.{List, ℕ};
+    ghost use Rattle.std.specs.Prelude.{◌≡◌, ◌≤◌, List, ℕ, length, take};
     ghost use Rattle.scql_base.specs.Name.{IsName};
 
     ghost Value = { List ℕ };
 
-    ghost view = { λ n. n.held.items };
+    ghost view = { λ n. take n.len n.octets };
 
-    ghost invariant = { λ n. IsName n.held.items };
+    ghost invariant = { λ n. IsName (take n.len n.octets) × (n.len ≤ 8) × (length n.octets ≡ 8) };
 }
 
 impl Name {
@@ -42,9 +43,7 @@ impl Name {
         if !is_name(octets) {
             return None;
         }
-        Some(Name {
-            held: held_name(octets),
-        })
+        Some(Name::holding(octets))
     }
 
     /// Its octets.
@@ -53,23 +52,21 @@ impl Name {
         ensures name { names.IsName result.now }
         ensures short { length result.now ≤ LONGEST }
     {
-        self.held.as_slice()
+        &self.octets[..usize::from(self.len)]
     }
 
     /// The name `A`.
     pub(crate) fn blank() -> Name
         ensures { result ≡ 0x41 ∷ [] }
     {
-        Name {
-            held: held_name(b"A"),
-        }
+        Name::holding(b"A")
     }
 
     // Does nothing but tell a proof that this is a name.
     pub(crate) fn told(&self)
         ensures { names.IsName self.now }
     {
-        let _ = &self.held;
+        let _ = &self.len;
     }
 
     /// The same name once more.
@@ -77,19 +74,23 @@ impl Name {
         ensures { result ≡ self.now }
     {
         Name {
-            held: held_name(self.held.as_slice()),
+            octets: self.octets,
+            len: self.len,
         }
     }
-}
 
-fn held_name(octets: &[u8]) -> ArrayVec<u8, { Name::LONGEST }>
-    requires { names.IsName octets.now }
-    ensures { result.items ≡ octets.now }
-{
-    let mut held = ArrayVec::new();
-    let copied = held.try_extend_from_slice(octets).is_ok();
-    prove!(copied);
-    held
+    // The name of these octets, which are one.
+    fn holding(octets: &[u8]) -> Name
+        requires { names.IsName octets.now }
+        ensures { result ≡ octets.now }
+    {
+        let mut held = [0; Name::LONGEST];
+        held[..octets.len()].copy_from_slice(octets);
+        Name {
+            octets: held,
+            len: octets.len() as u8,
+        }
+    }
 }
 
 fn is_name(octets: &[u8]) -> bool

@@ -1,5 +1,5 @@
 -- The row of the stamp is the one that comes next behind the stamp before, where it is chosen.
-use Rattle.std.proofs.Common.{◌≡◌, ◌+◌, ◌-◌, sym, ap, subst, ◌∙◌, arith}
+use Rattle.std.proofs.Common.{◌-◌, sym, ◌∙◌, arith}
 use Rattle.db_read.proofs.DictionaryRows.{there-hidden, there-none, there-other, there-shown, there-zero}
 use Rattle.db_read.proofs.telling.told_row.Goals as goal
 

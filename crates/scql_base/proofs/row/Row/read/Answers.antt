@@ -1,6 +1,6 @@
 use Rattle.std.proofs.Common.{◌≡◌, List, ℕ, Some, refl, sym, ap, ◌∙◌, arith, rules}
 use Rattle.scql_base.specs.Strings.{params_of, strings_of}
-use Rattle.scql_base.proofs.RowOctets.{IsCounted, IsRow-read, counted, row_from-long, row_from-many, row_from-row, row_from-uncounted}
+use Rattle.scql_base.proofs.RowOctets.{IsRow-read, counted, row_from-long, row_from-many, row_from-row, row_from-uncounted}
 use Rattle.scql_base.proofs.Splitting.{AreParams-from_params_of}
 use Rattle.scql_base.proofs.row.Row.read.Goals.{then-count-gt-MOST-via-then-count-gt-MOST, then-count-gt-MOST-via-else-count-gt-MOST+then-octets-gt-LARGEST}
 use Rattle.scql_base.proofs.row.Row.read.Goals as goal
