@@ -7,16 +7,14 @@ ghost use Rattle.scql_model.specs.Spelling as spelling;
 use scql_base::{Line, OperationKind, Takes};
 
 macro_rules! operation {
-    (built $($cells:tt)*) => { operation!(true, $($cells)*) };
-    (planned $($cells:tt)*) => { operation!(false, $($cells)*) };
-    ($is_built:literal, $ins:literal $p1:literal $p2:literal $kind:ident $({ number: $number:literal })?, $takes:ident) => {
+    (built $ins:literal $p1:literal $p2:literal $kind:ident $({ number: $number:literal })?, $takes:ident) => {
         Line {
             ins: $ins,
             p1: $p1,
             p2: $p2,
             kind: OperationKind::$kind $({ number: $number })?,
             takes: Takes::$takes,
-            is_built: $is_built,
+            is_built: true,
         }
     };
 }
@@ -38,9 +36,9 @@ static OPERATIONS: [Line; 31] = [
     operation!(built 0x10 0x00 0x8C Insert, DataField),
     operation!(built 0x10 0x00 0x8D Update, DataField),
     operation!(built 0x10 0x00 0x8E Delete, Nothing),
-    operation!(planned 0x12 0x00 0x80 Begin, Nothing),
-    operation!(planned 0x12 0x00 0x81 Commit, Nothing),
-    operation!(planned 0x12 0x00 0x82 Rollback, Nothing),
+    operation!(built 0x12 0x00 0x80 Begin, Nothing),
+    operation!(built 0x12 0x00 0x81 Commit, Nothing),
+    operation!(built 0x12 0x00 0x82 Rollback, Nothing),
     operation!(built 0x14 0x00 0x80 PresentUser, DataField),
     operation!(built 0x14 0x00 0x81 CreateUser, DataField),
     operation!(built 0x14 0x00 0x82 DeleteUser, DataField),

@@ -66,10 +66,16 @@ nothing_yet : run_text card (lines (codes "00100088\n00C0000000\n") true) ≡ co
 unfolding line_text line_step step step_by form_of edits_of move_of params_of pieces_of hex_on_literals
 nothing_yet = refl
 
--- operations that aren't built yet
-not_built : run_text card (lines (codes "0010008F\n00120080\n00120081\n00120082\n") true) ≡ codes "6A86\n6D00\n6D00\n6D00\n"
+-- what is no operation
+no_operation : run_text card (lines (codes "0010008F\n00120083\n00160000\n") true) ≡ codes "6A86\n6A86\n6D00\n"
 unfolding line_text line_step step step_by form_of edits_of params_of pieces_of hex_on_literals
-not_built = refl
+no_operation = refl
+
+-- one transaction at a time: other channels wait, and nobody is presented meanwhile
+one_transaction : run_text card (lines (codes "0014008006054F574E4552\n0010008006015401410142\n0070000001\n00120080\n0010008C050154017900\n0114008006054F574E4552\n01120080\n00120080\n00708000\n00120081\n00120081\n00120082\n") true)
+    ≡ codes "9000\n9000\n019000\n9000\n9000\n6985\n6985\n6985\n6A86\n9000\n6985\n6985\n"
+unfolding line_text line_step step step_by form_of edits_of move_of contents_of object_created table_dropped row_inserted row_updated row_deleted user_deleted privileges_granted privileges_revoked appears holds params_of pieces_of hex_on_literals
+one_transaction = refl
 
 -- nobody makes or drops a view or a dictionary
 nobody_shows : run_text card (lines (codes "00100081080156015401010141\n00100082040154014F\n00100084020156\n") true) ≡ codes "6982\n6982\n6A88\n"

@@ -9,15 +9,9 @@ use Rattle.scql_base.specs.declared.operation.Takes.TheVariants.{Nothing, DataFi
 use Rattle.scql_base.specs.declared.operation.OperationKind.{OperationKind}
 use Rattle.scql_base.specs.declared.operation.OperationKind.TheVariants.{CreateTable, CreateView, CreateDictionary, DropTable, DropView, Grant, Revoke, DeclareCursor, OpenCursor, Next, Fetch, FetchNext, Insert, Update, Delete, Begin, Commit, Rollback, PresentUser, CreateUser, DeleteUser, Verify, OpenChannel, CloseChannel, GetResponse}
 
--- a line, and one of an operation that is built or isn't yet
-abbrev line : Bool → ℕ → ℕ → ℕ → OperationKind → Takes → Line
-line is_built ins p1 p2 kind takes = record { ins = ins; p1 = p1; p2 = p2; kind = kind; takes = takes; is_built = is_built }
-
+-- a line of an operation that the card has
 abbrev built : ℕ → ℕ → ℕ → OperationKind → Takes → Line
-built = line true
-
-abbrev planned : ℕ → ℕ → ℕ → OperationKind → Takes → Line
-planned = line false
+built ins p1 p2 kind takes = record { ins = ins; p1 = p1; p2 = p2; kind = kind; takes = takes; is_built = true }
 
 -- all operations; the number of a channel to open or to close is P2
 abbrev pub operations : List Line
@@ -37,9 +31,9 @@ operations =
     ∷ built 0x10 0x00 0x8C Insert DataField
     ∷ built 0x10 0x00 0x8D Update DataField
     ∷ built 0x10 0x00 0x8E Delete Nothing
-    ∷ planned 0x12 0x00 0x80 Begin Nothing
-    ∷ planned 0x12 0x00 0x81 Commit Nothing
-    ∷ planned 0x12 0x00 0x82 Rollback Nothing
+    ∷ built 0x12 0x00 0x80 Begin Nothing
+    ∷ built 0x12 0x00 0x81 Commit Nothing
+    ∷ built 0x12 0x00 0x82 Rollback Nothing
     ∷ built 0x14 0x00 0x80 PresentUser DataField
     ∷ built 0x14 0x00 0x81 CreateUser DataField
     ∷ built 0x14 0x00 0x82 DeleteUser DataField
