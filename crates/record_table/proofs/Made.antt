@@ -145,8 +145,4 @@ module _ {X : Type 0} (kind : Kind X) (any : X → AnyRecord) (is : IsKind kind)
       (Touches-changed counter_kind counter_stamp named-counter IsKind-counter stamps db.next counter db.next (db.next + 1) made.between now mid new still refl made.counted (next-fits db.next left) refl second) (λ stamp among. among) (λ stamp among. among)
     where
       among-second : (a b c : ℕ) → c ≡ b → is_among b (a ∷ c ∷ []) ≡ true
-      among-second a b c same = rw (eq-eqb b c (sym same)) (last (b == a))
-        where
-          last : (d : Bool) → (d || true) ≡ true
-          last true = refl
-          last false = refl
+      among-second a b c same = rw (eq-eqb b c (sym same)) (either_way (b == a))

@@ -2,7 +2,7 @@
 use Rattle.std.proofs.Common.{◌≡◌, ℕ, zero, suc, ◌+◌, ◌<◌, ◌≤◌, ◌==◌, ◌||◌, nat_le, nat_lt, Bool, true, false, cond, eqb, count_by, List, [], ◌∷◌, ◌++◌, map, Option, Some, None, is_some, option_map, get_or, inl, inr, refl, sym, ap, subst, ◌∙◌, arith}
 use Rattle.std.specs.List.{cons_option, filter_map, list_all}
 use Rattle.std.specs.Option.{option_map_or, option_or}
-use Rattle.std.proofs.lemmas.Bool.{cases_Bool, and_parts, eq-eqb, eqb-true, false≢true, ltb-true, ne_eqb}
+use Rattle.std.proofs.lemmas.Bool.{cases_Bool, and_parts, eq-eqb, eqb-true, false≢true, ltb-true, ne_eqb, or_right}
 use Rattle.std.proofs.lemmas.List.Sums.{sum_by-append, sum_by-cons}
 use Rattle.cell_store.specs.Chains.{is_among}
 use Rattle.eeprom.specs.Slots.{has, in_slot}
@@ -138,12 +138,8 @@ counted-among stamp [] some = absurd (omega arith)
 counted-among stamp (r ∷ records) some =
     elim (cases_Bool (eqb r.stamp stamp)) [
       | inl t ↦ rw (eq-eqb stamp r.stamp (sym (eqb-true r.stamp stamp t))) refl
-      | inr f ↦ later (eqb stamp r.stamp) (is_among stamp (map stored_stamp records)) (counted-among stamp records (omega (arith, some, counts_not (has stored_stamp stamp) r records f)))
+      | inr f ↦ or_right (eqb stamp r.stamp) (is_among stamp (map stored_stamp records)) (counted-among stamp records (omega (arith, some, counts_not (has stored_stamp stamp) r records f)))
     ]
-  where
-    later : (a b : Bool) → b ≡ true → (a || b) ≡ true
-    later true b is = refl
-    later false b is = is
 
 counted-below : (next stamp : ℕ) (records : List StoredRecord) → list_all (is_given_out next) records ≡ true → 1 ≤ count_by (has stored_stamp stamp) records → stamp < next
 counted-below next stamp [] given some = absurd (omega arith)
@@ -169,12 +165,8 @@ stands-has stamp slot slots db holds stands =
     let most = named-database stamp slots db holds in
     elim (cases_Bool (eqb 0 stamp)) [
       | inl t ↦ rw (sym (eqb-true 0 stamp t)) refl
-      | inr f ↦ later (eqb stamp 0) (is_among stamp (map stored_stamp (records_of db))) (counted-among stamp (records_of db) (omega (arith, some, most, ap (λ (b : Bool). cond {A = ℕ} b 1 0) f)))
+      | inr f ↦ or_right (eqb stamp 0) (is_among stamp (map stored_stamp (records_of db))) (counted-among stamp (records_of db) (omega (arith, some, most, ap (λ (b : Bool). cond {A = ℕ} b 1 0) f)))
     ]
-  where
-    later : (a b : Bool) → b ≡ true → (a || b) ≡ true
-    later true b is = refl
-    later false b is = is
 
 -- Its stamp was given out.
 pub stands-below : (stamp slot : ℕ) (slots : Slots) (db : Database) → Holds slots db → IsValid db → Stands stamp slot slots → stamp < db.next

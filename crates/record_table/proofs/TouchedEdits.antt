@@ -1,7 +1,7 @@
 -- Edits in two parts, and all records of a kind that pass a test: which records they touch.
-use Rattle.std.proofs.Common.{◌≡◌, ◌||◌, ℕ, ◌==◌, Bool, true, false, eqb, List, [], ◌∷◌, ◌++◌, map, Some, None, get_or, inl, inr, refl, sym, ap, ◌∙◌}
+use Rattle.std.proofs.Common.{◌≡◌, ◌||◌, ℕ, ◌==◌, Bool, true, eqb, List, [], ◌∷◌, ◌++◌, map, Some, None, get_or, inl, inr, sym, ap, ◌∙◌}
 use Rattle.std.specs.List.{filter, find}
-use Rattle.std.proofs.lemmas.Bool.{cases_Bool, eq-eqb}
+use Rattle.std.proofs.lemmas.Bool.{cases_Bool, eq-eqb, or_left, or_right}
 use Rattle.std.proofs.lemmas.List.{map-append}
 use Rattle.std.proofs.lemmas.List.Folds.{list_any-append}
 use Rattle.std.proofs.lemmas.Option.{none-some, same_Some}
@@ -26,14 +26,10 @@ among-parts first then stamp =
     ap (is_among stamp) (map-append (λ (e : Edit). record_stamp e.entry) first then) ∙ list_any-append (λ other. stamp == other) (touched first) (touched then)
 
 pub among-first : (first then : List Edit) (stamp : ℕ) → is_among stamp (touched first) ≡ true → is_among stamp (touched (first ++ then)) ≡ true
-among-first first then stamp among = among-parts first then stamp ∙ rw among refl
+among-first first then stamp among = among-parts first then stamp ∙ or_left (is_among stamp (touched first)) (is_among stamp (touched then)) among
 
 pub among-then : (first then : List Edit) (stamp : ℕ) → is_among stamp (touched then) ≡ true → is_among stamp (touched (first ++ then)) ≡ true
-among-then first then stamp among = among-parts first then stamp ∙ rw among (either (is_among stamp (touched first)))
-  where
-    either : (b : Bool) → (b || true) ≡ true
-    either true = refl
-    either false = refl
+among-then first then stamp among = among-parts first then stamp ∙ or_right (is_among stamp (touched first)) (is_among stamp (touched then)) among
 
 -- edits in two parts, one after the other
 pub Touches-parts : (first then : List Edit) (next : ℕ) (a b c : Slots) (old mid new : Held) → Touches (touched first) next a b old mid → Touches (touched then) next b c mid new → Touches (touched (first ++ then)) next a c old new
@@ -49,14 +45,10 @@ module _ {X : Type 0} (kind : Kind X) (any : X → AnyRecord) (edits : IsEditabl
             rw (same, passes) (ap (λ (b : Bool). b || is_among (kind.key x) (touched (map (λ y. removing (any y)) (filter p ys)))) (eq-eqb (kind.key x) (record_stamp (any x)) (sym (edits.stamps x)))))
         | inr f ↦ (let rest = among-removed p x ys (rw f at found) passes in
             elim (cases_Bool (p y)) [
-              | inl kept ↦ rw kept (later (eqb (kind.key x) (record_stamp (any y))) (is_among (kind.key x) (touched (map (λ y. removing (any y)) (filter p ys)))) rest)
+              | inl kept ↦ rw kept (or_right (eqb (kind.key x) (record_stamp (any y))) (is_among (kind.key x) (touched (map (λ y. removing (any y)) (filter p ys)))) rest)
               | inr gone ↦ rw gone rest
             ])
       ]
-    where
-      later : (a b : Bool) → b ≡ true → (a || b) ≡ true
-      later true b is = refl
-      later false b is = is
 
   -- so is one that stands in a slot
   pub among-swept : (p : X → Bool) (slots : Slots) (slot : ℕ) (x : X) (xs : List X) → listed kind slots ≡ xs → Rises kind.key xs → at_slot kind slot slots ≡ Some x → p x ≡ true

@@ -1,7 +1,7 @@
 -- What a transaction has touched: nothing where it begins, then the records of each command's edits, and never fewer than a commit has entries.
-use Rattle.std.proofs.Common.{◌≡◌, ◌⊎◌, ℕ, ◌<◌, ◌≤◌, ◌&&◌, ◌||◌, Bool, true, false, List, [], length, ltb, slice_index, Option, Some, None, get_or, inl, inr, refl, sym, ap, subst, ◌∙◌, arith}
+use Rattle.std.proofs.Common.{◌≡◌, ◌⊎◌, ℕ, ◌<◌, ◌≤◌, ◌&&◌, ◌||◌, Bool, true, List, [], length, ltb, slice_index, Option, Some, None, get_or, inl, inr, refl, sym, ap, subst, ◌∙◌, arith}
 use Rattle.std.specs.Prelude.{IfSome}
-use Rattle.std.proofs.lemmas.Bool.{cases_Bool, ltb-false, ltb-true}
+use Rattle.std.proofs.lemmas.Bool.{cases_Bool, ltb-false, ltb-true, or_left, or_right}
 use Rattle.std.proofs.lemmas.List.{get_or_past}
 use Rattle.std.proofs.lemmas.Option.{none-some, same_Some}
 use Rattle.cell_store.specs.Chains.{is_among}
@@ -56,9 +56,8 @@ after-in committed working before edits stamp there named =
     touched_after-in committed working before edits stamp ∙ both (has_record committed stamp) (has_record working stamp) (is_among stamp before) (is_among stamp (touched edits)) there named
   where
     either : (a b : Bool) → (a ≡ true) ⊎ (b ≡ true) → (a || b) ≡ true
-    either a b (inl t) = rw t refl
-    either true b (inr t) = refl
-    either false b (inr t) = t
+    either a b (inl t) = or_left a b t
+    either a b (inr t) = or_right a b t
 
     both : (a b c d : Bool) → (a ≡ true) ⊎ (b ≡ true) → (c ≡ true) ⊎ (d ≡ true) → ((a || b) && (c || d)) ≡ true
     both a b c d first second = rw (either a b first, either c d second) refl

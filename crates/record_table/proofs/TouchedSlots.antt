@@ -66,27 +66,11 @@ Touches-then first second stamps next a b c old mid new one two more_1 more_2 = 
   ];
 }
 
--- more stamps
-pub Touches-more : (first stamps : List ℕ) (next : ℕ) (was now : Slots) (old new : Held) → Touches first next was now old new → ((stamp : ℕ) → is_among stamp first ≡ true → is_among stamp stamps ≡ true)
-    → Touches stamps next was now old new
-Touches-more first stamps next was now old new touches more = record {
-  committed = touches.committed;
-  others = λ slot. elim (touches.others slot) [
-    | inl kept ↦ inl kept
-    | inr changed ↦ inr (λ stamp stands. more stamp (changed stamp stands))
-  ];
-  places = touches.places;
-}
-
 -- of slots that are told, whatever they are called
 pub Touches-told : (stamps : List ℕ) (next : ℕ) (old new : Held) (before after : Chip) (slots end : Slots) → slots_of old Working before ≡ Some slots → slots_of new Working after ≡ Some end → Touches stamps next slots end old new
     → (was now : Slots) → slots_of old Working before ≡ Some was → slots_of new Working after ≡ Some now → Touches stamps next was now old new
 Touches-told stamps next old new before after slots end told_1 told_2 touches was now is_1 is_2 =
     subst (λ was. Touches stamps next was now old new) (same_Some slots was (sym told_1 ∙ is_1)) (subst (λ now. Touches stamps next slots now old new) (same_Some end now (sym told_2 ∙ is_2)) touches)
-
--- no slot may have another chain, and none has another record
-pub Touches-none : (stamps : List ℕ) (next : ℕ) (slots : Slots) (held : Held) → Touches stamps next slots slots held held
-Touches-none stamps next slots held = record { committed = refl; others = λ slot. inl (refl, refl); places = λ slot stamp stands. inl stands }
 
 -- a slot is given an entry
 Touches-set : (stamps : List ℕ) (next slot : ℕ) (entry : Option (List ℕ)) (was : Slots) (old new : Held) → slot < length was → ChangesOnly slot old new
