@@ -149,7 +149,7 @@ impl Card {
         // A power loss leaves the database as it was, or one that the step commits.
         ensures moments { (m : machine.Machine) → IsAt self.old (B.chip bench.old) m
             → LeavesOneOf (m.committed ∷ (stepping.step m command.now).commits) (B.chip bench.old) (B.chip bench.new) }
-        // Each database that the step commits a power loss may leave at some moment: so before a secret is compared one try less is committed.
+        // Each database that the step commits a power loss may leave at some moment: so also where a secret was right there was one with a try less.
         ensures in_turn { (m : machine.Machine) → IsAt self.old (B.chip bench.old) m → result ≡ Outcome.Replied
             → LeavesEach (stepping.step m command.now).commits (B.chip bench.old) (B.chip bench.new) }
         // What may write no octets, as a command that reads, writes nothing.
