@@ -95,7 +95,7 @@ module _ (m : Machine) (channel : ℕ) (s : Session) (near : channel ≤ 3) (the
       (runs-to m (plan_for is_inside) (shown all_changed) changes-run)
 
 -- the rows of a SELECT
-select-rows : (m : Machine) (channel : ℕ) (object : List ℕ) (columns : Columns) (conditions : List Condition) → is_channel_open m channel ≡ true → IsValid (base m channel)
+pub select-rows : (m : Machine) (channel : ℕ) (object : List ℕ) (columns : Columns) (conditions : List Condition) → is_channel_open m channel ≡ true → IsValid (base m channel)
     → are_chosen_columns columns ≡ true → AreRows (meaning operations m channel (Select object columns conditions)).rows
 unfolding meaning
 select-rows m channel object columns conditions is_open valid chosen =

@@ -1,0 +1,5 @@
+pub mod Meant
+pub mod RowTexts
+pub mod Sent
+pub mod UpperCase
+pub mod Went

@@ -1,0 +1,10 @@
+//! A terminal: a line is read as a statement and carried out on a card, and what comes of it is printed.
+#![tactic(auto)]
+
+mod asking;
+mod failure;
+mod following;
+mod line_end;
+mod printing;
+
+pub use line_end::LineEnd;
