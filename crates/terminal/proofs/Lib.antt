@@ -1,3 +1,4 @@
+pub mod Ended
 pub mod Meant
 pub mod RowTexts
 pub mod Sent

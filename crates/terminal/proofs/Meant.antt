@@ -1,16 +1,8 @@
 -- A statement's run is its meaning, for a link's machine.
-use Rattle.std.proofs.Common.{◌≡◌, ◌⊎◌, ℕ, zero, suc, ◌+◌, ◌≤◌, ◌<◌, ◌==◌, nat_le, nat_lt, Bool, true, false, ◌&&◌, List, [], ◌∷◌, ◌++◌, length, map, Option, Some, None, is_some, option_map, Result, Ok, Err, if◌then◌else◌, append_assoc, refl, sym, ◌∙◌, ap, subst, inl, inr, arith}
-use Rattle.std.specs.Prelude.{IfSome, IfOk, IfErr, OnOk}
-use Rattle.std.specs.List.{concat, list_all, AllByRecursion}
-use Rattle.std.proofs.lemmas.Bool.{and_parts, leb-true, lt-ltb, le-ltb}
-use Rattle.std.proofs.lemmas.List.{append-nil}
-use Rattle.scql_base.specs.Row.{row_size, is_narrow, row_from}
-use Rattle.scql_base.proofs.Splitting.{params_of-again}
-use Rattle.scql_model.specs.Database.{Database, IsValid}
+use Rattle.std.proofs.Common.{◌≡◌, ℕ, suc, ◌==◌, Bool, true, false, Option, Some, None, is_some, if◌then◌else◌, sym, ◌∙◌, subst, arith}
+use Rattle.std.specs.Prelude.{IfSome}
+use Rattle.scql_model.specs.Database.{IsValid}
 use Rattle.scql_model.specs.Machine.{Machine, Transaction, base, base_of}
-use Rattle.scql_model.specs.Matching.{Values}
-use Rattle.scql_model.specs.Records as records
-use Rattle.scql_model.specs.ReadingCommands.{row_octets}
 use Rattle.scql_model.specs.Operations.{operations}
 use Rattle.scql_model.specs.Transactions.{own_transaction}
 use Rattle.card_link.specs.Link.{IsOver}
@@ -19,12 +11,12 @@ use Rattle.script.specs.Commands.{CanBeSent}
 use Rattle.planner.specs.Meaning.{meaning}
 use Rattle.planner.specs.Planned.{Planned, started}
 use Rattle.planner.specs.Turns.{turns_left}
-use Rattle.planner.specs.Running.{Ran, shown, RunsTo}
+use Rattle.planner.specs.Running.{shown, RunsTo}
 use Rattle.planner.proofs.Statements.{statement-runs}
-use Rattle.terminal.specs.Going.{run_of, whole_run}
+use Rattle.terminal.specs.Going.{run_of}
 use Rattle.terminal.proofs.Went.{whole-step}
 
-base-valid : (m : Machine) (channel : ℕ) → IsOver m → IsValid (base m channel)
+pub base-valid : (m : Machine) (channel : ℕ) → IsOver m → IsValid (base m channel)
 base-valid m channel over = go m.transaction over.transaction
   where
     mine : (t : Transaction) (b : Bool) → IsValid t.working → IsValid (if b then t.working else m.committed)

@@ -1,8 +1,8 @@
 -- How long printed values are, and what a further one makes of a row's text.
-use Rattle.std.proofs.Common.{◌≡◌, ℕ, zero, suc, ◌+◌, ◌*◌, ◌≤◌, ◌<◌, ◌==◌, Bool, true, false, List, [], ◌∷◌, ◌++◌, length, take, Option, Some, None, if◌then◌else◌, add-one, append_assoc, refl, sym, ◌∙◌, ap, subst, arith}
+use Rattle.std.proofs.Common.{◌≡◌, ℕ, zero, suc, ◌+◌, ◌*◌, ◌≤◌, ◌<◌, ◌==◌, Bool, true, false, List, [], ◌∷◌, ◌++◌, length, take, Some, if◌then◌else◌, add-one, append_assoc, refl, sym, ◌∙◌, ap, subst, arith}
 use Rattle.std.specs.Prelude.{slice_get, codes}
-use Rattle.std.specs.List.{flat_map, list_all, sum_by}
-use Rattle.std.proofs.lemmas.List.{length-append, append-nil}
+use Rattle.std.specs.List.{flat_map, list_all}
+use Rattle.std.proofs.lemmas.List.{length-append}
 use Rattle.std.proofs.lemmas.List.Sums.{sum_by-cons}
 use Rattle.std.proofs.lemmas.Bool.{and_parts, leb-true, ne_eqb}
 use Rattle.std.proofs.lemmas.Option.{none-some, same_Some}
@@ -92,9 +92,10 @@ pub row-next : (row : Values) (i : ℕ) (value before between after : List ℕ) 
     → between ≡ before ++ lead i → after ≡ between ++ value_text value
     → (after ≡ values_text (take (i + 1) row)) × (length after ≤ 2 * row_size (take (i + 1) row) + 3 * (i + 1))
 row-next row i value before between after at is small with-lead with-value =
-    let whole : after ≡ before ++ (lead i ++ value_text value) = with-value ∙ (ap (λ front. front ++ value_text value) with-lead ∙ append_assoc before (lead i) (value_text value)) in
-    (whole ∙ (ap (λ front. front ++ (lead i ++ value_text value)) is ∙ sym (text-next row i value at)),
-    (let size = ap length whole in omega (arith, size, length-append before (lead i ++ value_text value), length-append (lead i) (value_text value), lead-size i, value-size value, size-next row i value at, small)))
+    let whole : after ≡ before ++ (lead i ++ value_text value) = with-value ∙ (ap (λ front. front ++ value_text value) with-lead ∙ append_assoc before (lead i) (value_text value)) in (
+      whole ∙ (ap (λ front. front ++ (lead i ++ value_text value)) is ∙ sym (text-next row i value at)),
+      (let size = ap length whole in omega (arith, size, length-append before (lead i ++ value_text value), length-append (lead i) (value_text value), lead-size i, value-size value, size-next row i value at, small)),
+    )
 
 -- there is room for it
 pub room-next : (row : Values) (i : ℕ) (value before between : List ℕ) → IsRow row → i < length row → slice_get row i ≡ Some value → length before ≤ 2 * row_size (take i row) + 3 * i → between ≡ before ++ lead i
@@ -102,7 +103,8 @@ pub room-next : (row : Values) (i : ℕ) (value before between : List ℕ) → I
 room-next row i value before between formed within at small with-lead =
     let next = size-next row i value at in
     let all = size-take row (i + 1) in
-    let lengths = ap length with-lead in
-    (omega (arith, small, next, all, formed.size, formed.count, within),
-    omega (arith, small, next, all, formed.size, formed.count, within, lengths, length-append before (lead i), lead-size i),
-    narrow-at row i value formed.widths at)
+    let lengths = ap length with-lead in (
+      omega (arith, small, next, all, formed.size, formed.count, within),
+      omega (arith, small, next, all, formed.size, formed.count, within, lengths, length-append before (lead i), lead-size i),
+      narrow-at row i value formed.widths at,
+    )

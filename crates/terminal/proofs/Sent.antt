@@ -14,7 +14,6 @@ use Rattle.scql_model.proofs.PartsAgain.{parts_some}
 use Rattle.planner.specs.Words.{is_done}
 use Rattle.planner.specs.Meaning.{answer_to, followed_by, in_turn, parts_from, all_in_turn}
 use Rattle.terminal.specs.Stays.{Stays}
-use Rattle.scql_model.specs.Heard.{after_commits}
 use Rattle.card_link.specs.Link.{Answered, IsOneOf, Adds}
 use Rattle.terminal.specs.Going.{after_all, IsAmong, IsWithin}
 

@@ -1,5 +1,5 @@
 -- How a statement goes on: one step, and many.
-use Rattle.std.proofs.Common.{◌≡◌, ◌⊎◌, ℕ, zero, suc, ◌+◌, ◌-◌, ◌≤◌, ◌<◌, Bool, true, false, List, [], ◌∷◌, ◌++◌, length, map, Option, Some, None, if◌then◌else◌, append_assoc, refl, sym, ◌∙◌, ap, subst, inl, inr, arith}
+use Rattle.std.proofs.Common.{◌≡◌, ℕ, suc, ◌-◌, ◌≤◌, ◌<◌, Bool, true, false, List, [], ◌∷◌, ◌++◌, map, Option, Some, None, if◌then◌else◌, append_assoc, refl, sym, ◌∙◌, ap, subst, inl, arith}
 use Rattle.std.specs.List.{concat}
 use Rattle.std.proofs.lemmas.List.{append-nil}
 use Rattle.scql_base.specs.declared.operation.Command.{Command}
@@ -7,30 +7,27 @@ use Rattle.scql_model.specs.Database.{Database}
 use Rattle.scql_model.specs.Machine.{Machine, reset}
 use Rattle.scql_model.specs.Operations.{operations}
 use Rattle.scql_model.specs.Replies.{Reply}
-use Rattle.scql_model.specs.Spelling.{part_count, part_octets}
 use Rattle.scql_model.specs.Step.{Answer, step_by}
 use Rattle.scql_model.proofs.LastCommits.{last-step_by}
-use Rattle.eeprom.specs.Chip.{Becomes}
-use Rattle.card_link.specs.Link.{Answered, IsOneOf, Holds, HoldsWithin, Adds, Gives}
+use Rattle.card_link.specs.Link.{Answered, HoldsWithin}
 use Rattle.planner.specs.declared.closing.Closing.{Closing}
 use Rattle.planner.specs.declared.step.Step.{Step}
 use Rattle.planner.specs.declared.step.Step.TheVariants.{Send, Row, ResetCard, Done}
 use Rattle.planner.specs.Words.{is_done}
-use Rattle.planner.specs.Meaning.{answer_to, followed_by, in_turn, parts_from, parts_of, all_in_turn}
+use Rattle.planner.specs.Meaning.{answer_to, in_turn, parts_of, all_in_turn}
 use Rattle.planner.specs.Planned.{Planned, Turn, next_of}
 use Rattle.planner.specs.Turns.{turns_left, IfGoesOn}
 use Rattle.planner.specs.Running.{Ran, run, taken, committing, giving}
-use Rattle.planner.proofs.Selecting.{more}
 use Rattle.planner.proofs.Settled.{settled, more-is}
 use Rattle.planner.proofs.Turning.{next_of-below}
 use Rattle.planner.specs.Text.{closing_text}
 use Rattle.std.specs.Prelude.{Result, Ok, Err, IfOk, IfErr, OnErr}
 use Rattle.terminal.specs.declared.failure.Failure.{Failure}
 use Rattle.terminal.specs.declared.failure.Failure.TheVariants.{Card, Outlet}
-use Rattle.terminal.specs.Going.{printed_row, rows_text, ran_text, FailsSo, whole_run, run_from, behind, after_all, Prints, IsAmong, IsWithin, IsInRun, Goes, IsMute, IsCut, IsOver, to_go}
+use Rattle.terminal.specs.Going.{printed_row, rows_text, ran_text, FailsSo, whole_run, run_from, behind, after_all, Prints, IsWithin, IsInRun, Goes, IsMute, IsCut, IsOver, to_go}
 use Rattle.terminal.specs.Stays.{Stays, Mutes, IsStart, Works, Causes}
 use Rattle.eeprom.specs.Fault.{Rose}
-use Rattle.terminal.proofs.Sent.{after-append, among-before, among-next, adds-all, adds-both}
+use Rattle.terminal.proofs.Sent.{after-append, among-before, among-next}
 
 -- a run with steps enough doesn't change with more
 enough : (k n : ℕ) (m : Machine) (last : Option Reply) (p : Planned) → turns_left p < k → k ≤ n → run operations k m last p ≡ run operations n m last p
@@ -288,11 +285,12 @@ cut-behind is_at given mark m p q step next old mid new first cut =
       printed = prints-both (rows_text first.rows) cut.said (given old) (given mid) (given new) first.printed cut.printed;
       machine = cut.machine;
       at = cut.at;
-      committed =
-          (first.commits ++ cut.committed.0,
-          cut.committed.1,
-          ap (λ (ran : Ran). ran.commits) first.left ∙ (ap (λ (commits : List Database). first.commits ++ commits) cut.committed.2 ∙ sym (append_assoc first.commits cut.committed.0 cut.committed.1)),
-          cut.committed.3 ∙ (ap (λ (db : Database). after_all db cut.committed.0) first.committed ∙ sym (after-append m.committed first.commits cut.committed.0)));
+      committed = (
+        first.commits ++ cut.committed.0,
+        cut.committed.1,
+        ap (λ (ran : Ran). ran.commits) first.left ∙ (ap (λ (commits : List Database). first.commits ++ commits) cut.committed.2 ∙ sym (append_assoc first.commits cut.committed.0 cut.committed.1)),
+        cut.committed.3 ∙ (ap (λ (db : Database). after_all db cut.committed.0) first.committed ∙ sym (after-append m.committed first.commits cut.committed.0)),
+      );
       in_row = λ none. cut.in_row (none-behind first.rows ran.rows (sym (ap (λ (ran : Ran). ran.rows) first.left) ∙ none));
     }
 

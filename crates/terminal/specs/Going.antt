@@ -1,5 +1,5 @@
 -- A statement under way on a link: what is left of its run, and what came of it so far.
-use Rattle.std.specs.Prelude.{◌≡◌, ◌⊎◌, ℕ, suc, ◌≤◌, ◌<◌, ◌==◌, Bool, true, false, List, [], ◌∷◌, ◌++◌, length, map, Option, Some, None, Result, Ok, Err}
+use Rattle.std.specs.Prelude.{◌≡◌, ◌⊎◌, ℕ, suc, ◌≤◌, List, [], ◌∷◌, ◌++◌, length, map, Option, None}
 use Rattle.std.specs.List.{concat}
 use Rattle.std.specs.Option.{option_map_or}
 use Rattle.scql_base.specs.Row.{row_from}
@@ -11,7 +11,7 @@ use Rattle.scql_model.specs.Replies.{Reply}
 use Rattle.eeprom.specs.Chip.{Becomes}
 use Rattle.planner.specs.declared.closing.Closing.{Closing}
 use Rattle.planner.specs.declared.step.Step.{Step}
-use Rattle.planner.specs.declared.step.Step.TheVariants.{Send, Row, ResetCard, Done}
+use Rattle.planner.specs.declared.step.Step.TheVariants.{Done}
 use Rattle.planner.specs.Planned.{Planned, next_of}
 use Rattle.planner.specs.Turns.{turns_left}
 use Rattle.planner.specs.Running.{Ran, run, taken}

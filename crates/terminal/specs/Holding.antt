@@ -4,6 +4,8 @@ use Rattle.scql_base.specs.declared.operation.Operation.{Operation}
 use Rattle.scql_base.specs.declared.operation.Operation.TheVariants.{Begin, Commit, Rollback}
 use Rattle.scql_model.specs.Machine.{Machine, Transaction}
 use Rattle.script.specs.declared.statement.Statement.{Statement}
+use Rattle.planner.specs.declared.closing.Closing.{Closing}
+use Rattle.planner.specs.declared.closing.Closing.TheVariants.{Fine}
 use Rattle.script.specs.declared.statement.Statement.TheVariants.{Single, UseNumber, Reset}
 
 pub record Holding : Type 0 where
@@ -36,3 +38,7 @@ abbrev pub held_after : Statement → ℕ → Option ℕ → Option ℕ
 held_after (Single operation) channel held = held_by operation channel held
 held_after Reset channel held = None
 held_after statement channel held = held
+
+abbrev pub held_when : Closing → Option ℕ → Option ℕ → Option ℕ
+held_when Fine then' held = then'
+held_when closing then' held = held

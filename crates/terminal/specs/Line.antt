@@ -1,5 +1,5 @@
 -- What there is of a line: its text, or as much of it as was printed where a device failed; the moments of it.
-use Rattle.std.specs.Prelude.{◌≡◌, ◌⊎◌, ℕ, ◌≤◌, ◌<◌, Bool, true, false, List, [], ◌∷◌, ◌++◌, map, Option, Result, Ok, Err}
+use Rattle.std.specs.Prelude.{◌≡◌, ◌⊎◌, ℕ, ◌<◌, Bool, true, false, List, [], ◌∷◌, ◌++◌, map, Option, Result, Ok, Err}
 use Rattle.std.specs.List.{concat}
 use Rattle.scql_base.specs.declared.operation.Line.{Line}
 use Rattle.scql_model.specs.Database.{Database}
@@ -8,15 +8,14 @@ use Rattle.scql_model.specs.Matching.{Values}
 use Rattle.card_link.specs.Link.{IsOneOf}
 use Rattle.script.specs.declared.fault.ScriptFault.{ScriptFault}
 use Rattle.script.specs.declared.statement.Statement.{Statement}
-use Rattle.script.specs.Line.{statement_of}
 use Rattle.planner.specs.declared.closing.Closing.{Closing}
 use Rattle.planner.specs.declared.closing.Closing.TheVariants.{Refused}
-use Rattle.planner.specs.Meaning.{Meaning, meaning}
+use Rattle.planner.specs.Meaning.{meaning}
 use Rattle.planner.specs.Text.{LineMeaning, row_text}
 use Rattle.terminal.specs.declared.line_end.LineEnd.{LineEnd}
 use Rattle.terminal.specs.declared.line_end.LineEnd.TheVariants as ends
 use Rattle.terminal.specs.Going.{Prints, after_all}
-use Rattle.terminal.specs.Stays.{Breaks, Mutes, Works}
+use Rattle.terminal.specs.Stays.{Breaks, IsStart, Mutes, Works}
 
 -- the closing line is a refusal, or an error
 abbrev pub is_refusal : Closing → Bool
@@ -68,6 +67,13 @@ EndsBy is_live faults sink_faults ends.Answered old new = Works is_live faults s
 EndsBy is_live faults sink_faults ends.Refused old new = Works is_live faults sink_faults old new
 EndsBy is_live faults sink_faults ends.Mute old new = Mutes is_live faults old new × (sink_faults new ≡ sink_faults old)
 EndsBy is_live faults sink_faults ends.SinkFault old new = Breaks faults sink_faults old new × (is_live new ≡ is_live old)
+
+-- a closing text is printed, or its start is where the outlet fails
+abbrev pub ClosesSo : {L : Type 0} → (L → Option (List ℕ)) → (L → Bool) → (L → ℕ) → (L → ℕ) → List ℕ → Bool → LineEnd → L → L → Type 0
+ClosesSo given is_live faults sink_faults text refused ends.Answered old new = (refused ≡ false) × Prints text (given old) (given new) × Works is_live faults sink_faults old new
+ClosesSo given is_live faults sink_faults text refused ends.Refused old new = (refused ≡ true) × Prints text (given old) (given new) × Works is_live faults sink_faults old new
+ClosesSo given is_live faults sink_faults text refused ends.Mute old new = ⊥
+ClosesSo given is_live faults sink_faults text refused ends.SinkFault old new = IsStart text (given old) (given new) × Breaks faults sink_faults old new × (is_live new ≡ is_live old)
 
 -- A moment of a line: with the mark of its start the database is the one before it, or one that it commits; with a later mark it is the one after all commits.
 abbrev pub IsMoment : ℕ → Database → List Database → ℕ → Database → Type 0

@@ -6,5 +6,7 @@ mod failure;
 mod following;
 mod line_end;
 mod printing;
+mod terminal;
 
 pub use line_end::LineEnd;
+pub use terminal::Terminal;

@@ -1,4 +1,4 @@
-use Rattle.std.proofs.Common.{◌≡◌, ◌+◌, ◌-◌, ℕ, refl, sym, ap, ◌∙◌, rules, arith}
+use Rattle.std.proofs.Common.{refl, ◌∙◌, rules, arith}
 use Rattle.terminal.proofs.Sent.{nothing-sent, adds-none, stays-both, asked-moments, part-sent, all-sent}
 use Rattle.terminal.proofs.asking.ask.Goals as goal
 

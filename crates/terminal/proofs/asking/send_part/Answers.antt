@@ -1,9 +1,3 @@
-use Rattle.std.proofs.Common.{◌≡◌, [], ◌∷◌, ap, sym, ◌∙◌}
-use Rattle.scql_model.specs.Operations.{operations}
-use Rattle.scql_model.specs.Spelling as spelling
-use Rattle.scql_model.specs.Step.{step_by}
-use Rattle.card_link.specs.Link.{IsOneOf}
-use Rattle.terminal.specs.Going.{IsWithin}
 use Rattle.terminal.proofs.Sent.{within-one, adds-all}
 use Rattle.terminal.proofs.asking.send_part.Goals as goal
 

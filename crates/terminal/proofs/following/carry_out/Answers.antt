@@ -1,4 +1,4 @@
-use Rattle.std.proofs.Common.{◌≡◌, Some, None, refl, sym, ap, subst, IsTrue, ◌∙◌, rules, arith}
+use Rattle.std.proofs.Common.{refl, sym, subst, IsTrue, arith}
 use Rattle.terminal.proofs.Went.{nothing-started, goes-both, goes-moment, fails-behind, is-over, works-both, causes-behind}
 use Rattle.terminal.proofs.Sent.{adds-all, adds-both, adds-none}
 use Rattle.terminal.proofs.following.carry_out.Goals as goal

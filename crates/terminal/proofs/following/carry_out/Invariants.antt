@@ -1,4 +1,4 @@
-use Rattle.std.proofs.Common.{◌≡◌, ◌≤◌, IsTrue, None}
+use Rattle.std.proofs.Common.{◌≤◌, IsTrue, None}
 use Rattle.scql_model.specs.Machine.{Machine}
 use Rattle.script.specs.Commands.{IsSendable}
 use Rattle.card_link.specs.Link.{Adds}

@@ -1,6 +1,5 @@
-use Rattle.std.proofs.Common.{◌≡◌, Some, None, refl, sym, ap, ◌∙◌, rules, arith}
+use Rattle.std.proofs.Common.{None, rules}
 use Rattle.terminal.proofs.Went.{reset-goes, nothing-goes, less-seen}
-use Rattle.terminal.proofs.Sent.{adds-all, adds-both}
 use Rattle.terminal.proofs.following.follow.Goals as goal
 
 pub returns-in-ResetCard-clause-goes : goal.returns-in-ResetCard-clause-goes

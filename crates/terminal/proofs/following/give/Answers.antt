@@ -1,5 +1,4 @@
-use Rattle.std.proofs.Common.{◌≡◌, take, drop, sym, take-append-drop}
-use Rattle.terminal.specs.Stays.{IsStart}
+use Rattle.std.proofs.Common.{take, drop, sym, take-append-drop}
 use Rattle.terminal.proofs.following.give.Goals as goal
 
 pub returns-in-Err-clause-cut : goal.returns-in-Err-clause-cut

@@ -1,6 +1,4 @@
-use Rattle.std.proofs.Common.{◌≡◌, Some, refl, sym, ap, ◌∙◌, rules, arith}
-use Rattle.terminal.proofs.Went.{row-goes, row-moments, given-moments, if-ok, failed-row, cut-row}
-use Rattle.terminal.proofs.Sent.{adds-all, adds-both}
+use Rattle.terminal.proofs.Went.{row-goes, if-ok, failed-row, cut-row}
 use Rattle.terminal.proofs.following.print_row.Goals as goal
 
 pub returns-in-Ok-clause-goes : goal.returns-in-Ok-clause-goes

@@ -1,4 +1,4 @@
-use Rattle.std.proofs.Common.{◌≡◌, Some, refl, sym, ap, ◌∙◌, rules, arith}
+use Rattle.std.proofs.Common.{Some}
 use Rattle.terminal.proofs.Went.{sent-goes, sent-moments, less-seen}
 use Rattle.terminal.proofs.Sent.{adds-all}
 use Rattle.terminal.proofs.following.send.Goals as goal

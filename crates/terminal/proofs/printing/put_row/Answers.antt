@@ -1,4 +1,4 @@
-use Rattle.std.proofs.Common.{◌≡◌, Some, refl, sym, ap, ◌∙◌, rules, arith}
+use Rattle.std.proofs.Common.{sym, rules}
 use Rattle.terminal.proofs.RowTexts.{row-next, room-next}
 use Rattle.terminal.proofs.printing.put_row.Goals as goal
 
