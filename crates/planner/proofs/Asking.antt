@@ -26,12 +26,12 @@ use Rattle.script.specs.Commands.{IsSendable}
 use Rattle.planner.specs.Meaning.{answer_to}
 
 -- the session of a channel that was set
-set-there : {A : Type 0} (xs : List (Option A)) (i : ℕ) (x y : A) → option_flatten (slice_get xs i) ≡ Some x → option_flatten (slice_get (slice_set xs i (Some y)) i) ≡ Some y
+pub set-there : {A : Type 0} (xs : List (Option A)) (i : ℕ) (x y : A) → option_flatten (slice_get xs i) ≡ Some x → option_flatten (slice_get (slice_set xs i (Some y)) i) ≡ Some y
 set-there [] i x y is = absurd (none-some x is)
 set-there (first ∷ xs) zero x y is = refl
 set-there (first ∷ xs) (suc i) x y is = set-there xs i x y is
 
-open-there : {A : Type 0} (xs : List (Option A)) (i : ℕ) (x : A) → option_flatten (slice_get xs i) ≡ Some x → slice_get (map (λ (s : Option A). is_some s) xs) i ≡ Some true
+pub open-there : {A : Type 0} (xs : List (Option A)) (i : ℕ) (x : A) → option_flatten (slice_get xs i) ≡ Some x → slice_get (map (λ (s : Option A). is_some s) xs) i ≡ Some true
 open-there [] i x is = absurd (none-some x is)
 open-there (None ∷ xs) zero x is = absurd (none-some x is)
 open-there (Some y ∷ xs) zero x is = refl

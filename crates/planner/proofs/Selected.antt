@@ -197,18 +197,18 @@ module _ (m : Machine) (channel : ℕ) (s : Session) (few : channel ≤ 3) (ther
             (rows-run [] r rest 0 (length (r ∷ rest)) [] is rises given (omega arith) most))
 
 -- DECLARE: what the machine's move is by the cursor that is declared.
-abbrev declares_so : Reading → Result Declared StatusWord → Move Reading
+abbrev pub declares_so : Reading → Result Declared StatusWord → Move Reading
 declares_so reading (Err word) = record { reply = said word; after = reading }
 declares_so reading (Ok d) = moved_to NotOpen d.cursor done
 
 -- a refusal is one, and else the rows are those under the cursor
-abbrev IsDeclared : Database → Actor → Result Declared StatusWord → Type 0
+abbrev pub IsDeclared : Database → Actor → Result Declared StatusWord → Type 0
 IsDeclared database a (Err word) = is_refusal word ≡ true
 IsDeclared database a (Ok d) = (rows_under database a d.cursor ≡ Ok d.rows) × Rises stamp_of d.rows
 
-record Declares (db : Database) (a : Actor) (reading : Reading) (object : List ℕ) (columns : Columns) (conditions : List Condition) (d : Result Declared StatusWord) : Type 0 where
-  moves : move_of db a reading (declare object columns conditions) ≡ declares_so reading d
-  is : IsDeclared db a d
+pub record Declares (db : Database) (a : Actor) (reading : Reading) (object : List ℕ) (columns : Columns) (conditions : List Condition) (d : Result Declared StatusWord) : Type 0 where
+  pub moves : move_of db a reading (declare object columns conditions) ≡ declares_so reading d
+  pub is : IsDeclared db a d
 
 module _ (db : Database) (a : Actor) (reading : Reading) (object : List ℕ) (columns : Columns) (conditions : List Condition) (readable : IsReadable db) where
   abbrev cursor_of : Object → Cursor
@@ -231,7 +231,7 @@ module _ (db : Database) (a : Actor) (reading : Reading) (object : List ℕ) (co
   abbrev Agree : Result (Move Reading) StatusWord → Result Declared StatusWord → Type 0
   Agree move d = (or_stays reading move ≡ declares_so reading d) × IsDeclared db a d
 
-  abbrev declared_from : Option Object → Result Declared StatusWord
+  abbrev pub declared_from : Option Object → Result Declared StatusWord
   declared_from found = or_refused found not_found >>= λ o. declared_if o (holds db a o select_privilege)
 
   abbrev moved_from : Option Object → Result (Move Reading) StatusWord
@@ -263,12 +263,12 @@ module _ (db : Database) (a : Actor) (reading : Reading) (object : List ℕ) (co
   agree None seen = (refl, refl)
   agree (Some o) seen = agree-may o (holds db a o select_privilege) seen refl
 
-  declares : Declares db a reading object columns conditions (declared_from (seen_named db a object))
+  pub declares : Declares db a reading object columns conditions (declared_from (seen_named db a object))
   unfolding move_of
   declares = let x = agree (seen_named db a object) refl in record { moves = x.0; is = x.1 }
 
 -- the machine as it is with a channel's session
-in_session-same : (m : Machine) (channel : ℕ) (s : Session) → session_of m channel ≡ Some s → in_session m channel s ≡ m
+pub in_session-same : (m : Machine) (channel : ℕ) (s : Session) → session_of m channel ≡ Some s → in_session m channel s ≡ m
 in_session-same m channel s there =
     sym (ap (λ (session : Option Session). with_session m channel (option_map (λ (x : Session). x) session)) there)
     ∙ changing_session-same (λ (x : Session). x) m channel (same (session_of m channel))

@@ -23,13 +23,13 @@ step-settled table k n bound m q (Row c) below again =
 step-settled table k n bound m q ResetCard below again = again below (reset m) None
 step-settled table k n bound m q (Done closing) below again = refl
 
-settled : (table : List Line) (k n : ℕ) (m : Machine) (last : Option Reply) (p : Planned) → turns_left p < k → run table k m last p ≡ run table (more k n) m last p
+pub settled : (table : List Line) (k n : ℕ) (m : Machine) (last : Option Reply) (p : Planned) → turns_left p < k → run table k m last p ≡ run table (more k n) m last p
 settled table zero n m last p enough = absurd (omega (arith, enough))
 settled table (suc k) n m last p enough =
     step-settled table k n (turns_left p) m (next_of last p).plan (next_of last p).step (next_of-below last p)
     (λ below x reply. settled table k n x reply (next_of last p).plan (omega (arith, below, enough)))
 
-more-is : (k n : ℕ) → more k n ≡ k + n
+pub more-is : (k n : ℕ) → more k n ≡ k + n
 more-is zero n = omega arith
 more-is (suc k) n = ap suc (more-is k n) ∙ omega arith
 

@@ -1,12 +1,14 @@
 // Laws over the plans of statements. Each is the contract of a function that does nothing.
-ghost use Rattle.std.specs.Prelude.{◌≡◌, ◌<◌, ℕ, suc, Bool, true, false, List, Option, None};
+ghost use Rattle.std.specs.Prelude.{◌≡◌, ◌<◌, ℕ, suc, Bool, true, false, List, Option, None, is_some};
 ghost use Rattle.scql_base.specs.declared.condition.Condition.{Condition};
 ghost use Rattle.scql_base.specs.declared.operation.Line.{Line};
+ghost use Rattle.scql_model.specs.Database.{IsValid};
 ghost use Rattle.scql_model.specs.Machine.{Machine, base};
 ghost use Rattle.scql_model.specs.Operations.{operations};
 ghost use Rattle.scql_model.specs.ReadingLaws.{IsReadable};
 ghost use Rattle.scql_model.specs.Replies.{Reply};
 ghost use Rattle.scql_model.specs.Sessions.{is_channel_open};
+ghost use Rattle.scql_model.specs.Transactions.{own_transaction};
 ghost use Rattle.script.specs.declared.statement.Statement.{Statement};
 ghost use Rattle.script.specs.declared.statement.Statement.TheVariants.{Select};
 ghost use Rattle.script.specs.Commands.{CanBeSent};
@@ -40,4 +42,11 @@ pub fn a_plan_comes_to_its_end()
 pub fn a_closed_channel_refuses_statements_of_rows()
     ensures { (m : Machine) (n channel : ℕ) (inside : Bool) (s : Statement) → IsOfRows s → CanBeSent channel s → is_channel_open m channel ≡ false
         → run operations (suc (suc n)) m None (started s channel inside) ≡ shown (meaning operations m channel s) }
+{}
+
+/// Every statement runs to its meaning where its channel reads a valid database: its commands, answered by the steps of the machine in turn, give
+/// the meaning's rows and end as it does, within so many steps as a plan may take, and leave the same machine and commits.
+pub fn statements_run_to_their_meaning()
+    ensures { (m : Machine) (channel : ℕ) (s : Statement) → IsValid (base m channel) → CanBeSent channel s
+        → RunsTo m (started s channel (is_some (own_transaction m.transaction channel))) (shown (meaning operations m channel s)) }
 {}

@@ -1,0 +1,319 @@
+-- How a line ends: its text, and its moments.
+use Rattle.std.proofs.Common.{◌≡◌, ◌⊎◌, ℕ, ◌≤◌, ◌==◌, nat_le, Bool, true, false, ◌&&◌, List, [], ◌∷◌, ◌++◌, length, map, Option, Some, None, is_some, option_map, Result, Ok, Err, if◌then◌else◌, append_assoc, refl, sym, ◌∙◌, ap, subst, inl, inr, arith}
+use Rattle.std.specs.List.{concat, list_all, AllByRecursion}
+use Rattle.std.specs.Option.{option_map_or}
+use Rattle.std.proofs.lemmas.Bool.{and_parts, le-ltb, cases_Bool, eqb-true, eqb-false, false≢true}
+use Rattle.scql_base.specs.Row.{row_size, is_narrow}
+use Rattle.scql_base.proofs.Splitting.{params_of-again}
+use Rattle.scql_base.specs.declared.words.StatusWord.{StatusWord}
+use Rattle.scql_base.specs.declared.condition.Condition.{Condition}
+use Rattle.scql_base.specs.declared.operation.Operation.{Operation}
+use Rattle.scql_base.specs.Words.{channel_not_supported}
+use Rattle.scql_model.specs.Database.{Database, IsValid}
+use Rattle.scql_model.specs.Machine.{Machine, Transaction, base}
+use Rattle.scql_model.specs.Sessions.{is_channel_open}
+use Rattle.scql_model.specs.Matching.{Columns, Values}
+use Rattle.scql_model.specs.Records as records
+use Rattle.scql_model.specs.Records.{is_row}
+use Rattle.scql_model.specs.ReadingCommands.{row_octets}
+use Rattle.scql_model.specs.Operations.{operations}
+use Rattle.scql_model.specs.Transactions.{own_transaction}
+use Rattle.card_link.specs.Link.{IsOneOf, IsOver as IsOverValid}
+use Rattle.script.specs.declared.fault.ScriptFault.{ScriptFault}
+use Rattle.script.specs.declared.statement.Statement.{Statement}
+use Rattle.script.specs.declared.statement.Statement.TheVariants.{Blank, Single, Select, UpdateRows, DeleteRows, OpenNumber, CloseNumber, UseNumber, Reset}
+use Rattle.script.specs.Commands.{CanBeSent}
+use Rattle.script.specs.Line.{statement_of}
+use Rattle.planner.specs.declared.closing.Closing.{Closing}
+use Rattle.planner.specs.declared.closing.Closing.TheVariants.{Refused}
+use Rattle.planner.specs.Meaning.{Meaning, Declared, Changed, declared, ended, selects_all, changed_by, changed_outside, committed_after, changed_in, on_open, begun, meaning}
+use Rattle.planner.specs.Running.{shown}
+use Rattle.planner.specs.Text.{row_text, closing_text, meaning_text, fault_text, of_statement, line_meaning}
+use Rattle.planner.proofs.Statements.{select-rows}
+use Rattle.terminal.specs.declared.failure.Failure.TheVariants.{Card, Outlet}
+use Rattle.terminal.specs.declared.line_end.LineEnd.{LineEnd}
+use Rattle.terminal.specs.declared.line_end.LineEnd.TheVariants as ends
+use Rattle.terminal.specs.Going.{printed_row, rows_text, ran_text, after_all, Prints, IsAmong, IsInRun, IsMute, IsCut, IsOver, FailsSo}
+use Rattle.terminal.specs.Holding.{Knows, channel_after}
+use Rattle.terminal.specs.Line.{IsAnswered, IsCutOff, IsCutShort, EndsSo, EndsBy, ClosesSo, IsMoment, is_refusal, refuses, rows_in}
+use Rattle.terminal.specs.Stays.{Works}
+use Rattle.terminal.proofs.Meant.{base-valid}
+use Rattle.terminal.proofs.Sent.{among-last}
+use Rattle.terminal.proofs.Went.{prints-both, works-both}
+use Rattle.eeprom.specs.Fault.{Rose}
+
+-- What a meaning gives: rows that are rows, and either these or commits.
+pub record IsSound (x : Meaning) : Type 0 where
+  pub formed : AllByRecursion (λ (values : Values). is_row values ≡ true) x.rows
+  pub either : (x.commits ≡ []) ⊎ (x.rows ≡ [])
+
+no-rows : (x : Meaning) → x.rows ≡ [] → IsSound x
+no-rows x none = record { formed = subst (AllByRecursion (λ (values : Values). is_row values ≡ true)) (sym none) tt; either = inr none }
+
+changed-rows : (m : Machine) (channel : ℕ) (operation : Operation) (d : Result Declared StatusWord) (own : Option Transaction) → (changed_by m channel operation d own).rows ≡ []
+changed-rows m channel operation (Err word) (Some t) = refl
+changed-rows m channel operation (Ok d) (Some t) = refl
+changed-rows m channel operation d None = outside m.transaction d
+  where
+    committed : (d : Declared) (c : Changed) (refusal : Option StatusWord) → (committed_after m channel d c refusal).rows ≡ []
+    committed d c None = refl
+    committed d c (Some word) = refl
+
+    outside : (t : Option Transaction) (d : Result Declared StatusWord) → (changed_outside m channel operation d t).rows ≡ []
+    outside (Some t) d = refl
+    outside None (Err word) = refl
+    outside None (Ok d) = committed d (changed_in m channel operation d (begun m channel)) (changed_in m channel operation d (begun m channel)).refusal
+
+on-open-rows : (m : Machine) (channel : ℕ) (x : Meaning) → x.rows ≡ [] → (on_open m channel x).rows ≡ []
+on-open-rows m channel x none = go (is_channel_open m channel)
+  where
+    go : (b : Bool) → (if b then x else ended (Refused channel_not_supported) m channel).rows ≡ []
+    go true = none
+    go false = refl
+
+select-sound : (m : Machine) (channel : ℕ) (object : List ℕ) (columns : Columns) (conditions : List Condition) → IsValid (base m channel) → CanBeSent channel (Select object columns conditions)
+    → IsSound (meaning operations m channel (Select object columns conditions))
+unfolding meaning
+select-sound m channel object columns conditions valid can = go (is_channel_open m channel) refl
+  where
+    selected : Meaning
+    selected = selects_all m channel (declared m channel object columns conditions)
+
+    none : (d : Result Declared StatusWord) → (selects_all m channel d).commits ≡ []
+    none (Err word) = refl
+    none (Ok d) = refl
+
+    commits : (b : Bool) → (if b then selects_all m channel (declared m channel object columns conditions) else ended (Refused channel_not_supported) m channel).commits ≡ []
+    commits true = none (declared m channel object columns conditions)
+    commits false = refl
+
+    formed : (b : Bool) → is_channel_open m channel ≡ b → AllByRecursion (λ (values : Values). is_row values ≡ true) (on_open m channel (selects_all m channel (declared m channel object columns conditions))).rows
+    formed true is = (select-rows m channel object columns conditions is valid can.commands.0.formed.form.1).formed
+    formed false is =
+        subst (λ b. AllByRecursion (λ (values : Values). is_row values ≡ true) (if b then selects_all m channel (declared m channel object columns conditions) else ended (Refused channel_not_supported) m channel).rows) (sym is) tt
+
+    go : (b : Bool) → is_channel_open m channel ≡ b → IsSound (on_open m channel (selects_all m channel (declared m channel object columns conditions)))
+    go b is = record { formed = formed b is; either = inl (commits (is_channel_open m channel)) }
+
+pub sound : (m : Machine) (channel : ℕ) (s : Statement) → IsOverValid m → CanBeSent channel s → IsSound (meaning operations m channel s)
+unfolding meaning
+sound m channel (Select object columns conditions) over can = select-sound m channel object columns conditions (base-valid m channel over) can
+sound m channel (UpdateRows object changes conditions) over can = no-rows _ (on-open-rows m channel _ (changed-rows m channel _ (declared m channel object [] conditions) (own_transaction m.transaction channel)))
+sound m channel (DeleteRows object conditions) over can = no-rows _ (on-open-rows m channel _ (changed-rows m channel _ (declared m channel object [] conditions) (own_transaction m.transaction channel)))
+sound m channel Blank over can = no-rows _ refl
+sound m channel (Single operation) over can = no-rows _ refl
+sound m channel (OpenNumber number) over can = no-rows _ refl
+sound m channel (CloseNumber number) over can = no-rows _ refl
+sound m channel (UseNumber number) over can = no-rows _ refl
+sound m channel Reset over can = no-rows _ refl
+
+-- The text of rows.
+row-again : (values : Values) → is_row values ≡ true → printed_row (row_octets values) ≡ row_text values
+row-again values is =
+    let parts = and_parts (records.is_count_of_columns (length values) && list_all is_narrow values) (nat_le (row_size values) 1020) is in
+    let fronts = and_parts (records.is_count_of_columns (length values)) (list_all is_narrow values) parts.0 in
+    let counts = and_parts (nat_le 1 (length values)) (nat_le (length values) 15) fronts.0 in
+    rw (params_of-again values, counts.1, fronts.1, parts.1) refl
+
+rows-again : (rows : List Values) → AllByRecursion (λ (values : Values). is_row values ≡ true) rows → rows_text (map row_octets rows) ≡ concat (map row_text rows)
+rows-again [] are = refl
+rows-again (values ∷ rows) are = ap (λ front. front ++ rows_text (map row_octets rows)) (row-again values are.0) ∙ ap (λ rest. row_text values ++ rest) (rows-again rows are.1)
+
+text-again : (x : Meaning) → IsSound x → meaning_text x ≡ ran_text (shown x)
+text-again x is = ap (λ front. front ++ closing_text x.closing) (sym (rows-again x.rows is.formed))
+
+-- some first octets of rows are those of some first rows
+record Splits (rows : List Values) (first : List (List ℕ)) : Type 0 where
+  front : List Values
+  rest : List Values
+  split : rows ≡ front ++ rest
+  same : first ≡ map row_octets front
+
+splits : (rows : List Values) (first rest : List (List ℕ)) → map row_octets rows ≡ first ++ rest → Splits rows first
+splits rows [] rest is = record { front = []; rest = rows; split = refl; same = refl }
+splits [] (x ∷ first) rest is = absurd cc
+splits (values ∷ rows) (x ∷ first) rest is =
+    let s = splits rows first rest (let tails : map row_octets rows ≡ first ++ rest = cc in tails) in
+    let head : x ≡ row_octets values = cc in
+    record { front = values ∷ s.front; rest = s.rest; split = ap (λ back. values ∷ back) s.split; same = ap (λ y. y ∷ first) head ∙ ap (λ back. row_octets values ∷ back) s.same }
+
+front-all : (front rest : List Values) → AllByRecursion (λ (values : Values). is_row values ≡ true) (front ++ rest) → AllByRecursion (λ (values : Values). is_row values ≡ true) front
+front-all [] rest all = tt
+front-all (x ∷ front) rest all = (all.0, front-all front rest all.1)
+
+cut-off : {L : Type 0} (given : L → Option (List ℕ)) (x : Meaning) (old new : L) → IsSound x → IsMute given (shown x) old new → IsCutOff given x.rows old new
+cut-off given x old new is mute =
+    let s = splits x.rows mute.first mute.rest mute.split in
+    record {
+      first = s.front;
+      rest = s.rest;
+      split = s.split;
+      printed =
+          subst (λ (text : List ℕ). Prints text (given old) (given new))
+          (ap rows_text s.same ∙ rows-again s.front (front-all s.front s.rest (subst (AllByRecursion (λ (values : Values). is_row values ≡ true)) s.split is.formed))) mute.printed;
+    }
+
+none-first : (xs ys : List Database) → xs ++ ys ≡ [] → xs ≡ []
+none-first [] ys none = refl
+none-first (x ∷ xs) ys none = absurd cc
+
+cut-short : {L : Type 0} (is_at : L → Machine → Type 0) (given : L → Option (List ℕ)) (m : Machine) (channel : ℕ) (s : Statement) (old new : L) → IsSound (meaning operations m channel s)
+    → IsCut is_at given m (shown (meaning operations m channel s)) old new → IsCutShort is_at given m (of_statement operations m channel (Ok s)) old new
+cut-short is_at given m channel s old new is cut =
+    let x : Meaning = meaning operations m channel s in
+    record {
+      said = cut.said;
+      rest = cut.rest;
+      start = text-again x is ∙ cut.start;
+      printed = cut.printed;
+      machine = cut.machine;
+      at = cut.at;
+      committed = cut.committed.3 ∙ go is.either;
+    }
+  where
+    go : ((meaning operations m channel s).commits ≡ []) ⊎ ((meaning operations m channel s).rows ≡ []) → after_all m.committed cut.committed.0 ≡ after_all m.committed (meaning operations m channel s).commits
+    go (inl none) = ap (after_all m.committed) (none-first cut.committed.0 cut.committed.1 (sym cut.committed.2 ∙ none)) ∙ ap (after_all m.committed) (sym none)
+    go (inr none) = absurd (cut.in_row (ap (map row_octets) none))
+
+pub failure-ends : {L : Type 0} (is_at : L → Machine → Type 0) (given : L → Option (List ℕ)) (m : Machine) (channel : ℕ) (s : Statement) (old new : L) → IsOverValid m → CanBeSent channel s
+    → (FailsSo is_at given m (shown (meaning operations m channel s)) Card old new → IsCutOff given (meaning operations m channel s).rows old new)
+    × (FailsSo is_at given m (shown (meaning operations m channel s)) Outlet old new → IsCutShort is_at given m (of_statement operations m channel (Ok s)) old new)
+failure-ends is_at given m channel s old new over can =
+    let is = sound m channel s over can in
+    ((λ mute. cut-off given (meaning operations m channel s) old new is mute), (λ cut. cut-short is_at given m channel s old new is cut))
+
+-- The channel on which the terminal goes on.
+on-open-channel : (m : Machine) (channel : ℕ) (x : Meaning) → x.channel ≡ channel → (on_open m channel x).channel ≡ channel
+on-open-channel m channel x same = go (is_channel_open m channel)
+  where
+    go : (b : Bool) → (if b then x else ended (Refused channel_not_supported) m channel).channel ≡ channel
+    go true = same
+    go false = refl
+
+changed-channel : (m : Machine) (channel : ℕ) (operation : Operation) (d : Result Declared StatusWord) (own : Option Transaction) → (changed_by m channel operation d own).channel ≡ channel
+changed-channel m channel operation (Err word) (Some t) = refl
+changed-channel m channel operation (Ok d) (Some t) = refl
+changed-channel m channel operation d None = outside m.transaction d
+  where
+    committed : (d : Declared) (c : Changed) (refusal : Option StatusWord) → (committed_after m channel d c refusal).channel ≡ channel
+    committed d c None = refl
+    committed d c (Some word) = refl
+
+    outside : (t : Option Transaction) (d : Result Declared StatusWord) → (changed_outside m channel operation d t).channel ≡ channel
+    outside (Some t) d = refl
+    outside None (Err word) = refl
+    outside None (Ok d) = committed d (changed_in m channel operation d (begun m channel)) (changed_in m channel operation d (begun m channel)).refusal
+
+selected-channel : (m : Machine) (channel : ℕ) (d : Result Declared StatusWord) → (selects_all m channel d).channel ≡ channel
+selected-channel m channel (Err word) = refl
+selected-channel m channel (Ok d) = refl
+
+pub goes-on : (m : Machine) (channel : ℕ) (s : Statement) → (meaning operations m channel s).channel ≡ channel_after s channel
+unfolding meaning
+goes-on m channel (Select object columns conditions) = on-open-channel m channel _ (selected-channel m channel (declared m channel object columns conditions))
+goes-on m channel (UpdateRows object changes conditions) = on-open-channel m channel _ (changed-channel m channel _ (declared m channel object [] conditions) (own_transaction m.transaction channel))
+goes-on m channel (DeleteRows object conditions) = on-open-channel m channel _ (changed-channel m channel _ (declared m channel object [] conditions) (own_transaction m.transaction channel))
+goes-on m channel Blank = refl
+goes-on m channel (Single operation) = refl
+goes-on m channel (OpenNumber number) = refl
+goes-on m channel (CloseNumber number) = refl
+goes-on m channel (UseNumber number) = refl
+goes-on m channel Reset = refl
+
+-- Whether the channel has the open transaction.
+pub inside-known : (m : Machine) (channel : ℕ) (held : Option ℕ) → Knows held m → option_map_or (λ (n : ℕ). n == channel) held false ≡ is_some (own_transaction m.transaction channel)
+inside-known m channel held knows = ap (λ (t : Option ℕ). option_map_or (λ (n : ℕ). n == channel) t false) knows ∙ go m.transaction
+  where
+    mine : (t : Transaction) (b : Bool) → b ≡ is_some (let x : Option Transaction = if b then Some t else None in x)
+    mine t true = refl
+    mine t false = refl
+
+    go : (t : Option Transaction) → option_map_or (λ (n : ℕ). n == channel) (option_map (λ (t : Transaction). t.channel) t) false ≡ is_some (own_transaction t channel)
+    go None = refl
+    go (Some t) = mine t (t.channel == channel)
+
+-- Moments.
+among-one : (mark g : ℕ) (dbs : List Database) (left : Database) → g ≡ mark → IsAmong dbs left → IsOneOf mark dbs g left
+among-one mark g [] left same is = is
+among-one mark g (db ∷ dbs) left same (inl is) = inl (same, is)
+among-one mark g (db ∷ dbs) left same (inr is) = inr (among-one mark g dbs left same is)
+
+-- from a mark on the database is the last one
+pub last-moment : (mark g : ℕ) (db : Database) (commits : List Database) (left : Database) → mark ≤ g → left ≡ after_all db commits → IsMoment mark db commits g left
+last-moment mark g db commits left above is =
+    elim (cases_Bool (g == mark)) [
+      | inl t ↦ inl (among-one mark g (db ∷ commits) left (eqb-true g mark t) (among-last db commits left is))
+      | inr f ↦ inr (let other : g ≡ mark → ⊥ = eqb-false g mark f in (omega (arith, other, above), is))
+    ]
+
+run-moment : (mark g : ℕ) (m : Machine) (x : Meaning) (left : Database) → IsSound x → IsInRun mark m (shown x) g left → IsMoment mark m.committed x.commits g left
+run-moment mark g m x left is within = go is.either within.among
+  where
+    go : (x.commits ≡ []) ⊎ (x.rows ≡ []) → IsAmong (m.committed ∷ x.commits) left → IsMoment mark m.committed x.commits g left
+    go (inr none) among = inl (among-one mark g (m.committed ∷ x.commits) left (within.still (ap (map row_octets) none)) among)
+    go (inl none) (inl among) = last-moment mark g m.committed x.commits left within.above (among ∙ ap (after_all m.committed) (sym none))
+    go (inl none) (inr among) = absurd (subst (λ (commits : List Database). IsAmong commits left) none among)
+
+pub run-moments : (mark g : ℕ) (m : Machine) (channel : ℕ) (s : Statement) (left : Database) → IsOverValid m → CanBeSent channel s → IsInRun mark m (shown (meaning operations m channel s)) g left
+    → IsMoment mark m.committed (meaning operations m channel s).commits g left
+run-moments mark g m channel s left over can within = run-moment mark g m (meaning operations m channel s) left (sound m channel s over can) within
+
+-- The closing line.
+pub closes-ends : {L : Type 0} (is_at : L → Machine → Type 0) (given : L → Option (List ℕ)) (is_live : L → Bool) (faults sink_faults mark : L → ℕ) (m : Machine) (channel : ℕ) (s : Statement) (closing : Closing) (result : LineEnd) (old mid new : L)
+    → IsOverValid m → CanBeSent channel s → IsOver is_at given mark m (shown (meaning operations m channel s)) closing old mid
+    → ClosesSo given is_live faults sink_faults (closing_text closing) (is_refusal closing) result mid new → is_at new (meaning operations m channel s).machine
+    → EndsSo is_at given m (of_statement operations m channel (Ok s)) (rows_in operations m channel (Ok s)) (refuses operations m channel (Ok s)) (channel_after s channel) result old new
+closes-ends is_at given is_live faults sink_faults mark m channel s closing result old mid new over can o closes at = go result closes
+  where
+    x : Meaning
+    x = meaning operations m channel s
+
+    whole : (text : List ℕ) → text ≡ closing_text closing → rows_text (shown (meaning operations m channel s)).rows ++ text ≡ meaning_text (meaning operations m channel s)
+    whole text is = ap (λ rest. rows_text (shown (meaning operations m channel s)).rows ++ rest) (is ∙ ap closing_text o.closes) ∙ sym (text-again (meaning operations m channel s) (sound m channel s over can))
+
+    answered : Prints (closing_text closing) (given mid) (given new) → IsAnswered is_at given (of_statement operations m channel (Ok s)) (channel_after s channel) old new
+    answered printed = record {
+      at = at;
+      text = subst (λ (text : List ℕ). Prints text (given old) (given new)) (whole (closing_text closing) refl) (prints-both (rows_text (shown (meaning operations m channel s)).rows) (closing_text closing) (given old) (given mid) (given new) o.printed printed);
+      channel_is = sym (goes-on m channel s);
+    }
+
+    go : (result : LineEnd) → ClosesSo given is_live faults sink_faults (closing_text closing) (is_refusal closing) result mid new
+        → EndsSo is_at given m (of_statement operations m channel (Ok s)) (rows_in operations m channel (Ok s)) (refuses operations m channel (Ok s)) (channel_after s channel) result old new
+    go ends.Answered c = (answered c.1, ap is_refusal (sym o.closes) ∙ c.0)
+    go ends.Refused c = (answered c.1, ap is_refusal (sym o.closes) ∙ c.0)
+    go ends.Mute c = absurd c
+    go ends.SinkFault c = record {
+      said = rows_text (shown (meaning operations m channel s)).rows ++ c.0.said;
+      rest = c.0.rest;
+      start =
+          sym (whole (closing_text closing) refl) ∙ (ap (λ rest. rows_text (shown (meaning operations m channel s)).rows ++ rest) c.0.start
+          ∙ sym (append_assoc (rows_text (shown (meaning operations m channel s)).rows) c.0.said c.0.rest));
+      printed = prints-both (rows_text (shown (meaning operations m channel s)).rows) c.0.said (given old) (given mid) (given new) o.printed c.0.printed;
+      machine = (meaning operations m channel s).machine;
+      at = at;
+      committed = o.committed;
+    }
+
+pub closes-by : {L : Type 0} (given : L → Option (List ℕ)) (is_live : L → Bool) (faults sink_faults : L → ℕ) (text : List ℕ) (refused : Bool) (result : LineEnd) (old mid new : L) → Works is_live faults sink_faults old mid
+    → ClosesSo given is_live faults sink_faults text refused result mid new → EndsBy is_live faults sink_faults result old new
+closes-by given is_live faults sink_faults text refused ends.Answered old mid new works c = works-both is_live faults sink_faults old mid new works c.2
+closes-by given is_live faults sink_faults text refused ends.Refused old mid new works c = works-both is_live faults sink_faults old mid new works c.2
+closes-by given is_live faults sink_faults text refused ends.Mute old mid new works c = absurd c
+closes-by given is_live faults sink_faults text refused ends.SinkFault old mid new works c =
+    (record { same = c.1.same ∙ works.faults_same; rose = subst (λ n. Rose n (sink_faults new)) works.sink_same c.1.rose }, c.2 ∙ works.live)
+
+-- A line that is no statement.
+pub fault-ends : {L : Type 0} (is_at : L → Machine → Type 0) (given : L → Option (List ℕ)) (is_live : L → Bool) (faults sink_faults : L → ℕ) (m : Machine) (channel : ℕ) (fault : ScriptFault) (text : List ℕ) (result : LineEnd) (old new : L)
+    → text ≡ fault_text fault → ClosesSo given is_live faults sink_faults text true result old new → is_at new m
+    → EndsSo is_at given m (of_statement operations m channel (Err fault)) (rows_in operations m channel (Err fault)) (refuses operations m channel (Err fault)) channel result old new
+fault-ends is_at given is_live faults sink_faults m channel fault text ends.Answered old new is c at = absurd (false≢true (sym c.0))
+fault-ends is_at given is_live faults sink_faults m channel fault text ends.Refused old new is c at =
+    (record { at = at; text = subst (λ (text : List ℕ). Prints text (given old) (given new)) is c.1; channel_is = refl }, refl)
+fault-ends is_at given is_live faults sink_faults m channel fault text ends.Mute old new is c at = absurd c
+fault-ends is_at given is_live faults sink_faults m channel fault text ends.SinkFault old new is c at =
+    record { said = c.0.said; rest = c.0.rest; start = sym is ∙ c.0.start; printed = c.0.printed; machine = m; at = at; committed = refl }
+
+pub line-is : (m : Machine) (channel : ℕ) (line : List ℕ) → length line ≤ 1000 → line_meaning operations m channel line ≡ of_statement operations m channel (statement_of line)
+unfolding line_meaning
+line-is m channel line short = rw (le-ltb 1000 (length line) short) refl

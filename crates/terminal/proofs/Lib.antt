@@ -1,0 +1,6 @@
+pub mod Ended
+pub mod Meant
+pub mod RowTexts
+pub mod Sent
+pub mod UpperCase
+pub mod Went

@@ -1,0 +1,190 @@
+-- A command that is sent in parts: the databases that it commits in turn.
+use Rattle.std.proofs.Common.{◌≡◌, ◌⊎◌, ℕ, zero, suc, ◌+◌, ◌-◌, ◌≤◌, ◌<◌, Bool, true, false, List, [], ◌∷◌, ◌++◌, length, Option, nat_lt, if◌then◌else◌, append_assoc, refl, sym, ◌∙◌, ap, subst, inl, inr, arith}
+use Rattle.std.proofs.lemmas.Bool.{ltb-true, ltb-false}
+use Rattle.std.proofs.lemmas.List.{append-nil}
+use Rattle.scql_base.specs.declared.operation.Command.{Command}
+use Rattle.scql_model.specs.Database.{Database}
+use Rattle.scql_model.specs.Machine.{Machine}
+use Rattle.scql_model.specs.Operations.{operations}
+use Rattle.scql_model.specs.Replies.{Reply}
+use Rattle.scql_model.specs.Spelling.{field_of, part_count, part_octets}
+use Rattle.scql_model.specs.Step.{Answer, step_by}
+use Rattle.scql_model.proofs.LastCommits.{last-step_by}
+use Rattle.scql_model.proofs.PartsAgain.{parts_some}
+use Rattle.planner.specs.Words.{is_done}
+use Rattle.planner.specs.Meaning.{answer_to, followed_by, in_turn, parts_from, all_in_turn}
+use Rattle.terminal.specs.Stays.{Stays}
+use Rattle.card_link.specs.Link.{Answered, IsOneOf, Adds}
+use Rattle.terminal.specs.Going.{after_all, IsAmong, IsWithin}
+
+pub after-append : (db : Database) (xs ys : List Database) → after_all db (xs ++ ys) ≡ after_all (after_all db xs) ys
+after-append db [] ys = refl
+after-append db (x ∷ xs) ys = after-append x xs ys
+
+pub among-behind : (xs ys : List Database) (left : Database) → IsAmong ys left → IsAmong (xs ++ ys) left
+among-behind [] ys left is = is
+among-behind (x ∷ xs) ys left is = inr (among-behind xs ys left is)
+
+pub among-before : (xs ys : List Database) (left : Database) → IsAmong xs left → IsAmong (xs ++ ys) left
+among-before [] ys left is = absurd is
+among-before (x ∷ xs) ys left (inl is) = inl is
+among-before (x ∷ xs) ys left (inr is) = inr (among-before xs ys left is)
+
+-- the last is among them
+pub among-last : (db : Database) (xs : List Database) (left : Database) → left ≡ after_all db xs → IsAmong (db ∷ xs) left
+among-last db [] left is = inl is
+among-last db (x ∷ xs) left is = inr (among-last x xs left is)
+
+-- what follows the last of some
+pub among-next : (db now : Database) (xs ys : List Database) (left : Database) → now ≡ after_all db xs → IsAmong (now ∷ ys) left → IsAmong (db ∷ (xs ++ ys)) left
+among-next db now xs ys left last (inl is) = among-before (db ∷ xs) ys left (among-last db xs left (is ∙ last))
+among-next db now xs ys left last (inr is) = inr (among-behind xs ys left is)
+
+pub within-one : (mark : ℕ) (dbs : List Database) (g : ℕ) (left : Database) → IsOneOf mark dbs g left → IsWithin mark [] dbs g left
+within-one mark [] g left is = absurd is
+within-one mark (db ∷ dbs) g left (inl is) = record { above = omega (arith, is.0); still = λ none. is.0; among = inl is.1 }
+within-one mark (db ∷ dbs) g left (inr is) = let rest = within-one mark dbs g left is in record { above = rest.above; still = rest.still; among = inr rest.among }
+
+pub adds-all : {L : Type 0} (may_open : L → ℕ → ℕ → Database → Type 0) (clock : L → ℕ) (P Q : ℕ → Database → Type 0) (old new : L) → ((g : ℕ) (left : Database) → P g left → Q g left)
+    → Adds may_open clock P old new → Adds may_open clock Q old new
+adds-all may_open clock P Q old new each adds = λ t g left before opens. go t g left (adds t g left before opens)
+  where
+    go : (t g : ℕ) (left : Database) → may_open old t g left ⊎ P g left → may_open old t g left ⊎ Q g left
+    go t g left (inl was) = inl was
+    go t g left (inr is) = inr (each g left is)
+
+pub adds-both : {L : Type 0} (may_open : L → ℕ → ℕ → Database → Type 0) (clock : L → ℕ) (P : ℕ → Database → Type 0) (old mid new : L) → clock old ≤ clock mid
+    → Adds may_open clock P old mid → Adds may_open clock P mid new → Adds may_open clock P old new
+adds-both may_open clock P old mid new later first second = λ t g left before opens. go t g left before (second t g left (omega (arith, before, later)) opens)
+  where
+    go : (t g : ℕ) (left : Database) → t ≤ clock old → may_open mid t g left ⊎ P g left → may_open old t g left ⊎ P g left
+    go t g left before (inl was) = first t g left before was
+    go t g left before (inr is) = inr is
+
+pub adds-none : {L : Type 0} (may_open : L → ℕ → ℕ → Database → Type 0) (clock : L → ℕ) (P : ℕ → Database → Type 0) (l : L) → Adds may_open clock P l l
+adds-none may_open clock P l = λ t g left before opens. inl opens
+
+-- What is left of a command at a part.
+abbrev pub part_from : Machine → Command → ℕ → Answer
+part_from m c place = in_turn operations m (part_octets c place) (parts_from (place + 1) (part_count c - (place + 1)) c)
+
+abbrev pub answering : List Database → Answer → Answer
+answering commits answer = record answer { commits = commits ++ answer.commits }
+
+pub record HasSent {L : Type 0} (is_at : L → Machine → Type 0) (m : Machine) (c : Command) (place : ℕ) (now : L) : Type 0 where
+  pub machine : Machine
+  pub commits : List Database
+  pub at : is_at now machine
+  pub left : answer_to operations m c ≡ answering commits (part_from machine c place)
+  pub committed : machine.committed ≡ after_all m.committed commits
+
+all-parts : (m : Machine) (c : Command) → answer_to operations m c ≡ part_from m c 0
+unfolding answer_to
+all-parts m c = go (part_count c) refl
+  where
+    go : (count : ℕ) → part_count c ≡ count → all_in_turn operations m (parts_from 0 count c) ≡ in_turn operations m (part_octets c 0) (parts_from 1 (count - 1) c)
+    go zero is = absurd (omega (arith, is, parts_some (length (field_of c.operation))))
+    go (suc n) is = ap (λ (k : ℕ). in_turn operations m (part_octets c 0) (parts_from 1 k c)) (omega arith)
+
+pub nothing-sent : {L : Type 0} (is_at : L → Machine → Type 0) (m : Machine) (c : Command) (now : L) → is_at now m → HasSent is_at m c 0 now
+nothing-sent is_at m c now at = record { machine = m; commits = []; at = at; left = all-parts m c; committed = refl }
+
+-- the last part, and one with further parts behind it
+at-last : (m : Machine) (c : Command) (place : ℕ) → part_count c ≤ place + 1 → part_from m c place ≡ step_by operations m (part_octets c place)
+at-last m c place last = ap (λ (n : ℕ). in_turn operations m (part_octets c place) (parts_from (place + 1) n c)) (let none : part_count c - (place + 1) ≡ 0 = omega (arith, last) in none)
+
+before-last : (m : Machine) (c : Command) (place : ℕ) → place + 1 < part_count c
+    → part_from m c place ≡ followed_by (step_by operations m (part_octets c place)) (part_from (step_by operations m (part_octets c place)).machine c (place + 1))
+before-last m c place more =
+    ap (λ (n : ℕ). in_turn operations m (part_octets c place) (parts_from (place + 1) n c)) (let some : part_count c - (place + 1) ≡ suc (part_count c - (place + 1 + 1)) = omega (arith, more) in some)
+
+-- a part was answered by 9000: the next one follows
+pub part-sent : {L : Type 0} (is_at : L → Machine → Type 0) (m : Machine) (c : Command) (place : ℕ) (heard : Reply) (old new : L) → (sent : HasSent is_at m c place old) → place + 1 < part_count c
+    → Answered is_at (step_by operations sent.machine (part_octets c place)) heard new → is_done heard.word ≡ true → HasSent is_at m c (place + 1) new
+part-sent is_at m c place heard old new sent more answered done =
+    let step : Answer = step_by operations sent.machine (part_octets c place) in
+    let is_done' : is_done step.reply.word ≡ true = ap (λ (r : Reply). is_done r.word) (sym answered.reply) ∙ done in
+    record {
+      machine = step.machine;
+      commits = sent.commits ++ step.commits;
+      at = answered.at;
+      left =
+          sent.left
+          ∙ (ap (answering sent.commits) (before-last sent.machine c place more
+          ∙ ap (λ done. let next : Answer = part_from step.machine c (place + 1) in let a : Answer = if done then record next { commits = step.commits ++ next.commits } else step in a) is_done')
+          ∙ ap (λ (commits : List Database). record (part_from step.machine c (place + 1)) { commits = commits }) (sym (append_assoc sent.commits step.commits (part_from step.machine c (place + 1)).commits)));
+      committed =
+          sym (last-step_by operations sent.machine (part_octets c place))
+          ∙ (ap (λ (db : Database). after_all db step.commits) sent.committed ∙ sym (after-append m.committed sent.commits step.commits));
+    }
+
+-- the whole answer: a part was answered by another word, or was the last
+pub all-sent : {L : Type 0} (is_at : L → Machine → Type 0) (m : Machine) (c : Command) (place : ℕ) (heard : Reply) (old new : L) → (sent : HasSent is_at m c place old)
+    → Answered is_at (step_by operations sent.machine (part_octets c place)) heard new → (place + 1 < part_count c → is_done heard.word ≡ false) → Answered is_at (answer_to operations m c) heard new
+all-sent is_at m c place heard old new sent answered ends =
+    let step : Answer = step_by operations sent.machine (part_octets c place) in
+    let whole : answer_to operations m c ≡ answering sent.commits step = sent.left ∙ ap (answering sent.commits) (stops (nat_lt (place + 1) (part_count c)) refl) in
+    record {
+      reply = answered.reply ∙ ap (λ (a : Answer). a.reply) (sym whole);
+      at = subst (is_at new) (ap (λ (a : Answer). a.machine) (sym whole)) answered.at;
+    }
+  where
+    stops : (more : Bool) → nat_lt (place + 1) (part_count c) ≡ more → part_from sent.machine c place ≡ step_by operations sent.machine (part_octets c place)
+    stops false is = at-last sent.machine c place (ltb-false (place + 1) (part_count c) is)
+    stops true is =
+        let step : Answer = step_by operations sent.machine (part_octets c place) in
+        let more : place + 1 < part_count c = ltb-true (place + 1) (part_count c) is in
+        let other : is_done step.reply.word ≡ false = ap (λ (r : Reply). is_done r.word) (sym answered.reply) ∙ ends more in
+        before-last sent.machine c place more
+        ∙ ap (λ done. let next : Answer = part_from step.machine c (place + 1) in let a : Answer = if done then record next { commits = step.commits ++ next.commits } else step in a) other
+
+-- what a part commits is of what the command does
+part-commits : (m : Machine) (c : Command) (place : ℕ) → (rest : List Database) × ((part_from m c place).commits ≡ (step_by operations m (part_octets c place)).commits ++ rest)
+part-commits m c place = go (nat_lt (place + 1) (part_count c)) refl
+  where
+    ended : (step next : Answer) (done : Bool) → (rest : List Database) × ((let a : Answer = if done then record next { commits = step.commits ++ next.commits } else step in a.commits) ≡ step.commits ++ rest)
+    ended step next true = (next.commits, refl)
+    ended step next false = ([], sym (append-nil step.commits))
+
+    go : (more : Bool) → nat_lt (place + 1) (part_count c) ≡ more → (rest : List Database) × ((part_from m c place).commits ≡ (step_by operations m (part_octets c place)).commits ++ rest)
+    go false is = ([], ap (λ (a : Answer). a.commits) (at-last m c place (ltb-false (place + 1) (part_count c) is)) ∙ sym (append-nil (step_by operations m (part_octets c place)).commits))
+    go true is =
+        let step : Answer = step_by operations m (part_octets c place) in
+        let e = ended step (part_from step.machine c (place + 1)) (is_done step.reply.word) in
+        (e.0, ap (λ (a : Answer). a.commits) (before-last m c place (ltb-true (place + 1) (part_count c) is)) ∙ e.1)
+
+-- so the moments of a part are moments of the command
+pub part-moments : {L : Type 0} (is_at : L → Machine → Type 0) (m : Machine) (c : Command) (place mark later g : ℕ) (left : Database) (old : L) → (sent : HasSent is_at m c place old) → later ≡ mark
+    → IsWithin later [] (sent.machine.committed ∷ (step_by operations sent.machine (part_octets c place)).commits) g left → IsWithin mark [] (m.committed ∷ (answer_to operations m c).commits) g left
+part-moments is_at m c place mark later g left old sent same within =
+    let step : Answer = step_by operations sent.machine (part_octets c place) in
+    let front = part-commits sent.machine c place in
+    let all : sent.commits ++ (step.commits ++ front.0) ≡ (answer_to operations m c).commits = ap (λ (commits : List Database). sent.commits ++ commits) (sym front.1) ∙ ap (λ (a : Answer). a.commits) (sym sent.left) in
+    record {
+      above = omega (arith, within.above, same);
+      still = λ none. within.still none ∙ same;
+      among =
+          subst (λ (commits : List Database). IsAmong (m.committed ∷ commits) left) all
+          (among-next m.committed sent.machine.committed sent.commits (step.commits ++ front.0) left sent.committed (among-before (sent.machine.committed ∷ step.commits) front.0 left within.among));
+    }
+
+pub stays-both : {L : Type 0} (given : L → Option (List ℕ)) (sink_faults mark clock : L → ℕ) (a b c : L) → Stays given sink_faults mark clock a b → Stays given sink_faults mark clock b c → Stays given sink_faults mark clock a c
+stays-both given sink_faults mark clock a b c first second = record {
+  given_same = second.given_same ∙ first.given_same;
+  sink_same = second.sink_same ∙ first.sink_same;
+  mark_same = second.mark_same ∙ first.mark_same;
+  later = omega (arith, first.later, second.later);
+}
+
+pub asked-moments : {L : Type 0} (is_at : L → Machine → Type 0) (may_open : L → ℕ → ℕ → Database → Type 0) (given : L → Option (List ℕ)) (sink_faults mark clock : L → ℕ) (c : Command) (place now : ℕ) (old mid new : L)
+    → now ≡ place → ((m : Machine) → is_at old m → HasSent is_at m c place mid)
+    → ((m : Machine) → is_at old m → Adds may_open clock (IsWithin (mark old) [] (m.committed ∷ (answer_to operations m c).commits)) old mid)
+    → Stays given sink_faults mark clock old mid
+    → ((m : Machine) → is_at mid m → Adds may_open clock (IsWithin (mark mid) [] (m.committed ∷ (step_by operations m (part_octets c now)).commits)) mid new)
+    → (m : Machine) → is_at old m → Adds may_open clock (IsWithin (mark old) [] (m.committed ∷ (answer_to operations m c).commits)) old new
+asked-moments is_at may_open given sink_faults mark clock c place now old mid new same told moments stays next m at =
+    let sent = told m at in
+    adds-both may_open clock (IsWithin (mark old) [] (m.committed ∷ (answer_to operations m c).commits)) old mid new stays.later (moments m at)
+    (adds-all may_open clock (IsWithin (mark mid) [] (sent.machine.committed ∷ (step_by operations sent.machine (part_octets c place)).commits)) (IsWithin (mark old) [] (m.committed ∷ (answer_to operations m c).commits)) mid new
+    (λ g left within. part-moments is_at m c place (mark old) (mark mid) g left mid sent stays.mark_same within)
+    (subst (λ (n : ℕ). Adds may_open clock (IsWithin (mark mid) [] (sent.machine.committed ∷ (step_by operations sent.machine (part_octets c n)).commits)) mid new) same (next sent.machine sent.at)))

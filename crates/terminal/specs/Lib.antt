@@ -1,0 +1,5 @@
+pub mod Going
+pub mod Holding
+pub mod Line
+pub mod Printed
+pub mod Stays

@@ -1,0 +1,12 @@
+//! A terminal: a line is read as a statement and carried out on a card, and what comes of it is printed.
+#![tactic(auto)]
+
+mod asking;
+mod failure;
+mod following;
+mod line_end;
+mod printing;
+mod terminal;
+
+pub use line_end::LineEnd;
+pub use terminal::Terminal;
