@@ -1,23 +1,45 @@
 -- What the words ask for: a run over lines, or a migration.
-use Rattle.std.proofs.Common.{◌≡◌, ℕ, List, Option, Some, true, false, sym, subst, ◌∙◌}
-use Rattle.std.specs.Option.{option_map_or}
-use Rattle.std.proofs.lemmas.Bool.{false≢true}
+use Rattle.std.proofs.Common.{◌≡◌, inl, inr, ℕ, ◌≤◌, List, [], ◌∷◌, Option, Some, None, true, subst, ◌∙◌, arith}
+use Rattle.std.specs.Prelude.{◌||◌, nat_lt, IfSome, option_map, option_and_then, codes}
+use Rattle.std.specs.Str.{bytes_eq}
+use Rattle.std.proofs.lemmas.Bool.{cases_Bool, false≢true}
+use Rattle.std.proofs.lemmas.Bool.Decides.{nat_tests}
+use Rattle.eeprom.specs.StoreOf.{fewest_cells, most_cells}
 use Rattle.eeprom.specs.Chip.{Chip}
 use Rattle.eeprom.specs.Fault.{Rose}
 use Rattle.scql_model.specs.Database.{Database}
 use Rattle.card_cli.specs.declared.status.Status.{Status}
-use Rattle.card_cli.specs.declared.status.Status.TheVariants.{Eeprom}
+use Rattle.card_cli.specs.declared.status.Status.TheVariants.{Done, Eeprom, ReadFault, WriteFault, TooLong}
 use Rattle.card_cli.specs.declared.words.Form.{Form}
-use Rattle.card_cli.specs.declared.words.Form.TheVariants.{Migrate}
+use Rattle.card_cli.specs.declared.words.Form.TheVariants.{New, Migrate}
 use Rattle.card_cli.specs.Beginning.{BeginsWith}
-use Rattle.card_cli.specs.Ends.{AllFaults, EndsBy}
-use Rattle.card_cli.specs.Words.{form_in, reads_lines, ask_for_lines}
+use Rattle.card_cli.specs.Ends.{AllFaults, EndsBy, ends_opening, has_opened}
+use Rattle.card_cli.specs.Words.{decimal_in, form_in, in_limits, reads_lines, IsWithinLimits}
 
--- the form of a run over lines
-pub lines-asked : (words : List (List ℕ)) (form : Form) → Some form ≡ form_in words → ask_for_lines words ≡ true → reads_lines form ≡ true
-lines-asked words form is asks = subst (λ (o : Option Form). option_map_or reads_lines o false ≡ true) (sym is) asks
+-- A card that is to be made has as many cells as one may have.
+limits-decimal : (number : Option ℕ) → IfSome (option_map New (option_and_then in_limits number)) IsWithinLimits
+limits-decimal None = tt
+limits-decimal (Some n) = elim (cases_Bool (nat_lt n fewest_cells || nat_lt most_cells n)) [
+  | inl outside ↦ rw outside tt
+  | inr inside ↦
+      let few : 16 ≤ n = grind (arith, nat_tests) in
+      let many : n ≤ 2048 = grind (arith, nat_tests) in
+      rw inside (few, many)
+]
 
--- a migration reads none
+limits-found : (words : List (List ℕ)) → IfSome (form_in words) IsWithinLimits
+limits-found [] = tt
+limits-found (word ∷ []) = elim (cases_Bool (bytes_eq word (codes "apdu"))) [
+  | inl apdu ↦ rw apdu tt
+  | inr other ↦ elim (cases_Bool (bytes_eq word (codes "migrate"))) [ inl migrate ↦ rw (other, migrate) tt | inr none ↦ rw (other, none) tt ]
+]
+limits-found (word ∷ digits ∷ []) = elim (cases_Bool (bytes_eq word (codes "new"))) [ inl new ↦ rw new (limits-decimal (decimal_in digits)) | inr none ↦ rw none tt ]
+limits-found (word ∷ digits ∷ more ∷ words) = tt
+
+pub limits-asked : (words : List (List ℕ)) (form : Form) → form_in words ≡ Some form → IsWithinLimits form
+limits-asked words form is = subst (λ (o : Option Form). IfSome o IsWithinLimits) is (limits-found words)
+
+-- a migration reads no lines
 pub no_lines : (form : Form) → form ≡ Migrate → reads_lines form ≡ true → ⊥
 no_lines form migrates reads = false≢true (subst (λ (f : Form). reads_lines f ≡ true) migrates reads)
 
@@ -28,3 +50,11 @@ no_run words form chip db is migrates begins = let same : begins.form ≡ form =
 -- a run that an EEPROM ends has its count risen
 pub eeprom-rose : (status : Status) (was now : AllFaults) → status ≡ Eeprom → EndsBy status was now → Rose was.eeprom now.eeprom
 eeprom-rose status was now is ends = let rose : EndsBy Eeprom was now = subst (λ (s : Status). EndsBy s was now) is ends in rose.0
+
+-- a run whose card wasn't opened isn't one that only an opened card has
+pub unopened : (status : Status) → ends_opening status ≡ true → has_opened status ≡ true → ⊥
+unopened Done opening opened = false≢true opening
+unopened TooLong opening opened = false≢true opening
+unopened ReadFault opening opened = false≢true opening
+unopened WriteFault opening opened = false≢true opening
+unopened status opening opened = false≢true opened

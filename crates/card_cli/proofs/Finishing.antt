@@ -1,10 +1,12 @@
 -- How the run of a card ends that was opened.
-use Rattle.std.proofs.Common.{◌≡◌, ◌⊎◌, ℕ, ◌<◌, ◌≤◌, true, false, List, length, take, slice_index, get_or, get_or-take, Option, Some, None, refl, sym, ap, subst, ◌∙◌, arith, inl, inr}
+use Rattle.std.proofs.Common.{◌≡◌, ◌⊎◌, ℕ, ◌<◌, ◌≤◌, true, false, List, [], length, take, slice_index, get_or, get_or-take, Option, Some, None, refl, sym, ap, subst, ◌∙◌, arith, inl, inr}
 use Rattle.std.specs.Prelude.{IsSome, IfSome}
-use Rattle.eeprom.specs.Chip.{Chip, Becomes}
-use Rattle.scql_model.specs.Database.{Database, fresh}
-use Rattle.scql_model.specs.Machine.{Machine, start}
-use Rattle.scql_model.specs.Lines.{lines, run_text}
+use Rattle.std.proofs.lemmas.Bool.{false≢true}
+use Rattle.eeprom.specs.Chip.{Chip, Still, Becomes}
+use Rattle.scql_model.specs.Database.{Database, IsValid, fresh}
+use Rattle.scql_model.specs.Machine.{start}
+use Rattle.scql_model.specs.Lines.{Language, lines, run_text}
+use Rattle.scql_model.proofs.FreshCard.{IsValid-fresh}
 use Rattle.scql_model.specs.Opens.{Opens}
 use Rattle.eeprom.specs.StoreOf.{store_of, is_gate_open, number_at}
 use Rattle.eeprom.proofs.Leaves.{leaves-then, leaves-last}
@@ -19,12 +21,18 @@ use Rattle.card.proofs.Starting.{opens-same}
 use Rattle.card.specs.Card.{Kept, IsAt}
 use Rattle.card_cli.specs.declared.words.Form.{Form}
 use Rattle.card_cli.specs.declared.words.Form.TheVariants.{New}
-use Rattle.card_cli.specs.Beginning.{IsOpenTo, LacksCard, LeavesUntilOpen}
+use Rattle.card_cli.specs.Beginning.{IsOpenTo, Begins, BeginsWith, LacksCard, LeavesUntilOpen}
+use Rattle.card_cli.specs.Words.{IsWithinLimits}
 use Rattle.card_cli.specs.declared.status.Status.{Status}
-use Rattle.card_cli.specs.declared.status.Status.TheVariants.{Done, Eeprom, ReadFault, WriteFault, TooLong}
+use Rattle.card_cli.specs.declared.status.Status.TheVariants.{Done, Eeprom, ReadFault, WriteFault, NoMemory, TooLong}
+use Rattle.card_cli.specs.declared.stop.FailedDevice.{FailedDevice}
+use Rattle.card_cli.specs.declared.stop.FailedDevice.TheVariants as stop
+use Rattle.card_cli.specs.StatusNumber.{status_of}
 use Rattle.card_cli.specs.RunState.{Prints}
-use Rattle.card_cli.specs.Ends.{AllFaults, EndsBy, EndsAs, ends_input, longest_input}
-use Rattle.card_cli.specs.Run.{IsQuiet, AnswersAll}
+use Rattle.card_cli.specs.Ends.{AllFaults, EndsBy, ends_input, ends_opening, longest_input}
+use Rattle.card_cli.specs.Extent.{Extent, to_end, stopped_in, EndsAt, Runs, RunsInput}
+use Rattle.card_cli.specs.Run.{IsQuiet, AnswersAll, RunsLines}
+use Rattle.card_cli.proofs.Asking.{eeprom-rose, limits-asked, unopened}
 
 -- the card that was opened is at the start of the database to which its EEPROM opens
 pub is_at : (card : Kept) (mid opened : Chip) (db : Database) → IsOpenTo mid db → IfSome mid.image (λ (image : List ℕ). (d : Database) → Opens image d → IsAt card opened (start d))
@@ -68,21 +76,78 @@ becomes-at P start now input left from to becomes =
     let same : b.0 ≡ input = cc (b.1, from) in
     subst (λ (i : List ℕ). P i left) same b.2
 
--- a run without a fault answers all of its input
-pub answers_all : (status : Status) (m : Machine) (before : Option (List ℕ)) (now : Chip) (given : Option (List ℕ)) (old new : AllFaults) (start left : Option (List ℕ)) (input rest : List ℕ)
-    → ends_input status ≡ true → EndsBy status old new → IsQuiet old new → start ≡ Some input → left ≡ Some rest → length input ≤ longest_input
-    → (status ≡ TooLong → Becomes (λ (i l : List ℕ). longest_input < length i) start left)
-    → Becomes (λ (i l : List ℕ). EndsAs status old.eeprom new.eeprom m i l before now) start left → now.still.given ≡ given → AnswersAll status (run_text m (lines input true)) before given
-answers_all Done m before now given old new start left input rest over ends quiet from to short long ended same =
-    let answered = becomes-at (λ (i l : List ℕ). EndsAs Done old.eeprom new.eeprom m i l before now) start left input rest from to ended in
-    inl (refl, subst (λ (g : Option (List ℕ)). Prints (run_text m (lines input true)) before g) same answered.text)
-answers_all TooLong m before now given old new start left input rest over ends quiet from to short long ended same =
-    let passes : longest_input < length input = becomes-at (λ (i l : List ℕ). longest_input < length i) start left input rest from to (long refl) in
-    absurd (omega (arith, passes, short))
-answers_all Eeprom m before now given old new start left input rest over ends quiet from to short long ended same = absurd (quiet.eeprom ends.0)
-answers_all ReadFault m before now given old new start left input rest over ends quiet from to short long ended same = absurd (quiet.source ends.0)
-answers_all WriteFault m before now given old new start left input rest over ends quiet from to short long ended same = absurd (quiet.outlet ends.0)
-answers_all status m before now given old new start left input rest over ends quiet from to short long ended same = absurd cc
+not_done : (stop : FailedDevice) → Done ≡ status_of stop → ⊥
+not_done stop.Eeprom is = absurd cc
+not_done stop.Outlet is = absurd cc
+not_done stop.Both is = absurd cc
+
+-- a run that is done came to the end of its lines
+said-done : {S : Type 0} (L : Language S) (state : S) (taken : List (List ℕ)) (extent : Extent) (from to : ℕ) (old new : Chip) → EndsAt extent Done from to → Runs L state taken extent old new
+    → Prints (run_text L state taken) old.still.given new.still.given
+said-done L state taken to_end from to old new ends runs = subst (λ (said : List ℕ). Prints said old.still.given new.still.given) runs.text.1 runs.text.2
+said-done L state taken (stopped_in stop.Eeprom answered line) from to old new ends runs = absurd (not_done stop.Eeprom ends.0)
+said-done L state taken (stopped_in stop.Outlet answered line) from to old new ends runs = absurd (not_done stop.Outlet ends.0)
+said-done L state taken (stopped_in stop.Both answered line) from to old new ends runs = absurd (not_done stop.Both ends.0)
+
+-- and so, without a fault, it answers all of its input
+answers_all : {S : Type 0} (L : Language S) (state : S) (status : Status) (was now : AllFaults) (input left : List ℕ) (before old new : Chip) → before.still ≡ old.still → ends_input status ≡ true → EndsBy status was now → IsQuiet was now
+    → length input ≤ longest_input → (status ≡ TooLong → longest_input < length input) → RunsInput L state status was.eeprom now.eeprom input left before new
+    → AnswersAll status (run_text L state (lines input true)) old.still.given new.still.given
+answers_all L state Done was now input left before old new still over ends quiet short long ran =
+    inl (
+      refl,
+      subst (λ (s : Still). Prints (run_text L state (lines input true)) s.given new.still.given) still
+          (subst (λ (taken : List (List ℕ)). Prints (run_text L state taken) before.still.given new.still.given) ran.are_taken
+          (said-done L state ran.taken ran.extent was.eeprom now.eeprom before new ran.ends ran.runs)),
+    )
+answers_all L state TooLong was now input left before old new still over ends quiet short long ran = absurd (omega (arith, long refl, short))
+answers_all L state Eeprom was now input left before old new still over ends quiet short long ran = absurd (quiet.eeprom ends.0)
+answers_all L state ReadFault was now input left before old new still over ends quiet short long ran = absurd (quiet.source ends.0)
+answers_all L state WriteFault was now input left before old new still over ends quiet short long ran = absurd (quiet.outlet ends.0)
+answers_all L state status was now input left before old new still over ends quiet short long ran = absurd cc
+
+-- What a run over lines owes whose card wasn't opened,
+pub Lines-unopened : {S T : Type 0} (L : Language S) (first : Database → S) (form : Form) (status : Status) (source : T) (start end : Option (List ℕ)) (old new : Chip) (was now : AllFaults) → ends_opening status ≡ true
+    → ((db : Database) → Begins form old db → (status ≡ NoMemory) ⊎ (status ≡ Eeprom)) → EndsBy status was now → new.still ≡ old.still → LeavesUntilOpen form old new
+    → RunsLines L first form status source source start end old new was now
+Lines-unopened L first form status source start end old new was now opening stopped ends still leaves =
+    record {
+      begins = λ opened told. absurd (unopened status opening opened);
+      done = λ is. absurd (false≢true (subst (λ (s : Status). ends_opening s ≡ true) is opening));
+      too_long = λ is. absurd (false≢true (subst (λ (s : Status). ends_opening s ≡ true) is opening));
+      text = λ db begins quiet input left from to short. elim (stopped db begins) [
+        | inl none ↦ inr (none, ap (λ (s : Still). s.given) still)
+        | inr failed ↦ absurd (quiet.eeprom (eeprom-rose status was now failed ends))
+      ];
+      runs = λ db begins. inl (record { opening = opening; source = refl; given = ap (λ (s : Still). s.given) still; leaves = leaves });
+    }
+
+-- and whose card was opened, and then asked
+pub Lines-opened : {S T : Type 0} (L : Language S) (first : Database → S) (form : Form) (status : Status) (source after : T) (start end : Option (List ℕ)) (old mid new : Chip) (was now : AllFaults) → ends_input status ≡ true
+    → (IsSome old.image → (db : Database) × Begins form old db) → mid.still ≡ old.still → LeavesUntilOpen form old mid → ((db : Database) → Begins form old db → IfSome mid.image (λ image. Opens image db))
+    → (status ≡ Done → Becomes (λ input left. (left ≡ []) × (length input ≤ longest_input)) start end) → (status ≡ TooLong → Becomes (λ input left. longest_input < length input) start end) → EndsBy status was now
+    → ((db : Database) → Begins form old db → Becomes (λ input left. RunsInput L (first db) status was.eeprom now.eeprom input left mid new) start end)
+    → RunsLines L first form status source after start end old new was now
+Lines-opened L first form status source after start end old mid new was now over begins still until opens done long ends runs =
+    record {
+      begins = λ opened told. begins told;
+      done = done;
+      too_long = long;
+      text = λ db begins quiet input left from to short.
+          answers_all L (first db) status was now input left mid old new still over ends quiet short (λ is. becomes-at (λ (i l : List ℕ). longest_input < length i) start end input left from to (long is))
+          (becomes-at (λ (i l : List ℕ). RunsInput L (first db) status was.eeprom now.eeprom i l mid new) start end input left from to (runs db begins));
+      runs = λ db begins. inr (λ left told.
+          let last = runs db begins left told in
+          (last.0, last.1, record { opened = mid; still = still; opens = opens db begins; until = until; runs = last.2 }));
+    }
+
+-- the database of a run is valid
+valid-begun : (form : Form) (chip : Chip) (db : Database) → IsWithinLimits form → Begins form chip db → IsValid db
+valid-begun (New n) chip db limits begins = subst IsValid (sym begins.2) (IsValid-fresh n limits.0 limits.1)
+valid-begun form chip db limits begins = begins.2.valid
+
+pub valid-beginning : (words : List (List ℕ)) (chip : Chip) (db : Database) → BeginsWith words chip db → IsValid db
+valid-beginning words chip db begins = valid-begun begins.form chip db (limits-asked words begins.form begins.asked) begins.begins
 
 pub same_faults : (a b s c d : ℕ) → a ≡ b → c ≡ d
     → (let first : AllFaults = record { eeprom = a; source = s; outlet = c } in let second : AllFaults = record { eeprom = b; source = s; outlet = d } in first ≡ second)

@@ -19,12 +19,13 @@ use Rattle.card.specs.Card.{Kept, IsReady, IsAt, committed_slots}
 use Rattle.card.proofs.Leaving.{Opens-at}
 use Rattle.card.proofs.Starting.{opens-same}
 use Rattle.card_cli.specs.declared.status.Status.{Status}
-use Rattle.card_cli.specs.declared.status.Status.TheVariants.{Done, Eeprom, ReadFault, WriteFault, NoMemory, TooLong}
+use Rattle.card_cli.specs.declared.status.Status.TheVariants.{Done, Eeprom, WriteFault, NoMemory}
 use Rattle.card_cli.specs.Beginning.{IsOpenTo}
-use Rattle.card_cli.specs.Ends.{AllFaults, EndsBy, ends_opening, has_opened}
+use Rattle.card_cli.specs.Ends.{AllFaults, EndsBy, ends_opening}
 use Rattle.card_cli.specs.Migrating.{IsInMigration, IsMigratedFrom, KeepsOthers, LeavesLongRows, WritesNothing, MigratesTo, Migrates, StaysMigrating}
 use Rattle.card_cli.specs.Run.{IsQuiet, AnswersAll}
 use Rattle.card_cli.proofs.Behind.{behind-then}
+use Rattle.card_cli.proofs.Asking.{unopened}
 use Rattle.card_cli.proofs.Finishing.{kept_open}
 use Rattle.card_cli.proofs.Moving.{IsInPiece, throughout-both, throughout-same}
 
@@ -163,13 +164,6 @@ migrates-unopened status from to db old new (inl is) opens keeps =
     subst (λ (s : Status). MigratesTo s from to db old.still.given new) (sym is) (ap (λ (s : Still). s.given) keeps.keeps.still, kept_open old new db keeps opens)
 migrates-unopened status from to db old new (inr is) opens keeps =
     subst (λ (s : Status). MigratesTo s from to db old.still.given new) (sym is) (ap (λ (s : Still). s.given) keeps.keeps.still, left-some old new db (leaves-opening old new db opens keeps))
-
-pub unopened : (status : Status) → ends_opening status ≡ true → has_opened status ≡ true → ⊥
-unopened Done opening opened = false≢true opening
-unopened TooLong opening opened = false≢true opening
-unopened ReadFault opening opened = false≢true opening
-unopened WriteFault opening opened = false≢true opening
-unopened status opening opened = false≢true opened
 
 -- Behind the image.
 

@@ -1,27 +1,24 @@
 -- How a device stops a run, in a line and among octets.
 use Rattle.std.proofs.Common.{◌≡◌, ℕ, true, false, List, [], ◌∷◌, ◌++◌, take, drop, Option, Some, Result, Ok, Err, refl, sym, ap, subst, ◌∙◌, append-nil, append_assoc, take-append-drop}
-use Rattle.std.specs.Prelude.{OnErr, IfErr, IsErrAnd, codes}
-use Rattle.hex.specs.Hex.{encode_upper, encode_with}
+use Rattle.std.specs.Prelude.{OnErr, IfErr, IsErrAnd}
 use Rattle.eeprom.specs.Chip.{Chip, Throughout}
 use Rattle.eeprom.specs.Output.{Follows}
-use Rattle.scql_base.specs.declared.words.StatusWord.{StatusWord}
-use Rattle.scql_base.specs.Words.{memory_failure}
-use Rattle.scql_model.specs.Machine.{Machine}
-use Rattle.scql_model.specs.Lines.{LineContent, lines, content_of, content_text, content_step, reply_octets, run_text, machine_after, content_commits}
+use Rattle.scql_model.specs.Lines.{Effect, Language, lines, line_effect, run_text, state_after}
+use Rattle.scql_model.specs.Heard.{committed_in}
 use Rattle.scql_model.specs.Opens.{Opens, OpensToOneOf}
-use Rattle.card.specs.Card.{Kept, IsReady, IsAt}
-use Rattle.card.proofs.Leaving.{Opens-at}
 use Rattle.card_cli.specs.declared.stop.FailedDevice.{FailedDevice}
 use Rattle.card_cli.specs.declared.stop.FailedDevice.TheVariants.{Eeprom, Outlet, Both}
-use Rattle.card_cli.specs.Line.{line_content, is_empty_line}
-use Rattle.card_cli.specs.Running.{Running, from_machine, after, text_of}
+use Rattle.card_cli.specs.Answering.{Failed}
+use Rattle.card_cli.specs.Extent.{stopped_in, carried_out, AreKept, Runs}
+use Rattle.card_cli.specs.Running.{Running, from_state, begun_effect, after, text_of}
 use Rattle.card_cli.specs.RunState.{Prints, RunState, IsRunning, Feeds}
-use Rattle.card_cli.specs.CutOff.{FailsIn, StopsIn, IsCutShort, mute_text}
+use Rattle.card_cli.specs.CutOff.{IsOneOf, FailsIn, IsCutShort}
+use Rattle.card_cli.specs.Line.{is_empty_line}
 use Rattle.card_cli.specs.Moments.{IsInStopped, IfGiven}
 use Rattle.card_cli.proofs.Moving.{until-line_feed, until-then, told-before}
 use Rattle.card_cli.specs.Halting.{FailsAt, HaltsAt, Halts}
 use Rattle.card_cli.proofs.Feeding.{Prints-then}
-use Rattle.card_cli.proofs.Streaming.{open_end, line_content-begun_line, text_of-lines, after-lines, after-append, text_of-append, lines-open, lines-line_feed}
+use Rattle.card_cli.proofs.Streaming.{open_end, text_of-lines, after-lines, after-append, text_of-append, lines-line_feed}
 
 -- where an outlet failed, the first octets that it gave of a text are a start of it
 pub cut_short : {E : Type 0} (result : Result (Unit {0}) E) (text : List ℕ) (before now : Option (List ℕ))
@@ -35,25 +32,23 @@ at_outlet P (Ok x) is holds = tt
 at_outlet P (Err stop) is holds = subst P (sym is) holds
 
 -- an answer was to be given, and the outlet failed
-pub fails_giving : (m : Machine) (reading : LineContent) (text : List ℕ) (before : Option (List ℕ)) (mid now : Chip)
-    → text ≡ content_text m reading → IsCutShort text before now.still.given
-    → now.image ≡ mid.image → ((image : List ℕ) → mid.image ≡ Some image → Opens image (content_step m reading).committed)
-    → FailsIn Outlet [] m reading before now
-fails_giving m reading text before mid now is cut same opens = record {
+pub fails_giving : {S : Type 0} (L : Language S) (state : S) (does : Effect S) (before : Option (List ℕ)) (mid now : Chip) → IsCutShort (does.text) before now.still.given
+    → now.image ≡ mid.image → ((image : List ℕ) → mid.image ≡ Some image → Opens image (committed_in L does.next)) → FailsIn Outlet L [] state does before now
+fails_giving L state does before mid now cut same opens = record {
   said = cut.said;
-  says = (cut.start.0, sym is ∙ cut.start.1);
+  says = cut.start;
   given = cut.given;
   image = λ image told. opens image (sym same ∙ told);
 }
 
 -- what a line may leave of the EEPROM
-abbrev pub OpensWithin : Machine → LineContent → Chip → Type 0
-OpensWithin m reading chip = (image : List ℕ) → chip.image ≡ Some image → OpensToOneOf (m.committed ∷ content_commits m reading) image
+abbrev pub OpensWithin : {S : Type 0} (L : Language S) (state : S) → Effect S → Chip → Type 0
+OpensWithin L state does chip = (image : List ℕ) → chip.image ≡ Some image → OpensToOneOf (committed_in L state ∷ does.commits) image
 
 -- the card went mute, and said so
-pub fails_mute : (m : Machine) (reading : LineContent) (text : List ℕ) (before : Option (List ℕ)) (mid now : Chip)
-    → text ≡ mute_text → Prints text before now.still.given → now.image ≡ mid.image → OpensWithin m reading mid → FailsIn Eeprom [] m reading before now
-fails_mute m reading text before mid now is given same opens = record {
+pub fails_mute : {S : Type 0} (L : Language S) (state : S) (does : Effect S) (text : List ℕ) (before : Option (List ℕ)) (mid now : Chip) → IsOneOf does.faulty text → Prints text before now.still.given
+    → now.image ≡ mid.image → OpensWithin L state does mid → FailsIn Eeprom L [] state does before now
+fails_mute L state does text before mid now is given same opens = record {
   said = text;
   says = is;
   given = given;
@@ -61,32 +56,19 @@ fails_mute m reading text before mid now is given same opens = record {
 }
 
 -- or the outlet failed as it did
-pub fails_both : (m : Machine) (reading : LineContent) (text : List ℕ) (before : Option (List ℕ)) (mid now : Chip)
-    → text ≡ mute_text → IsCutShort text before now.still.given → now.image ≡ mid.image → OpensWithin m reading mid → FailsIn Both [] m reading before now
-fails_both m reading text before mid now is cut same opens = record {
+pub fails_both : {S : Type 0} (L : Language S) (state : S) (does : Effect S) (text : List ℕ) (before : Option (List ℕ)) (mid now : Chip) → IsOneOf does.faulty text → IsCutShort text before now.still.given
+    → now.image ≡ mid.image → OpensWithin L state does mid → FailsIn Both L [] state does before now
+fails_both L state does text before mid now is cut same opens = record {
   said = cut.said;
-  says = (cut.start.0, sym is ∙ cut.start.1);
+  says = (text, is, cut.start);
   given = cut.given;
   image = λ image told. opens image (sym same ∙ told);
 }
 
--- a line that reads as a note leaves the EEPROM
-pub fails_note : (m : Machine) (note reading : LineContent) (text : List ℕ) (card : Kept) (old now : Chip) → IsReady card old → IsAt card old m
-    → note ≡ reading → text ≡ content_text m note → m.committed ≡ (content_step m note).committed
-    → IsCutShort text old.still.given now.still.given → now.image ≡ old.image → FailsIn Outlet [] m reading old.still.given now
-fails_note m note reading text card old now ready at is text_is stays cut same =
-    subst (λ (r : LineContent). FailsIn Outlet [] m r old.still.given now) is
-    (fails_giving m note text old.still.given old now text_is cut same (λ image told. subst (Opens image) stays (Opens-at card old m ready at image told)))
-
--- what a card says that goes mute
-pub mute_text-reply : (body : List ℕ) (word : StatusWord) → body ≡ [] → word ≡ memory_failure → encode_upper (reply_octets (record { body = body; word = word })) ++ codes "\n" ≡ mute_text
-unfolding encode_with
-mute_text-reply body word empty is = rw (empty, is) refl
-
 -- behind what was printed before
-pub FailsIn-after : (stop : FailedDevice) (first text : List ℕ) (m : Machine) (reading : LineContent) (a b : Option (List ℕ)) (now : Chip)
-    → Prints first a b → FailsIn stop text m reading b now → FailsIn stop (first ++ text) m reading a now
-FailsIn-after stop first text m reading a b now printed fails = record {
+pub FailsIn-after : {S : Type 0} (L : Language S) (stop : FailedDevice) (first text : List ℕ) (state : S) (does : Effect S) (a b : Option (List ℕ)) (now : Chip)
+    → Prints first a b → FailsIn stop L text state does b now → FailsIn stop L (first ++ text) state does a now
+FailsIn-after L stop first text state does a b now printed fails = record {
   said = fails.said;
   says = fails.says;
   given = subst (λ (x : List ℕ). Prints x a now.still.given) (sym (append_assoc first text fails.said)) (Prints-then first (text ++ fails.said) a b now.still.given printed fails.given);
@@ -94,80 +76,88 @@ FailsIn-after stop first text m reading a b now printed fails = record {
 }
 
 -- a device fails at a line feed
-pub Halts-line_feed : (stop : FailedDevice) (octet : ℕ) (old : RunState) (now : Chip) → octet ≡ 10
-    → ((r : Running) → IsRunning old r → FailsAt stop [] r old.chip.still.given now)
-    → ((m : Machine) → IsAt old.card old.chip m → IfGiven now (Throughout old.chip now (IsInStopped stop m (line_content old.line) old.chip.still.mark))) → Halts stop (octet ∷ []) old now
-Halts-line_feed stop octet old now is fails moments = λ r running. record {
-  taken = [];
-  rest = [];
-  split = ap (λ (o : ℕ). o ∷ []) is;
-  fails = fails r running;
-  moments = λ told. until-line_feed stop r old.chip now
-      (subst (λ (l : Option (List ℕ)). Throughout old.chip now (IsInStopped stop r.machine (line_content l) old.chip.still.mark)) running.line (moments r.machine running.at told));
-}
+pub Halts-line_feed : {S : Type 0} (L : Language S) (stop : FailedDevice) (octet : ℕ) (old : RunState S) (now : Chip) → octet ≡ 10
+    → ((at : S) → old.at at → Failed stop L at (L.effect at old.line) old.chip now) → Halts stop L (octet ∷ []) old now
+Halts-line_feed L stop octet old now is failed = λ r running.
+    let here : Failed stop L r.state (begun_effect L r) old.chip now =
+    subst (λ (l : Option (List ℕ)). Failed stop L r.state (L.effect r.state l) old.chip now) running.line (failed r.state running.at) in
+    record {
+      taken = [];
+      rest = [];
+      split = ap (λ (o : ℕ). o ∷ []) is;
+      fails = here.fails;
+      moments = λ told. until-line_feed L stop r old.chip now (here.moments told);
+    }
 
--- the line that fails is the one that has begun
-pub FailsAt-begun : (stop : FailedDevice) (old : RunState) (now : Chip) (r : Running) → old.line ≡ r.begun → FailsIn stop [] r.machine (line_content old.line) old.chip.still.given now
-    → FailsAt stop [] r old.chip.still.given now
-FailsAt-begun stop old now r line fails = subst (λ (l : Option (List ℕ)). FailsIn stop [] r.machine (line_content l) old.chip.still.given now) line fails
+-- it fails in the last line, which has an octet
+pub last-fails : {S : Type 0} (L : Language S) (result : Result (Unit {0}) FailedDevice) (old : RunState S) (now : Chip) (r : Running S) → IsRunning old r → is_empty_line old.line ≡ false
+    → IfErr result (λ (stop : FailedDevice). Failed stop L r.state (L.effect r.state old.line) old.chip now)
+    → IfErr result (λ (stop : FailedDevice). (is_empty_line r.begun ≡ false) × FailsAt stop L [] r old.chip.still.given now)
+last-fails L (Ok x) old now r running some failed = tt
+last-fails L (Err stop) old now r running some failed = (
+  subst (λ (l : Option (List ℕ)). is_empty_line l ≡ false) running.line some,
+  (subst (λ (l : Option (List ℕ)). Failed stop L r.state (L.effect r.state l) old.chip now) running.line failed).fails,
+)
 
--- so does one in the last line, which has an octet
-pub fails_last : (result : Result (Unit {0}) FailedDevice) (old : RunState) (now : Chip) (r : Running) → old.line ≡ r.begun → is_empty_line old.line ≡ false
-    → IfErr result (λ (stop : FailedDevice). FailsIn stop [] r.machine (line_content old.line) old.chip.still.given now)
-    → IfErr result (λ (stop : FailedDevice). (is_empty_line r.begun ≡ false) × FailsAt stop [] r old.chip.still.given now)
-fails_last (Ok x) old now r line some fails = tt
-fails_last (Err stop) old now r line some fails = (subst (λ (l : Option (List ℕ)). is_empty_line l ≡ false) line some, FailsAt-begun stop old now r line fails)
+pub last-moments : {S : Type 0} (L : Language S) (result : Result (Unit {0}) FailedDevice) (old : RunState S) (now : Chip) (r : Running S) → IsRunning old r
+    → IfErr result (λ (stop : FailedDevice). Failed stop L r.state (L.effect r.state old.line) old.chip now)
+    → IfErr result (λ (stop : FailedDevice). IfGiven now (Throughout old.chip now (IsInStopped stop L r.state (begun_effect L r) old.chip.still.mark)))
+last-moments L (Ok x) old now r running failed = tt
+last-moments L (Err stop) old now r running failed = (subst (λ (l : Option (List ℕ)). Failed stop L r.state (L.effect r.state l) old.chip now) running.line failed).moments
 
 -- after octets that were taken, and before others
-pub Halts-within : (stop : FailedDevice) (xs ys zs : List ℕ) (a b : RunState) (now : Chip) → Feeds xs a b → Halts stop ys b now → Halts stop (xs ++ (ys ++ zs)) a now
-Halts-within stop xs ys zs a b now feeds halts = λ r running.
+pub Halts-within : {S : Type 0} (L : Language S) (stop : FailedDevice) (xs ys zs : List ℕ) (a b : RunState S) (now : Chip) → Feeds L xs a b → Halts stop L ys b now → Halts stop L (xs ++ (ys ++ zs)) a now
+Halts-within {S} L stop xs ys zs a b now feeds halts = λ r running.
     let first = feeds r running in
-    let then = halts (after r xs) first.running in
-    let fails : FailsAt stop (text_of r xs ++ text_of (after r xs) then.taken) (after (after r xs) then.taken) a.chip.still.given now =
-    FailsIn-after stop (text_of r xs) (text_of (after r xs) then.taken) (after (after r xs) then.taken).machine (line_content (after (after r xs) then.taken).begun) a.chip.still.given b.chip.still.given now first.text then.fails in
+    let then = halts (after L r xs) first.running in
+    let fails : FailsAt stop L (text_of L r xs ++ text_of L (after L r xs) then.taken) (after L (after L r xs) then.taken) a.chip.still.given now =
+    FailsIn-after L stop (text_of L r xs) (text_of L (after L r xs) then.taken) (after L (after L r xs) then.taken).state (begun_effect L (after L (after L r xs) then.taken)) a.chip.still.given b.chip.still.given now first.text then.fails in
     record {
       taken = xs ++ then.taken;
       rest = then.rest ++ zs;
       split = ap (λ (x : List ℕ). xs ++ x) (ap (λ (x : List ℕ). x ++ zs) then.split ∙ append_assoc then.taken (10 ∷ then.rest) zs) ∙ sym (append_assoc xs then.taken (10 ∷ (then.rest ++ zs)));
-      fails = subst (λ (t : List ℕ). FailsAt stop t (after r (xs ++ then.taken)) a.chip.still.given now) (sym (text_of-append xs then.taken r))
-          (subst (λ (s : Running). FailsAt stop (text_of r xs ++ text_of (after r xs) then.taken) s a.chip.still.given now) (sym (after-append xs then.taken r)) fails);
-      moments = λ told. until-then stop xs then.taken r a.chip b.chip now
-          (first.passes (told-before (text_of (after r xs) then.taken ++ then.fails.said) b.chip.still.given now.still.given then.fails.given told)) (then.moments told);
+      fails = subst (λ (t : List ℕ). FailsAt stop L t (after L r (xs ++ then.taken)) a.chip.still.given now) (sym (text_of-append L xs then.taken r))
+          (subst (λ (s : Running S). FailsAt stop L (text_of L r xs ++ text_of L (after L r xs) then.taken) s a.chip.still.given now) (sym (after-append L xs then.taken r)) fails);
+      moments = λ told. until-then L stop xs then.taken r a.chip b.chip now
+          (first.passes (told-before (text_of L (after L r xs) then.taken ++ then.fails.said) b.chip.still.given now.still.given then.fails.given told)) (then.moments told);
     }
 
 -- octet by octet the whole lines were answered
-pub FailsIn-lines : (stop : FailedDevice) (m : Machine) (taken : List ℕ) (before : Option (List ℕ)) (now : Chip) → FailsAt stop (text_of (from_machine m) taken) (after (from_machine m) taken) before now
-    → FailsIn stop (run_text m (lines taken false)) (machine_after m (lines taken false)) (content_of (open_end taken)) before now
-FailsIn-lines stop m taken before now fails =
-    let text : List ℕ = run_text m (lines taken false) in
-    let machine : Machine = machine_after m (lines taken false) in
-    subst (λ (reading : LineContent). FailsIn stop text machine reading before now) (line_content-begun_line (open_end taken))
-    (subst (λ (r : Running). FailsAt stop text r before now) (after-lines m taken)
-    (subst (λ (t : List ℕ). FailsAt stop t (after (from_machine m) taken) before now) (text_of-lines m taken) fails))
+pub FailsIn-lines : {S : Type 0} (L : Language S) (stop : FailedDevice) (state : S) (octets : List ℕ) (before : Option (List ℕ)) (now : Chip) → FailsAt stop L (text_of L (from_state state) octets) (after L (from_state state) octets) before now
+    → FailsIn stop L (run_text L state (lines octets false)) (state_after L state (lines octets false)) (line_effect L (state_after L state (lines octets false)) (open_end octets)) before now
+FailsIn-lines {S} L stop state octets before now fails =
+    subst (λ (r : Running S). FailsAt stop L (run_text L state (lines octets false)) r before now) (after-lines L state octets)
+    (subst (λ (t : List ℕ). FailsAt stop L t (after L (from_state state) octets) before now) (text_of-lines L state octets) fails)
 
-abbrev pub StopsIn-halted : (stop : FailedDevice) (m : Machine) (input : List ℕ) (old now : Chip) → HaltsAt stop input (from_machine m) old now → StopsIn stop m (lines input true) old.still.given now
-StopsIn-halted stop m input old now halts = record {
-  answered = lines halts.taken false;
-  line = open_end halts.taken;
-  rest = lines halts.rest true;
-  split = ap (λ (x : List ℕ). lines x true) halts.split ∙ lines-line_feed halts.taken halts.rest true;
-  fails = FailsIn-lines stop m halts.taken old.still.given now halts.fails;
+-- A device failed in a line behind lines that were answered: so far the run came.
+Runs-stopped : {S : Type 0} (L : Language S) (stop : FailedDevice) (state : S) (all answered : List (List ℕ)) (line : List ℕ) (rest : List (List ℕ)) (old now : Chip) → all ≡ answered ++ line ∷ rest
+    → FailsIn stop L (run_text L state answered) (state_after L state answered) (line_effect L (state_after L state answered) line) old.still.given now
+    → IfGiven now (AreKept L state all (carried_out (stopped_in stop answered line) all) old now) → Runs L state all (stopped_in stop answered line) old now
+Runs-stopped L stop state all answered line rest old now split fails kept = record {
+  within = (rest, split);
+  text = (run_text L state answered ++ fails.said, (fails.said, fails.says, refl), fails.given);
+  image = fails.image;
+  moments = kept;
 }
 
--- a device fails in the last line, which no line feed ends
-abbrev pub StopsIn-last : (stop : FailedDevice) (m : Machine) (input : List ℕ) (old mid : RunState) (now : Chip) → IsRunning old (from_machine m) → Feeds input old mid
-    → ((r : Running) → IsRunning mid r → (is_empty_line r.begun ≡ false) × FailsAt stop [] r mid.chip.still.given now) → StopsIn stop m (lines input true) old.chip.still.given now
-StopsIn-last stop m input old mid now running feeds ends =
-    let r : Running = after (from_machine m) input in
-    let text : List ℕ = text_of (from_machine m) input in
-    let follows = feeds (from_machine m) running in
-    let last = ends r follows.running in
-    let fails : FailsAt stop (text ++ []) r old.chip.still.given now =
-    FailsIn-after stop text [] r.machine (line_content r.begun) old.chip.still.given mid.chip.still.given now follows.text last.1 in
-    record {
-      answered = lines input false;
-      line = open_end input;
-      rest = [];
-      split = lines-open input (subst (λ (s : Running). is_empty_line s.begun ≡ false) (after-lines m input) last.0);
-      fails = FailsIn-lines stop m input old.chip.still.given now (subst (λ (t : List ℕ). FailsAt stop t r old.chip.still.given now) (append-nil text) fails);
-    }
+-- at a line feed of the input
+pub Runs-halted : {S : Type 0} (L : Language S) (stop : FailedDevice) (state : S) (input : List ℕ) (old now : Chip) (halts : HaltsAt stop L input (from_state state) old now)
+    → IfGiven now (AreKept L state (lines input true) (carried_out (stopped_in stop (lines halts.taken false) (open_end halts.taken)) (lines input true)) old now)
+    → Runs L state (lines input true) (stopped_in stop (lines halts.taken false) (open_end halts.taken)) old now
+Runs-halted L stop state input old now halts kept =
+    Runs-stopped L stop state (lines input true) (lines halts.taken false) (open_end halts.taken) (lines halts.rest true) old now
+    (ap (λ (x : List ℕ). lines x true) halts.split ∙ lines-line_feed halts.taken halts.rest true) (FailsIn-lines L stop state halts.taken old.still.given now halts.fails) kept
+
+-- in the last line, which no line feed ends
+pub Runs-failing : {S : Type 0} (L : Language S) (stop : FailedDevice) (state : S) (input : List ℕ) (old mid : RunState S) (now : Chip) → IsRunning old (from_state state) → Feeds L input old mid
+    → lines input true ≡ lines input false ++ open_end input ∷ [] → ((r : Running S) → IsRunning mid r → FailsAt stop L [] r mid.chip.still.given now)
+    → IfGiven now (AreKept L state (lines input true) (carried_out (stopped_in stop (lines input false) (open_end input)) (lines input true)) old.chip now)
+    → Runs L state (lines input true) (stopped_in stop (lines input false) (open_end input)) old.chip now
+Runs-failing {S} L stop state input old mid now running feeds cut fails kept =
+    let r : Running S = after L (from_state state) input in
+    let text : List ℕ = text_of L (from_state state) input in
+    let follows = feeds (from_state state) running in
+    let behind : FailsAt stop L (text ++ []) r old.chip.still.given now =
+    FailsIn-after L stop text [] r.state (begun_effect L r) old.chip.still.given mid.chip.still.given now follows.text (fails r follows.running) in
+    Runs-stopped L stop state (lines input true) (lines input false) (open_end input) [] old.chip now cut
+    (FailsIn-lines L stop state input old.chip.still.given now (subst (λ (t : List ℕ). FailsAt stop L t r old.chip.still.given now) (append-nil text) behind)) kept

@@ -1,37 +1,29 @@
 -- A run octet by octet prints the text of the lines.
-use Rattle.std.proofs.Common.{◌≡◌, ℕ, Bool, true, false, cond, ltb, eqb, List, [], ◌∷◌, ◌++◌, length, Option, Some, None, refl, sym, ap, subst, ◌∙◌, arith, inl, inr, ◌+◌, length-append, append-nil, append_assoc}
+use Rattle.std.proofs.Common.{◌≡◌, ℕ, Bool, true, false, eqb, List, [], ◌∷◌, ◌++◌, length, Option, refl, sym, ap, subst, ◌∙◌, arith, inl, inr, ◌+◌, length-append, append-nil, append_assoc}
 use Rattle.std.proofs.lemmas.Bool.Decides.{nat_tests}
 use Rattle.std.proofs.lemmas.Bool.{cases_Bool}
 use Rattle.std.proofs.lemmas.List.Splits.{slice_split-cons_yes, slice_split-cons_no}
 use Rattle.std.specs.List.{slice_split, onto_first}
-use Rattle.scql_model.specs.Machine.{Machine}
-use Rattle.scql_model.specs.Lines.{is_line_feed, lines, without_open_end, content_of, content_text, content_step, line_text, line_step, run_text, machine_after}
-use Rattle.card_cli.specs.Line.{longer_by, is_empty_line, line_content}
-use Rattle.card_cli.specs.Running.{Running, from_machine, begun_text, after_begun, octet_text, after_octet, text_of, after, end_text, after_end}
+use Rattle.scql_model.specs.Lines.{Language, is_line_feed, lines, without_open_end, taken_line, line_text, line_step, run_text, state_after}
+use Rattle.card_cli.specs.Line.{longer_by, is_empty_line}
+use Rattle.card_cli.specs.Running.{Running, from_state, begun_effect, after_begun, octet_text, after_octet, text_of, after, end_text, after_end}
 
--- the octets of a line that has begun so, or none where it is too long
-abbrev pub begun_line : List ℕ → Option (List ℕ)
-begun_line line = cond (ltb 1000 (length line)) None (Some line)
-
-longer_by-begun_line : (line : List ℕ) (octet : ℕ) → longer_by octet (begun_line line) ≡ begun_line (line ++ octet ∷ [])
-longer_by-begun_line line octet =
+longer_by-taken_line : (line : List ℕ) (octet : ℕ) → longer_by octet (taken_line line) ≡ taken_line (line ++ octet ∷ [])
+longer_by-taken_line line octet =
     let longer : length (line ++ octet ∷ []) ≡ length line + 1 = length-append line (octet ∷ []) in
     grind (arith, nat_tests)
 
-pub line_content-begun_line : (line : List ℕ) → line_content (begun_line line) ≡ content_of line
-line_content-begun_line line = elim (cases_Bool (ltb 1000 (length line))) [ inl t ↦ rw t | inr e ↦ rw e ]
-
 -- a line that has begun and has no octet is empty
-is_empty_line-begun_line : (line : List ℕ) → is_empty_line (begun_line line) ≡ eqb (length line) 0
-is_empty_line-begun_line line = grind (arith, nat_tests)
+is_empty_line-taken_line : (line : List ℕ) → is_empty_line (taken_line line) ≡ eqb (length line) 0
+is_empty_line-taken_line line = grind (arith, nat_tests)
 
 -- a line before the first piece
 abbrev with_front : List ℕ → List (List ℕ) → List (List ℕ)
 with_front line [] = line ∷ []
 with_front line (piece ∷ pieces) = (line ++ piece) ∷ pieces
 
-abbrev pub begun : Machine → List ℕ → Running
-begun m line = record { machine = m; begun = begun_line line }
+abbrev pub begun : {S : Type 0} → S → List ℕ → Running S
+begun state line = record { state = state; begun = taken_line line }
 
 -- what stands behind the last line feed
 abbrev last_piece : List (List ℕ) → List ℕ
@@ -55,79 +47,79 @@ with_front-onto_first : (line : List ℕ) (octet : ℕ) (pieces : List (List ℕ
 with_front-onto_first line octet [] = refl
 with_front-onto_first line octet (piece ∷ pieces) = ap (λ (x : List ℕ). x ∷ pieces) (sym (append_assoc line (octet ∷ []) piece))
 
-begun_text-begun : (m : Machine) (line : List ℕ) → begun_text (begun m line) ≡ line_text m line
+begun_effect-begun : {S : Type 0} (L : Language S) (state : S) (line : List ℕ) → (begun_effect L (begun state line)).text ≡ line_text L state line
 unfolding line_text
-begun_text-begun m line = ap (content_text m) (line_content-begun_line line)
+begun_effect-begun L state line = refl
 
-after_begun-begun : (m : Machine) (line : List ℕ) → after_begun (begun m line) ≡ begun (line_step m line) []
+after_begun-begun : {S : Type 0} (L : Language S) (state : S) (line : List ℕ) → after_begun L (begun state line) ≡ begun (line_step L state line) []
 unfolding line_step
-after_begun-begun m line = ap (λ r. begun (content_step m r) []) (line_content-begun_line line)
+after_begun-begun {S} L state line = refl
 
 -- octets of pieces print the text of all but the last, which has begun afterwards
-record Streams (octets : List ℕ) (r : Running) (m : Machine) (pieces : List (List ℕ)) : Type 0 where
-  text : text_of r octets ≡ run_text m (without_open_end false pieces)
-  after : after r octets ≡ begun (machine_after m (without_open_end false pieces)) (last_piece pieces)
+record Streams {S : Type 0} (L : Language S) (octets : List ℕ) (r : Running S) (state : S) (pieces : List (List ℕ)) : Type 0 where
+  text : text_of L r octets ≡ run_text L state (without_open_end false pieces)
+  after : after L r octets ≡ begun (state_after L state (without_open_end false pieces)) (last_piece pieces)
 
 -- a line feed ends the line that has begun
-Streams-line_feed : (octet : ℕ) (octets : List ℕ) (m : Machine) (line piece : List ℕ) (pieces : List (List ℕ)) → is_line_feed octet ≡ true
-    → Streams octets (begun (line_step m line) []) (line_step m line) (piece ∷ pieces) → Streams (octet ∷ octets) (begun m line) m (line ∷ piece ∷ pieces)
-Streams-line_feed octet octets m line piece pieces is rest = record {
-  text = text_is (begun m line)
-      ∙ (ap (λ (x : List ℕ). x ++ text_of (after_begun (begun m line)) octets) (begun_text-begun m line)
-      ∙ (ap (λ (r : Running). line_text m line ++ text_of r octets) (after_begun-begun m line)
-      ∙ ap (λ (x : List ℕ). line_text m line ++ x) rest.text));
-  after = after_is (begun m line) ∙ (ap (λ (r : Running). after r octets) (after_begun-begun m line) ∙ rest.after);
+Streams-line_feed : {S : Type 0} (L : Language S) (octet : ℕ) (octets : List ℕ) (state : S) (line piece : List ℕ) (pieces : List (List ℕ)) → is_line_feed octet ≡ true
+    → Streams L octets (begun (line_step L state line) []) (line_step L state line) (piece ∷ pieces) → Streams L (octet ∷ octets) (begun state line) state (line ∷ piece ∷ pieces)
+Streams-line_feed {S} L octet octets state line piece pieces is rest = record {
+  text = text_is (begun state line)
+      ∙ (ap (λ (x : List ℕ). x ++ text_of L (after_begun L (begun state line)) octets) (begun_effect-begun L state line)
+      ∙ (ap (λ (r : Running S). line_text L state line ++ text_of L r octets) (after_begun-begun L state line)
+      ∙ ap (λ (x : List ℕ). line_text L state line ++ x) rest.text));
+  after = after_is (begun state line) ∙ (ap (λ (r : Running S). after L r octets) (after_begun-begun L state line) ∙ rest.after);
 }
   where
-    text_is : (r : Running) → text_of r (octet ∷ octets) ≡ begun_text r ++ text_of (after_begun r) octets
+    text_is : (r : Running S) → text_of L r (octet ∷ octets) ≡ (begun_effect L r).text ++ text_of L (after_begun L r) octets
     text_is r = rw is refl
 
-    after_is : (r : Running) → after r (octet ∷ octets) ≡ after (after_begun r) octets
+    after_is : (r : Running S) → after L r (octet ∷ octets) ≡ after L (after_begun L r) octets
     after_is r = rw is refl
 
 -- any other octet is one more of it
-Streams-other : (octet : ℕ) (octets : List ℕ) (m : Machine) (line : List ℕ) (pieces : List (List ℕ)) → is_line_feed octet ≡ false
-    → Streams octets (begun m (line ++ octet ∷ [])) m pieces → Streams (octet ∷ octets) (begun m line) m pieces
-Streams-other octet octets m line pieces is rest = record {
-  text = text_is (begun m line) ∙ (ap (λ (l : Option (List ℕ)). text_of (record { machine = m; begun = l }) octets) (longer_by-begun_line line octet) ∙ rest.text);
-  after = after_is (begun m line) ∙ (ap (λ (l : Option (List ℕ)). after (record { machine = m; begun = l }) octets) (longer_by-begun_line line octet) ∙ rest.after);
+Streams-other : {S : Type 0} (L : Language S) (octet : ℕ) (octets : List ℕ) (state : S) (line : List ℕ) (pieces : List (List ℕ)) → is_line_feed octet ≡ false
+    → Streams L octets (begun state (line ++ octet ∷ [])) state pieces → Streams L (octet ∷ octets) (begun state line) state pieces
+Streams-other {S} L octet octets state line pieces is rest = record {
+  text = text_is (begun state line) ∙ (ap (λ (l : Option (List ℕ)). text_of L (record { state = state; begun = l }) octets) (longer_by-taken_line line octet) ∙ rest.text);
+  after = after_is (begun state line) ∙ (ap (λ (l : Option (List ℕ)). after L (record { state = state; begun = l }) octets) (longer_by-taken_line line octet) ∙ rest.after);
 }
   where
-    text_is : (r : Running) → text_of r (octet ∷ octets) ≡ text_of (record r { begun = longer_by octet r.begun }) octets
+    text_is : (r : Running S) → text_of L r (octet ∷ octets) ≡ text_of L (record r { begun = longer_by octet r.begun }) octets
     text_is r = rw is refl
 
-    after_is : (r : Running) → after r (octet ∷ octets) ≡ after (record r { begun = longer_by octet r.begun }) octets
+    after_is : (r : Running S) → after L r (octet ∷ octets) ≡ after L (record r { begun = longer_by octet r.begun }) octets
     after_is r = rw is refl
 
-streams : (octets : List ℕ) (m : Machine) (line : List ℕ) → Streams octets (begun m line) m (with_front line (slice_split is_line_feed octets))
-streams [] m line = record { text = refl; after = ap (begun m) (sym (append-nil line)) }
-streams (octet ∷ octets) m line =
+streams : {S : Type 0} (L : Language S) (octets : List ℕ) (state : S) (line : List ℕ) → Streams L octets (begun state line) state (with_front line (slice_split is_line_feed octets))
+streams L [] state line = record { text = refl; after = ap (begun state) (sym (append-nil line)) }
+streams L (octet ∷ octets) state line =
     elim (cases_Bool (is_line_feed octet)) [
       | inl t ↦
           let s = split_some octets in
           let pieces : with_front line (slice_split is_line_feed (octet ∷ octets)) ≡ line ∷ s.0 ∷ s.1 =
           ap (with_front line) (slice_split-cons_yes is_line_feed octet octets t) ∙ (ap (λ (x : List ℕ). x ∷ slice_split is_line_feed octets) (append-nil line) ∙ ap (λ (x : List (List ℕ)). line ∷ x) s.2) in
-          subst (Streams (octet ∷ octets) (begun m line) m) (sym pieces)
-          (Streams-line_feed octet octets m line s.0 s.1 t
-          (subst (Streams octets (begun (line_step m line) []) (line_step m line)) (ap (with_front []) s.2) (streams octets (line_step m line) [])))
+          subst (Streams L (octet ∷ octets) (begun state line) state) (sym pieces)
+          (Streams-line_feed L octet octets state line s.0 s.1 t
+          (subst (Streams L octets (begun (line_step L state line) []) (line_step L state line)) (ap (with_front []) s.2) (streams L octets (line_step L state line) [])))
       | inr e ↦
           let pieces : with_front line (slice_split is_line_feed (octet ∷ octets)) ≡ with_front (line ++ octet ∷ []) (slice_split is_line_feed octets) =
           ap (with_front line) (slice_split-cons_no is_line_feed octet octets e) ∙ with_front-onto_first line octet (slice_split is_line_feed octets) in
-          subst (Streams (octet ∷ octets) (begun m line) m) (sym pieces)
-          (Streams-other octet octets m line (with_front (line ++ octet ∷ []) (slice_split is_line_feed octets)) e (streams octets m (line ++ octet ∷ [])))
+          subst (Streams L (octet ∷ octets) (begun state line) state) (sym pieces)
+          (Streams-other L octet octets state line (with_front (line ++ octet ∷ []) (slice_split is_line_feed octets)) e (streams L octets state (line ++ octet ∷ [])))
     ]
 
-from_start : (m : Machine) (octets : List ℕ) → Streams octets (from_machine m) m (slice_split is_line_feed octets)
-from_start m octets =
+from_start : {S : Type 0} (L : Language S) (state : S) (octets : List ℕ) → Streams L octets (from_state state) state (slice_split is_line_feed octets)
+from_start L state octets =
     let s = split_some octets in
-    subst (Streams octets (from_machine m) m) (ap (with_front []) s.2 ∙ sym s.2) (streams octets m [])
+    subst (Streams L octets (from_state state) state) (ap (with_front []) s.2 ∙ sym s.2) (streams L octets state [])
 
 -- From the start of a run on, octet by octet it prints the text of the whole lines, and comes to the machine after them.
-pub text_of-lines : (m : Machine) (octets : List ℕ) → text_of (from_machine m) octets ≡ run_text m (lines octets false)
-text_of-lines m octets = (from_start m octets).text
+pub text_of-lines : {S : Type 0} (L : Language S) (state : S) (octets : List ℕ) → text_of L (from_state state) octets ≡ run_text L state (lines octets false)
+text_of-lines L state octets = (from_start L state octets).text
 
-pub after-lines : (m : Machine) (octets : List ℕ) → after (from_machine m) octets ≡ begun (machine_after m (lines octets false)) (open_end octets)
-after-lines m octets = (from_start m octets).after
+pub after-lines : {S : Type 0} (L : Language S) (state : S) (octets : List ℕ) → after L (from_state state) octets ≡ begun (state_after L state (lines octets false)) (open_end octets)
+after-lines L state octets = (from_start L state octets).after
 
 -- where the input has ended, what stands behind the last line feed is a line too, unless it is empty
 without_open_end-closed : (pieces : List (List ℕ)) → eqb (length (last_piece pieces)) 0 ≡ true → without_open_end true pieces ≡ without_open_end false pieces
@@ -140,11 +132,11 @@ without_open_end-open [] is = absurd cc
 without_open_end-open (piece ∷ []) is = rw is refl
 without_open_end-open (piece ∷ other ∷ pieces) is = ap (λ (x : List (List ℕ)). piece ∷ x) (without_open_end-open (other ∷ pieces) is)
 
-pub lines-open : (octets : List ℕ) → is_empty_line (begun_line (open_end octets)) ≡ false → lines octets true ≡ lines octets false ++ open_end octets ∷ []
-lines-open octets is = without_open_end-open (slice_split is_line_feed octets) (sym (is_empty_line-begun_line (open_end octets)) ∙ is)
+pub lines-open : (octets : List ℕ) → is_empty_line (taken_line (open_end octets)) ≡ false → lines octets true ≡ lines octets false ++ open_end octets ∷ []
+lines-open octets is = without_open_end-open (slice_split is_line_feed octets) (sym (is_empty_line-taken_line (open_end octets)) ∙ is)
 
-lines-closed : (octets : List ℕ) → is_empty_line (begun_line (open_end octets)) ≡ true → lines octets true ≡ lines octets false
-lines-closed octets is = without_open_end-closed (slice_split is_line_feed octets) (sym (is_empty_line-begun_line (open_end octets)) ∙ is)
+lines-closed : (octets : List ℕ) → is_empty_line (taken_line (open_end octets)) ≡ true → lines octets true ≡ lines octets false
+lines-closed octets is = without_open_end-closed (slice_split is_line_feed octets) (sym (is_empty_line-taken_line (open_end octets)) ∙ is)
 
 -- a line feed ends a line, and what follows begins anew
 slice_split-line_feed : (octets : List ℕ) (octet : ℕ) (rest : List ℕ) → is_line_feed octet ≡ true
@@ -220,43 +212,43 @@ lines-prefix octets rest ended =
     (without_open_end ended (pieces.0 ∷ pieces.1), ap (without_open_end ended) pieces.2 ∙ without_open_end-behind ended (lines octets false) pieces.0 pieces.1)
 
 -- one line more
-run_text-more : (m : Machine) (answered : List (List ℕ)) (line : List ℕ) → run_text m (answered ++ line ∷ []) ≡ run_text m answered ++ line_text (machine_after m answered) line
-run_text-more m [] line = append-nil (line_text m line)
-run_text-more m (first ∷ answered) line =
-    ap (λ (x : List ℕ). line_text m first ++ x) (run_text-more (line_step m first) answered line)
-    ∙ sym (append_assoc (line_text m first) (run_text (line_step m first) answered) (line_text (machine_after (line_step m first) answered) line))
+run_text-more : {S : Type 0} (L : Language S) (state : S) (answered : List (List ℕ)) (line : List ℕ) → run_text L state (answered ++ line ∷ []) ≡ run_text L state answered ++ line_text L (state_after L state answered) line
+run_text-more L state [] line = append-nil (line_text L state line)
+run_text-more L state (first ∷ answered) line =
+    ap (λ (x : List ℕ). line_text L state first ++ x) (run_text-more L (line_step L state first) answered line)
+    ∙ sym (append_assoc (line_text L state first) (run_text L (line_step L state first) answered) (line_text L (state_after L (line_step L state first) answered) line))
 
-machine_after-more : (m : Machine) (answered : List (List ℕ)) (line : List ℕ) → machine_after m (answered ++ line ∷ []) ≡ line_step (machine_after m answered) line
-machine_after-more m [] line = refl
-machine_after-more m (first ∷ answered) line = machine_after-more (line_step m first) answered line
+state_after-more : {S : Type 0} (L : Language S) (state : S) (answered : List (List ℕ)) (line : List ℕ) → state_after L state (answered ++ line ∷ []) ≡ line_step L (state_after L state answered) line
+state_after-more L state [] line = refl
+state_after-more L state (first ∷ answered) line = state_after-more L (line_step L state first) answered line
 
 -- the run at the end of its input
-pub text_of-ended : (m : Machine) (octets : List ℕ) → text_of (from_machine m) octets ++ end_text (after (from_machine m) octets) ≡ run_text m (lines octets true)
-text_of-ended m octets =
+pub text_of-ended : {S : Type 0} (L : Language S) (state : S) (octets : List ℕ) → text_of L (from_state state) octets ++ end_text L (after L (from_state state) octets) ≡ run_text L state (lines octets true)
+text_of-ended {S} L state octets =
     let whole : List (List ℕ) = lines octets false in
     let line : List ℕ = open_end octets in
-    ap (λ (x : List ℕ). x ++ end_text (after (from_machine m) octets)) (text_of-lines m octets)
-    ∙ (ap (λ (r : Running). run_text m whole ++ end_text r) (after-lines m octets)
-    ∙ elim (cases_Bool (is_empty_line (begun_line line))) [
-      | inl t ↦ rw t (append-nil (run_text m whole) ∙ ap (run_text m) (sym (lines-closed octets t)))
-      | inr e ↦ rw e (ap (λ (x : List ℕ). run_text m whole ++ x) (begun_text-begun (machine_after m whole) line) ∙ (sym (run_text-more m whole line) ∙ ap (run_text m) (sym (lines-open octets e))))
+    ap (λ (x : List ℕ). x ++ end_text L (after L (from_state state) octets)) (text_of-lines L state octets)
+    ∙ (ap (λ (r : Running S). run_text L state whole ++ end_text L r) (after-lines L state octets)
+    ∙ elim (cases_Bool (is_empty_line (taken_line line))) [
+      | inl t ↦ rw t (append-nil (run_text L state whole) ∙ ap (run_text L state) (sym (lines-closed octets t)))
+      | inr e ↦ rw e (ap (λ (x : List ℕ). run_text L state whole ++ x) (begun_effect-begun L (state_after L state whole) line) ∙ (sym (run_text-more L state whole line) ∙ ap (run_text L state) (sym (lines-open octets e))))
     ])
 
-pub after_end-lines : (m : Machine) (octets : List ℕ) → (after_end (after (from_machine m) octets)).machine ≡ machine_after m (lines octets true)
-after_end-lines m octets =
-    ap (λ (r : Running). (after_end r).machine) (after-lines m octets)
-    ∙ elim (cases_Bool (is_empty_line (begun_line (open_end octets)))) [
-      | inl t ↦ rw t (ap (machine_after m) (sym (lines-closed octets t)))
-      | inr e ↦ rw e (ap (λ (r : Running). r.machine) (after_begun-begun (machine_after m (lines octets false)) (open_end octets))
-          ∙ (sym (machine_after-more m (lines octets false) (open_end octets)) ∙ ap (machine_after m) (sym (lines-open octets e))))
+pub after_end-lines : {S : Type 0} (L : Language S) (state : S) (octets : List ℕ) → (after_end L (after L (from_state state) octets)).state ≡ state_after L state (lines octets true)
+after_end-lines {S} L state octets =
+    ap (λ (r : Running S). (after_end L r).state) (after-lines L state octets)
+    ∙ elim (cases_Bool (is_empty_line (taken_line (open_end octets)))) [
+      | inl t ↦ rw t (ap (state_after L state) (sym (lines-closed octets t)))
+      | inr e ↦ rw e (ap (λ (r : Running S). r.state) (after_begun-begun L (state_after L state (lines octets false)) (open_end octets))
+          ∙ (sym (state_after-more L state (lines octets false) (open_end octets)) ∙ ap (state_after L state) (sym (lines-open octets e))))
     ]
 
 -- Octets in two parts.
-pub after-append : (xs ys : List ℕ) (r : Running) → after r (xs ++ ys) ≡ after (after r xs) ys
-after-append [] ys r = refl
-after-append (x ∷ xs) ys r = after-append xs ys (after_octet r x)
+pub after-append : {S : Type 0} (L : Language S) (xs ys : List ℕ) (r : Running S) → after L r (xs ++ ys) ≡ after L (after L r xs) ys
+after-append L [] ys r = refl
+after-append L (x ∷ xs) ys r = after-append L xs ys (after_octet L r x)
 
-pub text_of-append : (xs ys : List ℕ) (r : Running) → text_of r (xs ++ ys) ≡ text_of r xs ++ text_of (after r xs) ys
-text_of-append [] ys r = refl
-text_of-append (x ∷ xs) ys r =
-    ap (λ (t : List ℕ). octet_text r x ++ t) (text_of-append xs ys (after_octet r x)) ∙ sym (append_assoc (octet_text r x) (text_of (after_octet r x) xs) (text_of (after (after_octet r x) xs) ys))
+pub text_of-append : {S : Type 0} (L : Language S) (xs ys : List ℕ) (r : Running S) → text_of L r (xs ++ ys) ≡ text_of L r xs ++ text_of L (after L r xs) ys
+text_of-append L [] ys r = refl
+text_of-append L (x ∷ xs) ys r =
+    ap (λ (t : List ℕ). octet_text L r x ++ t) (text_of-append L xs ys (after_octet L r x)) ∙ sym (append_assoc (octet_text L r x) (text_of L (after_octet L r x) xs) (text_of L (after L (after_octet L r x) xs) ys))

@@ -8,6 +8,8 @@ use Rattle.record_store.specs.Recovery.{KeepsStore}
 use Rattle.card.specs.Making.{LeavesMade, OpensToNone}
 use Rattle.card_cli.specs.declared.words.Form.{Form}
 use Rattle.card_cli.specs.declared.words.Form.TheVariants.{New}
+use Rattle.card_cli.specs.declared.status.Status.{Status}
+use Rattle.card_cli.specs.Ends.{ends_opening}
 use Rattle.card_cli.specs.Words.{form_in, reads_lines}
 
 -- the EEPROM tells its image, which opens to this database
@@ -42,8 +44,9 @@ abbrev pub LeavesUntilOpen : Form → Chip → Chip → Type 0
 LeavesUntilOpen (New n) old opened = LeavesMade n old opened
 LeavesUntilOpen form old opened = KeepsStore old opened
 
--- The run ended before it read a line: the source is as it was, nothing was given, and the EEPROM is as it may be until the card is open.
-pub record EndsUnread {S : Type 0} (words : List (List ℕ)) (before after : S) (old new : Chip) : Type 0 where
+-- A run of this form ended before it read a line, as one ends whose card wasn't opened: the source is as it was, nothing was given, and the EEPROM is as it may be until the card is open.
+pub record EndsUnread {T : Type 0} (form : Form) (status : Status) (before after : T) (old new : Chip) : Type 0 where
+  pub opening : ends_opening status ≡ true
   pub source : after ≡ before
   pub given : new.still.given ≡ old.still.given
-  pub leaves : (form : Form) → form_in words ≡ Some form → LeavesUntilOpen form old new
+  pub leaves : LeavesUntilOpen form old new

@@ -1,13 +1,8 @@
 -- How a run over its input ends.
-use Rattle.std.specs.Prelude.{◌≡◌, ◌≤◌, ℕ, Bool, true, false, List, ◌++◌, take, Option}
-use Rattle.eeprom.specs.Chip.{Chip}
+use Rattle.std.specs.Prelude.{◌≡◌, ◌≤◌, ℕ, Bool, true, false}
 use Rattle.eeprom.specs.Fault.{Rose}
-use Rattle.scql_model.specs.Machine.{Machine}
-use Rattle.scql_model.specs.Lines.{lines}
 use Rattle.card_cli.specs.declared.status.Status.{Status}
 use Rattle.card_cli.specs.declared.status.Status.TheVariants.{Done, Eeprom, ReadFault, WriteFault, NotACard, NoMemory, TooLong, TooSmall}
-use Rattle.card_cli.specs.declared.stop.FailedDevice.TheVariants as stop
-use Rattle.card_cli.specs.CutOff.{HasAnswered, StopsIn, OutletFails}
 
 -- how many octets of input a run takes
 abbrev pub longest_input : ℕ
@@ -51,11 +46,9 @@ has_opened ReadFault = true
 has_opened WriteFault = true
 has_opened status = false
 
--- How a run of lines from a machine on ends, of whose input this is left, where the EEPROM's count of faults goes from one number to another: which lines were answered, and in which one a device failed.
-abbrev pub EndsAs : Status → ℕ → ℕ → Machine → List ℕ → List ℕ → Option (List ℕ) → Chip → Type 0
-EndsAs Done from to m input left before now = HasAnswered m (lines input true) before now
-EndsAs ReadFault from to m input left before now = (taken : List ℕ) × (input ≡ taken ++ left) × HasAnswered m (lines taken false) before now
-EndsAs TooLong from to m input left before now = HasAnswered m (lines (take longest_input input) false) before now
-EndsAs Eeprom from to m input left before now = StopsIn stop.Eeprom m (lines input true) before now
-EndsAs WriteFault from to m input left before now = OutletFails from to (λ stop. StopsIn stop m (lines input true) before now)
-EndsAs status from to m input left before now = ⊥
+-- the ends of a run over its input that no device ended in a line
+abbrev pub comes_to_its_end : Status → Bool
+comes_to_its_end Done = true
+comes_to_its_end TooLong = true
+comes_to_its_end ReadFault = true
+comes_to_its_end status = false

@@ -1,14 +1,16 @@
+pub mod Answering
 pub mod Beginning
 pub mod Behind
 pub mod CutOff
 pub mod Ends
+pub mod Extent
 pub mod Halting
-pub mod Keeping
 pub mod Line
 pub mod Migrating
 pub mod Moments
 pub mod Run
 pub mod RunState
 pub mod Running
+pub mod Showing
 pub mod StatusNumber
 pub mod Words

@@ -1,4 +1,4 @@
--- A line as far as it has come in, as the list of its octets, and what it is.
+-- A line as far as it has come in, as the list of its octets, and what it is read as.
 use Rattle.std.specs.Prelude.{ℕ, ◌==◌, nat_lt, Bool, false, List, [], ◌∷◌, ◌++◌, length, Option, Some, None, if◌then◌else◌}
 use Rattle.scql_model.specs.Lines as model
 use Rattle.card_cli.specs.declared.line.Line.{Line}
@@ -21,11 +21,7 @@ abbrev pub is_empty_line : Option (List ℕ) → Bool
 is_empty_line None = false
 is_empty_line (Some line) = length line == 0
 
--- what a line is, told by its octets
-abbrev pub line_content : Option (List ℕ) → model.LineContent
-line_content None = model.too_long
-line_content (Some line) = model.content_without_blanks (model.without_blanks line)
-
+-- what the line that is read is
 abbrev pub reading_view : LineContent → model.LineContent
 reading_view ReadTooLong = model.too_long
 reading_view Nothing = model.nothing

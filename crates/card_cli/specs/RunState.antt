@@ -1,8 +1,10 @@
--- A run's card with its line and EEPROM, and what octets of input make of them.
-use Rattle.std.specs.Prelude.{◌≡◌, ℕ, ◌≤◌, List, ◌++◌, Option, Result, OnOk, IsErrOf}
+-- What octets of input make of a run.
+use Rattle.std.specs.Prelude.{◌≡◌, ℕ, ◌≤◌, List, ◌++◌, Option, Some, Result, OnOk, IsErrOf}
 use Rattle.eeprom.specs.Chip.{Chip, Becomes}
 use Rattle.eeprom.specs.Fault.{Rose}
-use Rattle.card.specs.Card.{Kept, IsAt}
+use Rattle.scql_model.specs.Lines.{Language}
+use Rattle.scql_model.specs.Heard.{committed_in}
+use Rattle.scql_model.specs.Opens.{Opens}
 use Rattle.card_cli.specs.declared.stop.FailedDevice.{FailedDevice}
 use Rattle.card_cli.specs.declared.stop.FailedDevice.TheVariants.{Eeprom, Outlet, Both}
 use Rattle.card_cli.specs.Running.{Running, after, text_of}
@@ -12,25 +14,29 @@ use Rattle.card_cli.specs.Moments.{Passes, IfGiven}
 abbrev pub Prints : List ℕ → Option (List ℕ) → Option (List ℕ) → Type 0
 Prints text old new = Becomes (λ before after. after ≡ before ++ text) old new
 
--- the card, the line that has begun, and what the EEPROM has become, the output included
-pub record RunState : Type 0 where
-  pub card : Kept
+-- at which state a run is, where that is told; the line that has begun; and what the EEPROM has become, the output included
+pub record RunState (S : Type 0) : Type 1 where
+  pub at : S → Type 0
   pub line : Option (List ℕ)
   pub chip : Chip
 
--- card and EEPROM are at the run's machine, and the line is the run's
-pub record IsRunning (state : RunState) (r : Running) : Type 0 where
-  pub at : IsAt state.card state.chip r.machine
+-- the image opens to the database of a state where the run is at it
+abbrev pub IsOver : {S : Type 0} → Language S → (S → Type 0) → Chip → Type 0
+IsOver {S} language at chip = (state : S) → at state → (image : List ℕ) → chip.image ≡ Some image → Opens image (committed_in language state)
+
+-- the run is at this state, and the line is this one's
+pub record IsRunning {S : Type 0} (state : RunState S) (r : Running S) : Type 0 where
+  pub at : state.at r.state
   pub line : state.line ≡ r.begun
 
 -- Octets of input move the run on and print their text.
-pub record RunsOn (octets : List ℕ) (old new : RunState) (r : Running) : Type 0 where
-  pub running : IsRunning new (after r octets)
-  pub text : Prints (text_of r octets) old.chip.still.given new.chip.still.given
-  pub passes : IfGiven new.chip (Passes octets r old.chip new.chip)
+pub record RunsOn {S : Type 0} (language : Language S) (octets : List ℕ) (old new : RunState S) (r : Running S) : Type 0 where
+  pub running : IsRunning new (after language r octets)
+  pub text : Prints (text_of language r octets) old.chip.still.given new.chip.still.given
+  pub passes : IfGiven new.chip (Passes language octets r old.chip new.chip)
 
-abbrev pub Feeds : List ℕ → RunState → RunState → Type 0
-Feeds octets old new = (r : Running) → IsRunning old r → RunsOn octets old new r
+abbrev pub Feeds : {S : Type 0} → Language S → List ℕ → RunState S → RunState S → Type 0
+Feeds {S} language octets old new = (r : Running S) → IsRunning old r → RunsOn language octets old new r
 
 -- The counts of faults of a bench.
 pub record Faults : Type 0 where

@@ -1,7 +1,6 @@
 -- The words of the command line behind the file's name.
 use Rattle.std.specs.Prelude.{ℕ, ◌≤◌, ◌+◌, ◌-◌, ◌*◌, ◌==◌, nat_le, nat_lt, not, ◌&&◌, ◌||◌, Bool, true, false, List, [], ◌∷◌, length, Option, Some, None, option_map, option_and_then, if◌then◌else◌, codes}
 use Rattle.std.specs.List.{fold, list_all}
-use Rattle.std.specs.Option.{option_map_or}
 use Rattle.std.specs.Char.{is_ascii_digit}
 use Rattle.std.specs.Str.{bytes_eq}
 use Rattle.eeprom.specs.StoreOf.{fewest_cells, most_cells}
@@ -42,7 +41,3 @@ IsWithinLimits form = Unit {0}
 abbrev pub reads_lines : Form → Bool
 reads_lines Migrate = false
 reads_lines form = true
-
--- the words ask for such a run
-abbrev pub ask_for_lines : List (List ℕ) → Bool
-ask_for_lines words = option_map_or reads_lines (form_in words) false

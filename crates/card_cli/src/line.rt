@@ -3,7 +3,7 @@ ghost use Rattle.std.specs.Prelude.{◌≡◌, ◌≤◌, Some, [], length, opti
 ghost use Rattle.std.specs.Result.{result_ok};
 ghost use Rattle.hex.specs.Hex.{decode_of};
 ghost use Rattle.scql_model.specs.Lines as model;
-ghost use Rattle.card_cli.specs.Line.{line_octets, longer_by, is_empty_line, line_content, reading_view};
+ghost use Rattle.card_cli.specs.Line.{line_octets, longer_by, is_empty_line, reading_view};
 
 use arrayvec::ArrayVec;
 
@@ -73,7 +73,7 @@ impl Line {
     }
 
     pub fn read(&self) -> LineContent
-        ensures { reading_view result ≡ line_content (line_octets self.now) }
+        ensures { reading_view result ≡ model.content_of (line_octets self.now) }
     {
         match self {
             Line::TooLong => LineContent::TooLong,

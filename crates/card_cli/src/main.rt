@@ -2,11 +2,14 @@
 #![tactic(auto)]
 
 mod answering;
+mod commands;
 mod ending;
 mod input;
 mod line;
 mod migration;
 mod opening;
+mod output;
+mod responder;
 mod run;
 mod status;
 mod stop;

@@ -8,7 +8,7 @@ ghost use Rattle.card_cli.specs.Beginning.{IsOpenTo};
 ghost use Rattle.card_cli.specs.Ends.{AllFaults, EndsBy};
 ghost use Rattle.card_cli.specs.Migrating.{KeepsOthers, LeavesLongRows, MigratesTo, StaysMigrating, ends_migration};
 
-use crate::answering::give;
+use crate::output::give;
 use crate::status::Status;
 use eeprom::Bench;
 use migrate::migrate;

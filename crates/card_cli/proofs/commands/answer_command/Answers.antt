@@ -1,29 +1,27 @@
 -- A card that replied was carried out to the end; a mute one leaves what it had committed by then.
-use Rattle.std.proofs.Common.{◌≡◌, ℕ, List, [], ◌+◌, ◌++◌, ◌≤◌, length, Option, Some, refl, ap, subst, ◌∙◌, arith}
-use Rattle.std.specs.Prelude.{codes}
-use Rattle.hex.specs.Hex.{encode_upper}
+use Rattle.std.proofs.Common.{◌≡◌, ℕ, List, [], ◌+◌, ◌≤◌, length, Option, Some, refl, ap, subst, ◌∙◌, arith, inl}
 use Rattle.eeprom.specs.Chip.{Chip, Still, Throughout}
 use Rattle.scql_model.specs.Machine.{Machine}
 use Rattle.scql_model.specs.Opens.{Opens}
 use Rattle.card.specs.Card.{IsAt}
 use Rattle.card_cli.specs.Moments.{IsInLine, IsInAnswered}
-use Rattle.scql_model.specs.Replies.{Reply}
 use Rattle.scql_model.specs.Step.{step}
 use Rattle.card.proofs.Leaving.{Opens-at}
 use Rattle.card_cli.proofs.Moving.{gives-throughout, line-moments, answered-moments}
-use Rattle.scql_model.specs.Lines.{command, content_text, reply_octets}
+use Rattle.scql_model.specs.Lines.{command, command_lines, content_effect, mute_text, reply_text}
 use Rattle.card_cli.specs.declared.stop.FailedDevice.TheVariants.{Eeprom, Outlet, Both}
-use Rattle.card_cli.specs.CutOff.{FailsIn, mute_text}
+use Rattle.card_cli.specs.CutOff.{FailsIn, IsCutShort}
 use Rattle.card.specs.Behind.{KeepsBehind}
 use Rattle.card_cli.proofs.Behind.{behind-keeps, behind-on}
-use Rattle.card_cli.proofs.Stopping.{at_outlet, fails_giving, fails_mute, fails_both, mute_text-reply}
-use Rattle.card_cli.proofs.answering.answer_command.Goals.{After-give, After-give-in-Mute}
-use Rattle.card_cli.proofs.answering.answer_command.Goals as goal
+use Rattle.card_cli.proofs.Commanding.{mute_text-reply}
+use Rattle.card_cli.proofs.Stopping.{at_outlet, fails_giving, fails_mute, fails_both}
+use Rattle.card_cli.proofs.commands.answer_command.Goals.{After-give, After-give-in-Mute}
+use Rattle.card_cli.proofs.commands.answer_command.Goals as goal
 
 -- what a card says that replies, and to what its image opens
-replied_text : (g : _) (c : After-give g) (m : Machine) → IsAt c.args.card.now (g.B.Eeprom.chip c.args.bench.now) m → c.deref.result.now ≡ content_text m (command c.args.octets.now)
+replied_text : (g : _) (c : After-give g) (m : Machine) → IsAt c.args.card.now (g.B.Eeprom.chip c.args.bench.now) m → c.deref.result.now ≡ (content_effect m (command c.args.octets.now)).text
 replied_text g c m at =
-    c.deref.ensures.0 ∙ (c.reply_text.ensures ∙ ap (λ (reply : Reply). encode_upper (reply_octets reply) ++ codes "\n") (c.in-Replied.ensures.step m at refl).reply)
+    c.deref.ensures.0 ∙ (c.reply_text.ensures ∙ ap reply_text (c.in-Replied.ensures.step m at refl).reply)
 
 replied_opens : (g : _) (c : After-give g) (m : Machine) → IsAt c.args.card.now (g.B.Eeprom.chip c.args.bench.now) m
     → (image : List ℕ) → (g.B.Eeprom.chip c.answer.new.bench).image ≡ Some image → Opens image (step m c.args.octets.now).machine.committed
@@ -31,11 +29,11 @@ replied_opens g c m at = Opens-at c.answer.new.self (g.B.Eeprom.chip c.answer.ne
 
 replied_moments : (g : _) (c : After-give g) (m : Machine) → IsAt c.args.card.now (g.B.Eeprom.chip c.args.bench.now) m
     → (g.B.Eeprom.chip c.give.new.bench).still.mark ≤ (g.B.Eeprom.chip c.answer.new.bench).still.mark + length c.deref.result.now
-    → Throughout (g.B.Eeprom.chip c.args.bench.now) (g.B.Eeprom.chip c.give.new.bench) (IsInAnswered m (command c.args.octets.now) (g.B.Eeprom.chip c.args.bench.now).still.mark)
+    → Throughout (g.B.Eeprom.chip c.args.bench.now) (g.B.Eeprom.chip c.give.new.bench) (IsInAnswered command_lines m (content_effect m (command c.args.octets.now)) (g.B.Eeprom.chip c.args.bench.now).still.mark)
 replied_moments g c m at within =
     let mid : Chip = g.B.Eeprom.chip c.answer.new.bench in
     let now : Chip = g.B.Eeprom.chip c.give.new.bench in
-    answered-moments m (command c.args.octets.now) (g.B.Eeprom.chip c.args.bench.now) mid now (c.answer.ensures.moments m at) c.answer.ensures.still
+    answered-moments command_lines m (content_effect m (command c.args.octets.now)) (g.B.Eeprom.chip c.args.bench.now) mid now (c.answer.ensures.moments m at) c.answer.ensures.still
     (gives-throughout mid now (g.met.B.Eeprom.clocked c.answer.new.bench) c.give.ensures.gives) (replied_opens g c m at) (omega (arith, within, ap length (replied_text g c m at)))
 
 pub returns-in_ok-give-in-Replied-clause-answered : goal.returns-in_ok-give-in-Replied-clause-answered
@@ -56,8 +54,9 @@ returns-in_err-give-in-Replied-clause-fails g c = λ m at.
     let mid : Chip = g.B.Eeprom.chip c.answer.new.bench in
     let now : Chip = g.B.Eeprom.chip c.give.new.bench in
     at_outlet _ c.from_residual.result c.from_residual.ensures.1
-    (subst (λ (before : Option (List ℕ)). FailsIn Outlet [] m (command c.args.octets.now) before now) (ap (λ (s : Still). s.given) c.answer.ensures.still)
-    (fails_giving m (command c.args.octets.now) c.deref.result.now mid.still.given mid now (replied_text g after m at) c.in_err-give-in-Replied.ensures.fails c.give.ensures.image (replied_opens g after m at)))
+    (subst (λ (before : Option (List ℕ)). FailsIn Outlet command_lines [] m (content_effect m (command c.args.octets.now)) before now) (ap (λ (s : Still). s.given) c.answer.ensures.still)
+    (fails_giving command_lines m (content_effect m (command c.args.octets.now)) mid.still.given mid now
+    (subst (λ (t : List ℕ). IsCutShort t mid.still.given now.still.given) (replied_text g after m at) c.in_err-give-in-Replied.ensures.fails) c.give.ensures.image (replied_opens g after m at)))
 
 -- what the card says that goes mute
 mute : (g : _) (c : After-give-in-Mute g) → c.deref-in-Mute.result.now ≡ mute_text
@@ -69,25 +68,25 @@ pub returns-in-Ok-clause-fails : goal.returns-in-Ok-clause-fails
 returns-in-Ok-clause-fails g c = λ m at.
     let mid : Chip = g.B.Eeprom.chip c.answer.new.bench in
     let now : Chip = g.B.Eeprom.chip c.give-in-Mute.new.bench in
-    subst (λ (before : Option (List ℕ)). FailsIn Eeprom [] m (command c.args.octets.now) before now) (ap (λ (s : Still). s.given) c.answer.ensures.still)
-    (fails_mute m (command c.args.octets.now) c.deref-in-Mute.result.now mid.still.given mid now (mute g (goal.at.returns-in-Ok-clause-fails g c).After-give-in-Mute) c.in-Ok.ensures.text c.give-in-Mute.ensures.image
+    subst (λ (before : Option (List ℕ)). FailsIn Eeprom command_lines [] m (content_effect m (command c.args.octets.now)) before now) (ap (λ (s : Still). s.given) c.answer.ensures.still)
+    (fails_mute command_lines m (content_effect m (command c.args.octets.now)) c.deref-in-Mute.result.now mid.still.given mid now (inl (mute g (goal.at.returns-in-Ok-clause-fails g c).After-give-in-Mute)) c.in-Ok.ensures.text c.give-in-Mute.ensures.image
     (λ image told. ((c.answer.ensures.moments m at).now image told).1))
 
 pub returns-in-Err-clause-fails : goal.returns-in-Err-clause-fails
 returns-in-Err-clause-fails g c = λ m at.
     let mid : Chip = g.B.Eeprom.chip c.answer.new.bench in
     let now : Chip = g.B.Eeprom.chip c.give-in-Mute.new.bench in
-    subst (λ (before : Option (List ℕ)). FailsIn Both [] m (command c.args.octets.now) before now) (ap (λ (s : Still). s.given) c.answer.ensures.still)
-    (fails_both m (command c.args.octets.now) c.deref-in-Mute.result.now mid.still.given mid now (mute g (goal.at.returns-in-Err-clause-fails g c).After-give-in-Mute) c.in-Err.ensures.fails c.give-in-Mute.ensures.image
+    subst (λ (before : Option (List ℕ)). FailsIn Both command_lines [] m (content_effect m (command c.args.octets.now)) before now) (ap (λ (s : Still). s.given) c.answer.ensures.still)
+    (fails_both command_lines m (content_effect m (command c.args.octets.now)) c.deref-in-Mute.result.now mid.still.given mid now (inl (mute g (goal.at.returns-in-Err-clause-fails g c).After-give-in-Mute)) c.in-Err.ensures.fails c.give-in-Mute.ensures.image
     (λ image told. ((c.answer.ensures.moments m at).now image told).1))
 
 -- the card went mute: the line left what it had committed by then
 mute_moments : (g : _) (c : After-give-in-Mute g) (m : Machine) → IsAt c.args.card.now (g.B.Eeprom.chip c.args.bench.now) m
-    → Throughout (g.B.Eeprom.chip c.args.bench.now) (g.B.Eeprom.chip c.give-in-Mute.new.bench) (IsInLine m (command c.args.octets.now) (g.B.Eeprom.chip c.args.bench.now).still.mark)
+    → Throughout (g.B.Eeprom.chip c.args.bench.now) (g.B.Eeprom.chip c.give-in-Mute.new.bench) (IsInLine command_lines m (content_effect m (command c.args.octets.now)) (g.B.Eeprom.chip c.args.bench.now).still.mark)
 mute_moments g c m at =
     let mid : Chip = g.B.Eeprom.chip c.answer.new.bench in
     let now : Chip = g.B.Eeprom.chip c.give-in-Mute.new.bench in
-    line-moments m (command c.args.octets.now) (g.B.Eeprom.chip c.args.bench.now) mid now (c.answer.ensures.moments m at) c.answer.ensures.still
+    line-moments command_lines m (content_effect m (command c.args.octets.now)) (g.B.Eeprom.chip c.args.bench.now) mid now (c.answer.ensures.moments m at) c.answer.ensures.still
     (gives-throughout mid now (g.met.B.Eeprom.clocked c.answer.new.bench) c.give-in-Mute.ensures.gives)
 
 pub returns-in-Ok-clause-moments : goal.returns-in-Ok-clause-moments

@@ -3,7 +3,7 @@ use Rattle.std.specs.Prelude.{OnErr}
 use Rattle.card_cli.specs.CutOff.{IsCutShort}
 use Rattle.card_cli.proofs.Behind.{behind-gives}
 use Rattle.card_cli.proofs.Stopping.{cut_short}
-use Rattle.card_cli.proofs.answering.give.Goals as goal
+use Rattle.card_cli.proofs.output.give.Goals as goal
 
 pub returns-clause-fails : goal.returns-clause-fails
 returns-clause-fails g c =

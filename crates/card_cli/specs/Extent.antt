@@ -1,0 +1,79 @@
+-- How far a run of lines came, and what that says of its text, of its image and of each moment.
+use Rattle.std.specs.Prelude.{◌≡◌, ℕ, ◌+◌, true, false, List, ◌∷◌, ◌++◌, length, take, Some}
+use Rattle.eeprom.specs.Chip.{Chip, Throughout}
+use Rattle.eeprom.specs.Fault.{Rose}
+use Rattle.scql_model.specs.Lines.{Language, lines, line_effect, run_text, state_after}
+use Rattle.scql_model.specs.Heard.{IsKept, committed_in}
+use Rattle.scql_model.specs.Opens.{Opens}
+use Rattle.card_cli.specs.declared.status.Status.{Status}
+use Rattle.card_cli.specs.declared.status.Status.TheVariants.{ReadFault, TooLong}
+use Rattle.card_cli.specs.declared.stop.FailedDevice.{FailedDevice}
+use Rattle.card_cli.specs.declared.stop.FailedDevice.TheVariants.{Outlet}
+use Rattle.card_cli.specs.CutOff.{Says, OpensBehind}
+use Rattle.card_cli.specs.Ends.{comes_to_its_end, longest_input}
+use Rattle.card_cli.specs.Moments.{IfGiven}
+use Rattle.card_cli.specs.RunState.{Prints}
+use Rattle.card_cli.specs.StatusNumber.{status_of}
+
+-- A run came to the end of its lines; or, behind lines that were answered, to one in which a device failed.
+pub data Extent : Type 0 where
+  to_end : Extent
+  stopped_in : (stop : FailedDevice) (answered : List (List ℕ)) (line : List ℕ) → Extent
+
+-- it came so far in these lines
+abbrev pub IsWithin : Extent → List (List ℕ) → Type 0
+IsWithin to_end lines = Unit {0}
+IsWithin (stopped_in stop answered line) lines = (rest : List (List ℕ)) × (lines ≡ answered ++ line ∷ rest)
+
+-- how many lines were carried out: all; or those before the one in which a device failed, and that one too where the outlet alone did
+abbrev pub carried_out : Extent → List (List ℕ) → ℕ
+carried_out to_end lines = length lines
+carried_out (stopped_in Outlet answered line) lines = length answered + 1
+carried_out (stopped_in stop answered line) lines = length answered
+
+-- what was said: the text of the lines that were answered, and behind it what is said of a line in which a device fails
+abbrev pub IsSaid : {S : Type 0} → Language S → S → Extent → List (List ℕ) → List ℕ → Type 0
+IsSaid language state to_end lines said = said ≡ run_text language state lines
+IsSaid language state (stopped_in stop answered line) lines said =
+    (last : List ℕ) × Says stop (line_effect language (state_after language state answered) line) last × (said ≡ run_text language state answered ++ last)
+
+-- to what the image opens: to the database after the lines, or to what is left behind a line in which a device failed
+abbrev pub OpensAfter : {S : Type 0} → Language S → S → Extent → List (List ℕ) → List ℕ → Type 0
+OpensAfter language state to_end lines image = Opens image (committed_in language (state_after language state lines))
+OpensAfter language state (stopped_in stop answered line) lines image =
+    (let at = state_after language state answered in OpensBehind stop language at (line_effect language at line) image)
+
+-- At each moment from old on to new a power loss leaves what is kept of these lines, of which the first so many are clean: those that were carried out without a fault of the EEPROM. The octets that have gone out count from old on.
+abbrev pub AreKept : {S : Type 0} → Language S → S → List (List ℕ) → ℕ → Chip → Chip → Type 0
+AreKept language state lines clean old new = Throughout old new (λ g image. (out : ℕ) × (g ≡ old.still.mark + out) × IsKept language state lines clean out image)
+
+-- A run of these lines from a state on came so far. By that one extent go what was said behind what had been given before, to what the image opens, and what a power loss leaves at each moment.
+pub record Runs {S : Type 0} (language : Language S) (state : S) (lines : List (List ℕ)) (extent : Extent) (old new : Chip) : Type 0 where
+  pub within : IsWithin extent lines
+  pub text : (said : List ℕ) × IsSaid language state extent lines said × Prints said old.still.given new.still.given
+  pub image : (image : List ℕ) → new.image ≡ Some image → OpensAfter language state extent lines image
+  pub moments : IfGiven new (AreKept language state lines (carried_out extent lines) old new)
+
+-- The lines of a run over its input that ends so, where this is left of it: all; or the whole ones of what had come when the source failed, or within the longest input.
+abbrev pub AreTaken : Status → List ℕ → List ℕ → List (List ℕ) → Type 0
+AreTaken ReadFault input left taken = (octets : List ℕ) × (input ≡ octets ++ left) × (taken ≡ lines octets false)
+AreTaken TooLong input left taken = taken ≡ lines (take longest_input input) false
+AreTaken status input left taken = taken ≡ lines input true
+
+-- the EEPROM's count of faults goes from one number to another: it stays where the outlet alone failed, and rises else
+abbrev pub CountsAt : FailedDevice → ℕ → ℕ → Type 0
+CountsAt Outlet from to = to ≡ from
+CountsAt stop from to = Rose from to
+
+-- a run that came so far ends so
+abbrev pub EndsAt : Extent → Status → ℕ → ℕ → Type 0
+EndsAt to_end status from to = comes_to_its_end status ≡ true
+EndsAt (stopped_in stop answered line) status from to = (status ≡ status_of stop) × CountsAt stop from to
+
+-- A run over its input, of which this is left, ended so, while the EEPROM's count of faults went from one number to another.
+pub record RunsInput {S : Type 0} (language : Language S) (state : S) (status : Status) (from to : ℕ) (input left : List ℕ) (old new : Chip) : Type 0 where
+  pub taken : List (List ℕ)
+  pub are_taken : AreTaken status input left taken
+  pub extent : Extent
+  pub ends : EndsAt extent status from to
+  pub runs : Runs language state taken extent old new

@@ -1,0 +1,196 @@
+// Lines of commands in hexadecimal, and a card that answers them.
+ghost use Rattle.std.specs.Prelude.{◌≡◌, ◌+◌, ◌*◌, ◌<◌, ◌≤◌, ◌++◌, [], true, length, OnOk, IfErr};
+ghost use Rattle.hex.specs.Hex.{encode_upper};
+ghost use Rattle.scql_model.specs.Machine.{Machine};
+ghost use Rattle.scql_model.specs.Step.{step};
+ghost use Rattle.scql_model.specs.Lines as model;
+ghost use Rattle.scql_model.specs.Lines.{command_lines};
+ghost use Rattle.card.specs.Behind.{KeepsBehind};
+ghost use Rattle.card.specs.Card.{IsReady, IsAt};
+ghost use Rattle.card_cli.specs.Line.{line_octets};
+ghost use Rattle.card_cli.specs.RunState.{Prints, Faults, Causes};
+ghost use Rattle.card_cli.specs.CutOff.{FailsIn};
+ghost use Rattle.card_cli.specs.Moments.{IsInStopped, IsAnswered, IfGiven};
+ghost use Rattle.eeprom.specs.Chip.{Becomes, Throughout};
+ghost use Rattle.card_cli.specs.Ends.{AllFaults, EndsBy, ends_input, longest_input};
+ghost use Rattle.card_cli.specs.Extent.{RunsInput};
+
+use crate::input::answer_input;
+use crate::line::{Line, LineContent};
+use crate::output::give;
+use crate::responder::Responder;
+use crate::status::Status;
+use crate::stop::FailedDevice;
+use apdu::Reply;
+use arrayvec::ArrayVec;
+use card::{Card, Outcome};
+use eeprom::{Bench, Source};
+use scql_base::StatusWord;
+
+/// The longest answer: 256 data octets and a status word in hexadecimal, and a line feed.
+const LONGEST_ANSWER: usize = 517;
+
+/// A card over its bench, which is asked by commands.
+#[derive(Drop)]
+pub(crate) struct CommandCard<'a, B: Bench> {
+    pub(crate) card: &'a mut Card,
+    pub(crate) bench: &'a mut B,
+}
+
+impl<'a, B: Bench> Responder for CommandCard<'a, B> {
+    ghost use Rattle.std.specs.Prelude.{ℕ};
+    ghost use Rattle.scql_model.specs.Machine.{Machine};
+    ghost use Rattle.scql_model.specs.Lines.{command_lines};
+    ghost use Rattle.scql_model.proofs.Hearing.{commands-lawful};
+    ghost use Rattle.card.specs.Card.{IsReady, IsAt};
+    ghost use Rattle.card.proofs.Leaving.{Opens-at};
+
+    ghost State = { Machine };
+
+    ghost language = { command_lines };
+
+    ghost is_at = { λ r m. IsAt r.card.now (B.chip r.bench.now) m };
+
+    ghost is_ready = { λ r. IsReady r.card.now (B.chip r.bench.now) };
+
+    ghost chip = { λ r. B.chip r.bench.now };
+
+    ghost faults = { λ r. record { eeprom = B.faults r.bench.now; outlet = B.sink_faults r.bench.now } };
+
+    ghost cells = { λ r. r.card.now.store.chains.cells };
+
+    ghost Kept = { ℕ };
+
+    ghost kept = { λ r. r.bench.ghost_name };
+
+    fn answer_line(&mut self, line: &Line) -> Result<(), FailedDevice> {
+        answer_line(self.card, self.bench, line)
+    }
+
+    ghost lawful = { commands-lawful };
+
+    ghost over = { λ r ready m at. Opens-at r.card.now (B.chip r.bench.now) m ready at };
+}
+
+/// Answers the lines of the input as commands.
+pub(crate) fn answer_commands<S: Source, B: Bench>(
+    card: &mut Card,
+    source: &mut S,
+    bench: &mut B,
+) -> Status
+    requires { IsReady card.old (B.chip bench.old) }
+    ensures runs { (m : Machine) → IsAt card.old (B.chip bench.old) m
+        → Becomes (λ input left. RunsInput command_lines m result (B.faults bench.old) (B.faults bench.new) input left (B.chip bench.old) (B.chip bench.new)) (S.left source.old) (S.left source.new) }
+    ensures status { ends_input result ≡ true }
+    ensures done { result ≡ Status.Done → Becomes (λ input left. (left ≡ []) × (length input ≤ longest_input)) (S.left source.old) (S.left source.new) }
+    ensures too_long { result ≡ Status.TooLong → Becomes (λ input left. longest_input < length input) (S.left source.old) (S.left source.new) }
+    ensures ends { EndsBy result
+        (record { eeprom = B.faults bench.old; source = S.source_faults source.old; outlet = B.sink_faults bench.old })
+        (record { eeprom = B.faults bench.new; source = S.source_faults source.new; outlet = B.sink_faults bench.new }) }
+    // Nothing is written behind the card's image.
+    ensures behind { KeepsBehind (λ was. card.old.store.chains.cells) (B.chip bench.old) (B.chip bench.new) }
+{
+    let mut commands = CommandCard { card, bench };
+    answer_input(&mut commands, source)
+}
+
+// Answers a whole line.
+fn answer_line<B: Bench>(card: &mut Card, bench: &mut B, line: &Line) -> Result<(), FailedDevice>
+    requires ready { IsReady card.old (B.chip bench.old) }
+    ensures at { (m : Machine) → IsAt card.old (B.chip bench.old) m
+        → OnOk result (IsAt card.new (B.chip bench.new) (model.content_effect m (model.content_of (line_octets line.now))).next) }
+    ensures text { (m : Machine) → IsAt card.old (B.chip bench.old) m
+        → OnOk result (Prints (model.content_effect m (model.content_of (line_octets line.now))).text (B.chip bench.old).still.given (B.chip bench.new).still.given) }
+    ensures fails { (m : Machine) → IsAt card.old (B.chip bench.old) m
+        → IfErr result (λ stop. FailsIn stop command_lines [] m (model.content_effect m (model.content_of (line_octets line.now))) (B.chip bench.old).still.given (B.chip bench.new)) }
+    // At each moment a power loss leaves what the line commits, all of it once an octet of its text has gone out,
+    ensures answered { (m : Machine) → IsAt card.old (B.chip bench.old) m
+        → OnOk result (IfGiven (B.chip bench.new) (IsAnswered command_lines m (model.content_effect m (model.content_of (line_octets line.now))) (B.chip bench.old) (B.chip bench.new))) }
+    // also where the outlet alone fails; where the EEPROM does it leaves the database before the line or one that it commits.
+    ensures moments { (m : Machine) → IsAt card.old (B.chip bench.old) m
+        → IfErr result (λ stop. IfGiven (B.chip bench.new) (Throughout (B.chip bench.old) (B.chip bench.new) (IsInStopped stop command_lines m (model.content_effect m (model.content_of (line_octets line.now))) (B.chip bench.old).still.mark))) }
+    ensures ready { OnOk result (IsReady card.new (B.chip bench.new)) }
+    ensures causes { Causes (record { eeprom = B.faults bench.old; outlet = B.sink_faults bench.old }) (record { eeprom = B.faults bench.new; outlet = B.sink_faults bench.new }) result }
+    // The card keeps its number of cells, and nothing is written behind its image.
+    ensures cells { OnOk result (card.new.store.chains.cells ≡ card.old.store.chains.cells) }
+    ensures behind { KeepsBehind (λ was. card.old.store.chains.cells) (B.chip bench.old) (B.chip bench.new) }
+{
+    match line.read() {
+        LineContent::Nothing => Ok(()),
+        LineContent::TooLong => Ok(give(bench, b"line too long\n")?),
+        LineContent::Reset => {
+            card.reset();
+            Ok(give(bench, b"reset\n")?)
+        }
+        LineContent::NotHexadecimal => Ok(give(bench, b"not hexadecimal\n")?),
+        LineContent::Command(octets) => answer_command(card, bench, &octets),
+    }
+}
+
+fn answer_command<B: Bench>(
+    card: &mut Card,
+    bench: &mut B,
+    octets: &[u8],
+) -> Result<(), FailedDevice>
+    requires ready { IsReady card.old (B.chip bench.old) }
+    ensures at { (m : Machine) → IsAt card.old (B.chip bench.old) m → OnOk result (IsAt card.new (B.chip bench.new) (step m octets.now).machine) }
+    ensures text { (m : Machine) → IsAt card.old (B.chip bench.old) m
+        → OnOk result (Prints (model.reply_text (step m octets.now).reply) (B.chip bench.old).still.given (B.chip bench.new).still.given) }
+    ensures fails { (m : Machine) → IsAt card.old (B.chip bench.old) m
+        → IfErr result (λ stop. FailsIn stop command_lines [] m (model.content_effect m (model.command octets.now)) (B.chip bench.old).still.given (B.chip bench.new)) }
+    ensures answered { (m : Machine) → IsAt card.old (B.chip bench.old) m
+        → OnOk result (IfGiven (B.chip bench.new) (IsAnswered command_lines m (model.content_effect m (model.command octets.now)) (B.chip bench.old) (B.chip bench.new))) }
+    ensures moments { (m : Machine) → IsAt card.old (B.chip bench.old) m
+        → IfErr result (λ stop. IfGiven (B.chip bench.new) (Throughout (B.chip bench.old) (B.chip bench.new) (IsInStopped stop command_lines m (model.content_effect m (model.command octets.now)) (B.chip bench.old).still.mark))) }
+    ensures ready { OnOk result (IsReady card.new (B.chip bench.new)) }
+    ensures causes { Causes (record { eeprom = B.faults bench.old; outlet = B.sink_faults bench.old }) (record { eeprom = B.faults bench.new; outlet = B.sink_faults bench.new }) result }
+    // The card keeps its number of cells, and nothing is written behind its image.
+    ensures cells { OnOk result (card.new.store.chains.cells ≡ card.old.store.chains.cells) }
+    ensures behind { KeepsBehind (λ was. card.old.store.chains.cells) (B.chip bench.old) (B.chip bench.new) }
+{
+    let mut reply = Reply {
+        body: ArrayVec::new(),
+        word: StatusWord::DONE,
+    };
+    match card.answer(bench, octets, &mut reply) {
+        Outcome::Replied => Ok(give(bench, &reply_text(&reply))?),
+        Outcome::Mute => match give(bench, &reply_text(&reply)) {
+            Ok(()) => Err(FailedDevice::Eeprom),
+            Err(_) => Err(FailedDevice::Both),
+        },
+    }
+}
+
+// A reply in hexadecimal, with a line feed.
+fn reply_text(reply: &Reply) -> ArrayVec<u8, LONGEST_ANSWER>
+    ensures { result.items ≡ model.reply_text reply.now }
+{
+    let mut octets: ArrayVec<u8, 258> = ArrayVec::new();
+    put(&mut octets, &reply.body);
+    put(&mut octets, &reply.word.word.to_be_bytes());
+    let mut digits = [0; LONGEST_ANSWER - 1];
+    let digits = &mut digits[..2 * octets.len()];
+    print_into(&octets, digits);
+    let mut text = ArrayVec::new();
+    put(&mut text, digits);
+    text.push(b'\n');
+    text
+}
+
+fn put<const CAP: usize>(out: &mut ArrayVec<u8, CAP>, octets: &[u8])
+    requires { length out.old.items + length octets.now ≤ CAP }
+    ensures { out.new.items ≡ out.old.items ++ octets.now }
+{
+    let fits = out.try_extend_from_slice(octets).is_ok();
+    prove!(fits);
+}
+
+#[tactic(auto, using(crate::proofs::UpperCase::upper_of_lower))]
+fn print_into(octets: &[u8], digits: &mut [u8])
+    requires { length digits.old ≡ 2 * length octets.now }
+    ensures { digits.new ≡ encode_upper octets.now }
+{
+    let fits = hex::encode_to_slice(octets, digits).is_ok();
+    prove!(fits);
+    digits.make_ascii_uppercase();
+}
