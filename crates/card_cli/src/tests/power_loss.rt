@@ -62,6 +62,27 @@ const TABLE_WITH_ROWS: Story = Story {
     ],
 };
 
+/// OWNER inserts a second row of a table in a transaction, and commits it: until then there is one.
+const TRANSACTION: Story = Story {
+    lines: "0014008006054F574E4552
+00120080
+0010008C050154017900
+00120081
+",
+    probe: "0014008006054F574E4552
+001000870401540100
+00100088
+0010008A00
+0010008B00
+",
+    answers: &[
+        "9000\n9000\n9000\n0178009000\n6282\n",
+        "9000\n9000\n9000\n0178009000\n6282\n",
+        "9000\n9000\n9000\n0178009000\n6282\n",
+        "9000\n9000\n9000\n0178009000\n0179009000\n",
+    ],
+};
+
 /// OWNER drops a table.
 const DROPPED_TABLE: Story = Story {
     lines: "0014008006054F574E4552
@@ -246,6 +267,32 @@ fn cut_while_a_table_is_filled_and_dropped(rt: HostRuntime) -> Result<(), Fail> 
     assert_eq!(rt; bench.given(), b"9000\n9000\n9000\n9000\n9000\n".as_slice());
     assert!(rt; has_all(alloc, &TABLE_WITH_ROWS, bench.image())?);
     assert_eq!(rt; count_wrong(alloc, &TABLE_WITH_ROWS, &bench, None)?, 0);
+    Ok(())
+}
+
+#[test]
+fn cut_in_a_transaction(rt: HostRuntime) -> Result<(), Fail> {
+    let alloc = rt.alloc();
+    let lines = "0014008006054F574E4552\n0010008006015401410142\n0010008C050154017800\n";
+    let (_, filled) = run_over(
+        alloc,
+        &["apdu"],
+        lines,
+        fresh_card(alloc)?.as_slice(),
+        no_faults(alloc),
+    )?;
+    assert_eq!(rt; filled.given(), b"9000\n9000\n9000\n".as_slice());
+    let (status, bench) = run_over(
+        alloc,
+        &["apdu"],
+        TRANSACTION.lines,
+        filled.image(),
+        no_faults(alloc),
+    )?;
+    assert!(rt; status == Status::Done);
+    assert_eq!(rt; bench.given(), b"9000\n9000\n9000\n9000\n".as_slice());
+    assert!(rt; has_all(alloc, &TRANSACTION, bench.image())?);
+    assert_eq!(rt; count_wrong(alloc, &TRANSACTION, &bench, None)?, 0);
     Ok(())
 }
 
