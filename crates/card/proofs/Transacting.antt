@@ -89,7 +89,7 @@ HoldsMachine-still card after old new m store sessions transaction same at = sub
 
 -- A card that holds a machine holds it on, with another working database, where a change within its transaction was made.
 module _ (card : Kept) (store : Held) (index : Index) (old new : Chip) (m : Machine) (channel : ℕ) (t : Transaction) (ready : IsReady card old) (at : IsAt card old m) (is : m.transaction ≡ Some t)
-  (own : own_transaction m.transaction channel ≡ Some t) where
+    (own : own_transaction m.transaction channel ≡ Some t) where
   works : WorksOn card.store old at.held.slots t
   works = subst (λ (o : Option Transaction). IfSome o (WorksOn card.store old at.held.slots)) is at.held.works
 
@@ -362,7 +362,7 @@ Performs-no_commit card chip m channel none ready at =
     (subst (λ (o : Result Answer StatusWord). HoldsAnswer (answered m o) (said conditions_not_satisfied) card chip) (sym (committed-refused m channel none)) (record { reply = refl; held = at.held }))
 
 module _ (card : Kept) (store : Held) (index : Index) (old new : Chip) (m : Machine) (channel : ℕ) (t : Transaction) (ready : IsReady card old) (at : IsAt card old m) (is : m.transaction ≡ Some t)
-  (own : own_transaction m.transaction channel ≡ Some t) (commits : Commits card.store old new) where
+    (own : own_transaction m.transaction channel ≡ Some t) (commits : Commits card.store old new) where
   work : WorksOn card.store old at.held.slots t
   work = subst (λ (o : Option Transaction). IfSome o (WorksOn card.store old at.held.slots)) is at.held.works
 

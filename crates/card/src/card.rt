@@ -24,17 +24,18 @@ ghost use Rattle.card.specs.Making.{LeavesMade};
 ghost use Rattle.card.specs.Opening.{ReadsCard};
 ghost use Rattle.card.specs.Reading as reading;
 ghost use Rattle.card.specs.Sessions.{is_open, least_closed, proved_user, session_seen, sessions_of};
-ghost use Rattle.scql_model.specs.Bound.{octets_bound, octets_carried_out, octets_changed, octets_committed, or_nothing};
+ghost use Rattle.scql_model.specs.Bound.{octets_bound, octets_carried_out, octets_changed, or_nothing};
 ghost use Rattle.scql_model.specs.Accepting as accepting;
 ghost use Rattle.scql_model.specs.Accepting.{Accepts, CostsTry, EndsCursor};
-ghost use Rattle.scql_model.specs.Sessions.{without_cursor, without_pending};
-ghost use Rattle.scql_model.specs.Transactions.{for_others, waits};
-ghost use Rattle.card.specs.Waiting.{has_own, keeps_waiting, side_of};
+ghost use Rattle.scql_model.specs.Sessions.{without_pending};
+ghost use Rattle.scql_model.specs.Transactions.{for_others};
+ghost use Rattle.card.specs.Waiting.{keeps_waiting};
 ghost use Rattle.scql_model.specs.Operations.{IsBuilt, kind_of};
 ghost use Rattle.scql_model.specs.WellFormed.{HasForm, FitsCard, IsWellFormed};
 ghost use Rattle.std.specs.Option.{option_flatten};
 
 mod deleting;
+mod transacting;
 mod verifying;
 
 use crate::changing::{actor_of, change, change_within};
@@ -322,117 +323,6 @@ impl Card {
         )
     }
 
-    // Whether the open transaction keeps a command waiting: reading waits for none, and neither does opening or closing a channel; what says
-    // who acts, or takes a user away, waits for any; and all else for those of other channels.
-    fn keeps_waiting(&self, command: &Command) -> bool
-        ensures { result ≡ keeps_waiting (waits (kind_of command.now.operation)) self.now.transaction command.now.channel }
-    {
-        let Some(own) = self.transaction else {
-            return false;
-        };
-        match &command.operation {
-            Operation::OpenChannel { .. } | Operation::CloseChannel { .. } => false,
-            Operation::PresentUser { .. } | Operation::DeleteUser { .. } | Operation::Verify { .. } => true,
-            operation => !is_reading(operation) && own != command.channel,
-        }
-    }
-
-    // Whether a channel has the open transaction.
-    fn has_transaction(&self, channel: u8) -> bool
-        ensures { result ≡ has_own self.now.transaction channel }
-    {
-        match self.transaction {
-            Some(own) => own == channel,
-            None => false,
-        }
-    }
-
-    // The side that a channel reads and changes: the working one where it has the open transaction.
-    fn side(&self, channel: u8) -> Side
-        ensures { result ≡ side_of self.now.transaction channel }
-    {
-        if self.has_transaction(channel) {
-            Side::Working
-        } else {
-            Side::Committed
-        }
-    }
-
-    // Begins a transaction of a channel, where none is open.
-    fn begin(&mut self, channel: u8) -> StatusWord
-        requires channel { channel < 4 }
-        requires begun { self.old.store.begun ≡ is_some self.old.transaction }
-        requires index_begun { self.old.index.begun ≡ is_some self.old.transaction }
-        ensures step { (chip : Chip) (m : machine.Machine) → IsAt self.old chip m
-            → HoldsAnswer (stepping.answered m (stepping.transaction_begun m channel)) (model.said result) self.new chip }
-        ensures ready { (chip : Chip) → IsReady self.old chip → IsReady self.new chip }
-        ensures cells { self.new.store.chains.cells ≡ self.old.store.chains.cells }
-    {
-        if self.transaction.is_some() {
-            return StatusWord::CONDITIONS_NOT_SATISFIED;
-        }
-        self.store.begin();
-        self.index.begin();
-        self.transaction = Some(channel);
-        self.drop_pending(channel);
-        StatusWord::DONE
-    }
-
-    // Commits the transaction of a channel, where it has one.
-    fn commit<B: Eeprom>(&mut self, bench: &mut B, channel: u8) -> Result<StatusWord, EepromFault>
-        requires ready { IsReady self.old (B.chip bench.old) }
-        requires channel { channel < 4 }
-        ensures performs { (m : machine.Machine) → IsAt self.old (B.chip bench.old) m
-            → Performs m (stepping.answered m (stepping.transaction_committed m channel)) (or_nothing (octets_committed m channel)) [] result self.new (B.chip bench.old) (B.chip bench.new) }
-        ensures ready { OnOk result (IsReady self.new (B.chip bench.new)) }
-        ensures cause { Counts (B.faults bench.old) (B.faults bench.new) result }
-        ensures cells { OnOk result (self.new.store.chains.cells ≡ self.old.store.chains.cells) }
-        ensures behind { Keeps (drop (image_size self.old.store.chains.cells)) (B.chip bench.old) (B.chip bench.new) }
-    {
-        if !self.has_transaction(channel) {
-            return Ok(StatusWord::CONDITIONS_NOT_SATISFIED);
-        }
-        self.store.commit(bench)?;
-        self.index.commit();
-        self.transaction = None;
-        self.drop_pending(channel);
-        Ok(StatusWord::DONE)
-    }
-
-    // Drops the transaction of a channel, where it has one, and the channel's cursor.
-    fn roll_back(&mut self, channel: u8) -> StatusWord
-        requires channel { channel < 4 }
-        requires begun { self.old.store.begun ≡ is_some self.old.transaction }
-        requires index_begun { self.old.index.begun ≡ is_some self.old.transaction }
-        ensures step { (chip : Chip) (m : machine.Machine) → HoldsMachine self.old chip m
-            → HoldsAnswer (stepping.answered m (stepping.transaction_rolled_back m channel)) (model.said result) self.new chip }
-        ensures ready { (chip : Chip) → IsReady self.old chip → IsReady self.new chip }
-        ensures cells { self.new.store.chains.cells ≡ self.old.store.chains.cells }
-    {
-        if !self.has_transaction(channel) {
-            return StatusWord::CONDITIONS_NOT_SATISFIED;
-        }
-        self.undo();
-        self.drop_cursor(channel);
-        self.drop_pending(channel);
-        StatusWord::DONE
-    }
-
-    // What was committed is all there is.
-    fn undo(&mut self)
-        requires begun { IsTrue self.old.store.begun }
-        requires index_begun { IsTrue self.old.index.begun }
-        ensures holds { (chip : Chip) (m : machine.Machine) → HoldsMachine self.old chip m → HoldsMachine self.new chip (record m { transaction = None }) }
-        ensures ready { (chip : Chip) → IsReady self.old chip → IsReady self.new chip }
-        ensures sessions { self.new.sessions ≡ self.old.sessions }
-        ensures closed { self.new.transaction ≡ None }
-        ensures cells { self.new.store.chains.cells ≡ self.old.store.chains.cells }
-    {
-        self.store.rollback();
-        self.index.rollback();
-        self.transaction = None;
-    }
-
     fn open_channels(&self) -> [bool; 4]
         ensures { result ≡ map is_some self.now.sessions }
     {
@@ -637,17 +527,6 @@ impl Card {
         ensures { self.new ≡ changing_session without_pending self.old channel }
     {
         if let Some(session) = &mut self.sessions[channel as usize] {
-            session.pending.forget();
-        }
-    }
-
-    // A channel has no cursor any more, nor is anything pending on it.
-    fn drop_cursor(&mut self, channel: u8)
-        requires channel { channel < 4 }
-        ensures { self.new ≡ changing_session without_cursor self.old channel }
-    {
-        if let Some(session) = &mut self.sessions[channel as usize] {
-            session.cursor = None;
             session.pending.forget();
         }
     }

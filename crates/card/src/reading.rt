@@ -77,31 +77,13 @@ pub(crate) fn read<B: Eeprom>(
         Operation::Fetch => {
             let mut row = Row::new();
             let cursor = &mut session.cursor;
-            let word = fetch_row(
-                store,
-                bench,
-                side,
-                actor,
-                cursor,
-                le,
-                &mut row,
-                index,
-            )?;
+            let word = fetch_row(store, bench, side, actor, cursor, le, &mut row, index)?;
             Ok(give(word, &row, le, &mut session.pending, reply))
         }
         Operation::FetchNext => {
             let mut row = Row::new();
             let cursor = &mut session.cursor;
-            let word = fetch_next_row(
-                store,
-                bench,
-                side,
-                actor,
-                cursor,
-                le,
-                &mut row,
-                index,
-            )?;
+            let word = fetch_next_row(store, bench, side, actor, cursor, le, &mut row, index)?;
             Ok(give(word, &row, le, &mut session.pending, reply))
         }
         operation => {
@@ -209,14 +191,7 @@ fn ask<B: Eeprom>(
     if !appears(store, bench, side, actor, &object)? {
         return refused(StatusWord::NOT_FOUND);
     }
-    if !holds(
-        store,
-        bench,
-        side,
-        actor,
-        &object,
-        Privilege::Select,
-    )? {
+    if !holds(store, bench, side, actor, &object, Privilege::Select)? {
         return refused(StatusWord::SECURITY_NOT_SATISFIED);
     }
     Ok(())

@@ -49,9 +49,11 @@ ended g c db held of =
 -- and as through some cursor in any case.
 through : (g : _) (c : After-make g) (db : Database) → IsHeld c.args.store.now Working (g.B.Eeprom.chip c.args.bench.now) db → (cursor : Option Cursor) × EndsThrough g c db cursor
 through g c db held =
-    let ends = c.make.ensures.through db (held-made g c db held) (acts-made g c db held) c.requires.formed (fits-made g c db held) in
-    (ends.0, subst (λ actor. Ends db (edits_of db actor ends.0 c.args.operation.now) c.make.result c.args.store.now c.make.new.store (g.B.Eeprom.chip c.actor_of.new.bench) (g.B.Eeprom.chip c.make.new.bench))
-    (c.in_ok-actor.ensures.actor db held) ends.1)
+    let ends = c.make.ensures.through db (held-made g c db held) (acts-made g c db held) c.requires.formed (fits-made g c db held) in (
+      ends.0,
+      subst (λ actor. Ends db (edits_of db actor ends.0 c.args.operation.now) c.make.result c.args.store.now c.make.new.store (g.B.Eeprom.chip c.actor_of.new.bench) (g.B.Eeprom.chip c.make.new.bench))
+          (c.in_ok-actor.ensures.actor db held) ends.1,
+    )
 
 -- the index stands for what was made, where nothing failed
 followed : (g : _) (c : After-make g) → ¬ IsErrOf c.make.result Fault → Indexes c.make.new.index c.make.new.store (g.B.Eeprom.chip c.make.new.bench)

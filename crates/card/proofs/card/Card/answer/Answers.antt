@@ -45,16 +45,16 @@ returns-in-Ok-clause-refused g c = λ m at is.
       | inr leaves ↦ elim (octets_bound_by-accepts built_operations m c.args.command.now) [
         | inl accepts ↦ inl (accepts_so accepts)
         | inr none ↦ inr (
-        performs.unwritten none,
-        (
-          _,
-          leaves.1,
-          record {
-            held = says.held;
-            valid = (IsValidAnswer-step m c.args.command.now (λ i. omega (arith, c.type_inv.command i)) at.valid).machine;
-          },
-        ),
-      )
+          performs.unwritten none,
+          (
+            _,
+            leaves.1,
+            record {
+              held = says.held;
+              valid = (IsValidAnswer-step m c.args.command.now (λ i. omega (arith, c.type_inv.command i)) at.valid).machine;
+            },
+          ),
+        )
       ]
     ]
 

@@ -21,6 +21,7 @@ use Rattle.card.specs.Waiting.{keeps_waiting}
 use Rattle.card.proofs.DeletedSessions.{Performs-deleted, left_after, left_card, refused-nobody}
 use Rattle.card.proofs.Performing.{IsAtRest-at, Performs-unwritten}
 use Rattle.card.proofs.ReadingCard.{err-ok, err-on}
+use Rattle.card.proofs.Sides.{IsReady-sessions}
 use Rattle.card.proofs.Transacting.{none-of}
 use Rattle.card.proofs.Verifying.{other_number}
 use Rattle.card.proofs.card.Card.delete_user.Goals.{After-change}
@@ -92,3 +93,8 @@ returns-else-word-clause-performs g c = λ m from.
     ap (λ (b : Bool). if b then left_card user.stamp c.change.new.self else c.change.new.self) (sym (other_number c.in_ok-word.word.word done.word c.if-word.false)) in
     Performs-deleted m c.args.channel c.args.name (none-of m.transaction c.args.self.now.transaction from.held.transaction c.requires.closed) (or_nothing (octets_changed m c.args.channel c.args.operation.now)) (Ok c.in_ok-word.word) c.change.new.self c.change.new.self (g.B.Eeprom.chip c.args.bench.now)
     (g.B.Eeprom.chip c.change.new.bench) user (named-user g w m from) (from_before g w m (Ok c.in_ok-word.word) from c.in_ok-word.ensures.performs) set
+
+pub returns-then-word-clause-ready : goal.returns-then-word-clause-ready
+returns-then-word-clause-ready g c =
+    let new = g.B.Eeprom.chip c.change.new.bench in
+    IsReady-sessions c.change.new.self c.leave.new.self new new _ c.leave.ensures refl c.in_ok-word.ensures.ready

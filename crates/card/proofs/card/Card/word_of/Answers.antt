@@ -131,6 +131,7 @@ returns-in-Kept-clause-ready g c =
     let chip = g.B.Eeprom.chip c.args.bench.now in
     let w = (goal.at.returns-in-Kept-clause-ready g c).After-take in
     IsReady-sessions (after_take g w) c.drop_pending.new.self chip chip _ c.drop_pending.ensures refl (ready-taken g w)
+
 -- Nothing is committed by what is no command.
 pub returns-in-Refused-clause-lowered : goal.returns-in-Refused-clause-lowered
 returns-in-Refused-clause-lowered g c = λ m at first second rest twice.
