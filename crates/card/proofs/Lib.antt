@@ -4,6 +4,7 @@ mod ChangingOperations
 mod DeletedSessions
 mod GatheredSlots
 mod Founding
+pub mod Giving
 mod Grouped
 mod HeldInOrder
 mod HeldKinds

@@ -16,6 +16,7 @@ use Rattle.card_cli.proofs.Behind.{behind-keeps, behind-on}
 use Rattle.card_cli.proofs.Commanding.{mute_text-reply}
 use Rattle.card_cli.proofs.Stopping.{at_outlet, fails_giving, fails_mute, fails_both}
 use Rattle.card_cli.proofs.commands.answer_command.Goals.{After-give, After-give-in-Mute}
+use Rattle.card.proofs.Giving.{IsAt-given, IsReady-given}
 use Rattle.card_cli.proofs.commands.answer_command.Goals as goal
 
 -- what a card says that replies, and to what its image opens
@@ -120,3 +121,12 @@ returns-in-Ok-clause-behind g c = mute_behind g (goal.at.returns-in-Ok-clause-be
 
 pub returns-in-Err-clause-behind : goal.returns-in-Err-clause-behind
 returns-in-Err-clause-behind g c = mute_behind g (goal.at.returns-in-Err-clause-behind g c).After-give-in-Mute
+
+-- the card is as it was, while its reply goes out
+pub returns-in_ok-give-in-Replied-clause-at : goal.returns-in_ok-give-in-Replied-clause-at
+returns-in_ok-give-in-Replied-clause-at g c = λ m at.
+    IsAt-given c.answer.new.self (g.B.Eeprom.chip c.answer.new.bench) (g.B.Eeprom.chip c.give.new.bench) c.give.ensures.image (step m c.args.octets.now).machine (c.in-Replied.ensures.step m at refl).at
+
+pub returns-in_ok-give-in-Replied-clause-ready : goal.returns-in_ok-give-in-Replied-clause-ready
+returns-in_ok-give-in-Replied-clause-ready g c =
+    IsReady-given c.answer.new.self (g.B.Eeprom.chip c.answer.new.bench) (g.B.Eeprom.chip c.give.new.bench) c.give.ensures.image c.give.ensures.size (c.in-Replied.ensures.ready refl)

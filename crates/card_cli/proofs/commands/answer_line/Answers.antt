@@ -9,6 +9,7 @@ use Rattle.card_cli.specs.RunState.{Prints}
 use Rattle.card_cli.specs.Line.{line_octets}
 use Rattle.card_cli.proofs.Behind.{behind-same}
 use Rattle.card_cli.proofs.Stopping.{at_outlet}
+use Rattle.card.proofs.Giving.{IsReady-given}
 use Rattle.card_cli.proofs.commands.answer_line.Goals as goal
 
 pub returns-in_err-give-in-TooLong-clause-fails : goal.returns-in_err-give-in-TooLong-clause-fails
@@ -91,3 +92,16 @@ returns-in_ok-give-in-NotHexadecimal-clause-behind g c = c.give-in-NotHexadecima
 
 pub returns-in-Nothing-clause-behind : goal.returns-in-Nothing-clause-behind
 returns-in-Nothing-clause-behind g c = behind-same (λ was. c.args.card.now.store.chains.cells) (g.B.Eeprom.chip c.args.bench.now) (g.B.Eeprom.chip c.args.bench.now) refl
+
+-- the card is as it was, while the text goes out
+pub returns-in_ok-give-in-TooLong-clause-ready : goal.returns-in_ok-give-in-TooLong-clause-ready
+returns-in_ok-give-in-TooLong-clause-ready g c =
+    IsReady-given c.args.card.now (g.B.Eeprom.chip c.args.bench.now) (g.B.Eeprom.chip c.give.new.bench) c.give.ensures.image c.give.ensures.size c.requires.ready
+
+pub returns-in_ok-give-in-NotHexadecimal-clause-ready : goal.returns-in_ok-give-in-NotHexadecimal-clause-ready
+returns-in_ok-give-in-NotHexadecimal-clause-ready g c =
+    IsReady-given c.args.card.now (g.B.Eeprom.chip c.args.bench.now) (g.B.Eeprom.chip c.give-in-NotHexadecimal.new.bench) c.give-in-NotHexadecimal.ensures.image c.give-in-NotHexadecimal.ensures.size c.requires.ready
+
+pub returns-in_ok-give-in-Reset-clause-ready : goal.returns-in_ok-give-in-Reset-clause-ready
+returns-in_ok-give-in-Reset-clause-ready g c =
+    IsReady-given c.reset.new.self (g.B.Eeprom.chip c.args.bench.now) (g.B.Eeprom.chip c.give-in-Reset.new.bench) c.give-in-Reset.ensures.image c.give-in-Reset.ensures.size (c.reset.ensures.ready (g.B.Eeprom.chip c.args.bench.now) c.requires.ready)
