@@ -147,6 +147,14 @@ fn is_same(first: &Option<Vec<u8>>, second: &Option<Vec<u8>>) -> bool {
     }
 }
 
+// Whether a card is there that answers so.
+fn answers_so(left: &Option<Vec<u8>>, answers: &str) -> bool {
+    match left {
+        Some(left) => left.as_slice() == answers.as_bytes(),
+        None => false,
+    }
+}
+
 // Whether that may be left where so many octets had gone out, of five an answer: the first answer is OWNER's, and each further
 // one that of a change. Where a card is made, what the card before answered is told.
 fn may_be_left(story: &Story, left: &Option<Vec<u8>>, given: usize, before: Option<&str>) -> bool {
@@ -293,6 +301,44 @@ fn cut_in_a_transaction(rt: HostRuntime) -> Result<(), Fail> {
     assert_eq!(rt; bench.given(), b"9000\n9000\n9000\n9000\n".as_slice());
     assert!(rt; has_all(alloc, &TRANSACTION, bench.image())?);
     assert_eq!(rt; count_wrong(alloc, &TRANSACTION, &bench, None)?, 0);
+    Ok(())
+}
+
+// VERIFY commits a try less before it compares, and all tries once the secret was right: no cut gives one back, and some leave a try less.
+#[test]
+fn cut_in_a_verification(rt: HostRuntime) -> Result<(), Fail> {
+    let alloc = rt.alloc();
+    let lines = "0014008006054F574E4552\n001400810B03424F4201030431323334\n";
+    let (_, made) = run_over(
+        alloc,
+        &["apdu"],
+        lines,
+        fresh_card(alloc)?.as_slice(),
+        no_faults(alloc),
+    )?;
+    assert_eq!(rt; made.given(), b"9000\n9000\n".as_slice());
+    let lines = "001400800403424F42\n002000000431323334\n";
+    let (status, bench) = run_over(alloc, &["apdu"], lines, made.image(), no_faults(alloc))?;
+    assert!(rt; status == Status::Done);
+    assert_eq!(rt; bench.given(), b"9000\n9000\n".as_slice());
+    let probe = "001400800403424F42\n002000000430303030\n";
+    let mut wrong = 0usize;
+    let mut fewer = 0usize;
+    for write in 0..bench.writes() {
+        for fill in FILLS {
+            let left = match bench.image_within(alloc, write, fill)? {
+                Some(image) => look_at(alloc, &image, probe)?,
+                None => None,
+            };
+            if answers_so(&left, "9000\n63C1\n") {
+                fewer = fewer.saturating_add(1);
+            } else if !answers_so(&left, "9000\n63C2\n") {
+                wrong = wrong.saturating_add(1);
+            }
+        }
+    }
+    assert_eq!(rt; wrong, 0);
+    assert!(rt; 1 <= fewer);
     Ok(())
 }
 
