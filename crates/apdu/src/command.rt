@@ -144,6 +144,14 @@ fn command_in(octets: &[u8], channels: [bool; 4], limit: u16) -> Result<Command,
     match Apdu::read(octets, channels) {
         Err(refusal) => Err(refusal.word()),
         Ok(apdu) if apdu.is_part => Err(StatusWord::CHAINING_NOT_SUPPORTED),
-        Ok(apdu) => apdu.command(apdu.body, limit),
+        Ok(apdu) => {
+            let mut command = Command {
+                channel: apdu.channel,
+                operation: Operation::Next,
+                le: apdu.le,
+            };
+            apdu.read_into(apdu.body, limit, &mut command)?;
+            Ok(command)
+        }
     }
 }

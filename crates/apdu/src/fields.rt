@@ -1,97 +1,153 @@
 // The data fields of commands, read: which operation the parameters of each ask for (ISO/IEC 7816-7).
-ghost use Rattle.std.specs.Prelude.{◌≡◌, ◌≤◌, option_map};
+ghost use Rattle.std.specs.Prelude.{◌≡◌, ◌≤◌, Some, option_map};
 ghost use Rattle.scql_base.specs.declared.operation.Operation.TheVariants as operation;
 ghost use Rattle.scql_base.specs.declared.row.TheConstants.Row.{LARGEST};
+ghost use Rattle.scql_model.specs.Operations as table;
 ghost use Rattle.scql_model.specs.Parameters as parameters;
 ghost use Rattle.apdu.specs.Fields as fields;
 
 use crate::lists::{changes_in, columns_in, conditions_in, names_in, row_in};
+use crate::table::has_instruction;
 use scql_base::{
     Conditions, Name, NameList, Octets, Operation, OperationKind, Params, Privileges, Profile,
     Subject, User,
 };
 
-// The operation that a data field asks for, where secrets can be shown or not, and where a row has at most so many octets.
-#[inline(never)]
-pub(crate) fn operation_in(
-    secrets: bool,
+// Reads the operation that a data field asks for into a place, where a row has at most so many octets. What the place has where none
+// is read is left open.
+pub(crate) fn read_operation(
     kind: OperationKind,
     limit: u16,
     octets: &[u8],
-) -> Option<Operation>
+    place: &mut Operation,
+) -> Option<()>
     requires { limit ≤ LARGEST }
-    ensures { result ≡ parameters.operation_in secrets kind limit octets.now }
+    ensures { option_map (λ _. place.new) result ≡ parameters.operation_in (table.has_secrets table.built_operations) kind limit octets.now }
 {
     match kind {
-        OperationKind::CreateTable => create_table_in(octets),
-        OperationKind::CreateView => create_view_in(octets),
-        OperationKind::CreateDictionary => create_dictionary_in(octets),
-        OperationKind::DropTable => Some(Operation::DropTable {
-            name: name_in(octets)?,
-        }),
-        OperationKind::DropView => Some(Operation::DropView {
-            name: name_in(octets)?,
-        }),
-        OperationKind::Grant => grant_in(octets),
-        OperationKind::Revoke => revoke_in(octets),
-        OperationKind::DeclareCursor => declare_cursor_in(octets),
-        OperationKind::OpenCursor => Some(Operation::OpenCursor),
-        OperationKind::Next => Some(Operation::Next),
-        OperationKind::Fetch => Some(Operation::Fetch),
-        OperationKind::FetchNext => Some(Operation::FetchNext),
-        OperationKind::Insert => insert_in(limit, octets),
-        OperationKind::Update => update_in(octets),
-        OperationKind::Delete => Some(Operation::Delete),
-        OperationKind::Begin => Some(Operation::Begin),
-        OperationKind::Commit => Some(Operation::Commit),
-        OperationKind::Rollback => Some(Operation::Rollback),
-        OperationKind::PresentUser => Some(Operation::PresentUser {
-            name: name_in(octets)?,
-        }),
-        OperationKind::CreateUser => create_user_in(secrets, octets),
-        OperationKind::DeleteUser => Some(Operation::DeleteUser {
-            name: name_in(octets)?,
-        }),
-        OperationKind::Verify => verify_in(octets),
-        OperationKind::OpenChannel { number } => Some(Operation::OpenChannel { number }),
-        OperationKind::CloseChannel { number } => Some(Operation::CloseChannel { number }),
-        OperationKind::GetResponse => Some(Operation::GetResponse),
+        OperationKind::CreateTable => read_create_table(octets, place),
+        OperationKind::CreateView => read_create_view(octets, place),
+        OperationKind::CreateDictionary => read_create_dictionary(octets, place),
+        OperationKind::DropTable => read_drop_table(octets, place),
+        OperationKind::DropView => read_drop_view(octets, place),
+        OperationKind::Grant => read_grant(octets, place),
+        OperationKind::Revoke => read_revoke(octets, place),
+        OperationKind::DeclareCursor => read_declare_cursor(octets, place),
+        OperationKind::Insert => read_insert(limit, octets, place),
+        OperationKind::Update => read_update(octets, place),
+        OperationKind::PresentUser => read_present_user(octets, place),
+        OperationKind::CreateUser => read_create_user(has_instruction(0x20), octets, place),
+        OperationKind::DeleteUser => read_delete_user(octets, place),
+        OperationKind::Verify => read_verify(octets, place),
+        OperationKind::OpenCursor => put(Operation::OpenCursor, place),
+        OperationKind::Next => put(Operation::Next, place),
+        OperationKind::Fetch => put(Operation::Fetch, place),
+        OperationKind::FetchNext => put_fetch_next(place),
+        OperationKind::Delete => put(Operation::Delete, place),
+        OperationKind::Begin => put(Operation::Begin, place),
+        OperationKind::Commit => put(Operation::Commit, place),
+        OperationKind::Rollback => put(Operation::Rollback, place),
+        OperationKind::OpenChannel { number } => put(Operation::OpenChannel { number }, place),
+        OperationKind::CloseChannel { number } => put(Operation::CloseChannel { number }, place),
+        OperationKind::GetResponse => put(Operation::GetResponse, place),
     }
 }
 
-fn create_table_in(octets: &[u8]) -> Option<Operation>
-    ensures { result ≡ fields.read_by parameters.create_table_in octets.now }
+// A place that asks for the next row already is left as it is, since a scan asks for nothing else.
+fn put_fetch_next(place: &mut Operation) -> Option<()>
+    ensures { option_map (λ _. place.new) result ≡ Some operation.FetchNext }
+{
+    if matches!(place, Operation::FetchNext) {
+        return Some(());
+    }
+    put(Operation::FetchNext, place)
+}
+
+// Puts an operation into a place.
+fn put(operation: Operation, place: &mut Operation) -> Option<()>
+    ensures { option_map (λ _. place.new) result ≡ Some operation }
+{
+    *place = operation;
+    Some(())
+}
+
+// Each operation with a data field is read in a function of its own, which isn't inlined: what a function clears as it is entered is
+// then cleared for its operation alone.
+#[inline(never)]
+fn read_drop_table(octets: &[u8], place: &mut Operation) -> Option<()>
+    ensures { option_map (λ _. place.new) result ≡ option_map operation.DropTable (fields.read_by fields.name_in octets.now) }
+{
+    let name = name_in(octets)?;
+    *place = Operation::DropTable { name };
+    Some(())
+}
+
+#[inline(never)]
+fn read_drop_view(octets: &[u8], place: &mut Operation) -> Option<()>
+    ensures { option_map (λ _. place.new) result ≡ option_map operation.DropView (fields.read_by fields.name_in octets.now) }
+{
+    let name = name_in(octets)?;
+    *place = Operation::DropView { name };
+    Some(())
+}
+
+#[inline(never)]
+fn read_present_user(octets: &[u8], place: &mut Operation) -> Option<()>
+    ensures { option_map (λ _. place.new) result ≡ option_map operation.PresentUser (fields.read_by fields.name_in octets.now) }
+{
+    let name = name_in(octets)?;
+    *place = Operation::PresentUser { name };
+    Some(())
+}
+
+#[inline(never)]
+fn read_delete_user(octets: &[u8], place: &mut Operation) -> Option<()>
+    ensures { option_map (λ _. place.new) result ≡ option_map operation.DeleteUser (fields.read_by fields.name_in octets.now) }
+{
+    let name = name_in(octets)?;
+    *place = Operation::DeleteUser { name };
+    Some(())
+}
+
+#[inline(never)]
+fn read_create_table(octets: &[u8], place: &mut Operation) -> Option<()>
+    ensures { option_map (λ _. place.new) result ≡ fields.read_by parameters.create_table_in octets.now }
 {
     let (name, rest) = Params::first_in(octets)?;
     let name = Name::read(name)?;
     let columns = columns_in(rest)?;
-    Some(Operation::CreateTable { name, columns })
+    *place = Operation::CreateTable { name, columns };
+    Some(())
 }
 
-fn create_view_in(octets: &[u8]) -> Option<Operation>
-    ensures { result ≡ fields.read_by parameters.create_view_in octets.now }
+#[inline(never)]
+fn read_create_view(octets: &[u8], place: &mut Operation) -> Option<()>
+    ensures { option_map (λ _. place.new) result ≡ fields.read_by parameters.create_view_in octets.now }
 {
     let (name, rest) = Params::first_in(octets)?;
     let (base, rest) = Params::first_in(rest)?;
     let (columns, conditions) = choice_in(rest)?;
     let name = Name::read(name)?;
     let base = Name::read(base)?;
-    Some(Operation::CreateView {
+    *place = Operation::CreateView {
         name,
         base,
         columns,
         conditions,
-    })
+    };
+    Some(())
 }
 
-fn create_dictionary_in(octets: &[u8]) -> Option<Operation>
-    ensures { result ≡ fields.read_by parameters.create_dictionary_in octets.now }
+#[inline(never)]
+fn read_create_dictionary(octets: &[u8], place: &mut Operation) -> Option<()>
+    ensures { option_map (λ _. place.new) result ≡ fields.read_by parameters.create_dictionary_in octets.now }
 {
     let (name, rest) = Params::first_in(octets)?;
     let code = Params::only_in(rest)?;
     let subject = subject_in(code)?;
     let name = Name::read(name)?;
-    Some(Operation::CreateDictionary { name, subject })
+    *place = Operation::CreateDictionary { name, subject };
+    Some(())
 }
 
 // A name alone.
@@ -101,26 +157,30 @@ fn name_in(octets: &[u8]) -> Option<Name>
     Name::read(Params::only_in(octets)?)
 }
 
-fn grant_in(octets: &[u8]) -> Option<Operation>
-    ensures { result ≡ fields.read_by (parameters.granted_in operation.Grant) octets.now }
+#[inline(never)]
+fn read_grant(octets: &[u8], place: &mut Operation) -> Option<()>
+    ensures { option_map (λ _. place.new) result ≡ fields.read_by (parameters.granted_in operation.Grant) octets.now }
 {
     let (privileges, object, grantee) = granted_in(octets)?;
-    Some(Operation::Grant {
+    *place = Operation::Grant {
         privileges,
         object,
         grantee,
-    })
+    };
+    Some(())
 }
 
-fn revoke_in(octets: &[u8]) -> Option<Operation>
-    ensures { result ≡ fields.read_by (parameters.granted_in operation.Revoke) octets.now }
+#[inline(never)]
+fn read_revoke(octets: &[u8], place: &mut Operation) -> Option<()>
+    ensures { option_map (λ _. place.new) result ≡ fields.read_by (parameters.granted_in operation.Revoke) octets.now }
 {
     let (privileges, object, grantee) = granted_in(octets)?;
-    Some(Operation::Revoke {
+    *place = Operation::Revoke {
         privileges,
         object,
         grantee,
-    })
+    };
+    Some(())
 }
 
 fn granted_in(octets: &[u8]) -> Option<(Privileges, Name, Name)>
@@ -135,38 +195,45 @@ fn granted_in(octets: &[u8]) -> Option<(Privileges, Name, Name)>
     Some((privileges, object, grantee))
 }
 
-fn declare_cursor_in(octets: &[u8]) -> Option<Operation>
-    ensures { result ≡ fields.read_by parameters.declare_cursor_in octets.now }
+#[inline(never)]
+fn read_declare_cursor(octets: &[u8], place: &mut Operation) -> Option<()>
+    ensures { option_map (λ _. place.new) result ≡ fields.read_by parameters.declare_cursor_in octets.now }
 {
     let (object, rest) = Params::first_in(octets)?;
     let (columns, conditions) = choice_in(rest)?;
     let object = Name::read(object)?;
-    Some(Operation::DeclareCursor {
+    *place = Operation::DeclareCursor {
         object,
         columns,
         conditions,
-    })
+    };
+    Some(())
 }
 
-fn insert_in(limit: u16, octets: &[u8]) -> Option<Operation>
+#[inline(never)]
+fn read_insert(limit: u16, octets: &[u8], place: &mut Operation) -> Option<()>
     requires { limit ≤ LARGEST }
-    ensures { result ≡ fields.read_by (parameters.insert_in limit) octets.now }
+    ensures { option_map (λ _. place.new) result ≡ fields.read_by (parameters.insert_in limit) octets.now }
 {
     let (table, rest) = Params::first_in(octets)?;
     let table = Name::read(table)?;
     let row = row_in(limit, rest)?;
-    Some(Operation::Insert { table, row })
+    *place = Operation::Insert { table, row };
+    Some(())
 }
 
-fn update_in(octets: &[u8]) -> Option<Operation>
-    ensures { result ≡ fields.read_by parameters.update_in octets.now }
+#[inline(never)]
+fn read_update(octets: &[u8], place: &mut Operation) -> Option<()>
+    ensures { option_map (λ _. place.new) result ≡ fields.read_by parameters.update_in octets.now }
 {
     let changes = changes_in(octets)?;
-    Some(Operation::Update { changes })
+    *place = Operation::Update { changes };
+    Some(())
 }
 
-fn create_user_in(secrets: bool, octets: &[u8]) -> Option<Operation>
-    ensures { result ≡ fields.read_by (parameters.create_user_in secrets) octets.now }
+#[inline(never)]
+fn read_create_user(secrets: bool, octets: &[u8], place: &mut Operation) -> Option<()>
+    ensures { option_map (λ _. place.new) result ≡ fields.read_by (parameters.create_user_in secrets) octets.now }
 {
     let (name, rest) = Params::first_in(octets)?;
     let (profile, rest) = Params::first_in(rest)?;
@@ -174,22 +241,25 @@ fn create_user_in(secrets: bool, octets: &[u8]) -> Option<Operation>
     let profile = made_profile_in(profile)?;
     let name = Name::read(name)?;
     let secret = new_secret_in(secrets, secret)?;
-    Some(Operation::CreateUser {
+    *place = Operation::CreateUser {
         name,
         profile,
         secret,
-    })
+    };
+    Some(())
 }
 
 // The bare secret, which isn't empty.
-fn verify_in(octets: &[u8]) -> Option<Operation>
-    ensures { result ≡ parameters.only_where (parameters.is_verified_secret octets.now) (operation.Verify octets.now) }
+#[inline(never)]
+fn read_verify(octets: &[u8], place: &mut Operation) -> Option<()>
+    ensures { option_map (λ _. place.new) result ≡ parameters.only_where (parameters.is_verified_secret octets.now) (operation.Verify octets.now) }
 {
     if octets.is_empty() {
         return None;
     }
     let secret = Octets::of(octets)?;
-    Some(Operation::Verify { secret })
+    *place = Operation::Verify { secret };
+    Some(())
 }
 
 // The number of columns, so many names, and conditions to the end.

@@ -8,7 +8,7 @@ ghost use Rattle.scql_model.specs.Refusals as refusals;
 ghost use Rattle.scql_model.specs.Operations as table;
 ghost use Rattle.apdu.specs.Reading.{IsOnOpen, apdu_on, apdu_view, command_of, completed, seen, word_of};
 
-use crate::fields::operation_in;
+use crate::fields::read_operation;
 use crate::table::{has_instruction, line_of};
 use crate::tail::taken_in;
 use scql_base::{Command, Line, OperationKind, Row, StatusWord};
@@ -58,20 +58,23 @@ impl<'a> Apdu<'a> {
         }
     }
 
-    /// The command of this APDU's operation that has this data field, where a row has at most so many octets, and never more
-    /// than 1,020.
-    pub fn command(&self, body: &[u8], limit: u16) -> Result<Command, StatusWord>
-        ensures { result ≡ command_of self.now (min limit LARGEST) body.now }
+    /// Reads the command of this APDU's operation that has this data field into a place, where a row has at most so many octets,
+    /// and never more than 1,020. Where it is refused, what the place has is left open.
+    pub fn read_into(
+        &self,
+        body: &[u8],
+        limit: u16,
+        command: &mut Command,
+    ) -> Result<(), StatusWord>
+        ensures { seen (λ _. command.new) result ≡ command_of self.now (min limit LARGEST) body.now }
     {
-        let secrets = has_instruction(0x20);
-        let Some(operation) = operation_in(secrets, self.kind, limit.min(LARGEST_ROW), body) else {
-            return Err(StatusWord::WRONG_DATA);
-        };
-        Ok(Command {
-            channel: self.channel,
-            operation,
-            le: self.le,
-        })
+        let limit = limit.min(LARGEST_ROW);
+        command.channel = self.channel;
+        command.le = self.le;
+        match read_operation(self.kind, limit, body, &mut command.operation) {
+            Some(()) => Ok(()),
+            None => Err(StatusWord::WRONG_DATA),
+        }
     }
 }
 

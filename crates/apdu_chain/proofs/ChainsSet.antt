@@ -1,6 +1,6 @@
 -- The chains of the channels, one of which is ended, and then maybe another begun.
 use Rattle.std.proofs.Common.{◌≡◌, ◌<◌, ◌==◌, ℕ, zero, suc, Bool, true, false, List, [], ◌∷◌, ◌++◌, length, Option, Some, None, Result, Ok, Err, refl, ap, sym, ◌∙◌, arith, if◌then◌else◌}
-use Rattle.std.specs.Prelude.{IfOk, slice_set, unwrap_or}
+use Rattle.std.specs.Prelude.{slice_set, unwrap_or}
 use Rattle.std.specs.List.{concat}
 use Rattle.scql_base.specs.declared.words.StatusWord.{StatusWord}
 use Rattle.scql_base.specs.declared.operation.Command.{Command}
@@ -11,11 +11,11 @@ use Rattle.scql_base.specs.declared.operation.OperationKind.TheVariants.{Insert,
 use Rattle.scql_model.specs.Machine.{Chain}
 use Rattle.scql_model.specs.Operations.{built_operations, has_secrets, goes_on, comes_in_parts}
 use Rattle.scql_model.specs.Parameters.{operation_in}
-use Rattle.scql_model.specs.Form.{Form, as_command, refused, refused_on, part_on, a_command, formed_on, parts_of}
+use Rattle.scql_model.specs.Form.{Form, refused_on, part_on, a_command, formed_on, parts_of}
 use Rattle.scql_model.specs.Refusals.{◌>>=◌, or_refused}
 use Rattle.apdu.specs.declared.reading.Apdu.{Apdu}
 use Rattle.apdu.specs.Reading.{command_of}
-use Rattle.apdu_chain.specs.Chaining.{IfWhole, chain_on, chains_after, going_on, on_channel, taken_of}
+use Rattle.apdu_chain.specs.Chaining.{chain_on, chains_after, going_on, on_channel}
 
 pub slice_set-set : {A : Type 0} (xs : List A) (i : ℕ) (x y : A) → slice_set (slice_set xs i x) i y ≡ slice_set xs i y
 slice_set-set [] i x y = refl
@@ -87,10 +87,3 @@ pub chains_after-kept : (chains ended : List (Option Chain)) (a : Apdu) (limit c
 chains_after-kept chains ended a limit channel chain more part comes is_ended is_chain room is_more same =
     let room' : length (parts_of a.kind (chain_on chains a.channel)) < 4 = rw is_chain at room in
     rw (on_channel-part chains a limit part comes room', is_more, is_chain, same, is_ended) (slice_set-set chains a.channel None _)
-
--- What holds of a form that is read as one command holds of what is taken whole.
-pub IfWhole-taken_of : (P : Command → Type 0) (form : Form) → IfOk (as_command form) P → IfWhole (taken_of form) P
-IfWhole-taken_of P (refused word) is = tt
-IfWhole-taken_of P (refused_on channel word) is = tt
-IfWhole-taken_of P (part_on channel kind part) is = tt
-IfWhole-taken_of P (a_command c) is = is

@@ -1,7 +1,6 @@
 -- What is taken of octets, and what becomes of the chains of the channels (ISO/IEC 7816-4, command chaining).
 use Rattle.std.specs.Prelude.{ℕ, List, [], ◌∷◌, ◌++◌, Option, Some, None, slice_get, slice_set, if◌then◌else◌}
 use Rattle.std.specs.Option.{option_flatten}
-use Rattle.scql_base.specs.declared.operation.Command.{Command}
 use Rattle.scql_base.specs.declared.operation.OperationKind.{OperationKind}
 use Rattle.scql_model.specs.Machine.{Chain}
 use Rattle.scql_model.specs.Operations.{goes_on}
@@ -29,12 +28,7 @@ abbrev pub taken_of : Form → Taken
 taken_of (refused word) = Refused word
 taken_of (refused_on channel word) = Refused word
 taken_of (part_on channel kind octets) = Kept
-taken_of (a_command c) = Whole c
-
--- what holds of a command that was taken whole
-abbrev pub IfWhole : Taken → (Command → Type 0) → Type 0
-IfWhole (Whole c) P = P c
-IfWhole taken P = Unit {0}
+taken_of (a_command c) = Whole
 
 -- A part is added to the chain of its channel, or begins a new one. A command, and each refusal on a channel, leaves its channel without a chain.
 abbrev pub chains_after : List (Option Chain) → Form → List (Option Chain)

@@ -1,13 +1,13 @@
 // Commands that come in parts: a chain for each channel (ISO/IEC 7816-4, command chaining).
-ghost use Rattle.std.specs.Prelude.{◌≡◌, ◌≤◌, ◌<◌, ◌++◌, ℕ, [], ◌∷◌, Some, None, true, false, IfSome, IfNone, length, min, slice_set};
+ghost use Rattle.std.specs.Prelude.{◌≡◌, ◌≢◌, ◌≤◌, ◌<◌, ◌++◌, ℕ, [], ◌∷◌, Some, None, true, false, IfSome, IfNone, length, min, slice_set};
 ghost use Rattle.std.specs.List.{concat};
 ghost use Rattle.scql_base.specs.declared.row.TheConstants.Row.{LARGEST};
 ghost use Rattle.scql_model.specs.Form as form;
 ghost use Rattle.scql_model.specs.Form.{parts_of};
 ghost use Rattle.scql_model.specs.Operations as table;
 ghost use Rattle.scql_model.specs.WellFormed.{IsWellFormed};
-ghost use Rattle.apdu.specs.Reading.{command_of};
-ghost use Rattle.apdu_chain.specs.Chaining.{IfWhole, chain_on, chains_after, going_on, on_channel, taken_of};
+ghost use Rattle.apdu.specs.Reading.{command_of, seen};
+ghost use Rattle.apdu_chain.specs.Chaining.{chain_on, chains_after, going_on, on_channel, taken_of};
 
 use crate::chain::Chain;
 use apdu::{Apdu, Refusal, comes_in_parts};
@@ -37,7 +37,7 @@ impl Model for Chains {
 pub enum Taken {
     Refused { word: StatusWord },
     Kept,
-    Whole { command: Command },
+    Whole,
 }
 
 impl Chains {
@@ -50,12 +50,19 @@ impl Chains {
         }
     }
 
-    /// Takes octets, where these channels are open and a row has at most so many octets, and never more than 1,020. Only the
-    /// chain of the command's own channel changes.
-    pub fn take(&mut self, octets: &[u8], channels: [bool; 4], limit: u16) -> Taken
+    /// Takes octets, where these channels are open and a row has at most so many octets, and never more than 1,020. The command
+    /// that they make whole is read into a place. Only the chain of the command's own channel changes.
+    pub fn take(
+        &mut self,
+        octets: &[u8],
+        channels: [bool; 4],
+        limit: u16,
+        command: &mut Command,
+    ) -> Taken
         ensures taken { result ≡ taken_of (form.form_of table.built_operations octets.now channels (chain_on self.old) (min limit LARGEST)) }
         ensures chains { self.new ≡ chains_after self.old (form.form_of table.built_operations octets.now channels (chain_on self.old) (min limit LARGEST)) }
-        ensures formed { IfWhole result IsWellFormed }
+        ensures whole { result ≡ Taken.Whole → form.form_of table.built_operations octets.now channels (chain_on self.old) (min limit LARGEST) ≡ form.a_command command.new }
+        ensures formed { result ≡ Taken.Whole → IsWellFormed command.new }
     {
         match Apdu::read(octets, channels) {
             Err(Refusal::Nowhere { word }) => Taken::Refused { word },
@@ -63,7 +70,7 @@ impl Chains {
                 self.forget(channel);
                 Taken::Refused { word }
             }
-            Ok(apdu) => self.taken(&apdu, limit),
+            Ok(apdu) => self.taken(&apdu, limit, command),
         }
     }
 
@@ -82,16 +89,17 @@ impl Chains {
         *self = Chains::new();
     }
 
-    fn taken(&mut self, apdu: &Apdu<'_>, limit: u16) -> Taken
+    fn taken(&mut self, apdu: &Apdu<'_>, limit: u16, command: &mut Command) -> Taken
         requires channel { apdu.now.channel < 4 }
         requires short { length apdu.now.body.now ≤ 255 }
         ensures taken { result ≡ taken_of (on_channel self.old apdu.now (min limit LARGEST)) }
+        ensures whole { result ≡ Taken.Whole → on_channel self.old apdu.now (min limit LARGEST) ≡ form.a_command command.new }
         ensures chains { self.new ≡ chains_after self.old (on_channel self.old apdu.now (min limit LARGEST)) }
     {
         if apdu.is_part {
             self.keep(apdu)
         } else {
-            self.complete(apdu, limit)
+            self.complete(apdu, limit, command)
         }
     }
 
@@ -101,6 +109,7 @@ impl Chains {
         requires channel { apdu.now.channel < 4 }
         requires short { length apdu.now.body.now ≤ 255 }
         ensures taken { (limit : ℕ) → result ≡ taken_of (on_channel self.old apdu.now limit) }
+        ensures part { result ≢ Taken.Whole }
         ensures chains { (limit : ℕ) → self.new ≡ chains_after self.old (on_channel self.old apdu.now limit) }
     {
         let begun = self.end(apdu.channel, apdu.kind);
@@ -121,24 +130,25 @@ impl Chains {
     }
 
     // What isn't a part makes a command whole, with the parts before it.
-    fn complete(&mut self, apdu: &Apdu<'_>, limit: u16) -> Taken
+    fn complete(&mut self, apdu: &Apdu<'_>, limit: u16, command: &mut Command) -> Taken
         requires whole { apdu.now.is_part ≡ false }
         requires channel { apdu.now.channel < 4 }
         requires short { length apdu.now.body.now ≤ 255 }
         ensures taken { result ≡ taken_of (on_channel self.old apdu.now (min limit LARGEST)) }
+        ensures whole { result ≡ Taken.Whole → on_channel self.old apdu.now (min limit LARGEST) ≡ form.a_command command.new }
         ensures chains { self.new ≡ chains_after self.old (on_channel self.old apdu.now (min limit LARGEST)) }
     {
-        match self.command(apdu, limit) {
-            Ok(command) => Taken::Whole { command },
+        match self.read(apdu, limit, command) {
+            Ok(()) => Taken::Whole,
             Err(word) => Taken::Refused { word },
         }
     }
 
-    // The command of the parts before an APDU and its own data field. The chain of its channel ends.
-    fn command(&mut self, apdu: &Apdu<'_>, limit: u16) -> Result<Command, StatusWord>
+    // Reads the command of the parts before an APDU and its own data field into a place. The chain of its channel ends.
+    fn read(&mut self, apdu: &Apdu<'_>, limit: u16, command: &mut Command) -> Result<(), StatusWord>
         requires channel { apdu.now.channel < 4 }
         requires short { length apdu.now.body.now ≤ 255 }
-        ensures command { result ≡ command_of apdu.now (min limit LARGEST) (concat (parts_of apdu.now.kind (chain_on self.old apdu.now.channel)) ++ apdu.now.body.now) }
+        ensures command { seen (λ _. command.new) result ≡ command_of apdu.now (min limit LARGEST) (concat (parts_of apdu.now.kind (chain_on self.old apdu.now.channel)) ++ apdu.now.body.now) }
         ensures ended { self.new ≡ slice_set self.old apdu.now.channel None }
     {
         let joined = self.joined(apdu);
@@ -147,7 +157,7 @@ impl Chains {
             Some(octets) => octets.as_slice(),
             None => apdu.body,
         };
-        apdu.command(body, limit)
+        apdu.read_into(body, limit, command)
     }
 
     // The octets of the parts before an APDU and its own, where there are parts that it goes on with.
