@@ -135,7 +135,7 @@ rows-marked (entry ∷ slots) =
     omega (arith, next, here)
 
 -- the cells of a kind that has other marks than rows are among those of the records but the rows
-catalogue-held : {X : Type 0} (kind : Kind X) (slots : Slots) (db : Database) → HaveOtherMarks row_kind kind → Holds slots db → cells_marked kind slots ≤ catalogue_cells db
+pub catalogue-held : {X : Type 0} (kind : Kind X) (slots : Slots) (db : Database) → HaveOtherMarks row_kind kind → Holds slots db → cells_marked kind slots ≤ catalogue_cells db
 catalogue-held kind slots db apart holds =
     let both = marked-slots kind slots apart in
     let most = rows-marked slots in
