@@ -1,13 +1,14 @@
 // A link to a card, and a link with an outlet for what is printed.
 ghost use Rattle.std.specs.Prelude.{◌≡◌, ◌≤◌, ℕ, List, ◌∷◌, IsTrue, IfSome, Bool, false, length};
+ghost use Rattle.eeprom.specs.Chip.{Chip};
 ghost use Rattle.eeprom.specs.Fault.{Rose};
 ghost use Rattle.scql_base.specs.Words.{memory_failure};
-ghost use Rattle.scql_model.specs.Database.{Database};
 ghost use Rattle.scql_model.specs.Machine as machine;
 ghost use Rattle.scql_model.specs.Operations.{operations};
+ghost use Rattle.scql_model.specs.Opens.{Opens};
 ghost use Rattle.scql_model.specs.Replies.{said};
 ghost use Rattle.scql_model.specs.Step as stepping;
-ghost use Rattle.card_link.specs.Link.{Adds, Answered, Gives, Holds, IsOneOf, IsOver};
+ghost use Rattle.card_link.specs.Link.{Answered, Gives, Holds, IsOneOf, IsOver, LeavesOpen};
 
 use crate::Outcome;
 use apdu::Reply;
@@ -27,14 +28,14 @@ pub trait CardLink: Drop {
     /// How many octets of output had gone out.
     ghost mark: { Self → ℕ };
 
-    /// A time that never falls.
-    ghost clock: { Self → ℕ };
-
-    /// At a moment since a time, with this mark, a power loss may leave an image that opens to this database, where told.
-    ghost may_open: { Self → ℕ → ℕ → Database → Type 0 };
+    /// What the EEPROM of the card has become, the output included.
+    ghost chip: { Self → Chip };
 
     /// What a call leaves of the rest of the object.
     ghost keeps: { Self → Self → Type 0 };
+
+    /// Calls lead from one to the other. What they keep of the object is for callers who know its type.
+    ghost goes_on: { Self → Self → Type 0 };
 
     /// Whether the card still answers.
     fn live(&self) -> bool
@@ -51,9 +52,9 @@ pub trait CardLink: Drop {
         ensures never_falls { faults self.old ≤ faults self.new }
         ensures mark { mark self.new ≡ mark self.old }
         ensures moments { (m : machine.Machine) → is_at self.old m
-            → Adds may_open clock (IsOneOf (mark self.old) (m.committed ∷ (stepping.step_by operations m command.now).commits)) self.old self.new }
-        ensures later { clock self.old ≤ clock self.new }
-        ensures rest { keeps self.old self.new };
+            → LeavesOpen (IsOneOf (mark self.old) (m.committed ∷ (stepping.step_by operations m command.now).commits)) (chip self.old) (chip self.new) }
+        ensures rest { keeps self.old self.new }
+        ensures goes_on { goes_on self.old self.new };
 
     /// Resets the card.
     fn reset(&mut self)
@@ -61,12 +62,20 @@ pub trait CardLink: Drop {
         ensures step { (m : machine.Machine) → is_at self.old m → is_at self.new (machine.reset m) }
         ensures live { IsTrue (is_live self.new) × (faults self.new ≡ faults self.old) }
         ensures mark { mark self.new ≡ mark self.old }
-        ensures moments { (m : machine.Machine) → is_at self.old m → Adds may_open clock (Holds (mark self.old) m.committed) self.old self.new }
-        ensures later { clock self.old ≤ clock self.new }
-        ensures rest { keeps self.old self.new };
+        ensures moments { (m : machine.Machine) → is_at self.old m → LeavesOpen (Holds (mark self.old) m.committed) (chip self.old) (chip self.new) }
+        ensures rest { keeps self.old self.new }
+        ensures goes_on { goes_on self.old self.new };
 
-    /// A link is at no more than one machine.
-    ghost only: { (l : Self) (m n : machine.Machine) → is_at l m → is_at l n → m ≡ n };
+    /// The mark is that of the EEPROM.
+    ghost marks: { (l : Self) → mark l ≡ (chip l).still.mark };
+
+    /// The image, where told, opens to the machine's committed database.
+    ghost opens: { (l : Self) (m : machine.Machine) → is_at l m → IfSome (chip l).image (λ image. Opens image m.committed) };
+
+    /// It goes on by no call at all, and by calls one after another.
+    ghost goes_on_same: { (l : Self) → goes_on l l };
+
+    ghost goes_on_then: { (old mid new : Self) → goes_on old mid → goes_on mid new → goes_on old new };
 
     /// The machine's databases are valid.
     ghost valid: { (l : Self) (m : machine.Machine) → is_at l m → IsOver m };
@@ -81,5 +90,8 @@ pub trait Desk: CardLink + Outlet {
     ghost marked: { (d : Self) → IfSome (Self.given d) (λ given. Self.mark d ≡ length given) };
 
     /// Giving leaves the machine, whether the card answers, and its count. The mark rises, and at each moment meanwhile the database is the committed one.
-    ghost gives: { (old new : Self) → Self.leaves old new → Gives Self.is_at Self.is_live Self.faults Self.mark Self.clock Self.may_open old new };
+    ghost gives: { (old new : Self) → Self.leaves old new → Gives Self.is_at Self.is_live Self.faults Self.mark Self.chip old new };
+
+    /// Giving is such a call.
+    ghost goes_on_given: { (old new : Self) → Self.leaves old new → Self.goes_on old new };
 }

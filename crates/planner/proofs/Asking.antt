@@ -76,15 +76,21 @@ pub answer-one : (m : Machine) (c : Command) → part_count c ≡ 1 → answer_t
 unfolding answer_to
 answer-one m c one = rw (one, part-one c one) refl
 
+-- a command in one is read as it is, on an open channel
+pub answer-whole : (m : Machine) (c : Command) (s : Session) → IsSendable c → comes_in_parts (kind_of c.operation) ≡ false → IsTaken (has_secrets operations) m.committed.limit c.operation
+    → ((chain : Option Chain) → parts_of (kind_of c.operation) chain ≡ []) → session_of m c.channel ≡ Some s → answer_to operations m c ≡ stepped m (a_command c)
+unfolding step_by
+answer-whole m c s can alone taken parts there =
+    answer-one m c (one-part c alone can.fitting)
+    ∙ ap (stepped m) (command-again operations m.committed.limit c can.formed (HasLine-operations (kind_of c.operation)) taken
+    (open_channels m) (command_chain m) (open-there m.sessions c.channel s there) (parts (command_chain m c.channel)))
+
 -- the step of a reading command on an open channel
 answer-stepped : (m : Machine) (c : Command) (s : Session) (command : ReadingCommand) → IsSendable c → reading_command c.operation c.le ≡ Some command → session_of m c.channel ≡ Some s
     → answer_to operations m c ≡ stepped m (a_command c)
-unfolding step_by
 answer-stepped m c s command can is there =
-    answer-one m c (one-part c (no-part c.operation c.le command is) can.fitting)
-    ∙ ap (stepped m) (command-again operations m.committed.limit c can.formed (HasLine-operations (kind_of c.operation))
-    (reading-taken c.operation c.le command (has_secrets operations) m.committed.limit is)
-    (open_channels m) (command_chain m) (open-there m.sessions c.channel s there) (no-parts c.operation c.le command (command_chain m c.channel) is))
+    answer-whole m c s can (no-part c.operation c.le command is) (reading-taken c.operation c.le command (has_secrets operations) m.committed.limit is)
+    (λ chain. no-parts c.operation c.le command chain is) there
 
 abbrev ended : Machine → ℕ → Machine
 ended m channel = changing_session without_chain m channel

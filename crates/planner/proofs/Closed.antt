@@ -53,10 +53,10 @@ closed-form c channels chain limit formed closed =
     (closed-line operations lined.line c.channel (field_of c.operation) c.le channels chain limit formed.channel
     (has_instruction-found operations lined.line.ins lined.line.p1 lined.line.p2 lined.line (HasLine-operations (kind_of c.operation) lined.line lined.found)) closed)
 
-abbrev closed_answer : Machine → Answer
+abbrev pub closed_answer : Machine → Answer
 closed_answer m = record { reply = said channel_not_supported; machine = m; commits = [] }
 
-answer-closed : (m : Machine) (c : Command) → IsSendable c → comes_in_parts (kind_of c.operation) ≡ false → is_channel_open m c.channel ≡ false → answer_to operations m c ≡ closed_answer m
+pub answer-closed : (m : Machine) (c : Command) → IsSendable c → comes_in_parts (kind_of c.operation) ≡ false → is_channel_open m c.channel ≡ false → answer_to operations m c ≡ closed_answer m
 unfolding step_by
 answer-closed m c can alone closed =
     answer-one m c (one-part c alone can.fitting)

@@ -5,14 +5,19 @@ pub mod Changed
 pub mod Changing
 pub mod Closed
 pub mod CutRows
+pub mod KindsRead
 pub mod Parts
 pub mod Selected
+pub mod SelectLines
 pub mod Selecting
+pub mod SelectsShown
 pub mod Sending
 pub mod Settled
 pub mod ShownRows
 pub mod Statements
+pub mod StatementsLawful
 pub mod Stepping
 pub mod Transacted
+pub mod TransactionKnown
 pub mod Turning
 mod WorkedLines

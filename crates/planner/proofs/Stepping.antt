@@ -45,7 +45,7 @@ ChangesRow operation = ⊥
 abbrev pub who_in : Database → Session → Actor
 who_in db s = option_map_or (actor_of db) s.user Public
 
-no-chain : (asked : OperationKind) → ((other : OperationKind) → goes_on asked other ≡ false) → (chain : Option Chain) → parts_of asked chain ≡ []
+pub no-chain : (asked : OperationKind) → ((other : OperationKind) → goes_on asked other ≡ false) → (chain : Option Chain) → parts_of asked chain ≡ []
 no-chain asked alone None = refl
 no-chain asked alone (Some chain) = ap (λ goes. if goes then chain.parts else []) (alone chain.operation)
 

@@ -1,6 +1,10 @@
+pub mod Held
 pub mod Meaning
 pub mod Planned
 pub mod Running
+pub mod SelectLines
+pub mod Selecting
+pub mod StatementLines
 pub mod Text
 pub mod Turns
 pub mod Words

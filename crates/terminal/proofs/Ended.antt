@@ -11,6 +11,7 @@ use Rattle.scql_base.specs.declared.operation.Operation.{Operation}
 use Rattle.scql_base.specs.Words.{channel_not_supported}
 use Rattle.scql_model.specs.Database.{Database, IsValid}
 use Rattle.scql_model.specs.Machine.{Machine, Transaction, base}
+use Rattle.scql_model.specs.Lines.{line_effect}
 use Rattle.scql_model.specs.Sessions.{is_channel_open}
 use Rattle.scql_model.specs.Matching.{Columns, Values}
 use Rattle.scql_model.specs.Records as records
@@ -19,7 +20,6 @@ use Rattle.scql_model.specs.ReadingCommands.{row_octets}
 use Rattle.scql_model.specs.Operations.{operations}
 use Rattle.scql_model.specs.Transactions.{own_transaction}
 use Rattle.card_link.specs.Link.{IsOneOf, IsOver as IsOverValid}
-use Rattle.script.specs.declared.fault.ScriptFault.{ScriptFault}
 use Rattle.script.specs.declared.statement.Statement.{Statement}
 use Rattle.script.specs.declared.statement.Statement.TheVariants.{Blank, Single, Select, UpdateRows, DeleteRows, OpenNumber, CloseNumber, UseNumber, Reset}
 use Rattle.script.specs.Commands.{CanBeSent}
@@ -28,13 +28,16 @@ use Rattle.planner.specs.declared.closing.Closing.{Closing}
 use Rattle.planner.specs.declared.closing.Closing.TheVariants.{Refused}
 use Rattle.planner.specs.Meaning.{Meaning, Declared, Changed, declared, ended, selects_all, changed_by, changed_outside, committed_after, changed_in, on_open, begun, meaning}
 use Rattle.planner.specs.Running.{shown}
-use Rattle.planner.specs.Text.{row_text, closing_text, meaning_text, fault_text, of_statement, line_meaning}
+use Rattle.planner.specs.Held.{transaction_channel, held_after, held_when}
+use Rattle.planner.specs.StatementLines.{TerminalState, read_effect, statement_lines, unread}
+use Rattle.planner.specs.Text.{row_text, closing_text, meaning_text}
 use Rattle.planner.proofs.Statements.{select-rows}
+use Rattle.planner.proofs.TransactionKnown.{transaction-told}
 use Rattle.terminal.specs.declared.failure.Failure.TheVariants.{Card, Outlet}
 use Rattle.terminal.specs.declared.line_end.LineEnd.{LineEnd}
 use Rattle.terminal.specs.declared.line_end.LineEnd.TheVariants as ends
 use Rattle.terminal.specs.Going.{printed_row, rows_text, ran_text, after_all, Prints, IsAmong, IsInRun, IsMute, IsCut, IsOver, FailsSo}
-use Rattle.terminal.specs.Holding.{Knows, channel_after}
+use Rattle.terminal.specs.Holding.{Holding, Knows, Sits, terminal_at, channel_after, holding_after}
 use Rattle.terminal.specs.Line.{IsAnswered, IsCutOff, IsCutShort, EndsSo, EndsBy, ClosesSo, IsMoment, is_refusal, refuses, rows_in}
 use Rattle.terminal.specs.Stays.{Works}
 use Rattle.terminal.proofs.Meant.{base-valid}
@@ -158,7 +161,7 @@ none-first [] ys none = refl
 none-first (x ∷ xs) ys none = absurd cc
 
 cut-short : {L : Type 0} (is_at : L → Machine → Type 0) (given : L → Option (List ℕ)) (m : Machine) (channel : ℕ) (s : Statement) (old new : L) → IsSound (meaning operations m channel s)
-    → IsCut is_at given m (shown (meaning operations m channel s)) old new → IsCutShort is_at given m (of_statement operations m channel (Ok s)) old new
+    → IsCut is_at given m (shown (meaning operations m channel s)) old new → IsCutShort is_at given m (read_effect (terminal_at m channel) (Ok s)) old new
 cut-short is_at given m channel s old new is cut =
     let x : Meaning = meaning operations m channel s in
     record {
@@ -177,7 +180,7 @@ cut-short is_at given m channel s old new is cut =
 
 pub failure-ends : {L : Type 0} (is_at : L → Machine → Type 0) (given : L → Option (List ℕ)) (m : Machine) (channel : ℕ) (s : Statement) (old new : L) → IsOverValid m → CanBeSent channel s
     → (FailsSo is_at given m (shown (meaning operations m channel s)) Card old new → IsCutOff given (meaning operations m channel s).rows old new)
-    × (FailsSo is_at given m (shown (meaning operations m channel s)) Outlet old new → IsCutShort is_at given m (of_statement operations m channel (Ok s)) old new)
+    × (FailsSo is_at given m (shown (meaning operations m channel s)) Outlet old new → IsCutShort is_at given m (read_effect (terminal_at m channel) (Ok s)) old new)
 failure-ends is_at given m channel s old new over can =
     let is = sound m channel s over can in
     ((λ mute. cut-off given (meaning operations m channel s) old new is mute), (λ cut. cut-short is_at given m channel s old new is cut))
@@ -233,7 +236,7 @@ inside-known m channel held knows = ap (λ (t : Option ℕ). option_map_or (λ (
     go (Some t) = mine t (t.channel == channel)
 
 -- Moments.
-among-one : (mark g : ℕ) (dbs : List Database) (left : Database) → g ≡ mark → IsAmong dbs left → IsOneOf mark dbs g left
+pub among-one : (mark g : ℕ) (dbs : List Database) (left : Database) → g ≡ mark → IsAmong dbs left → IsOneOf mark dbs g left
 among-one mark g [] left same is = is
 among-one mark g (db ∷ dbs) left same (inl is) = inl (same, is)
 among-one mark g (db ∷ dbs) left same (inr is) = inr (among-one mark g dbs left same is)
@@ -259,38 +262,48 @@ pub run-moments : (mark g : ℕ) (m : Machine) (channel : ℕ) (s : Statement) (
 run-moments mark g m channel s left over can within = run-moment mark g m (meaning operations m channel s) left (sound m channel s over can) within
 
 -- The closing line.
-pub closes-ends : {L : Type 0} (is_at : L → Machine → Type 0) (given : L → Option (List ℕ)) (is_live : L → Bool) (faults sink_faults mark : L → ℕ) (m : Machine) (channel : ℕ) (s : Statement) (closing : Closing) (result : LineEnd) (old mid new : L)
-    → IsOverValid m → CanBeSent channel s → IsOver is_at given mark m (shown (meaning operations m channel s)) closing old mid
-    → ClosesSo given is_live faults sink_faults (closing_text closing) (is_refusal closing) result mid new → is_at new (meaning operations m channel s).machine
-    → EndsSo is_at given m (of_statement operations m channel (Ok s)) (rows_in operations m channel (Ok s)) (refuses operations m channel (Ok s)) (channel_after s channel) result old new
-closes-ends is_at given is_live faults sink_faults mark m channel s closing result old mid new over can o closes at = go result closes
+-- What is held after a statement.
+pub sits-after : {L : Type 0} (is_at : L → Machine → Type 0) (m : Machine) (before : Holding) (s : Statement) (closing : Closing) (after : Holding) (new : L) → CanBeSent before.channel s → Knows before.transaction m
+    → after ≡ holding_after s closing before → closing ≡ (meaning operations m before.channel s).closing → is_at new (meaning operations m before.channel s).machine
+    → Sits is_at (read_effect (terminal_at m before.channel) (Ok s)).next after new
+sits-after is_at m before s closing after new can knows holds closes at = record {
+  at = at;
+  channel = ap (λ (h : Holding). h.channel) holds ∙ sym (goes-on m before.channel s);
+  knows =
+      ap (λ (h : Holding). h.transaction) holds
+      ∙ (ap (λ (held : Option ℕ). held_when closing (held_after s before.channel held) held) knows
+      ∙ (ap (λ (c : Closing). held_when c (held_after s before.channel (transaction_channel m)) (transaction_channel m)) closes ∙ sym (transaction-told m before.channel s can)));
+}
+
+pub closes-ends : {L : Type 0} (is_at : L → Machine → Type 0) (given : L → Option (List ℕ)) (is_live : L → Bool) (faults sink_faults mark : L → ℕ) (m : Machine) (before : Holding) (s : Statement) (closing : Closing) (after : Holding) (result : LineEnd) (old mid new : L)
+    → IsOverValid m → CanBeSent before.channel s → Knows before.transaction m → after ≡ holding_after s closing before
+    → IsOver is_at given mark m (shown (meaning operations m before.channel s)) closing old mid
+    → ClosesSo given is_live faults sink_faults (closing_text closing) (is_refusal closing) result mid new → is_at new (meaning operations m before.channel s).machine
+    → EndsSo is_at given m (read_effect (terminal_at m before.channel) (Ok s)) (rows_in (terminal_at m before.channel) (Ok s)) (refuses (terminal_at m before.channel) (Ok s)) after result old new
+closes-ends is_at given is_live faults sink_faults mark m before s closing after result old mid new over can knows holds o closes at = go result closes
   where
-    x : Meaning
-    x = meaning operations m channel s
+    whole : (text : List ℕ) → text ≡ closing_text closing → rows_text (shown (meaning operations m before.channel s)).rows ++ text ≡ meaning_text (meaning operations m before.channel s)
+    whole text is = ap (λ rest. rows_text (shown (meaning operations m before.channel s)).rows ++ rest) (is ∙ ap closing_text o.closes) ∙ sym (text-again (meaning operations m before.channel s) (sound m before.channel s over can))
 
-    whole : (text : List ℕ) → text ≡ closing_text closing → rows_text (shown (meaning operations m channel s)).rows ++ text ≡ meaning_text (meaning operations m channel s)
-    whole text is = ap (λ rest. rows_text (shown (meaning operations m channel s)).rows ++ rest) (is ∙ ap closing_text o.closes) ∙ sym (text-again (meaning operations m channel s) (sound m channel s over can))
-
-    answered : Prints (closing_text closing) (given mid) (given new) → IsAnswered is_at given (of_statement operations m channel (Ok s)) (channel_after s channel) old new
+    answered : Prints (closing_text closing) (given mid) (given new) → IsAnswered is_at given (read_effect (terminal_at m before.channel) (Ok s)) after old new
     answered printed = record {
-      at = at;
-      text = subst (λ (text : List ℕ). Prints text (given old) (given new)) (whole (closing_text closing) refl) (prints-both (rows_text (shown (meaning operations m channel s)).rows) (closing_text closing) (given old) (given mid) (given new) o.printed printed);
-      channel_is = sym (goes-on m channel s);
+      sits = sits-after is_at m before s closing after new can knows holds o.closes at;
+      text = subst (λ (text : List ℕ). Prints text (given old) (given new)) (whole (closing_text closing) refl) (prints-both (rows_text (shown (meaning operations m before.channel s)).rows) (closing_text closing) (given old) (given mid) (given new) o.printed printed);
     }
 
     go : (result : LineEnd) → ClosesSo given is_live faults sink_faults (closing_text closing) (is_refusal closing) result mid new
-        → EndsSo is_at given m (of_statement operations m channel (Ok s)) (rows_in operations m channel (Ok s)) (refuses operations m channel (Ok s)) (channel_after s channel) result old new
+        → EndsSo is_at given m (read_effect (terminal_at m before.channel) (Ok s)) (rows_in (terminal_at m before.channel) (Ok s)) (refuses (terminal_at m before.channel) (Ok s)) after result old new
     go ends.Answered c = (answered c.1, ap is_refusal (sym o.closes) ∙ c.0)
     go ends.Refused c = (answered c.1, ap is_refusal (sym o.closes) ∙ c.0)
     go ends.Mute c = absurd c
     go ends.SinkFault c = record {
-      said = rows_text (shown (meaning operations m channel s)).rows ++ c.0.said;
+      said = rows_text (shown (meaning operations m before.channel s)).rows ++ c.0.said;
       rest = c.0.rest;
       start =
-          sym (whole (closing_text closing) refl) ∙ (ap (λ rest. rows_text (shown (meaning operations m channel s)).rows ++ rest) c.0.start
-          ∙ sym (append_assoc (rows_text (shown (meaning operations m channel s)).rows) c.0.said c.0.rest));
-      printed = prints-both (rows_text (shown (meaning operations m channel s)).rows) c.0.said (given old) (given mid) (given new) o.printed c.0.printed;
-      machine = (meaning operations m channel s).machine;
+          sym (whole (closing_text closing) refl) ∙ (ap (λ rest. rows_text (shown (meaning operations m before.channel s)).rows ++ rest) c.0.start
+          ∙ sym (append_assoc (rows_text (shown (meaning operations m before.channel s)).rows) c.0.said c.0.rest));
+      printed = prints-both (rows_text (shown (meaning operations m before.channel s)).rows) c.0.said (given old) (given mid) (given new) o.printed c.0.printed;
+      machine = (meaning operations m before.channel s).machine;
       at = at;
       committed = o.committed;
     }
@@ -301,19 +314,18 @@ closes-by given is_live faults sink_faults text refused ends.Answered old mid ne
 closes-by given is_live faults sink_faults text refused ends.Refused old mid new works c = works-both is_live faults sink_faults old mid new works c.2
 closes-by given is_live faults sink_faults text refused ends.Mute old mid new works c = absurd c
 closes-by given is_live faults sink_faults text refused ends.SinkFault old mid new works c =
-    (record { same = c.1.same ∙ works.faults_same; rose = subst (λ n. Rose n (sink_faults new)) works.sink_same c.1.rose }, c.2 ∙ works.live)
+    (record { same = c.1.same ∙ works.faults_same; rose = subst (λ n. Rose n (sink_faults new)) works.sink_same c.1.rose; later = subst (λ n. n ≤ sink_faults new) works.sink_same c.1.later }, c.2 ∙ works.live)
 
 -- A line that is no statement.
-pub fault-ends : {L : Type 0} (is_at : L → Machine → Type 0) (given : L → Option (List ℕ)) (is_live : L → Bool) (faults sink_faults : L → ℕ) (m : Machine) (channel : ℕ) (fault : ScriptFault) (text : List ℕ) (result : LineEnd) (old new : L)
-    → text ≡ fault_text fault → ClosesSo given is_live faults sink_faults text true result old new → is_at new m
-    → EndsSo is_at given m (of_statement operations m channel (Err fault)) (rows_in operations m channel (Err fault)) (refuses operations m channel (Err fault)) channel result old new
-fault-ends is_at given is_live faults sink_faults m channel fault text ends.Answered old new is c at = absurd (false≢true (sym c.0))
-fault-ends is_at given is_live faults sink_faults m channel fault text ends.Refused old new is c at =
-    (record { at = at; text = subst (λ (text : List ℕ). Prints text (given old) (given new)) is c.1; channel_is = refl }, refl)
-fault-ends is_at given is_live faults sink_faults m channel fault text ends.Mute old new is c at = absurd c
-fault-ends is_at given is_live faults sink_faults m channel fault text ends.SinkFault old new is c at =
+pub unread-ends : {L : Type 0} (is_at : L → Machine → Type 0) (given : L → Option (List ℕ)) (is_live : L → Bool) (faults sink_faults : L → ℕ) (m : Machine) (holding : Holding) (said text : List ℕ) (result : LineEnd) (old new : L)
+    → text ≡ said → Knows holding.transaction m → ClosesSo given is_live faults sink_faults text true result old new → is_at new m → EndsSo is_at given m (unread (terminal_at m holding.channel) said) [] true holding result old new
+unread-ends is_at given is_live faults sink_faults m holding said text ends.Answered old new is knows c at = absurd (false≢true (sym c.0))
+unread-ends is_at given is_live faults sink_faults m holding said text ends.Refused old new is knows c at =
+    (record { sits = record { at = at; channel = refl; knows = knows }; text = subst (λ (text : List ℕ). Prints text (given old) (given new)) is c.1 }, refl)
+unread-ends is_at given is_live faults sink_faults m holding said text ends.Mute old new is knows c at = absurd c
+unread-ends is_at given is_live faults sink_faults m holding said text ends.SinkFault old new is knows c at =
     record { said = c.0.said; rest = c.0.rest; start = sym is ∙ c.0.start; printed = c.0.printed; machine = m; at = at; committed = refl }
 
-pub line-is : (m : Machine) (channel : ℕ) (line : List ℕ) → length line ≤ 1000 → line_meaning operations m channel line ≡ of_statement operations m channel (statement_of line)
-unfolding line_meaning
-line-is m channel line short = rw (le-ltb 1000 (length line) short) refl
+-- a line that is short enough is taken
+pub line-is : (state : TerminalState) (line : List ℕ) → length line ≤ 1000 → line_effect statement_lines state line ≡ read_effect state (statement_of line)
+line-is state line short = rw (le-ltb 1000 (length line) short) refl

@@ -1,10 +1,13 @@
 -- A command that is sent in parts: the databases that it commits in turn.
-use Rattle.std.proofs.Common.{◌≡◌, ◌⊎◌, ℕ, zero, suc, ◌+◌, ◌-◌, ◌≤◌, ◌<◌, Bool, true, false, List, [], ◌∷◌, ◌++◌, length, Option, nat_lt, if◌then◌else◌, append_assoc, refl, sym, ◌∙◌, ap, subst, inl, inr, arith}
+use Rattle.std.proofs.Common.{◌≡◌, ℕ, zero, suc, ◌+◌, ◌-◌, ◌≤◌, ◌<◌, Bool, true, false, List, [], ◌∷◌, ◌++◌, length, Option, IfSome, nat_lt, if◌then◌else◌, append_assoc, refl, sym, ◌∙◌, ap, subst, inl, inr, arith}
 use Rattle.std.proofs.lemmas.Bool.{ltb-true, ltb-false}
 use Rattle.std.proofs.lemmas.List.{append-nil}
 use Rattle.scql_base.specs.declared.operation.Command.{Command}
+use Rattle.eeprom.specs.Chip.{Chip}
+use Rattle.eeprom.proofs.Moments.{throughout-then, throughout-weaker}
 use Rattle.scql_model.specs.Database.{Database}
 use Rattle.scql_model.specs.Machine.{Machine}
+use Rattle.scql_model.specs.Opens.{Opens}
 use Rattle.scql_model.specs.Operations.{operations}
 use Rattle.scql_model.specs.Replies.{Reply}
 use Rattle.scql_model.specs.Spelling.{field_of, part_count, part_octets}
@@ -12,14 +15,11 @@ use Rattle.scql_model.specs.Step.{Answer, step_by}
 use Rattle.scql_model.proofs.LastCommits.{last-step_by}
 use Rattle.scql_model.proofs.PartsAgain.{parts_some}
 use Rattle.planner.specs.Words.{is_done}
+use Rattle.planner.proofs.StatementsLawful.{after-append}
 use Rattle.planner.specs.Meaning.{answer_to, followed_by, in_turn, parts_from, all_in_turn}
 use Rattle.terminal.specs.Stays.{Stays}
-use Rattle.card_link.specs.Link.{Answered, IsOneOf, Adds}
+use Rattle.card_link.specs.Link.{Answered, IsOneOf, LeavesOpen}
 use Rattle.terminal.specs.Going.{after_all, IsAmong, IsWithin}
-
-pub after-append : (db : Database) (xs ys : List Database) → after_all db (xs ++ ys) ≡ after_all (after_all db xs) ys
-after-append db [] ys = refl
-after-append db (x ∷ xs) ys = after-append x xs ys
 
 pub among-behind : (xs ys : List Database) (left : Database) → IsAmong ys left → IsAmong (xs ++ ys) left
 among-behind [] ys left is = is
@@ -45,24 +45,22 @@ within-one mark [] g left is = absurd is
 within-one mark (db ∷ dbs) g left (inl is) = record { above = omega (arith, is.0); still = λ none. is.0; among = inl is.1 }
 within-one mark (db ∷ dbs) g left (inr is) = let rest = within-one mark dbs g left is in record { above = rest.above; still = rest.still; among = inr rest.among }
 
-pub adds-all : {L : Type 0} (may_open : L → ℕ → ℕ → Database → Type 0) (clock : L → ℕ) (P Q : ℕ → Database → Type 0) (old new : L) → ((g : ℕ) (left : Database) → P g left → Q g left)
-    → Adds may_open clock P old new → Adds may_open clock Q old new
-adds-all may_open clock P Q old new each adds = λ t g left before opens. go t g left (adds t g left before opens)
-  where
-    go : (t g : ℕ) (left : Database) → may_open old t g left ⊎ P g left → may_open old t g left ⊎ Q g left
-    go t g left (inl was) = inl was
-    go t g left (inr is) = inr (each g left is)
+pub leaves-all : {L : Type 0} (chip : L → Chip) (P Q : ℕ → Database → Type 0) (old new : L) → ((g : ℕ) (left : Database) → P g left → Q g left)
+    → LeavesOpen P (chip old) (chip new) → LeavesOpen Q (chip old) (chip new)
+leaves-all chip P Q old new each leaves = throughout-weaker (chip old) (chip new) _ _ leaves (λ g left opens. (opens.0, opens.1, each g opens.0 opens.2))
 
-pub adds-both : {L : Type 0} (may_open : L → ℕ → ℕ → Database → Type 0) (clock : L → ℕ) (P : ℕ → Database → Type 0) (old mid new : L) → clock old ≤ clock mid
-    → Adds may_open clock P old mid → Adds may_open clock P mid new → Adds may_open clock P old new
-adds-both may_open clock P old mid new later first second = λ t g left before opens. go t g left before (second t g left (omega (arith, before, later)) opens)
-  where
-    go : (t g : ℕ) (left : Database) → t ≤ clock old → may_open mid t g left ⊎ P g left → may_open old t g left ⊎ P g left
-    go t g left before (inl was) = first t g left before was
-    go t g left before (inr is) = inr is
+pub leaves-both : {L : Type 0} (chip : L → Chip) (P : ℕ → Database → Type 0) (old mid new : L) → LeavesOpen P (chip old) (chip mid) → LeavesOpen P (chip mid) (chip new) → LeavesOpen P (chip old) (chip new)
+leaves-both chip P old mid new first second = throughout-then (chip old) (chip mid) (chip new) _ first second
 
-pub adds-none : {L : Type 0} (may_open : L → ℕ → ℕ → Database → Type 0) (clock : L → ℕ) (P : ℕ → Database → Type 0) (l : L) → Adds may_open clock P l l
-adds-none may_open clock P l = λ t g left before opens. inl opens
+-- before anything is done the image opens to the machine's database
+pub leaves-none : {L : Type 0} (chip : L → Chip) (mark : L → ℕ) (P : ℕ → Database → Type 0) (l : L) (db : Database) → mark l ≡ (chip l).still.mark → IfSome (chip l).image (λ image. Opens image db) → P (mark l) db
+    → LeavesOpen P (chip l) (chip l)
+leaves-none chip mark P l db marks opens holds = record {
+  later = omega arith;
+  only = λ t g left before since. inl since;
+  stays = λ t g left before since. since;
+  now = λ image told. (db, rw told at opens, subst (λ (g : ℕ). P g db) marks holds);
+}
 
 -- What is left of a command at a part.
 abbrev pub part_from : Machine → Command → ℕ → Answer
@@ -168,23 +166,22 @@ part-moments is_at m c place mark later g left old sent same within =
           (among-next m.committed sent.machine.committed sent.commits (step.commits ++ front.0) left sent.committed (among-before (sent.machine.committed ∷ step.commits) front.0 left within.among));
     }
 
-pub stays-both : {L : Type 0} (given : L → Option (List ℕ)) (sink_faults mark clock : L → ℕ) (a b c : L) → Stays given sink_faults mark clock a b → Stays given sink_faults mark clock b c → Stays given sink_faults mark clock a c
-stays-both given sink_faults mark clock a b c first second = record {
+pub stays-both : {L : Type 0} (given : L → Option (List ℕ)) (sink_faults mark : L → ℕ) (a b c : L) → Stays given sink_faults mark a b → Stays given sink_faults mark b c → Stays given sink_faults mark a c
+stays-both given sink_faults mark a b c first second = record {
   given_same = second.given_same ∙ first.given_same;
   sink_same = second.sink_same ∙ first.sink_same;
   mark_same = second.mark_same ∙ first.mark_same;
-  later = omega (arith, first.later, second.later);
 }
 
-pub asked-moments : {L : Type 0} (is_at : L → Machine → Type 0) (may_open : L → ℕ → ℕ → Database → Type 0) (given : L → Option (List ℕ)) (sink_faults mark clock : L → ℕ) (c : Command) (place now : ℕ) (old mid new : L)
+pub asked-moments : {L : Type 0} (is_at : L → Machine → Type 0) (chip : L → Chip) (given : L → Option (List ℕ)) (sink_faults mark : L → ℕ) (c : Command) (place now : ℕ) (old mid new : L)
     → now ≡ place → ((m : Machine) → is_at old m → HasSent is_at m c place mid)
-    → ((m : Machine) → is_at old m → Adds may_open clock (IsWithin (mark old) [] (m.committed ∷ (answer_to operations m c).commits)) old mid)
-    → Stays given sink_faults mark clock old mid
-    → ((m : Machine) → is_at mid m → Adds may_open clock (IsWithin (mark mid) [] (m.committed ∷ (step_by operations m (part_octets c now)).commits)) mid new)
-    → (m : Machine) → is_at old m → Adds may_open clock (IsWithin (mark old) [] (m.committed ∷ (answer_to operations m c).commits)) old new
-asked-moments is_at may_open given sink_faults mark clock c place now old mid new same told moments stays next m at =
+    → ((m : Machine) → is_at old m → LeavesOpen (IsWithin (mark old) [] (m.committed ∷ (answer_to operations m c).commits)) (chip old) (chip mid))
+    → Stays given sink_faults mark old mid
+    → ((m : Machine) → is_at mid m → LeavesOpen (IsWithin (mark mid) [] (m.committed ∷ (step_by operations m (part_octets c now)).commits)) (chip mid) (chip new))
+    → (m : Machine) → is_at old m → LeavesOpen (IsWithin (mark old) [] (m.committed ∷ (answer_to operations m c).commits)) (chip old) (chip new)
+asked-moments is_at chip given sink_faults mark c place now old mid new same told moments stays next m at =
     let sent = told m at in
-    adds-both may_open clock (IsWithin (mark old) [] (m.committed ∷ (answer_to operations m c).commits)) old mid new stays.later (moments m at)
-    (adds-all may_open clock (IsWithin (mark mid) [] (sent.machine.committed ∷ (step_by operations sent.machine (part_octets c place)).commits)) (IsWithin (mark old) [] (m.committed ∷ (answer_to operations m c).commits)) mid new
+    leaves-both chip (IsWithin (mark old) [] (m.committed ∷ (answer_to operations m c).commits)) old mid new (moments m at)
+    (leaves-all chip (IsWithin (mark mid) [] (sent.machine.committed ∷ (step_by operations sent.machine (part_octets c place)).commits)) (IsWithin (mark old) [] (m.committed ∷ (answer_to operations m c).commits)) mid new
     (λ g left within. part-moments is_at m c place (mark old) (mark mid) g left mid sent stays.mark_same within)
-    (subst (λ (n : ℕ). Adds may_open clock (IsWithin (mark mid) [] (sent.machine.committed ∷ (step_by operations sent.machine (part_octets c n)).commits)) mid new) same (next sent.machine sent.at)))
+    (subst (λ (n : ℕ). LeavesOpen (IsWithin (mark mid) [] (sent.machine.committed ∷ (step_by operations sent.machine (part_octets c n)).commits)) (chip mid) (chip new)) same (next sent.machine sent.at)))

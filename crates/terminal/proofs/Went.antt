@@ -1,5 +1,5 @@
 -- How a statement goes on: one step, and many.
-use Rattle.std.proofs.Common.{◌≡◌, ℕ, suc, ◌-◌, ◌≤◌, ◌<◌, Bool, true, false, List, [], ◌∷◌, ◌++◌, map, Option, Some, None, if◌then◌else◌, append_assoc, refl, sym, ◌∙◌, ap, subst, inl, arith}
+use Rattle.std.proofs.Common.{◌≡◌, ℕ, suc, ◌-◌, ◌≤◌, ◌<◌, Bool, List, [], ◌∷◌, ◌++◌, map, Option, Some, None, append_assoc, refl, sym, ◌∙◌, ap, subst, inl, arith}
 use Rattle.std.specs.List.{concat}
 use Rattle.std.proofs.lemmas.List.{append-nil}
 use Rattle.scql_base.specs.declared.operation.Command.{Command}
@@ -7,18 +7,17 @@ use Rattle.scql_model.specs.Database.{Database}
 use Rattle.scql_model.specs.Machine.{Machine, reset}
 use Rattle.scql_model.specs.Operations.{operations}
 use Rattle.scql_model.specs.Replies.{Reply}
-use Rattle.scql_model.specs.Step.{Answer, step_by}
-use Rattle.scql_model.proofs.LastCommits.{last-step_by}
+use Rattle.scql_model.specs.Step.{Answer}
 use Rattle.card_link.specs.Link.{Answered, HoldsWithin}
 use Rattle.planner.specs.declared.closing.Closing.{Closing}
 use Rattle.planner.specs.declared.step.Step.{Step}
 use Rattle.planner.specs.declared.step.Step.TheVariants.{Send, Row, ResetCard, Done}
-use Rattle.planner.specs.Words.{is_done}
-use Rattle.planner.specs.Meaning.{answer_to, in_turn, parts_of, all_in_turn}
+use Rattle.planner.specs.Meaning.{answer_to}
 use Rattle.planner.specs.Planned.{Planned, Turn, next_of}
 use Rattle.planner.specs.Turns.{turns_left, IfGoesOn}
 use Rattle.planner.specs.Running.{Ran, run, taken, committing, giving}
 use Rattle.planner.proofs.Settled.{settled, more-is}
+use Rattle.planner.proofs.StatementsLawful.{after-append, last-answer}
 use Rattle.planner.proofs.Turning.{next_of-below}
 use Rattle.planner.specs.Text.{closing_text}
 use Rattle.std.specs.Prelude.{Result, Ok, Err, IfOk, IfErr, OnErr}
@@ -27,7 +26,7 @@ use Rattle.terminal.specs.declared.failure.Failure.TheVariants.{Card, Outlet}
 use Rattle.terminal.specs.Going.{printed_row, rows_text, ran_text, FailsSo, whole_run, run_from, behind, after_all, Prints, IsWithin, IsInRun, Goes, IsMute, IsCut, IsOver, to_go}
 use Rattle.terminal.specs.Stays.{Stays, Mutes, IsStart, Works, Causes}
 use Rattle.eeprom.specs.Fault.{Rose}
-use Rattle.terminal.proofs.Sent.{after-append, among-before, among-next}
+use Rattle.terminal.proofs.Sent.{among-before, among-next}
 
 -- a run with steps enough doesn't change with more
 enough : (k n : ℕ) (m : Machine) (last : Option Reply) (p : Planned) → turns_left p < k → k ≤ n → run operations k m last p ≡ run operations n m last p
@@ -60,29 +59,6 @@ less-after last p = less-sent (next_of last p).plan (next_of last p).step p (nex
 pub less-seen : (last : Option Reply) (p q : Planned) (next : Step) → next_of last p ≡ record { plan = q; step = next } → to_go q next < suc (turns_left p)
 less-seen last p q next is = subst (λ (turn : Turn). to_go turn.plan turn.step < suc (turns_left p)) is (less-after last p)
 
--- the database after a command is the last that it committed
-last-in_turn : (m : Machine) (octets : List ℕ) (rest : List (List ℕ)) → (in_turn operations m octets rest).machine.committed ≡ after_all m.committed (in_turn operations m octets rest).commits
-last-in_turn m octets [] = sym (last-step_by operations m octets)
-last-in_turn m octets (next ∷ rest) = go (is_done (step_by operations m octets).reply.word) (last-in_turn (step_by operations m octets).machine next rest)
-  where
-    step : Answer
-    step = step_by operations m octets
-
-    go : (done : Bool) → (in_turn operations (step_by operations m octets).machine next rest).machine.committed ≡ after_all (step_by operations m octets).machine.committed (in_turn operations (step_by operations m octets).machine next rest).commits
-        → (let a : Answer = if done then record (in_turn operations (step_by operations m octets).machine next rest) { commits = (step_by operations m octets).commits ++ (in_turn operations (step_by operations m octets).machine next rest).commits } else step_by operations m octets in a.machine.committed ≡ after_all m.committed a.commits)
-    go false last = sym (last-step_by operations m octets)
-    go true last =
-        last ∙ (ap (λ (db : Database). after_all db (in_turn operations (step_by operations m octets).machine next rest).commits) (sym (last-step_by operations m octets))
-        ∙ sym (after-append m.committed (step_by operations m octets).commits (in_turn operations (step_by operations m octets).machine next rest).commits))
-
-last-all : (m : Machine) (parts : List (List ℕ)) → (all_in_turn operations m parts).machine.committed ≡ after_all m.committed (all_in_turn operations m parts).commits
-last-all m [] = refl
-last-all m (octets ∷ rest) = last-in_turn m octets rest
-
-pub last-answer : (m : Machine) (c : Command) → (answer_to operations m c).machine.committed ≡ after_all m.committed (answer_to operations m c).commits
-unfolding answer_to
-last-answer m c = last-all m (parts_of c)
-
 -- Texts that follow one another.
 pub prints-none : (old new : Option (List ℕ)) → new ≡ old → Prints [] old new
 prints-none old new same = λ after is. (after, sym same ∙ is, sym (append-nil after))
@@ -105,10 +81,10 @@ pub rows-append : (xs ys : List (List ℕ)) → rows_text (xs ++ ys) ≡ rows_te
 rows-append xs ys = ap concat (map-append xs ys) ∙ concat-append (map printed_row xs) (map printed_row ys)
 
 -- A command was sent: the run goes on by its answer.
-pub sent-goes : {L : Type 0} (is_at : L → Machine → Type 0) (given : L → Option (List ℕ)) (mark sink_faults clock : L → ℕ) (m : Machine) (p q : Planned) (c : Command) (next : Step) (heard : Reply) (old new : L)
-    → Answered is_at (answer_to operations m c) heard new → Stays given sink_faults mark clock old new → next_of (Some heard) p ≡ record { plan = q; step = next }
+pub sent-goes : {L : Type 0} (is_at : L → Machine → Type 0) (given : L → Option (List ℕ)) (mark sink_faults : L → ℕ) (m : Machine) (p q : Planned) (c : Command) (next : Step) (heard : Reply) (old new : L)
+    → Answered is_at (answer_to operations m c) heard new → Stays given sink_faults mark old new → next_of (Some heard) p ≡ record { plan = q; step = next }
     → Goes is_at given mark m p (Send c) old new q next
-sent-goes is_at given mark sink_faults clock m p q c next heard old new answered stays is-turn =
+sent-goes is_at given mark sink_faults m p q c next heard old new answered stays is-turn =
     let a : Answer = answer_to operations m c in
     record {
       machine = a.machine;
@@ -119,7 +95,7 @@ sent-goes is_at given mark sink_faults clock m p q c next heard old new answered
           ap (committing a.commits) (ap (λ (reply : Reply). whole_run a.machine (Some reply) p) (sym answered.reply)
           ∙ (whole-step a.machine (Some heard) p ∙ ap (λ (turn : Turn). run_from a.machine turn.plan turn.step) is-turn));
       printed = prints-none (given old) (given new) stays.given_same;
-      committed = last-answer m c;
+      committed = sym (last-answer m c);
       later = omega (arith, stays.mark_same);
       still = λ none. stays.mark_same;
     }
@@ -327,6 +303,6 @@ works-both is_live faults sink_faults a b c first second = record {
 }
 
 pub causes-behind : {L : Type 0} (is_live : L → Bool) (faults sink_faults : L → ℕ) (failure : Failure) (a b c : L) → Works is_live faults sink_faults a b → Causes is_live faults sink_faults failure b c → Causes is_live faults sink_faults failure a c
-causes-behind is_live faults sink_faults Card a b c works causes = (record { gone = causes.0.gone; rose = subst (λ n. Rose n (faults c)) works.faults_same causes.0.rose }, causes.1 ∙ works.sink_same)
+causes-behind is_live faults sink_faults Card a b c works causes = (record { gone = causes.0.gone; rose = subst (λ n. Rose n (faults c)) works.faults_same causes.0.rose; later = subst (λ n. n ≤ faults c) works.faults_same causes.0.later }, causes.1 ∙ works.sink_same)
 causes-behind is_live faults sink_faults Outlet a b c works causes =
-    (record { same = causes.0.same ∙ works.faults_same; rose = subst (λ n. Rose n (sink_faults c)) works.sink_same causes.0.rose }, causes.1 ∙ works.live)
+    (record { same = causes.0.same ∙ works.faults_same; rose = subst (λ n. Rose n (sink_faults c)) works.sink_same causes.0.rose; later = subst (λ n. n ≤ sink_faults c) works.sink_same causes.0.later }, causes.1 ∙ works.live)

@@ -1,31 +1,29 @@
 -- What a terminal holds: the channel of its statements, and which channel has the open transaction.
-use Rattle.std.specs.Prelude.{◌≡◌, ℕ, Option, Some, None, option_map}
-use Rattle.scql_base.specs.declared.operation.Operation.{Operation}
-use Rattle.scql_base.specs.declared.operation.Operation.TheVariants.{Begin, Commit, Rollback}
-use Rattle.scql_model.specs.Machine.{Machine, Transaction}
+use Rattle.std.specs.Prelude.{◌≡◌, ℕ, Option}
+use Rattle.scql_model.specs.Machine.{Machine}
 use Rattle.script.specs.declared.statement.Statement.{Statement}
+use Rattle.script.specs.declared.statement.Statement.TheVariants.{UseNumber, Reset}
 use Rattle.planner.specs.declared.closing.Closing.{Closing}
-use Rattle.planner.specs.declared.closing.Closing.TheVariants.{Fine}
-use Rattle.script.specs.declared.statement.Statement.TheVariants.{Single, UseNumber, Reset}
+use Rattle.planner.specs.Held.{transaction_channel, held_after, held_when}
+use Rattle.planner.specs.StatementLines.{TerminalState}
 
 pub record Holding : Type 0 where
   pub channel : ℕ
   pub transaction : Option ℕ
 
--- the channel that has a machine's open transaction
-abbrev pub transaction_channel : Machine → Option ℕ
-transaction_channel m = option_map (λ (t : Transaction). t.channel) m.transaction
+-- a terminal on a channel of a machine
+abbrev pub terminal_at : Machine → ℕ → TerminalState
+terminal_at m channel = record { machine = m; channel = channel }
 
--- it is the one that is held
+-- what is held is the channel that has the open transaction
 abbrev pub Knows : Option ℕ → Machine → Type 0
 Knows held m = held ≡ transaction_channel m
 
--- BEGIN gives a channel the open transaction, and COMMIT and ROLLBACK end it, where they are done
-abbrev pub held_by : Operation → ℕ → Option ℕ → Option ℕ
-held_by Begin channel held = Some channel
-held_by Commit channel held = None
-held_by Rollback channel held = None
-held_by operation channel held = held
+-- A terminal with a link is in a state: the card is at the state's machine, statements go to its channel, and the terminal knows which channel has the open transaction.
+pub record Sits {L : Type 0} (is_at : L → Machine → Type 0) (state : TerminalState) (holding : Holding) (link : L) : Type 0 where
+  pub at : is_at link state.machine
+  pub channel : holding.channel ≡ state.channel
+  pub knows : Knows holding.transaction state.machine
 
 -- the channel on which a terminal goes on after a statement
 abbrev pub channel_after : Statement → ℕ → ℕ
@@ -33,12 +31,9 @@ channel_after (UseNumber number) channel = number
 channel_after Reset channel = 0
 channel_after statement channel = channel
 
--- the channel that has the open transaction where the statement was done
-abbrev pub held_after : Statement → ℕ → Option ℕ → Option ℕ
-held_after (Single operation) channel held = held_by operation channel held
-held_after Reset channel held = None
-held_after statement channel held = held
-
-abbrev pub held_when : Closing → Option ℕ → Option ℕ → Option ℕ
-held_when Fine then' held = then'
-held_when closing then' held = held
+-- what a terminal holds after a statement that closed so
+abbrev pub holding_after : Statement → Closing → Holding → Holding
+holding_after statement closing holding = record {
+  channel = channel_after statement holding.channel;
+  transaction = held_when closing (held_after statement holding.channel holding.transaction) holding.transaction;
+}

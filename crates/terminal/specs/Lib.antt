@@ -1,5 +1,8 @@
 pub mod Going
 pub mod Holding
 pub mod Line
+pub mod Load
 pub mod Printed
+pub mod Quiet
+pub mod SilentLaws
 pub mod Stays

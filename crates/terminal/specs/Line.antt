@@ -1,20 +1,23 @@
 -- What there is of a line: its text, or as much of it as was printed where a device failed; the moments of it.
 use Rattle.std.specs.Prelude.{◌≡◌, ◌⊎◌, ℕ, ◌<◌, Bool, true, false, List, [], ◌∷◌, ◌++◌, map, Option, Result, Ok, Err}
 use Rattle.std.specs.List.{concat}
-use Rattle.scql_base.specs.declared.operation.Line.{Line}
 use Rattle.scql_model.specs.Database.{Database}
+use Rattle.scql_model.specs.Lines.{Effect}
 use Rattle.scql_model.specs.Machine.{Machine}
 use Rattle.scql_model.specs.Matching.{Values}
+use Rattle.scql_model.specs.Operations.{operations}
 use Rattle.card_link.specs.Link.{IsOneOf}
 use Rattle.script.specs.declared.fault.ScriptFault.{ScriptFault}
 use Rattle.script.specs.declared.statement.Statement.{Statement}
 use Rattle.planner.specs.declared.closing.Closing.{Closing}
 use Rattle.planner.specs.declared.closing.Closing.TheVariants.{Refused}
 use Rattle.planner.specs.Meaning.{meaning}
-use Rattle.planner.specs.Text.{LineMeaning, row_text}
+use Rattle.planner.specs.StatementLines.{TerminalState}
+use Rattle.planner.specs.Text.{row_text}
 use Rattle.terminal.specs.declared.line_end.LineEnd.{LineEnd}
 use Rattle.terminal.specs.declared.line_end.LineEnd.TheVariants as ends
 use Rattle.terminal.specs.Going.{Prints, after_all}
+use Rattle.terminal.specs.Holding.{Holding, Sits}
 use Rattle.terminal.specs.Stays.{Breaks, IsStart, Mutes, Works}
 
 -- the closing line is a refusal, or an error
@@ -22,20 +25,19 @@ abbrev pub is_refusal : Closing → Bool
 is_refusal (Refused word) = true
 is_refusal closing = false
 
-abbrev pub refuses : List Line → Machine → ℕ → Result Statement ScriptFault → Bool
-refuses table m channel (Err fault) = true
-refuses table m channel (Ok statement) = is_refusal (meaning table m channel statement).closing
+abbrev pub refuses : TerminalState → Result Statement ScriptFault → Bool
+refuses state (Err fault) = true
+refuses state (Ok statement) = is_refusal (meaning operations state.machine state.channel statement).closing
 
 -- the rows that a line's statement gives
-abbrev pub rows_in : List Line → Machine → ℕ → Result Statement ScriptFault → List Values
-rows_in table m channel (Err fault) = []
-rows_in table m channel (Ok statement) = (meaning table m channel statement).rows
+abbrev pub rows_in : TerminalState → Result Statement ScriptFault → List Values
+rows_in state (Err fault) = []
+rows_in state (Ok statement) = (meaning operations state.machine state.channel statement).rows
 
--- the card is at the line's machine, its text was printed, and the terminal goes on with its channel
-pub record IsAnswered {L : Type 0} (is_at : L → Machine → Type 0) (given : L → Option (List ℕ)) (x : LineMeaning) (channel : ℕ) (old new : L) : Type 0 where
-  pub at : is_at new x.machine
-  pub text : Prints x.text (given old) (given new)
-  pub channel_is : channel ≡ x.channel
+-- the terminal is in the line's next state, and the line's text was printed
+pub record IsAnswered {L : Type 0} (is_at : L → Machine → Type 0) (given : L → Option (List ℕ)) (does : Effect TerminalState) (holding : Holding) (old new : L) : Type 0 where
+  pub sits : Sits is_at does.next holding new
+  pub text : Prints does.text (given old) (given new)
 
 -- a card that goes mute: some first rows were printed
 pub record IsCutOff {L : Type 0} (given : L → Option (List ℕ)) (rows : List Values) (old new : L) : Type 0 where
@@ -45,21 +47,21 @@ pub record IsCutOff {L : Type 0} (given : L → Option (List ℕ)) (rows : List 
   pub printed : Prints (concat (map row_text first)) (given old) (given new)
 
 -- an outlet that fails: it printed the start of the text, and the card is where all of the line's commits were made
-pub record IsCutShort {L : Type 0} (is_at : L → Machine → Type 0) (given : L → Option (List ℕ)) (m : Machine) (x : LineMeaning) (old new : L) : Type 0 where
+pub record IsCutShort {L : Type 0} (is_at : L → Machine → Type 0) (given : L → Option (List ℕ)) (m : Machine) (does : Effect TerminalState) (old new : L) : Type 0 where
   pub said : List ℕ
   pub rest : List ℕ
-  pub start : x.text ≡ said ++ rest
+  pub start : does.text ≡ said ++ rest
   pub printed : Prints said (given old) (given new)
   pub machine : Machine
   pub at : is_at new machine
-  pub committed : machine.committed ≡ after_all m.committed x.commits
+  pub committed : machine.committed ≡ after_all m.committed does.commits
 
--- How a line ends that has this meaning, gives these rows, and ends with a refusal or an error or not.
-abbrev pub EndsSo : {L : Type 0} → (L → Machine → Type 0) → (L → Option (List ℕ)) → Machine → LineMeaning → List Values → Bool → ℕ → LineEnd → L → L → Type 0
-EndsSo is_at given m x rows refused channel ends.Answered old new = IsAnswered is_at given x channel old new × (refused ≡ false)
-EndsSo is_at given m x rows refused channel ends.Refused old new = IsAnswered is_at given x channel old new × (refused ≡ true)
-EndsSo is_at given m x rows refused channel ends.Mute old new = IsCutOff given rows old new
-EndsSo is_at given m x rows refused channel ends.SinkFault old new = IsCutShort is_at given m x old new
+-- How a line ends that does this, gives these rows, and ends with a refusal or an error or not.
+abbrev pub EndsSo : {L : Type 0} → (L → Machine → Type 0) → (L → Option (List ℕ)) → Machine → Effect TerminalState → List Values → Bool → Holding → LineEnd → L → L → Type 0
+EndsSo is_at given m does rows refused holding ends.Answered old new = IsAnswered is_at given does holding old new × (refused ≡ false)
+EndsSo is_at given m does rows refused holding ends.Refused old new = IsAnswered is_at given does holding old new × (refused ≡ true)
+EndsSo is_at given m does rows refused holding ends.Mute old new = IsCutOff given rows old new
+EndsSo is_at given m does rows refused holding ends.SinkFault old new = IsCutShort is_at given m does old new
 
 -- Why it ends so: no device failed, the card did, or the outlet.
 abbrev pub EndsBy : {L : Type 0} → (L → Bool) → (L → ℕ) → (L → ℕ) → LineEnd → L → L → Type 0

@@ -6,16 +6,16 @@ use Rattle.terminal.specs.declared.failure.Failure.{Failure}
 use Rattle.terminal.specs.declared.failure.Failure.TheVariants.{Card, Outlet}
 
 -- nothing was given, and no outlet failed
-pub record Stays {L : Type 0} (given : L → Option (List ℕ)) (sink_faults mark clock : L → ℕ) (old new : L) : Type 0 where
+pub record Stays {L : Type 0} (given : L → Option (List ℕ)) (sink_faults mark : L → ℕ) (old new : L) : Type 0 where
   pub given_same : given new ≡ given old
   pub sink_same : sink_faults new ≡ sink_faults old
   pub mark_same : mark new ≡ mark old
-  pub later : clock old ≤ clock new
 
 -- a card answers no more, and its count rose
 pub record Mutes {L : Type 0} (is_live : L → Bool) (faults : L → ℕ) (old new : L) : Type 0 where
   pub gone : is_live new ≡ false
   pub rose : Rose (faults old) (faults new)
+  pub later : faults old ≤ faults new
 
 -- the start of a text went out
 pub record IsStart (text : List ℕ) (old new : Option (List ℕ)) : Type 0 where
@@ -28,6 +28,7 @@ pub record IsStart (text : List ℕ) (old new : Option (List ℕ)) : Type 0 wher
 pub record Breaks {L : Type 0} (faults sink_faults : L → ℕ) (old new : L) : Type 0 where
   pub same : faults new ≡ faults old
   pub rose : Rose (sink_faults old) (sink_faults new)
+  pub later : sink_faults old ≤ sink_faults new
 
 -- one device failed, and the other didn't
 abbrev pub Causes : {L : Type 0} → (L → Bool) → (L → ℕ) → (L → ℕ) → Failure → L → L → Type 0

@@ -6,7 +6,7 @@ ghost use Rattle.scql_model.specs.Operations.{operations};
 ghost use Rattle.scql_model.specs.Spelling as spelling;
 ghost use Rattle.scql_model.specs.Step.{step_by};
 ghost use Rattle.script.specs.Commands.{IsSendable};
-ghost use Rattle.card_link.specs.Link.{Adds, Answered};
+ghost use Rattle.card_link.specs.Link.{LeavesOpen, Answered};
 ghost use Rattle.planner.specs.Meaning.{answer_to};
 ghost use Rattle.terminal.specs.Going.{IsWithin};
 ghost use Rattle.terminal.specs.Stays.{Stays, Mutes};
@@ -26,10 +26,11 @@ pub(crate) fn ask<L: Desk>(
     requires sendable { IsSendable command.now }
     ensures answer { (m : Machine) → L.is_at desk.old m → OnOk result (Answered L.is_at (answer_to operations m command.now) reply.new desk.new) }
     ensures moments { (m : Machine) → L.is_at desk.old m
-        → Adds L.may_open L.clock (IsWithin (L.mark desk.old) [] (m.committed ∷ (answer_to operations m command.now).commits)) desk.old desk.new }
-    ensures stays { Stays L.given L.sink_faults L.mark L.clock desk.old desk.new }
+        → LeavesOpen (IsWithin (L.mark desk.old) [] (m.committed ∷ (answer_to operations m command.now).commits)) (L.chip desk.old) (L.chip desk.new) }
+    ensures stays { Stays L.given L.sink_faults L.mark desk.old desk.new }
     ensures replied { OnOk result (IsTrue (L.is_live desk.new) × (L.faults desk.new ≡ L.faults desk.old)) }
     ensures mute { IfErr result (λ failure. (failure ≡ Failure.Card) × Mutes L.is_live L.faults desk.old desk.new) }
+    ensures goes_on { L.goes_on desk.old desk.new }
 {
     let last = command.parts() - 1;
     for part in 0..last {
@@ -54,10 +55,11 @@ fn send_part<L: Desk>(
     ensures answer { (m : Machine) → L.is_at desk.old m
         → OnOk result (Answered L.is_at (step_by operations m (spelling.part_octets command.now part)) reply.new desk.new) }
     ensures moments { (m : Machine) → L.is_at desk.old m
-        → Adds L.may_open L.clock (IsWithin (L.mark desk.old) [] (m.committed ∷ (step_by operations m (spelling.part_octets command.now part)).commits)) desk.old desk.new }
-    ensures stays { Stays L.given L.sink_faults L.mark L.clock desk.old desk.new }
+        → LeavesOpen (IsWithin (L.mark desk.old) [] (m.committed ∷ (step_by operations m (spelling.part_octets command.now part)).commits)) (L.chip desk.old) (L.chip desk.new) }
+    ensures stays { Stays L.given L.sink_faults L.mark desk.old desk.new }
     ensures replied { OnOk result (IsTrue (L.is_live desk.new) × (L.faults desk.new ≡ L.faults desk.old)) }
     ensures mute { IfErr result (λ failure. (failure ≡ Failure.Card) × Mutes L.is_live L.faults desk.old desk.new) }
+    ensures goes_on { L.goes_on desk.old desk.new }
 {
     let mut octets = CommandOctets::new();
     command.write_part(part, &mut octets);

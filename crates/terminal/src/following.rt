@@ -4,7 +4,7 @@ ghost use Rattle.scql_model.specs.Machine.{Machine};
 ghost use Rattle.scql_model.specs.Operations.{operations};
 ghost use Rattle.scql_model.specs.Transactions.{own_transaction};
 ghost use Rattle.script.specs.Commands.{CanBeSent, IsSendable};
-ghost use Rattle.card_link.specs.Link.{Adds, Gives};
+ghost use Rattle.card_link.specs.Link.{LeavesOpen, Gives};
 ghost use Rattle.planner.specs.Meaning.{meaning};
 ghost use Rattle.planner.specs.Planned.{IfSent};
 ghost use Rattle.planner.specs.Running.{shown};
@@ -26,9 +26,10 @@ use script::Statement;
 pub(crate) fn give<L: Desk>(desk: &mut L, octets: &[u8]) -> Result<(), Failure>
     ensures printed { OnOk result (Prints octets.now (L.given desk.old) (L.given desk.new)) }
     ensures cut { OnErr result (IsStart octets.now (L.given desk.old) (L.given desk.new)) }
-    ensures gives { Gives L.is_at L.is_live L.faults L.mark L.clock L.may_open desk.old desk.new }
+    ensures gives { Gives L.is_at L.is_live L.faults L.mark L.chip desk.old desk.new }
     ensures fails { IfErr result (λ failure. (failure ≡ Failure.Outlet) × Breaks L.faults L.sink_faults desk.old desk.new) }
     ensures works { OnOk result (Works L.is_live L.faults L.sink_faults desk.old desk.new) }
+    ensures goes_on { L.goes_on desk.old desk.new }
 {
     match desk.give(octets) {
         Ok(()) => Ok(()),
@@ -46,13 +47,13 @@ fn follow<L: Desk>(
     requires live { IsTrue (L.is_live desk.old) }
     requires sendable { IfSent step IsSendable }
     ensures goes { (m : Machine) → L.is_at desk.old m → IfOk result (λ next. Goes L.is_at L.given L.mark m plan.old step desk.old desk.new plan.new next) }
-    ensures moments { (m : Machine) → L.is_at desk.old m → Adds L.may_open L.clock (IsInRun (L.mark desk.old) m (run_from m plan.old step)) desk.old desk.new }
+    ensures moments { (m : Machine) → L.is_at desk.old m → LeavesOpen (IsInRun (L.mark desk.old) m (run_from m plan.old step)) (L.chip desk.old) (L.chip desk.new) }
     ensures fails { (m : Machine) → L.is_at desk.old m → IfErr result (λ failure. FailsSo L.is_at L.given m (run_from m plan.old step) failure desk.old desk.new) }
     ensures causes { IfErr result (λ failure. Causes L.is_live L.faults L.sink_faults failure desk.old desk.new) }
     ensures works { OnOk result (Works L.is_live L.faults L.sink_faults desk.old desk.new) }
-    ensures later { L.clock desk.old ≤ L.clock desk.new }
     ensures next_sendable { IfOk result (λ next. IfSent next IsSendable) }
     ensures less { IfOk result (λ next. IfGoesOn step (to_go plan.new next < to_go plan.old step)) }
+    ensures goes_on { L.goes_on desk.old desk.new }
 {
     match step {
         Step::Send { command } => send(desk, plan, &command, reply),
@@ -75,14 +76,14 @@ fn send<L: Desk>(
     requires live { IsTrue (L.is_live desk.old) }
     requires sendable { IsSendable command.now }
     ensures goes { (m : Machine) → L.is_at desk.old m → IfOk result (λ next. Goes L.is_at L.given L.mark m plan.old (Step.Send command.now) desk.old desk.new plan.new next) }
-    ensures moments { (m : Machine) → L.is_at desk.old m → Adds L.may_open L.clock (IsInRun (L.mark desk.old) m (run_from m plan.old (Step.Send command.now))) desk.old desk.new }
+    ensures moments { (m : Machine) → L.is_at desk.old m → LeavesOpen (IsInRun (L.mark desk.old) m (run_from m plan.old (Step.Send command.now))) (L.chip desk.old) (L.chip desk.new) }
     ensures fails { IfErr result (λ failure. (failure ≡ Failure.Card) × Mutes L.is_live L.faults desk.old desk.new) }
     ensures fails_given { OnErr result (L.given desk.new ≡ L.given desk.old) }
     ensures sink { L.sink_faults desk.new ≡ L.sink_faults desk.old }
     ensures works { OnOk result (Works L.is_live L.faults L.sink_faults desk.old desk.new) }
-    ensures later { L.clock desk.old ≤ L.clock desk.new }
     ensures next_sendable { IfOk result (λ next. IfSent next IsSendable) }
     ensures less { IfOk result (λ next. to_go plan.new next < to_go plan.old (Step.Send command.now)) }
+    ensures goes_on { L.goes_on desk.old desk.new }
 {
     ask(desk, command, reply)?;
     Ok(plan.next(Some(reply)))
@@ -98,13 +99,13 @@ fn print_row<L: Desk>(
     requires live { IsTrue (L.is_live desk.old) }
     requires sendable { IsSendable command.now }
     ensures goes { (m : Machine) → L.is_at desk.old m → IfOk result (λ next. Goes L.is_at L.given L.mark m plan.old (Step.Row command.now) desk.old desk.new plan.new next) }
-    ensures moments { (m : Machine) → L.is_at desk.old m → Adds L.may_open L.clock (IsInRun (L.mark desk.old) m (run_from m plan.old (Step.Row command.now))) desk.old desk.new }
+    ensures moments { (m : Machine) → L.is_at desk.old m → LeavesOpen (IsInRun (L.mark desk.old) m (run_from m plan.old (Step.Row command.now))) (L.chip desk.old) (L.chip desk.new) }
     ensures fails { (m : Machine) → L.is_at desk.old m → IfErr result (λ failure. FailsSo L.is_at L.given m (run_from m plan.old (Step.Row command.now)) failure desk.old desk.new) }
     ensures causes { IfErr result (λ failure. Causes L.is_live L.faults L.sink_faults failure desk.old desk.new) }
     ensures works { OnOk result (Works L.is_live L.faults L.sink_faults desk.old desk.new) }
-    ensures later { L.clock desk.old ≤ L.clock desk.new }
     ensures next_sendable { IfOk result (λ next. IfSent next IsSendable) }
     ensures less { IfOk result (λ next. to_go plan.new next < to_go plan.old (Step.Row command.now)) }
+    ensures goes_on { L.goes_on desk.old desk.new }
 {
     match give(desk, &row_text(plan.row_octets())) {
         Ok(()) => send(desk, plan, command, reply),
@@ -116,11 +117,11 @@ fn print_row<L: Desk>(
 pub(crate) fn carry_out<L: Desk>(desk: &mut L, plan: &mut Plan) -> Result<Closing, Failure>
     requires live { IsTrue (L.is_live desk.old) }
     ensures over { (m : Machine) → L.is_at desk.old m → IfOk result (λ closing. IsOver L.is_at L.given L.mark m (run_of m plan.old) closing desk.old desk.new) }
-    ensures moments { (m : Machine) → L.is_at desk.old m → Adds L.may_open L.clock (IsInRun (L.mark desk.old) m (run_of m plan.old)) desk.old desk.new }
+    ensures moments { (m : Machine) → L.is_at desk.old m → LeavesOpen (IsInRun (L.mark desk.old) m (run_of m plan.old)) (L.chip desk.old) (L.chip desk.new) }
     ensures fails { (m : Machine) → L.is_at desk.old m → IfErr result (λ failure. FailsSo L.is_at L.given m (run_of m plan.old) failure desk.old desk.new) }
     ensures causes { IfErr result (λ failure. Causes L.is_live L.faults L.sink_faults failure desk.old desk.new) }
     ensures works { OnOk result (Works L.is_live L.faults L.sink_faults desk.old desk.new) }
-    ensures later { L.clock desk.old ≤ L.clock desk.new }
+    ensures goes_on { L.goes_on desk.old desk.new }
 {
     let mut reply = Reply {
         body: ArrayVec::new(),
@@ -147,13 +148,12 @@ pub(crate) fn carry<L: Desk>(
 ) -> Result<Closing, Failure>
     requires live { IsTrue (L.is_live desk.old) }
     requires sendable { CanBeSent channel statement }
-    requires inside { (m : Machine) → L.is_at desk.old m → inside ≡ is_some (own_transaction m.transaction channel) }
-    ensures over { (m : Machine) → L.is_at desk.old m → IfOk result (λ closing. IsOver L.is_at L.given L.mark m (shown (meaning operations m channel statement)) closing desk.old desk.new) }
-    ensures moments { (m : Machine) → L.is_at desk.old m → Adds L.may_open L.clock (IsInRun (L.mark desk.old) m (shown (meaning operations m channel statement))) desk.old desk.new }
-    ensures fails { (m : Machine) → L.is_at desk.old m → IfErr result (λ failure. FailsSo L.is_at L.given m (shown (meaning operations m channel statement)) failure desk.old desk.new) }
+    ensures over { (m : Machine) → L.is_at desk.old m → inside ≡ is_some (own_transaction m.transaction channel) → IfOk result (λ closing. IsOver L.is_at L.given L.mark m (shown (meaning operations m channel statement)) closing desk.old desk.new) }
+    ensures moments { (m : Machine) → L.is_at desk.old m → inside ≡ is_some (own_transaction m.transaction channel) → LeavesOpen (IsInRun (L.mark desk.old) m (shown (meaning operations m channel statement))) (L.chip desk.old) (L.chip desk.new) }
+    ensures fails { (m : Machine) → L.is_at desk.old m → inside ≡ is_some (own_transaction m.transaction channel) → IfErr result (λ failure. FailsSo L.is_at L.given m (shown (meaning operations m channel statement)) failure desk.old desk.new) }
     ensures causes { IfErr result (λ failure. Causes L.is_live L.faults L.sink_faults failure desk.old desk.new) }
     ensures works { OnOk result (Works L.is_live L.faults L.sink_faults desk.old desk.new) }
-    ensures later { L.clock desk.old ≤ L.clock desk.new }
+    ensures goes_on { L.goes_on desk.old desk.new }
 {
     let mut plan = Plan::start(statement, channel, inside);
     carry_out(desk, &mut plan)

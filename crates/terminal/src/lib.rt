@@ -6,7 +6,10 @@ mod failure;
 mod following;
 mod line_end;
 mod printing;
+mod quiet_desk;
+mod quiet_end;
 mod terminal;
 
 pub use line_end::LineEnd;
+pub use quiet_end::QuietEnd;
 pub use terminal::Terminal;

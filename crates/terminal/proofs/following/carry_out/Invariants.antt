@@ -1,7 +1,7 @@
-use Rattle.std.proofs.Common.{◌≤◌, IsTrue, None}
+use Rattle.std.proofs.Common.{IsTrue, None}
 use Rattle.scql_model.specs.Machine.{Machine}
 use Rattle.script.specs.Commands.{IsSendable}
-use Rattle.card_link.specs.Link.{Adds}
+use Rattle.card_link.specs.Link.{LeavesOpen}
 use Rattle.planner.specs.Planned.{IfSent, next_of}
 use Rattle.terminal.specs.Going.{Goes, IsInRun, run_of, to_go}
 use Rattle.terminal.specs.Stays.{Works}
@@ -11,10 +11,10 @@ abbrev pub invariant-loop-step : goal.invariant-loop-step
 invariant-loop-step g l = record {
   goes : (m : Machine) → g.L.CardLink.is_at l.fn.desk m
       → Goes g.L.CardLink.is_at g.L.Outlet.given g.L.CardLink.mark m (next_of None l.fn.plan).plan (next_of None l.fn.plan).step l.fn.desk l.desk l.plan l.step;
-  moments : (m : Machine) → g.L.CardLink.is_at l.fn.desk m → Adds g.L.CardLink.may_open g.L.CardLink.clock (IsInRun (g.L.CardLink.mark l.fn.desk) m (run_of m l.fn.plan)) l.fn.desk l.desk;
+  moments : (m : Machine) → g.L.CardLink.is_at l.fn.desk m → LeavesOpen (IsInRun (g.L.CardLink.mark l.fn.desk) m (run_of m l.fn.plan)) (g.L.CardLink.chip l.fn.desk) (g.L.CardLink.chip l.desk);
   works : Works g.L.CardLink.is_live g.L.CardLink.faults g.L.Outlet.sink_faults l.fn.desk l.desk;
   live : IsTrue (g.L.CardLink.is_live l.desk);
-  later : g.L.CardLink.clock l.fn.desk ≤ g.L.CardLink.clock l.desk;
+  goes_on : g.L.CardLink.goes_on l.fn.desk l.desk;
   sendable : IfSent l.step IsSendable;
 }
 

@@ -1,0 +1,292 @@
+-- Which channel has the open transaction after a statement.
+use Rattle.std.proofs.Common.{◌≡◌, ℕ, zero, suc, ◌==◌, not, Bool, true, false, List, [], ◌∷◌, ◌++◌, Option, Some, None, is_some, Result, Ok, Err, if◌then◌else◌, refl, sym, ◌∙◌, ap, subst, inl, inr, ◌+◌}
+use Rattle.std.specs.Prelude.{IfOk, option_map}
+use Rattle.std.specs.Option.{option_map_or}
+use Rattle.std.specs.Str.{bytes_eq}
+use Rattle.std.proofs.lemmas.Option.{none-some, same_Some}
+use Rattle.std.proofs.lemmas.Bool.{false≢true, cases_Bool}
+use Rattle.scql_base.specs.declared.words.Actor.{Actor}
+use Rattle.scql_base.specs.declared.words.StatusWord.{StatusWord}
+use Rattle.scql_base.specs.declared.cursor.Cursor.{Cursor}
+use Rattle.scql_base.specs.declared.records.User.{User}
+use Rattle.scql_base.specs.declared.operation.Command.{Command}
+use Rattle.scql_base.specs.declared.operation.Operation.{Operation}
+use Rattle.scql_base.specs.declared.operation.Operation.TheVariants.{Update, Delete, Begin, Commit, Rollback, PresentUser, DeleteUser, Verify, OpenChannel, CloseChannel}
+use Rattle.scql_base.specs.declared.operation.OperationKind.{OperationKind}
+use Rattle.scql_base.specs.declared.operation.OperationKind.TheVariants as kind
+use Rattle.scql_base.specs.Words.{authentication_blocked, channel_not_supported, conditions_not_satisfied, function_not_supported, not_found}
+use Rattle.scql_model.specs.Database.{Database, user_named, user_stamped}
+use Rattle.scql_model.specs.Machine.{Machine, Session, Chain, Transaction, open_channels, session_of, base, actor}
+use Rattle.scql_model.specs.Sessions.{changing_session, command_chain, cursor_of, without_chain, user_of, is_channel_open, least_closed}
+use Rattle.scql_model.specs.Transactions.{own_transaction, waits, is_kept_waiting}
+use Rattle.scql_model.specs.Objects.{StampedRow}
+use Rattle.scql_model.specs.Operations.{operations, has_secrets, comes_in_parts, kind_of}
+use Rattle.scql_model.specs.Refusals.{◌>>=◌, or_refused, provided}
+use Rattle.scql_model.specs.Form.{Form, refused, refused_on, part_on, a_command, parts_of, form_of}
+use Rattle.scql_model.specs.ReadingCommands.{ReadingCommand, reading_command}
+use Rattle.scql_model.specs.Edits.{Edit}
+use Rattle.scql_model.specs.Changing.{edits_of, with_edits, transaction_after}
+use Rattle.scql_model.specs.Spelling.{IsTaken, field_of, part_count, part_octets, part_by}
+use Rattle.scql_model.specs.Step.{Answer, answered, reading_done, changed_to, changed, user_and_sessions_deleted, session_named, secret_right, secret_wrong, compared, verified, channel_opened, channel_closed, operated, carried_out, stepped, step_by}
+use Rattle.scql_model.proofs.FormedCommands.{bound, same_Ok}
+use Rattle.scql_model.proofs.LastCommits.{of_outcome}
+use Rattle.scql_model.proofs.LinesFound.{HasLine-operations}
+use Rattle.scql_model.proofs.TakenFields.{Lined-field}
+use Rattle.script.specs.declared.statement.Statement.{Statement}
+use Rattle.script.specs.declared.statement.Statement.TheVariants.{Blank, Single, Select, UpdateRows, DeleteRows, OpenNumber, CloseNumber, UseNumber, Reset}
+use Rattle.script.specs.Commands.{asking, IsSendable, CanBeSent}
+use Rattle.planner.specs.declared.closing.Closing.{Closing}
+use Rattle.planner.specs.declared.closing.Closing.TheVariants.{Fine, Refused}
+use Rattle.planner.specs.Words.{is_done, closing_of}
+use Rattle.planner.specs.Meaning.{Meaning, Declared, Changed, answer_to, in_turn, parts_from, all_in_turn, declared, ended, selects_all, all_changed, once_changed, row_changed, at_stamp, changed_by, changed_outside, committed_after, changed_in, on_open, begun, meaning}
+use Rattle.planner.specs.Held.{transaction_channel, held_by, held_after, held_when}
+use Rattle.planner.proofs.Asking.{answer-whole}
+use Rattle.planner.proofs.Closed.{answer-closed}
+use Rattle.planner.proofs.KindsRead.{kind-read}
+use Rattle.planner.proofs.Stepping.{no-chain}
+
+-- BEGIN, COMMIT and ROLLBACK
+abbrev pub transacts : OperationKind → Bool
+transacts kind.Begin = true
+transacts kind.Commit = true
+transacts kind.Rollback = true
+transacts kind = false
+
+-- No other command changes which channel has the open transaction.
+abbrev pub Keeps : Machine → Machine → Type 0
+Keeps m n = transaction_channel n ≡ transaction_channel m
+
+abbrev IsKept : Machine → Answer → Type 0
+IsKept m answer = Keeps m answer.machine
+
+own-channel : (t : Option Transaction) (channel : ℕ) (own : Transaction) → own_transaction t channel ≡ Some own → Some own.channel ≡ option_map (λ (t : Transaction). t.channel) t
+own-channel None channel own is = absurd (none-some own is)
+own-channel (Some t) channel own is = go (t.channel == channel) is
+  where
+    go : (b : Bool) → (let x : Option Transaction = if b then Some t else None in x) ≡ Some own → Some own.channel ≡ Some t.channel
+    go true is = ap (λ (t : Transaction). Some t.channel) (sym (same_Some t own is))
+    go false is = absurd (none-some own is)
+
+kept-changed : (m : Machine) (channel : ℕ) (operation : Operation) → IfOk (changed m channel operation) (IsKept m)
+kept-changed m channel operation =
+    of_outcome (IsKept m) (edits_of (base m channel) (actor m channel) (cursor_of m channel) operation) _ (λ edits.
+    of_outcome (IsKept m) (with_edits (base m channel) edits) _ (λ db. go edits db (own_transaction m.transaction channel) refl))
+  where
+    go : (edits : List Edit) (db : Database) (t : Option Transaction) → own_transaction m.transaction channel ≡ t → IsKept m (changed_to m channel edits db t)
+    go edits db None is = refl
+    go edits db (Some t) is = own-channel m.transaction channel t is
+
+-- an answer whose sessions alone are other ones
+kept-then : (m : Machine) (r : Result Answer StatusWord) (f : Answer → Result Answer StatusWord) → IfOk r (IsKept m) → ((answer : Answer) → IsKept m answer → IfOk (f answer) (IsKept m)) → IfOk (r >>= f) (IsKept m)
+kept-then m (Ok answer) f kept each = each answer kept
+kept-then m (Err word) f kept each = tt
+
+kept-deleted : (m : Machine) (channel : ℕ) (name : List ℕ) → IfOk (user_and_sessions_deleted m channel name) (IsKept m)
+kept-deleted m channel name =
+    kept-then m (changed m channel (DeleteUser name)) _ (kept-changed m channel (DeleteUser name)) (λ answer kept.
+    of_outcome (IsKept m) (or_refused (user_named (base m channel).users name) not_found) _ (λ u. kept))
+
+kept-compared : (m : Machine) (channel : ℕ) (secret : List ℕ) (u : User) → IsKept m (compared m channel secret u)
+kept-compared m channel secret u = go (bytes_eq secret u.secret)
+  where
+    go : (b : Bool) → IsKept m (if b then secret_right m channel u else secret_wrong m u)
+    go true = refl
+    go false = refl
+
+kept-verified : (m : Machine) (channel : ℕ) (secret : List ℕ) → IfOk (verified m channel secret) (IsKept m)
+kept-verified m channel secret =
+    of_outcome (IsKept m) (or_refused (user_of m channel) conditions_not_satisfied) _ (λ p.
+    of_outcome (IsKept m) (provided (not p.proved) conditions_not_satisfied) _ (λ _.
+    of_outcome (IsKept m) (or_refused (user_stamped m.committed.users p.stamp) conditions_not_satisfied) _ (λ u.
+    of_outcome (IsKept m) (provided (not (u.tries == 0)) authentication_blocked) _ (λ _. kept-compared m channel secret u))))
+
+kept-opened : (m : Machine) (channel number : ℕ) → IfOk (channel_opened m channel number) (IsKept m)
+kept-opened m channel zero = of_outcome (IsKept m) (or_refused (least_closed m) function_not_supported) _ (λ number. refl)
+kept-opened m channel (suc n) = of_outcome (IsKept m) (provided (not (is_channel_open m (suc n))) conditions_not_satisfied) _ (λ _. refl)
+
+kept-closed : (m : Machine) (channel number : ℕ) → IfOk (channel_closed m channel number) (IsKept m)
+kept-closed m channel number =
+    of_outcome (IsKept m) (provided (is_channel_open m number) channel_not_supported) _ (λ _.
+    of_outcome (IsKept m) (provided (not (is_some (own_transaction m.transaction number))) conditions_not_satisfied) _ (λ _. refl))
+
+kept-operated : (m : Machine) (channel : ℕ) (operation : Operation) → transacts (kind_of operation) ≡ false → IfOk (operated m channel operation) (IsKept m)
+kept-operated m channel Begin other = absurd (false≢true (sym other))
+kept-operated m channel Commit other = absurd (false≢true (sym other))
+kept-operated m channel Rollback other = absurd (false≢true (sym other))
+kept-operated m channel (PresentUser name) other = of_outcome (IsKept m) (session_named (base m channel) name) _ (λ session. refl)
+kept-operated m channel (DeleteUser name) other = kept-deleted m channel name
+kept-operated m channel (Verify secret) other = kept-verified m channel secret
+kept-operated m channel (OpenChannel number) other = kept-opened m channel number
+kept-operated m channel (CloseChannel number) other = kept-closed m channel (if number == 0 then channel else number)
+kept-operated m channel operation other = kept-changed m channel operation
+
+kept-carried_out : (m : Machine) (c : Command) → transacts (kind_of c.operation) ≡ false → IfOk (carried_out m c) (IsKept m)
+kept-carried_out m c other =
+    of_outcome (IsKept m) (provided (not (is_kept_waiting (waits (kind_of c.operation)) m.transaction c.channel)) conditions_not_satisfied) _
+    (λ _. either (reading_command c.operation c.le))
+  where
+    either : (command : Option ReadingCommand) → IfOk (option_map_or (λ command. Ok (reading_done m c.channel command)) command (operated m c.channel c.operation)) (IsKept m)
+    either None = kept-operated m c.channel c.operation other
+    either (Some command) = refl
+
+kept-answered : (m n : Machine) (result : Result Answer StatusWord) → Keeps m n → IfOk result (IsKept n) → IsKept m (answered n result)
+kept-answered m n (Ok answer) same kept = kept ∙ same
+kept-answered m n (Err word) same kept = same
+
+kept-stepped : (m : Machine) (form : Form) → ((c : Command) → form ≡ a_command c → transacts (kind_of c.operation) ≡ false) → IsKept m (stepped m form)
+kept-stepped m (refused word) other = refl
+kept-stepped m (refused_on channel word) other = refl
+kept-stepped m (part_on channel kind octets) other = refl
+kept-stepped m (a_command c) other =
+    let ended : Machine = changing_session without_chain m c.channel in
+    kept-answered m ended (carried_out ended c) refl (kept-carried_out ended c (other c refl))
+
+kept-part : (m : Machine) (c : Command) (place : ℕ) → IsSendable c → transacts (kind_of c.operation) ≡ false → IsKept m (step_by operations m (part_octets c place))
+unfolding step_by part_octets
+kept-part m c place can other =
+    let lined = Lined-field c.operation c.le can.formed.form can.formed.wanted in
+    rw lined.found
+    (kept-stepped m (form_of operations (part_by lined.line c.channel c.le (field_of c.operation) place) (open_channels m) (command_chain m) m.committed.limit) (λ read is.
+    ap transacts (kind-read lined.line _ _ _ (open_channels m) (command_chain m) m.committed.limit read (HasLine-operations (kind_of c.operation) lined.line lined.found) is ∙ lined.kind) ∙ other))
+
+kept-in_turn : (m : Machine) (c : Command) (n place : ℕ) → IsSendable c → transacts (kind_of c.operation) ≡ false → IsKept m (in_turn operations m (part_octets c place) (parts_from (place + 1) n c))
+kept-in_turn m c zero place can other = kept-part m c place can other
+kept-in_turn m c (suc n) place can other = go (is_done step.reply.word) (kept-in_turn step.machine c n (place + 1) can other)
+  where
+    step : Answer
+    step = step_by operations m (part_octets c place)
+
+    next : Answer
+    next = in_turn operations (step_by operations m (part_octets c place)).machine (part_octets c (place + 1)) (parts_from (place + 1 + 1) n c)
+
+    go : (b : Bool) → IsKept (step_by operations m (part_octets c place)).machine (in_turn operations (step_by operations m (part_octets c place)).machine (part_octets c (place + 1)) (parts_from (place + 1 + 1) n c))
+        → IsKept m (if b then record (in_turn operations (step_by operations m (part_octets c place)).machine (part_octets c (place + 1)) (parts_from (place + 1 + 1) n c)) { commits = (step_by operations m (part_octets c place)).commits ++ (in_turn operations (step_by operations m (part_octets c place)).machine (part_octets c (place + 1)) (parts_from (place + 1 + 1) n c)).commits } else step_by operations m (part_octets c place))
+    go true kept = kept ∙ kept-part m c place can other
+    go false kept = kept-part m c place can other
+
+pub answer-kept : (m : Machine) (c : Command) → IsSendable c → transacts (kind_of c.operation) ≡ false → Keeps m (answer_to operations m c).machine
+unfolding answer_to
+answer-kept m c can other = go (part_count c)
+  where
+    go : (count : ℕ) → IsKept m (all_in_turn operations m (parts_from 0 count c))
+    go zero = refl
+    go (suc n) = kept-in_turn m c n 0 can other
+
+-- BEGIN, COMMIT and ROLLBACK change it where they are done.
+abbrev Tells : Machine → ℕ → Operation → Answer → Type 0
+Tells m channel operation answer = transaction_channel answer.machine ≡ held_when (closing_of answer.reply.word) (held_by operation channel (transaction_channel m)) (transaction_channel m)
+
+abbrev outcome_of : Machine → ℕ → Operation → Answer
+outcome_of m channel operation = answered m (carried_out m (asking channel operation))
+
+told-begun : (m : Machine) (channel : ℕ) (t : Option Transaction) → m.transaction ≡ t → Tells m channel Begin (outcome_of m channel Begin)
+told-begun m channel None is = rw is refl
+told-begun m channel (Some t) is = elim (cases_Bool (t.channel == channel)) [
+  | inl own ↦ rw (is, own) refl
+  | inr other ↦ rw (is, other) refl
+]
+
+told-committed : (m : Machine) (channel : ℕ) (t : Option Transaction) → m.transaction ≡ t → Tells m channel Commit (outcome_of m channel Commit)
+told-committed m channel None is = rw is refl
+told-committed m channel (Some t) is = elim (cases_Bool (t.channel == channel)) [
+  | inl own ↦ rw (is, own) refl
+  | inr other ↦ rw (is, other) refl
+]
+
+told-rolled_back : (m : Machine) (channel : ℕ) (t : Option Transaction) → m.transaction ≡ t → Tells m channel Rollback (outcome_of m channel Rollback)
+told-rolled_back m channel None is = rw is refl
+told-rolled_back m channel (Some t) is = elim (cases_Bool (t.channel == channel)) [
+  | inl own ↦ rw (is, own) refl
+  | inr other ↦ rw (is, other) refl
+]
+
+-- on a channel that isn't open they are refused
+told-alone : (m : Machine) (channel : ℕ) (operation : Operation) → IsSendable (asking channel operation) → comes_in_parts (kind_of operation) ≡ false → IsTaken (has_secrets operations) m.committed.limit operation
+    → ((chain : Option Chain) → parts_of (kind_of operation) chain ≡ []) → Tells m channel operation (outcome_of (changing_session without_chain m channel) channel operation)
+    → Tells m channel operation (answer_to operations m (asking channel operation))
+told-alone m channel operation can alone taken parts tells = go (session_of m channel) refl
+  where
+    go : (s : Option Session) → session_of m channel ≡ s → Tells m channel operation (answer_to operations m (asking channel operation))
+    go (Some s) is = subst (Tells m channel operation) (sym (answer-whole m (asking channel operation) s can alone taken parts is)) tells
+    go None is = subst (Tells m channel operation) (sym (answer-closed m (asking channel operation) can alone (ap (λ (s : Option Session). is_some s) is))) refl
+
+-- A single operation.
+held_by-same : (operation : Operation) (channel : ℕ) (held : Option ℕ) → transacts (kind_of operation) ≡ false → held_by operation channel held ≡ held
+held_by-same Begin channel held other = absurd (false≢true (sym other))
+held_by-same Commit channel held other = absurd (false≢true (sym other))
+held_by-same Rollback channel held other = absurd (false≢true (sym other))
+held_by-same operation channel held other = refl
+
+held_when-same : (closing : Closing) (held : Option ℕ) → held_when closing held held ≡ held
+held_when-same Fine held = refl
+held_when-same closing held = refl
+
+told-single : (m : Machine) (channel : ℕ) (operation : Operation) → IsSendable (asking channel operation) → Tells m channel operation (answer_to operations m (asking channel operation))
+told-single m channel Begin can = told-alone m channel Begin can refl tt (no-chain kind.Begin (λ other. refl)) (told-begun (changing_session without_chain m channel) channel m.transaction refl)
+told-single m channel Commit can = told-alone m channel Commit can refl tt (no-chain kind.Commit (λ other. refl)) (told-committed (changing_session without_chain m channel) channel m.transaction refl)
+told-single m channel Rollback can = told-alone m channel Rollback can refl tt (no-chain kind.Rollback (λ other. refl)) (told-rolled_back (changing_session without_chain m channel) channel m.transaction refl)
+told-single m channel operation can = answer-kept m (asking channel operation) can refl ∙ sym (held_when-same (closing_of (answer_to operations m (asking channel operation)).reply.word) (transaction_channel m))
+
+-- UPDATE and DELETE FROM stay in their transaction.
+same-row : (committed : Database) (a : Actor) (operation : Operation) (c : Cursor) (t next : Transaction) → row_changed committed a operation c t ≡ Ok next → next.channel ≡ t.channel
+unfolding row_changed
+same-row committed a operation c t next is =
+    bound (edits_of t.working a (Some c) operation) _ next is (λ edits _ is.
+    bound (with_edits t.working edits) _ next is (λ db _ same.
+    ap (λ (t : Transaction). t.channel) (sym (same_Ok (transaction_after committed t edits db) next same))))
+
+same-rows : (committed : Database) (a : Actor) (operation : Operation) (c : Cursor) (rows : List StampedRow) (t : Transaction) → (all_changed committed a operation c rows t).transaction.channel ≡ t.channel
+same-rows committed a operation c [] t = refl
+same-rows committed a operation c (r ∷ rows) t = go (row_changed committed a operation (at_stamp r.stamp c) t) refl (λ next. same-rows committed a operation c rows next)
+  where
+    go : (result : Result Transaction StatusWord) → row_changed committed a operation (at_stamp r.stamp c) t ≡ result
+        → ((next : Transaction) → (all_changed committed a operation c rows next).transaction.channel ≡ next.channel)
+        → (once_changed r.stamp t (λ next. all_changed committed a operation c rows next) result).transaction.channel ≡ t.channel
+    go (Err word) is rest = refl
+    go (Ok next) is rest = rest next ∙ same-row committed a operation (at_stamp r.stamp c) t next is
+
+kept-changes : (m : Machine) (channel : ℕ) (operation : Operation) (d : Result Declared StatusWord) (own : Option Transaction) → own_transaction m.transaction channel ≡ own → Keeps m (changed_by m channel operation d own).machine
+kept-changes m channel operation (Err word) (Some t) is = refl
+kept-changes m channel operation (Ok d) (Some t) is = ap Some (same-rows m.committed (actor m channel) operation d.cursor d.rows t) ∙ own-channel m.transaction channel t is
+kept-changes m channel operation d None is = outside m.transaction d
+  where
+    committed : (d : Declared) (c : Changed) (refusal : Option StatusWord) → Keeps m (committed_after m channel d c refusal).machine
+    committed d c None = refl
+    committed d c (Some word) = refl
+
+    outside : (t : Option Transaction) (d : Result Declared StatusWord) → Keeps m (changed_outside m channel operation d t).machine
+    outside (Some t) d = refl
+    outside None (Err word) = refl
+    outside None (Ok d) = committed d (changed_in m channel operation d (begun m channel)) (changed_in m channel operation d (begun m channel)).refusal
+
+kept-selects : (m : Machine) (channel : ℕ) (d : Result Declared StatusWord) → Keeps m (selects_all m channel d).machine
+kept-selects m channel (Err word) = refl
+kept-selects m channel (Ok d) = refl
+
+kept-open : (m : Machine) (channel : ℕ) (x : Meaning) → Keeps m x.machine → Keeps m (on_open m channel x).machine
+kept-open m channel x kept = go (is_channel_open m channel)
+  where
+    go : (b : Bool) → Keeps m (if b then x else ended (Refused channel_not_supported) m channel).machine
+    go true = kept
+    go false = refl
+
+-- Every statement.
+abbrev IsTold : Machine → ℕ → Statement → Meaning → Type 0
+IsTold m channel s x = transaction_channel x.machine ≡ held_when x.closing (held_after s channel (transaction_channel m)) (transaction_channel m)
+
+kept-told : (m : Machine) (x : Meaning) → Keeps m x.machine → transaction_channel x.machine ≡ held_when x.closing (transaction_channel m) (transaction_channel m)
+kept-told m x kept = kept ∙ sym (held_when-same x.closing (transaction_channel m))
+
+pub transaction-told : (m : Machine) (channel : ℕ) (s : Statement) → CanBeSent channel s → IsTold m channel s (meaning operations m channel s)
+unfolding meaning
+transaction-told m channel Blank can = refl
+transaction-told m channel (Single operation) can = told-single m channel operation can.commands.0
+transaction-told m channel (Select object columns conditions) can = kept-told m (meaning operations m channel (Select object columns conditions)) (kept-open m channel _ (kept-selects m channel (declared m channel object columns conditions)))
+transaction-told m channel (UpdateRows object changes conditions) can =
+    kept-told m (meaning operations m channel (UpdateRows object changes conditions)) (kept-open m channel _ (kept-changes m channel (Update changes) (declared m channel object [] conditions) (own_transaction m.transaction channel) refl))
+transaction-told m channel (DeleteRows object conditions) can =
+    kept-told m (meaning operations m channel (DeleteRows object conditions)) (kept-open m channel _ (kept-changes m channel Delete (declared m channel object [] conditions) (own_transaction m.transaction channel) refl))
+transaction-told m channel (OpenNumber number) can = kept-told m (meaning operations m channel (OpenNumber number)) (answer-kept m (asking 0 (OpenChannel number)) can.commands.0 refl)
+transaction-told m channel (CloseNumber number) can = kept-told m (meaning operations m channel (CloseNumber number)) (answer-kept m (asking 0 (CloseChannel number)) can.commands.0 refl)
+transaction-told m channel (UseNumber number) can = refl
+transaction-told m channel Reset can = refl
