@@ -1,31 +1,16 @@
 -- What a power loss may leave of a card.
-use Rattle.std.proofs.Common.{◌≡◌, ℕ, List, ◌∷◌, Option, Some, refl, sym, ap, subst, ◌∙◌, inl, arith}
-use Rattle.std.specs.Prelude.{IfSome}
+use Rattle.std.proofs.Common.{◌≡◌, ℕ, List, ◌∷◌, Some, refl, sym, subst, inl, arith}
 use Rattle.eeprom.specs.Chip.{Chip, Becomes, Keeps, RisesAtMost}
 use Rattle.eeprom.specs.StoreOf.{front_size, image_size}
 use Rattle.eeprom.proofs.Moments.{throughout-weaker}
 use Rattle.eeprom.proofs.SameFrom.{drop-from}
 use Rattle.record_store.specs.Recovery.{KeepsStore}
-use Rattle.record_store.specs.Held.{contents, with_limit, StandsFor}
-use Rattle.record_store.proofs.Weights.{store_of-stands}
-use Rattle.record_store.specs.declared.side.Side.TheVariants.{Committed}
 use Rattle.scql_model.specs.Database.{Database, IsValid}
 use Rattle.scql_model.specs.Machine.{Machine}
-use Rattle.scql_model.specs.Opens.{Opens}
-use Rattle.card.specs.Card.{Kept, IsReady, HoldsMachine, IsAt, committed_slots}
+use Rattle.card.specs.Card.{Kept, IsReady, HoldsMachine}
 use Rattle.card.specs.Answering.{LeavesOneOf}
 use Rattle.card.specs.Behind.{KeepsBehind, own_cells}
-
--- the image of a card that holds a machine opens to the machine's database, where that is valid
-pub Opens-held : (card : Kept) (chip : Chip) (m : Machine) → IsReady card chip → HoldsMachine card chip m → IsValid m.committed → (image : List ℕ) → chip.image ≡ Some image → Opens image m.committed
-unfolding committed_slots
-Opens-held card chip m ready at valid image told =
-    let stands : StandsFor card.store image = subst (λ (o : Option (List ℕ)). IfSome o (StandsFor card.store)) told ready.over.stands in
-    let stored : contents card.store Committed image ≡ Some at.slots = subst (λ (o : Option (List ℕ)). committed_slots card.store o ≡ Some at.slots) told at.committed in
-    record { store = record { row_limit = card.store.row_limit; slots = at.slots }; stored = store_of-stands card.store image stands ∙ ap (with_limit card.store.row_limit) stored; limit = at.limit; holds = at.holds; valid = valid }
-
-pub Opens-at : (card : Kept) (chip : Chip) (m : Machine) → IsReady card chip → IsAt card chip m → (image : List ℕ) → chip.image ≡ Some image → Opens image m.committed
-Opens-at card chip m ready at = Opens-held card chip m ready at.held at.valid.committed
+pub use Rattle.card.specs.CardLaws.{Opens-held, Opens-at}
 
 -- where nothing is written, all stays
 pub Keeps-none : {A : Type 0} (look : List ℕ → A) (old new : Chip) → new ≡ old → Keeps look old new

@@ -1,6 +1,9 @@
+mod Asked
 mod BuiltLines
 mod ChangedStore
 mod ChangingOperations
+mod Counted
+mod CountedKinds
 mod DeletedSessions
 mod GatheredSlots
 mod Founding
@@ -24,6 +27,7 @@ mod PooledSizes
 mod Performing
 mod PlacedRows
 mod ReadingCard
+mod ReadingCosts
 mod ReadingMoves
 mod SeenSessions
 mod Sides

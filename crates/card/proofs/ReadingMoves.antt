@@ -53,7 +53,7 @@ from-after word before cursor stays =
       | inr f ↦ rw f refl
     ]
 
-given-word : (le : ℕ) (word : StatusWord) (cursor : Option Cursor) (values : Values) → (word.word == done.word) ≡ false → given le word cursor values ≡ answered word cursor
+pub given-word : (le : ℕ) (word : StatusWord) (cursor : Option Cursor) (values : Values) → (word.word == done.word) ≡ false → given le word cursor values ≡ answered word cursor
 given-word le word cursor values is = rw is refl
 
 from-after-given : (le : ℕ) (word : StatusWord) (before : Reading) (cursor : Option Cursor) (values : Values) → (IsTrue (refuses word) → cursor ≡ before.cursor)
@@ -96,27 +96,34 @@ Goes-ok db actor operation (Ok word) old new command each moves stays = record {
 Goes-ok db actor operation (Err fault) old new command each moves stays = tt
 
 -- A command that gives octets has an Le.
-with_le : (f : ℕ → ReadingCommand) (o : Option ℕ) (le : ℕ) (command : ReadingCommand) → le ≡ unwrap_or o 256 → option_map f o ≡ Some command → f le ≡ command
-with_le f None le command said is = absurd (none-some command is)
-with_le f (Some n) le command said is = ap f said ∙ same_Some (f n) command is
+with_le : (P : ReadingCommand → Type 0) (f : ℕ → ReadingCommand) (operation : Operation) (c : Command) (le : ℕ) → ((o : Option ℕ) → reading_command operation o ≡ option_map f o) → c.operation ≡ operation → le ≡ unwrap_or c.le 256
+    → P (f le) → (command : ReadingCommand) → reading_command c.operation c.le ≡ Some command → P command
+with_le P f operation c le reads asked said holds command is = of c.le said (sym (reads c.le) ∙ (ap (λ (operation : Operation). reading_command operation c.le) (sym asked) ∙ is))
+  where
+    of : (o : Option ℕ) → le ≡ unwrap_or o 256 → option_map f o ≡ Some command → P command
+    of None said is = absurd (none-some command is)
+    of (Some n) said is = subst P (same_Some (f n) command is) (subst (λ (n : ℕ). P (f n)) said holds)
+
+pub as-fetch : (P : ReadingCommand → Type 0) (c : Command) (le : ℕ) → c.operation ≡ asks.Fetch → le ≡ unwrap_or c.le 256 → P (fetch le) → (command : ReadingCommand) → reading_command c.operation c.le ≡ Some command → P command
+as-fetch P c le = with_le P fetch asks.Fetch c le (λ o. refl)
+
+pub as-fetch_next : (P : ReadingCommand → Type 0) (c : Command) (le : ℕ) → c.operation ≡ asks.FetchNext → le ≡ unwrap_or c.le 256 → P (fetch_next le) → (command : ReadingCommand) → reading_command c.operation c.le ≡ Some command → P command
+as-fetch_next P c le = with_le P fetch_next asks.FetchNext c le (λ o. refl)
+
+pub as-get_response : (P : ReadingCommand → Type 0) (c : Command) (le : ℕ) → c.operation ≡ asks.GetResponse → le ≡ unwrap_or c.le 256 → P (get_response le) → (command : ReadingCommand) → reading_command c.operation c.le ≡ Some command → P command
+as-get_response P c le = with_le P get_response asks.GetResponse c le (λ o. refl)
 
 pub MovesSo-fetch : (db : Database) (actor : Actor) (c : Command) (before : Reading) (le : ℕ) (move : Move Reading) → c.operation ≡ asks.Fetch → le ≡ unwrap_or c.le 256
     → move_of db actor before (fetch le) ≡ move → MovesSo db actor c before move
-MovesSo-fetch db actor c before le move asked said moves command is =
-    subst (λ (command : ReadingCommand). move_of db actor before command ≡ move)
-    (with_le fetch c.le le command said (ap (λ (operation : Operation). reading_command operation c.le) (sym asked) ∙ is)) moves
+MovesSo-fetch db actor c before le move = as-fetch (λ (command : ReadingCommand). move_of db actor before command ≡ move) c le
 
 pub MovesSo-fetch_next : (db : Database) (actor : Actor) (c : Command) (before : Reading) (le : ℕ) (move : Move Reading) → c.operation ≡ asks.FetchNext → le ≡ unwrap_or c.le 256
     → move_of db actor before (fetch_next le) ≡ move → MovesSo db actor c before move
-MovesSo-fetch_next db actor c before le move asked said moves command is =
-    subst (λ (command : ReadingCommand). move_of db actor before command ≡ move)
-    (with_le fetch_next c.le le command said (ap (λ (operation : Operation). reading_command operation c.le) (sym asked) ∙ is)) moves
+MovesSo-fetch_next db actor c before le move = as-fetch_next (λ (command : ReadingCommand). move_of db actor before command ≡ move) c le
 
 pub MovesSo-get_response : (db : Database) (actor : Actor) (c : Command) (before : Reading) (le : ℕ) (move : Move Reading) → c.operation ≡ asks.GetResponse → le ≡ unwrap_or c.le 256
     → move_of db actor before (get_response le) ≡ move → MovesSo db actor c before move
-MovesSo-get_response db actor c before le move asked said moves command is =
-    subst (λ (command : ReadingCommand). move_of db actor before command ≡ move)
-    (with_le get_response c.le le command said (ap (λ (operation : Operation). reading_command operation c.le) (sym asked) ∙ is)) moves
+MovesSo-get_response db actor c before le move = as-get_response (λ (command : ReadingCommand). move_of db actor before command ≡ move) c le
 
 pub if_ok-then : {P Q : StatusWord → Type 0} (r : Result StatusWord EepromFault) → ((word : StatusWord) → P word → Q word) → IfOk r P → IfOk r Q
 if_ok-then (Ok word) then' holds = then' word holds

@@ -177,7 +177,7 @@ form_of-open table (cla ∷ ins ∷ p1 ∷ p2 ∷ after) channels chain other li
     go (Ok channel) same = ap (λ (chain : Option Chain). formed_on channel (read chain channel)) (same channel refl)
 
 -- What the machine reads is what is read with the card's open channels and chains.
-form-card : (card : Kept) (chip : Chip) (m : Machine) (octets : List ℕ) (channels : List Bool) (sessions : List (Option Session)) (chains : List (Option Chain)) (limit : ℕ) → IsAt card chip m
+pub form-card : (card : Kept) (chip : Chip) (m : Machine) (octets : List ℕ) (channels : List Bool) (sessions : List (Option Session)) (chains : List (Option Chain)) (limit : ℕ) → IsAt card chip m
     → channels ≡ map (λ (s : Option Seen). is_some s) card.sessions → card.sessions ≡ sessions_of sessions chains → limit ≡ card.store.row_limit
     → form_of built_operations octets (open_channels m) (command_chain m) m.committed.limit ≡ form_of built_operations octets channels (chain_on chains) limit
 form-card card chip m octets channels sessions chains limit at are_open seen is =
@@ -239,37 +239,31 @@ taken-kept m octets (a_command c) named is = absurd cc
 pub named-taken : (octets : List ℕ) (channels : List Bool) (chain : ℕ → Option Chain) (limit : ℕ) → IfSome (read_on (form_of built_operations octets channels chain limit)) (λ channel. channel ≡ channel_named octets)
 named-taken octets channels chain limit = IfSome-read_on-named built_operations octets channels chain limit
 
-taken-whole : (form : Form) (c : Command) → taken.Whole c ≡ taken_of form → form ≡ a_command c
-taken-whole (refused word) c is = absurd cc
-taken-whole (refused_on channel word) c is = absurd cc
-taken-whole (part_on channel kind octets) c is = absurd cc
-taken-whole (a_command other) c is = cc
+pub outcome-whole : (m : Machine) (form : Form) (c : Command) → form ≡ a_command c → outcome_of m form ≡ carried_out m c
+outcome-whole m form c is = ap (outcome_of m) is
 
-pub outcome-whole : (m : Machine) (form : Form) (c : Command) → taken.Whole c ≡ taken_of form → outcome_of m form ≡ carried_out m c
-outcome-whole m form c is = ap (outcome_of m) (taken-whole form c is)
-
-pub octets-whole : (m : Machine) (form : Form) (c : Command) → taken.Whole c ≡ taken_of form → octets_taken m form ≡ or_nothing (octets_carried_out m c)
-octets-whole m form c is = ap (octets_taken m) (taken-whole form c is)
+pub octets-whole : (m : Machine) (form : Form) (c : Command) → form ≡ a_command c → octets_taken m form ≡ or_nothing (octets_carried_out m c)
+octets-whole m form c is = ap (octets_taken m) is
 
 -- a command that was taken whole is of an operation that is built
-pub built-taken : (octets : List ℕ) (channels : List Bool) (chain : ℕ → Option Chain) (limit : ℕ) (c : Command) → limit ≤ 1020 → taken.Whole c ≡ taken_of (form_of built_operations octets channels chain limit)
+pub built-taken : (octets : List ℕ) (channels : List Bool) (chain : ℕ → Option Chain) (limit : ℕ) (c : Command) → limit ≤ 1020 → form_of built_operations octets channels chain limit ≡ a_command c
     → IsBuilt (kind_of c.operation)
 built-taken octets channels chain limit c most is =
-    kind-form_of built_operations octets channels chain limit c sound-built_operations most (taken-whole (form_of built_operations octets channels chain limit) c is)
+    kind-form_of built_operations octets channels chain limit c sound-built_operations most is
 
 -- and fits the card
-pub fits-taken : (octets : List ℕ) (channels : List Bool) (chain : ℕ → Option Chain) (limit : ℕ) (c : Command) → AreOctets octets → limit ≤ 1020 → taken.Whole c ≡ taken_of (form_of built_operations octets channels chain limit)
+pub fits-taken : (octets : List ℕ) (channels : List Bool) (chain : ℕ → Option Chain) (limit : ℕ) (c : Command) → AreOctets octets → limit ≤ 1020 → form_of built_operations octets channels chain limit ≡ a_command c
     → FitsCard limit c.operation
 fits-taken octets channels chain limit c are most is =
-    FitsCard-form_of built_operations octets channels chain limit c sound-built_operations are most (taken-whole (form_of built_operations octets channels chain limit) c is)
+    FitsCard-form_of built_operations octets channels chain limit c sound-built_operations are most is
 
 -- and its channel is open still
 pub open-taken : (octets : List ℕ) (channels : List Bool) (sessions : List (Option Session)) (chains after : List (Option Chain)) (limit : ℕ) (c : Command)
     → (let form = form_of built_operations octets channels (chain_on chains) limit in channels ≡ map (λ (s : Option Seen). is_some s) (sessions_of sessions chains)
-    → after ≡ chains_after chains form → taken.Whole c ≡ taken_of form → opened.is_open (sessions_of sessions after) c.channel ≡ true)
+    → after ≡ chains_after chains form → form ≡ a_command c → opened.is_open (sessions_of sessions after) c.channel ≡ true)
 open-taken octets channels sessions chains after limit c are_open is whole =
     let form : Form = form_of built_operations octets channels (chain_on chains) limit in
-    let read : slice_get channels c.channel ≡ Some true = subst (λ (form : Form). IfSome (read_on form) (λ channel. slice_get channels channel ≡ Some true)) (taken-whole form c whole)
+    let read : slice_get channels c.channel ≡ Some true = subst (λ (form : Form). IfSome (read_on form) (λ channel. slice_get channels channel ≡ Some true)) whole
     (IfSome-read_on built_operations octets channels (chain_on chains) limit) in
     open-parts sessions chains after c.channel (ap length is ∙ length-after chains form) (subst (λ (channels : List Bool). slice_get channels c.channel ≡ Some true) are_open read)
   where

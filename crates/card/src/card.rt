@@ -20,10 +20,13 @@ ghost use Rattle.card.specs.Behind.{KeepsBehind, own_cells};
 ghost use Rattle.card.specs.Card.{Kept, IsReady, IsAt, HoldsMachine, fresh_card};
 ghost use Rattle.card.specs.Answering.{Answers, HoldsAnswer, IsAtAsBefore, LeavesEach, LeavesFirstOfTwo, LeavesOneOf, Performs, changing_session, replied, settled, with_session, with_session_for};
 ghost use Rattle.card.specs.Changing.{IsChange};
+ghost use Rattle.card.specs.Counting.{counts_of};
 ghost use Rattle.card.specs.Making.{LeavesMade};
 ghost use Rattle.card.specs.Opening.{ReadsCard};
+ghost use Rattle.card.specs.ReadCosts.{ReadsAnswered, ReadsAsked, ReadsBound, ReadsFor};
 ghost use Rattle.card.specs.Reading as reading;
 ghost use Rattle.card.specs.Sessions.{is_open, least_closed, proved_user, session_seen, sessions_of};
+ghost use Rattle.card.specs.Showing.{ReadsShown};
 ghost use Rattle.scql_model.specs.Bound.{octets_bound, octets_carried_out, octets_changed, or_nothing};
 ghost use Rattle.scql_model.specs.Accepting as accepting;
 ghost use Rattle.scql_model.specs.Accepting.{Accepts, CostsTry, EndsCursor};
@@ -39,6 +42,7 @@ mod transacting;
 mod verifying;
 
 use crate::changing::{actor_of, change, change_within};
+use crate::counting::count_records;
 use crate::opening::open_records;
 use crate::outcome::Outcome;
 use crate::reading::{is_reading, read};
@@ -169,6 +173,15 @@ impl Card {
         // No more octets are written than the step's bound.
         ensures octets_written { (m : machine.Machine) → IsAt self.old (B.chip bench.old) m → result ≡ Outcome.Replied
             → Becomes (RisesAtMost (octets_bound m command.now)) (B.chip bench.old).written (B.chip bench.new).written }
+        // A reading command is answered from what is shown to its channel.
+        ensures shown { (m : machine.Machine) → IsAt self.old (B.chip bench.old) m → result ≡ Outcome.Replied
+            → ReadsShown m command.now reply.new self.new (B.chip bench.new) }
+        // No more octets are read for a reading command than its bound, where its cursor is on a table or a view,
+        ensures octets_read { (m : machine.Machine) → IsAt self.old (B.chip bench.old) m → result ≡ Outcome.Replied
+            → ReadsBound m command.now (B.octets_read bench.old) (B.octets_read bench.new) }
+        // and no fewer than the row has that it answers: no row is answered out of memory.
+        ensures least { (m : machine.Machine) → IsAt self.old (B.chip bench.old) m → result ≡ Outcome.Replied
+            → ReadsAnswered m command.now (B.octets_read bench.old) (B.octets_read bench.new) }
         // It keeps its number of cells, and nothing is written behind the image, at no moment.
         ensures cells { result ≡ Outcome.Replied → self.new.store.chains.cells ≡ self.old.store.chains.cells }
         ensures behind { Keeps (drop (image_size self.old.store.chains.cells)) (B.chip bench.old) (B.chip bench.new) }
@@ -208,6 +221,16 @@ impl Card {
         self.chains.clear();
     }
 
+    /// How many records of each kind are committed. Their kinds are kept in memory, so that nothing is read.
+    pub fn counts<B: Eeprom>(&self, bench: &mut B) -> Result<crate::Counts, EepromFault>
+        requires ready { IsReady self.now (B.chip bench.old) }
+        ensures counts { (m : machine.Machine) → IsAt self.now (B.chip bench.old) m → IfOk result (λ counts. counts ≡ counts_of m.committed) }
+        ensures unchanged { bench.new ≡ bench.old }
+        ensures cause { Counts (B.faults bench.old) (B.faults bench.new) result }
+    {
+        Ok(count_records(&self.store))
+    }
+
     // The word that a command is answered with. The body of the reply, which is empty before, is written.
     fn word_of<B: Eeprom>(
         &mut self,
@@ -221,6 +244,8 @@ impl Card {
             → Performs m (stepping.step m command.now) (octets_bound m command.now) reply.new.body result self.new (B.chip bench.old) (B.chip bench.new) }
         ensures lowered { (m : machine.Machine) → IsAt self.old (B.chip bench.old) m
             → OnOk result (LeavesFirstOfTwo (stepping.step m command.now) (B.chip bench.old) (B.chip bench.new)) }
+        ensures octets_read { (m : machine.Machine) → IsAt self.old (B.chip bench.old) m
+            → OnOk result (ReadsAsked m command.now (B.octets_read bench.old) (B.octets_read bench.new)) }
         ensures ready { OnOk result (IsReady self.new (B.chip bench.new)) }
         ensures cause { Counts (B.faults bench.old) (B.faults bench.new) result }
         ensures cells { OnOk result (self.new.store.chains.cells ≡ self.old.store.chains.cells) }
@@ -228,13 +253,21 @@ impl Card {
         ensures unsaid { OnErr result (reply.new.body ≡ []) }
     {
         let channels = self.open_channels();
-        match self.chains.take(command, channels, self.store.row_limit()) {
+        let mut read = Command {
+            channel: 0,
+            operation: Operation::FetchNext,
+            le: None,
+        };
+        match self
+            .chains
+            .take(command, channels, self.store.row_limit(), &mut read)
+        {
             Taken::Refused { word } => Ok(word),
             Taken::Kept => {
                 self.drop_pending(channel_named(command));
                 Ok(StatusWord::DONE)
             }
-            Taken::Whole { command } => self.carry_out(bench, &command, reply),
+            Taken::Whole => self.carry_out(bench, &read, reply),
         }
     }
 
@@ -255,6 +288,8 @@ impl Card {
         // A second database is committed by VERIFY alone. Then there was a moment at which a power loss may leave the first.
         ensures lowered { (m : machine.Machine) → IsAt self.old (B.chip bench.old) m
             → OnOk result (LeavesFirstOfTwo (stepping.answered m (stepping.carried_out m command.now)) (B.chip bench.old) (B.chip bench.new)) }
+        ensures octets_read { (m : machine.Machine) → IsAt self.old (B.chip bench.old) m
+            → OnOk result (ReadsFor m command.now (B.octets_read bench.old) (B.octets_read bench.new)) }
         ensures ready { OnOk result (IsReady self.new (B.chip bench.new)) }
         ensures cause { Counts (B.faults bench.old) (B.faults bench.new) result }
         ensures cells { OnOk result (self.new.store.chains.cells ≡ self.old.store.chains.cells) }
@@ -301,6 +336,8 @@ impl Card {
             → Performs m (stepping.answered m (stepping.carried_out m command.now)) (or_nothing (octets_carried_out m command.now)) reply.new.body result self.new (B.chip bench.old) (B.chip bench.new) }
         ensures ready { OnOk result (IsReady self.new (B.chip bench.new)) }
         ensures cause { Counts (B.faults bench.old) (B.faults bench.new) result }
+        ensures octets_read { (m : machine.Machine) → IsAt self.old (B.chip bench.old) m
+            → OnOk result (ReadsFor m command.now (B.octets_read bench.old) (B.octets_read bench.new)) }
         ensures same { B.chip bench.new ≡ B.chip bench.old }
         ensures store { self.new.store ≡ self.old.store }
         ensures unsaid { OnErr result (reply.new.body ≡ []) }

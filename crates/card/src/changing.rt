@@ -1,9 +1,9 @@
 // Changes of the database, each for who acts, in a transaction of its own.
-ghost use Rattle.std.specs.Prelude.{◌≡◌, ℕ, ◌≤◌, Option, drop, false, true, is_some, IfOk, IfSome, IsTrue, IsErrOf, OnOk};
-ghost use Rattle.eeprom.specs.Chip.{Keeps};
+ghost use Rattle.std.specs.Prelude.{◌≡◌, ℕ, ◌≤◌, ◌*◌, Option, drop, false, true, is_some, IfOk, IfSome, IsTrue, IsErrOf, OnOk};
+ghost use Rattle.eeprom.specs.Chip.{Becomes, Keeps};
 ghost use Rattle.eeprom.specs.Fault.{Counts, CountsFaults, each_error};
 ghost use Rattle.eeprom.specs.Frame.{Reads};
-ghost use Rattle.eeprom.specs.StoreOf.{store_of, image_size};
+ghost use Rattle.eeprom.specs.StoreOf.{store_of, cell_size, image_size};
 ghost use Rattle.record_store.specs.Held.{IsOver};
 ghost use Rattle.record_store.specs.declared.side.Side.TheVariants.{Committed, Working};
 ghost use Rattle.scql_base.specs.declared.cursor.Cursor as model;
@@ -13,7 +13,9 @@ ghost use Rattle.scql_model.specs.Cursors.{IsCursorOf};
 ghost use Rattle.scql_model.specs.Database.{Database};
 ghost use Rattle.scql_model.specs.Operations.{kind_of};
 ghost use Rattle.scql_model.specs.WellFormed.{HasForm, FitsCard};
-ghost use Rattle.record_table.specs.Listed.{slots_of};
+ghost use Rattle.catalog_codec.specs.Catalog.{user_kind};
+ghost use Rattle.cursor.specs.Costs.{RisesBetween};
+ghost use Rattle.record_table.specs.Listed.{cells_marked, slots_of};
 ghost use Rattle.record_table.specs.Making.{IsHeld, Ends, GoesOn, is_stop_fault};
 ghost use Rattle.row_index.specs.Index.{Indexes, is_above};
 ghost use Rattle.card.specs.Card.{HoldsSome, IsAtRest};
@@ -24,10 +26,9 @@ use db_define::{create_dictionary, create_table, create_view, drop_table, drop_v
 use db_write::{delete, insert, update};
 use eeprom::{Eeprom, EepromFault};
 use record_store::{Side, Store};
-use record_table::Stop;
+use record_table::{Stop, find_stamp};
 use row_index::RowIndex;
-use scql_base::{Actor, Cursor, Operation, StatusWord};
-use user_table::find_stamp;
+use scql_base::{Actor, Cursor, Operation, StatusWord, User};
 
 /// Changes the database by an operation, for the user of this stamp or for the public, through a cursor where it is UPDATE or DELETE,
 /// and commits it. Where the operation is refused nothing is written, and the word of the refusal is answered.
@@ -249,12 +250,14 @@ pub(crate) fn actor_of<B: Eeprom>(
 ) -> Result<Actor, EepromFault>
     requires over { IsOver store.now (B.chip bench.old) }
     ensures actor { (db : Database) → IsHeld store.now side (B.chip bench.old) db → IfOk result (λ actor. actor ≡ acting db user) }
+    ensures octets_read { OnOk result (IfSome (slots_of store.now side (B.chip bench.old))
+        (λ slots. Becomes (RisesBetween 0 (cell_size * cells_marked user_kind slots)) (B.octets_read bench.old) (B.octets_read bench.new))) }
     ensures frame { Reads each_error B.chip B.faults bench.old bench.new result }
 {
     let Some(stamp) = user else {
         return Ok(Actor::Public);
     };
-    match find_stamp(store, bench, side, stamp)? {
+    match find_stamp::<User, B>(store, bench, side, stamp)? {
         Some(found) => Ok(Actor::User {
             stamp: found.value.stamp,
             profile: found.value.profile,

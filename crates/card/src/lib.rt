@@ -4,9 +4,11 @@
 mod apart;
 mod card;
 mod changing;
+mod counting;
 mod founded;
 mod kept_record;
 mod kept_records;
+mod live_card;
 mod opening;
 mod outcome;
 mod reading;
@@ -15,5 +17,7 @@ mod slot_record;
 mod validity;
 
 pub use card::Card;
+pub use counting::Counts;
+pub use live_card::LiveCard;
 pub use outcome::Outcome;
 pub use record_store::{FormatRefusal, OpenRefusal};

@@ -1,7 +1,11 @@
 // The commands that read through the cursor of a session (ISO/IEC 7816-7), and GET RESPONSE (ISO/IEC 7816-4).
-ghost use Rattle.std.specs.Prelude.{◌≡◌, ◌≤◌, [], Ok, Option, Some, true, if◌then◌else◌, IfErr, IfOk, IfSome, OnErr};
+ghost use Rattle.std.specs.Prelude.{◌≡◌, ◌≤◌, ◌+◌, ◌*◌, [], Ok, Option, Some, true, if◌then◌else◌, IfErr, IfOk, IfSome, OnErr, OnOk};
+ghost use Rattle.eeprom.specs.Chip.{Becomes, RisesAtMost};
 ghost use Rattle.eeprom.specs.Fault.{each_error};
 ghost use Rattle.eeprom.specs.Frame.{Reads};
+ghost use Rattle.eeprom.specs.StoreOf.{cell_size};
+ghost use Rattle.catalog_codec.specs.Catalog.{grant_kind, object_kind};
+ghost use Rattle.record_table.specs.Listed.{cells_marked, slots_of};
 ghost use Rattle.record_store.specs.Held.{IsOver};
 ghost use Rattle.record_table.specs.Making.{IsHeld, is_stop_fault};
 ghost use Rattle.row_index.specs.Index.{Indexes};
@@ -11,12 +15,14 @@ ghost use Rattle.scql_model.specs.Cursors.{IsCursorOf};
 ghost use Rattle.scql_model.specs.Database.{Database};
 ghost use Rattle.scql_model.specs.Moves.{gave_more, move_of};
 ghost use Rattle.scql_model.specs.Operations.{kind_of};
+ghost use Rattle.scql_model.specs.ReadBound.{octets_for_operation};
 ghost use Rattle.scql_model.specs.ReadingCommands as commands;
 ghost use Rattle.scql_model.specs.ReadingCommands.{or_stays};
 ghost use Rattle.scql_model.specs.Rights.{seen_stamped};
 ghost use Rattle.scql_model.specs.WellFormed.{IsWellFormed};
 ghost use Rattle.cursor.specs.Moved as outcomes;
-ghost use Rattle.db_read.specs.Answered.{Stops, given, selectable};
+ghost use Rattle.db_read.specs.Answered.{Stops, WhereRead, given, selectable};
+ghost use Rattle.card.specs.ReadCosts.{GoesWithin, OperatesWithin};
 ghost use Rattle.card.specs.Reading as specs;
 ghost use Rattle.card.specs.Reading.{Goes, MovesSo, move_to};
 ghost use Rattle.card.specs.Sessions.{reading_in};
@@ -67,6 +73,8 @@ pub(crate) fn read<B: Eeprom>(
     requires empty { reply.old.body ≡ [] }
     ensures moves { (db : Database) → IsHeld store.now side (B.chip bench.old) db → IfSome session.old.cursor (IsCursorOf db)
         → IfOk result (λ word. MovesSo db actor command.now (reading_in session.old) (move_to reply.new.body word session.new.cursor session.new.pending)) }
+    ensures octets_read { (db : Database) → IsHeld store.now side (B.chip bench.old) db → IfSome session.old.cursor (IsCursorOf db)
+        → OnOk result (OperatesWithin db actor command.now (reading_in session.old) (B.octets_read bench.old) (B.octets_read bench.new)) }
     ensures user { session.new.user ≡ session.old.user }
     ensures unsaid { OnErr result (reply.new.body ≡ []) }
     ensures frame { Reads each_error B.chip B.faults bench.old bench.new result }
@@ -116,6 +124,8 @@ fn go<B: Eeprom>(
     requires goes { specs.is_going (kind_of operation.now) ≡ true }
     ensures moves { (db : Database) → IsHeld store.now side (B.chip bench.old) db → IfSome cursor.old (IsCursorOf db)
         → IfOk result (λ word. Goes db actor operation.now word cursor.old cursor.new) }
+    ensures octets_read { (db : Database) → IsHeld store.now side (B.chip bench.old) db → IfSome cursor.old (IsCursorOf db)
+        → OnOk result (GoesWithin db actor operation.now cursor.old (B.octets_read bench.old) (B.octets_read bench.new)) }
     ensures frame { Reads each_error B.chip B.faults bench.old bench.new result }
 {
     match operation {
@@ -156,6 +166,8 @@ fn give_rest<B: Eeprom>(
     requires empty { reply.old.body ≡ [] }
     ensures moves { (db : Database) → IsHeld store.now side (B.chip bench.old) db
         → IfOk result (λ word. move_of db actor (reading_in session.old) (commands.get_response le) ≡ move_to reply.new.body word session.new.cursor session.new.pending) }
+    ensures octets_read { (db : Database) → IsHeld store.now side (B.chip bench.old) db
+        → OnOk result (Becomes (RisesAtMost (octets_for_operation db actor session.old.cursor (commands.get_response le))) (B.octets_read bench.old) (B.octets_read bench.new)) }
     ensures user { session.new.user ≡ session.old.user }
     ensures unsaid { OnErr result (reply.new.body ≡ []) }
     ensures frame { Reads each_error B.chip B.faults bench.old bench.new result }
@@ -182,6 +194,8 @@ fn ask<B: Eeprom>(
     ensures may { (db : Database) → IsHeld store.now side (B.chip bench.old) db
         → IfOk result (λ _. (o : Object) × (selectable db actor (seen_stamped db actor stamp) ≡ Ok o)) }
     ensures refused { (db : Database) → IsHeld store.now side (B.chip bench.old) db → IfErr result (Stops (selectable db actor (seen_stamped db actor stamp))) }
+    ensures octets_read { WhereRead result (IfSome (slots_of store.now side (B.chip bench.old))
+        (λ slots. Becomes (RisesAtMost (cell_size * cells_marked object_kind slots + 2 * (cell_size * cells_marked grant_kind slots))) (B.octets_read bench.old) (B.octets_read bench.new))) }
     ensures frame { Reads is_stop_fault B.chip B.faults bench.old bench.new result }
 {
     let Some(found) = find_stamp(store, bench, side, stamp)? else {

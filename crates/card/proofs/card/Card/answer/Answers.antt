@@ -6,6 +6,7 @@ use Rattle.scql_model.specs.Bound.{octets_bound}
 use Rattle.scql_model.specs.Step.{step}
 use Rattle.scql_model.proofs.NothingWritten.{octets_bound_by-accepts}
 use Rattle.scql_model.proofs.AnswerWords.{step-costs, step-ends}
+use Rattle.scql_model.proofs.CardReads.{reads-step}
 use Rattle.scql_model.proofs.Refusing.{step-accepts_or_leaves}
 use Rattle.scql_model.proofs.ValidSteps.{IsValidAnswer-step}
 use Rattle.scql_model.proofs.FewCommits.{two-step}
@@ -76,3 +77,21 @@ returns-in-Ok-clause-in_turn g c = λ m at is.
     let says = performs.step in
     leaves-each _ _ _ m (step m c.args.command.now) performs.moments c.in-Ok.ensures.ready says.held
     (IsValidAnswer-step m c.args.command.now (λ i. omega (arith, c.type_inv.command i)) at.valid).machine.committed (last-step m c.args.command.now) (two-step m c.args.command.now) (c.in-Ok.ensures.lowered m at)
+
+pub returns-in-Ok-clause-shown : goal.returns-in-Ok-clause-shown
+returns-in-Ok-clause-shown g c = λ m at is reading are.
+    let says = (c.in-Ok.ensures.performs m at).step in
+    record {
+      answer = step m c.args.command.now;
+      given = record {
+        reply = ap (λ (sent : Reply). replied sent.body c.in-Ok.word) c.reply-2.view_is ∙ says.reply;
+        at = record { held = says.held; valid = (IsValidAnswer-step m c.args.command.now (λ i. omega (arith, c.type_inv.command i)) at.valid).machine };
+      };
+      reads = reads-step m c.args.command.now reading at.valid are;
+    }
+
+pub returns-in-Ok-clause-octets_read : goal.returns-in-Ok-clause-octets_read
+returns-in-Ok-clause-octets_read g c = λ m at is command are. (c.in-Ok.ensures.octets_read m at command are).within
+
+pub returns-in-Ok-clause-least : goal.returns-in-Ok-clause-least
+returns-in-Ok-clause-least g c = λ m at is command are. (c.in-Ok.ensures.octets_read m at command are).row

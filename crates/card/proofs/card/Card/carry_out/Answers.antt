@@ -23,6 +23,8 @@ use Rattle.card.specs.Waiting.{keeps_waiting}
 use Rattle.card.proofs.BuiltLines.{IsChange-built, IsNoneOfThose}
 use Rattle.card.proofs.Leaving.{Keeps-none}
 use Rattle.card.proofs.Performing.{Performs-unwritten}
+use Rattle.card.proofs.ReadingCard.{on-any}
+use Rattle.card.proofs.ReadingCosts.{reads-none, waits-none}
 use Rattle.card.proofs.FreeCommands.{any-none, carried_out-arm, carried_out-changes, carried_out-waits, octets-arm, octets-carried_out, waiting-at, waits-changes}
 use Rattle.card.proofs.card.Card.carry_out.Goals.{In_default}
 use Rattle.card.proofs.card.Card.carry_out.Goals as goal
@@ -256,3 +258,37 @@ returns-then-keeps_waiting-clause-lowered g c = λ m at first second rest twice.
     let waited = told-waiting c.args.self.now (g.B.Eeprom.chip c.args.bench.now) m c.args.command.now c.keeps_waiting.result true at.held c.keeps_waiting.ensures c.if-keeps_waiting.true in
     let none : [] ≡ first ∷ second ∷ rest = sym (ap (λ (outcome : Result Answer StatusWord). (answered m outcome).commits) (carried_out-waits m c.args.command.now waited)) ∙ twice in
     absurd cc
+
+-- What doesn't read is no reading command.
+pub returns-in-Begin-clause-octets_read : goal.returns-in-Begin-clause-octets_read
+returns-in-Begin-clause-octets_read g c = λ m at command is. absurd (reads-none c.args.command.now.operation c.args.command.now.le command (sym c.is_reading.ensures ∙ c.if-is_reading.false) is)
+
+pub returns-in-Commit-clause-octets_read : goal.returns-in-Commit-clause-octets_read
+returns-in-Commit-clause-octets_read g c = λ m at. on-any _ c.commit.result (λ command is. absurd (reads-none c.args.command.now.operation c.args.command.now.le command (sym c.is_reading.ensures ∙ c.if-is_reading.false) is))
+
+pub returns-in-Rollback-clause-octets_read : goal.returns-in-Rollback-clause-octets_read
+returns-in-Rollback-clause-octets_read g c = λ m at command is. absurd (reads-none c.args.command.now.operation c.args.command.now.le command (sym c.is_reading.ensures ∙ c.if-is_reading.false) is)
+
+pub returns-in-PresentUser-clause-octets_read : goal.returns-in-PresentUser-clause-octets_read
+returns-in-PresentUser-clause-octets_read g c = λ m at. on-any _ c.present_user.result (λ command is. absurd (reads-none c.args.command.now.operation c.args.command.now.le command (sym c.is_reading.ensures ∙ c.if-is_reading.false) is))
+
+pub returns-in-OpenChannel-clause-octets_read : goal.returns-in-OpenChannel-clause-octets_read
+returns-in-OpenChannel-clause-octets_read g c = λ m at command is. absurd (reads-none c.args.command.now.operation c.args.command.now.le command (sym c.is_reading.ensures ∙ c.if-is_reading.false) is)
+
+pub returns-in-CloseChannel-clause-octets_read : goal.returns-in-CloseChannel-clause-octets_read
+returns-in-CloseChannel-clause-octets_read g c = λ m at command is. absurd (reads-none c.args.command.now.operation c.args.command.now.le command (sym c.is_reading.ensures ∙ c.if-is_reading.false) is)
+
+pub returns-in-Verify-clause-octets_read : goal.returns-in-Verify-clause-octets_read
+returns-in-Verify-clause-octets_read g c = λ m at. on-any _ c.verify.result (λ command is. absurd (reads-none c.args.command.now.operation c.args.command.now.le command (sym c.is_reading.ensures ∙ c.if-is_reading.false) is))
+
+pub returns-in-DeleteUser-clause-octets_read : goal.returns-in-DeleteUser-clause-octets_read
+returns-in-DeleteUser-clause-octets_read g c = λ m at. on-any _ c.delete_user.result (λ command is. absurd (reads-none c.args.command.now.operation c.args.command.now.le command (sym c.is_reading.ensures ∙ c.if-is_reading.false) is))
+
+pub returns-in_default-clause-octets_read : goal.returns-in_default-clause-octets_read
+returns-in_default-clause-octets_read g c = λ m at. on-any _ c.change.result (λ command is. absurd (reads-none c.args.command.now.operation c.args.command.now.le command (sym c.is_reading.ensures ∙ c.if-is_reading.false) is))
+
+-- and one that reads waits for no transaction
+pub returns-then-keeps_waiting-clause-octets_read : goal.returns-then-keeps_waiting-clause-octets_read
+returns-then-keeps_waiting-clause-octets_read g c = λ m at command is.
+    let kept = told-waiting c.args.self.now (g.B.Eeprom.chip c.args.bench.now) m c.args.command.now c.keeps_waiting.result true at.held c.keeps_waiting.ensures c.if-keeps_waiting.true in
+    absurd (waits-none m c.args.command.now command kept is)

@@ -8,7 +8,8 @@ use Rattle.scql_base.specs.Words.{done}
 use Rattle.scql_model.specs.Bound.{octets_bound}
 use Rattle.scql_model.specs.Form.{Form, form_of}
 use Rattle.scql_model.specs.Accepting.{channel_named}
-use Rattle.scql_model.specs.Machine.{Machine, Session}
+use Rattle.scql_model.specs.Machine.{Machine, Session, open_channels}
+use Rattle.scql_model.specs.Sessions.{command_chain}
 use Rattle.scql_model.specs.Operations.{built_operations}
 use Rattle.scql_model.specs.Replies.{said}
 use Rattle.scql_model.specs.Step.{Answer, answered, carried_out, done_with, step}
@@ -17,7 +18,8 @@ use Rattle.apdu_chain.specs.Chaining.{chain_on}
 use Rattle.card.specs.Card.{Kept, IsAt, IsReady}
 use Rattle.card.specs.Answering.{HoldsAnswer, LeavesFirstOfTwo, Performs}
 use Rattle.card.specs.Sessions.{sessions_of}
-use Rattle.card.proofs.TakenForms.{taken_at, outcome_of, step-taken, IsAt-taken, bound-taken, octets_taken, octets-whole, taken-committed, taken-refused, taken-kept, named-taken, open-taken, outcome-whole, built-taken, fits-taken}
+use Rattle.card.proofs.ReadingCosts.{kept-untaken, on-then, reads-taken, reads-untaken, refused-untaken}
+use Rattle.card.proofs.TakenForms.{form-card, taken_at, outcome_of, step-taken, IsAt-taken, bound-taken, octets_taken, octets-whole, taken-committed, taken-refused, taken-kept, named-taken, open-taken, outcome-whole, built-taken, fits-taken}
 use Rattle.card.proofs.Leaving.{Keeps-none}
 use Rattle.card.proofs.Performing.{HoldsAnswer-done, Performs-from, Performs-unwritten}
 use Rattle.card.proofs.Sides.{IsReady-sessions}
@@ -79,27 +81,27 @@ returns-in-Kept-clause-performs g c = λ m at.
 
 pub carry_out-requires-clause-built : goal.carry_out-requires-clause-built
 carry_out-requires-clause-built g c =
-    built-taken c.args.command.now c.open_channels-channels.result (chain_on c.self.inside.chains) (min c.row_limit.result 1020) c.in-Whole.command (omega arith) (sym c.in-Whole.is ∙ c.take.ensures.taken)
+    built-taken c.args.command.now c.open_channels-channels.result (chain_on c.self.inside.chains) (min c.row_limit.result 1020) c.take.new.command (omega arith) (c.take.ensures.whole c.in-Whole.is)
 
 pub carry_out-requires-clause-open : goal.carry_out-requires-clause-open
 carry_out-requires-clause-open g c =
-    open-taken c.args.command.now c.open_channels-channels.result c.self.inside.sessions c.self.inside.chains c.take.new.self (min c.row_limit.result 1020) c.in-Whole.command
-    (c.open_channels-channels.ensures ∙ ap (λ (kept : Kept). map (λ (s : Option Session). is_some s) kept.sessions) (sym c.self.view_is)) c.take.ensures.chains (sym c.in-Whole.is ∙ c.take.ensures.taken)
+    open-taken c.args.command.now c.open_channels-channels.result c.self.inside.sessions c.self.inside.chains c.take.new.self (min c.row_limit.result 1020) c.take.new.command
+    (c.open_channels-channels.ensures ∙ ap (λ (kept : Kept). map (λ (s : Option Session). is_some s) kept.sessions) (sym c.self.view_is)) c.take.ensures.chains (c.take.ensures.whole c.in-Whole.is)
 
 pub carry_out-requires-clause-fits : goal.carry_out-requires-clause-fits
 carry_out-requires-clause-fits g c =
-    subst (λ (limit : ℕ). FitsCard limit c.in-Whole.command.operation)
+    subst (λ (limit : ℕ). FitsCard limit c.take.new.command.operation)
     (rows c.row_limit.result _ c.row_limit.ensures.most c.row_limit.ensures.limit)
-    (fits-taken c.args.command.now c.open_channels-channels.result (chain_on c.self.inside.chains) (min c.row_limit.result 1020) c.in-Whole.command (λ i. omega (arith, c.type_inv.command i)) (omega arith) (sym c.in-Whole.is ∙ c.take.ensures.taken))
+    (fits-taken c.args.command.now c.open_channels-channels.result (chain_on c.self.inside.chains) (min c.row_limit.result 1020) c.take.new.command (λ i. omega (arith, c.type_inv.command i)) (omega arith) (c.take.ensures.whole c.in-Whole.is))
 
 pub returns-in-Whole-clause-performs : goal.returns-in-Whole-clause-performs
 returns-in-Whole-clause-performs g c = λ m at.
     let w = (goal.at.returns-in-Whole-clause-performs g c).After-take in
     let next = taken_at m (form g w) in
-    let most = bounds g w m at ∙ octets-whole next (form g w) c.in-Whole.command (sym c.in-Whole.is ∙ c.take.ensures.taken) in
-    let is = steps g w m at ∙ ap (answered next) (outcome-whole next (form g w) c.in-Whole.command (sym c.in-Whole.is ∙ c.take.ensures.taken)) in
+    let most = bounds g w m at ∙ octets-whole next (form g w) c.take.new.command (c.take.ensures.whole c.in-Whole.is) in
+    let is = steps g w m at ∙ ap (answered next) (outcome-whole next (form g w) c.take.new.command (c.take.ensures.whole c.in-Whole.is)) in
     subst (λ (answer : Answer). Performs m answer (octets_bound m c.args.command.now) c.carry_out.new.reply.body c.carry_out.result c.carry_out.new.self (g.B.Eeprom.chip c.args.bench.now) (g.B.Eeprom.chip c.carry_out.new.bench)) (sym is)
-    (subst (λ (most : ℕ). Performs m (answered next (carried_out next c.in-Whole.command)) most c.carry_out.new.reply.body c.carry_out.result c.carry_out.new.self (g.B.Eeprom.chip c.args.bench.now) (g.B.Eeprom.chip c.carry_out.new.bench)) (sym most)
+    (subst (λ (most : ℕ). Performs m (answered next (carried_out next c.take.new.command)) most c.carry_out.new.reply.body c.carry_out.result c.carry_out.new.self (g.B.Eeprom.chip c.args.bench.now) (g.B.Eeprom.chip c.carry_out.new.bench)) (sym most)
     (Performs-from m next _ _ c.carry_out.new.reply.body c.carry_out.result c.carry_out.new.self (g.B.Eeprom.chip c.args.bench.now) (g.B.Eeprom.chip c.carry_out.new.bench) (taken-committed m (form g w))
     (c.carry_out.ensures.performs next (at-taken g w m at))))
 
@@ -154,6 +156,30 @@ pub returns-in-Whole-clause-lowered : goal.returns-in-Whole-clause-lowered
 returns-in-Whole-clause-lowered g c = λ m at.
     let w = (goal.at.returns-in-Whole-clause-lowered g c).After-take in
     let next = taken_at m (form g w) in
-    let is = steps g w m at ∙ ap (answered next) (outcome-whole next (form g w) c.in-Whole.command (sym c.in-Whole.is ∙ c.take.ensures.taken)) in
+    let is = steps g w m at ∙ ap (answered next) (outcome-whole next (form g w) c.take.new.command (c.take.ensures.whole c.in-Whole.is)) in
     subst (λ (answer : Answer). OnOk c.carry_out.result (LeavesFirstOfTwo answer (g.B.Eeprom.chip c.args.bench.now) (g.B.Eeprom.chip c.carry_out.new.bench))) (sym is)
     (c.carry_out.ensures.lowered next (at-taken g w m at))
+
+-- What is read, by what was taken.
+forms : (g : _) (c : After-take g) (m : Machine) → IsAt c.args.self.now (g.B.Eeprom.chip c.args.bench.now) m
+    → form_of built_operations c.args.command.now (open_channels m) (command_chain m) m.committed.limit ≡ form g c
+forms g c m at =
+    form-card c.args.self.now (g.B.Eeprom.chip c.args.bench.now) m c.args.command.now c.open_channels-channels.result c.self.inside.sessions c.self.inside.chains (min c.row_limit.result 1020) at
+    c.open_channels-channels.ensures (ap (λ (kept : Kept). kept.sessions) (sym c.self.view_is)) (rows c.row_limit.result _ c.row_limit.ensures.most (c.row_limit.ensures.limit ∙ ap (λ (kept : Kept). kept.store.row_limit) c.self.view_is))
+
+pub returns-in-Refused-clause-octets_read : goal.returns-in-Refused-clause-octets_read
+returns-in-Refused-clause-octets_read g c = λ m at.
+    let w = (goal.at.returns-in-Refused-clause-octets_read g c).After-take in
+    reads-untaken m c.args.command.now _ _ (form g w) (forms g w m at) (refused-untaken (form g w) c.in-Refused.word (sym c.in-Refused.is ∙ c.take.ensures.taken))
+
+pub returns-in-Kept-clause-octets_read : goal.returns-in-Kept-clause-octets_read
+returns-in-Kept-clause-octets_read g c = λ m at.
+    let w = (goal.at.returns-in-Kept-clause-octets_read g c).After-take in
+    reads-untaken m c.args.command.now _ _ (form g w) (forms g w m at) (kept-untaken (form g w) (sym c.in-Kept.is ∙ c.take.ensures.taken))
+
+pub returns-in-Whole-clause-octets_read : goal.returns-in-Whole-clause-octets_read
+returns-in-Whole-clause-octets_read g c = λ m at.
+    let w = (goal.at.returns-in-Whole-clause-octets_read g c).After-take in
+    let named = named-taken c.args.command.now c.open_channels-channels.result (chain_on c.self.inside.chains) (min c.row_limit.result 1020) in
+    on-then c.carry_out.result (λ reads. reads-taken m c.args.command.now _ _ (form g w) c.take.new.command (forms g w m at) (c.take.ensures.whole c.in-Whole.is) named reads)
+    (c.carry_out.ensures.octets_read (taken_at m (form g w)) (at-taken g w m at))

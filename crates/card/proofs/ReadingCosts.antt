@@ -1,0 +1,175 @@
+-- What a reading command reads, from what its parts read.
+use Rattle.std.proofs.Common.{◌≡◌, ◌≤◌, ◌==◌, ◌+◌, ◌*◌, ℕ, true, false, List, [], ◌∷◌, length, take, drop, Option, Some, Result, Ok, Err, if◌then◌else◌, refl, sym, ap, subst, ◌∙◌, arith, inl, inr}
+use Rattle.std.specs.Prelude.{IfOk, IfSome, OnOk}
+use Rattle.std.proofs.lemmas.Bool.{cases_Bool, false≢true}
+use Rattle.std.proofs.lemmas.List.{length-append, take-append-drop}
+use Rattle.std.proofs.lemmas.Option.{same_Some}
+use Rattle.eeprom.specs.Chip.{Becomes, Chip, RisesAtMost}
+use Rattle.eeprom.specs.StoreOf.{cell_size}
+use Rattle.eeprom.specs.declared.fault.EepromFault.{EepromFault}
+use Rattle.record_store.specs.Held.{Held}
+use Rattle.record_store.specs.declared.side.Side.{Side}
+use Rattle.scql_base.specs.Words.{conditions_not_satisfied, done}
+use Rattle.scql_base.specs.declared.cursor.Cursor.{Cursor}
+use Rattle.scql_base.specs.declared.operation.Command.{Command}
+use Rattle.scql_base.specs.declared.operation.Operation.{Operation}
+use Rattle.scql_base.specs.declared.operation.Operation.TheVariants as asks
+use Rattle.scql_base.specs.declared.words.Actor.{Actor}
+use Rattle.scql_base.specs.declared.words.StatusWord.{StatusWord}
+use Rattle.scql_base.proofs.RowOctets.{row_size-spelled}
+use Rattle.scql_model.specs.Accepting.{channel_named}
+use Rattle.scql_model.specs.Database.{Database}
+use Rattle.scql_model.specs.Form.{Form, a_command, form_of}
+use Rattle.scql_model.specs.Machine.{Machine, Reading, actor, base, open_channels}
+use Rattle.scql_model.specs.Matching.{Values}
+use Rattle.scql_model.specs.Moves.{move_of}
+use Rattle.scql_model.specs.Operations.{built_operations, kind_of}
+use Rattle.scql_model.specs.ReadBound.{IsOnTableOrView, RisesAtLeast, octets_for_operation, octets_for_reading}
+use Rattle.scql_model.specs.ReadingCommands.{Move, ReadingCommand, declare, open_cursor, next, get_response, or_stays, reading_command, row_octets}
+use Rattle.scql_model.specs.Sessions.{changing_session, command_chain, reading_of, without_chain}
+use Rattle.scql_model.specs.Step.{reading_done}
+use Rattle.scql_model.specs.Transactions.{is_kept_waiting, waits}
+use Rattle.scql_model.proofs.FormedParts.{read_on}
+use Rattle.scql_model.proofs.ReadingSteps.{ended-actor, ended-reading}
+use Rattle.catalog_codec.specs.Catalog.{grant_kind, object_kind, user_kind}
+use Rattle.catalog_codec.specs.CatalogLaws.{HaveOtherMarks-row-grant, HaveOtherMarks-row-object, HaveOtherMarks-row-user}
+use Rattle.privilege_table.proofs.Seen.{told-held}
+use Rattle.record_table.specs.Listed.{cells_marked, slots_of}
+use Rattle.record_table.specs.Making.{IsHeld}
+use Rattle.cursor.specs.Costs.{RisesBetween, least_read}
+use Rattle.cursor.specs.Moved.{refuses}
+use Rattle.apdu_chain.specs.declared.chains.Taken.TheVariants as taken
+use Rattle.apdu_chain.specs.Chaining.{taken_of}
+use Rattle.db_read.specs.Answered.{given}
+use Rattle.db_read.proofs.HeldCosts.{catalogue-held}
+use Rattle.card.specs.ReadCosts.{GoesWithin, ReadsAsked, ReadsFor, ReadsOctets, ReadsOn, ReadsWithin, asks_for_row, goes_over_rows, row_answered, size_given}
+use Rattle.card.specs.Reading.{is_going, is_reading}
+use Rattle.card.proofs.FreeCommands.{carried_out-reads, carried_out-waits}
+use Rattle.card.proofs.ReadingMoves.{given-word, stays-answered}
+use Rattle.card.proofs.TakenForms.{taken_at}
+
+pub on-then : {P Q : Type 0} (r : Result StatusWord EepromFault) → (P → Q) → OnOk r P → OnOk r Q
+on-then (Ok word) then' holds = then' holds
+on-then (Err fault) then' holds = tt
+
+pub rises-more : (few most : ℕ) (a b : Option ℕ) → few ≤ most → Becomes (RisesAtMost few) a b → Becomes (RisesAtMost most) a b
+rises-more few most a b le rises = λ after told. (let r = rises after told in (r.0, r.1, omega (arith, le, r.2)))
+
+module _ (store : Held) (side : Side) (chip : Chip) (db : Database) (held : IsHeld store side chip db) where
+  -- the search of GET RESPONSE for its object, and twice the grants on it
+  pub asked-read : (actor : Actor) (cursor : Option Cursor) (le : ℕ) (a b : Option ℕ)
+      → IfSome (slots_of store side chip) (λ slots. Becomes (RisesAtMost (cell_size * cells_marked object_kind slots + 2 * (cell_size * cells_marked grant_kind slots))) a b)
+      → Becomes (RisesAtMost (octets_for_operation db actor cursor (get_response le))) a b
+  asked-read actor cursor le a b read =
+      let objects = catalogue-held object_kind held.slots db HaveOtherMarks-row-object held.holds in
+      let grants = catalogue-held grant_kind held.slots db HaveOtherMarks-row-grant held.holds in
+      rises-more (cell_size * cells_marked object_kind held.slots + 2 * (cell_size * cells_marked grant_kind held.slots)) (octets_for_operation db actor cursor (get_response le)) a b (omega (arith, objects, grants))
+      (told-held store side chip db (λ slots. Becomes (RisesAtMost (cell_size * cells_marked object_kind slots + 2 * (cell_size * cells_marked grant_kind slots))) a b) held read)
+
+  -- the search for the actor, and then an operation
+  pub acted-read : (actor : Actor) (reading : Reading) (command : ReadingCommand) (a b c : Option ℕ) → IfSome (slots_of store side chip) (λ slots. Becomes (RisesBetween 0 (cell_size * cells_marked user_kind slots)) a b)
+      → ReadsOctets (octets_for_operation db actor reading.cursor command) db actor reading command b c → ReadsOctets (octets_for_reading db actor reading.cursor command) db actor reading command a c
+  acted-read actor reading command a b c first reads =
+      let users = catalogue-held user_kind held.slots db HaveOtherMarks-row-user held.holds in
+      let searched = told-held store side chip db (λ slots. Becomes (RisesBetween 0 (cell_size * cells_marked user_kind slots)) a b) held first in
+      record {
+        within = λ on after told. (let r = reads.within on after told in let s = searched r.0 r.1 in (s.0, s.1, omega (arith, r.2, s.2.1, users)));
+        row = λ asked on after told. (let r = reads.row asked on after told in let s = searched r.0 r.1 in (s.0, s.1, omega (arith, r.2, s.2.0)));
+      }
+
+-- the same for the same actor and what was read before
+pub reads-there : (db : Database) (who actor : Actor) (reading before : Reading) (command : ReadingCommand) (a b : Option ℕ) → actor ≡ who → before ≡ reading
+    → ReadsOctets (octets_for_reading db who reading.cursor command) db who reading command a b → ReadsOctets (octets_for_reading db actor before.cursor command) db actor before command a b
+reads-there db who actor reading before command a b acts reads octets = rw (acts, reads) octets
+
+-- What is given of a row, and what is pending of it.
+size_given-le : (body pending : List ℕ) → size_given body pending ≤ length body + length pending
+size_given-le [] pending = omega arith
+size_given-le (octet ∷ body) pending = omega arith
+
+size-cut : (le : ℕ) (octets : List ℕ) → size_given (take le octets) (drop le octets) ≤ length octets
+size-cut le octets =
+    let most = size_given-le (take le octets) (drop le octets) in
+    let parts = length-append (take le octets) (drop le octets) in
+    let whole = ap length (take-append-drop le octets) in
+    omega (arith, most, parts, whole)
+
+-- a row that is given was handed out
+given-least : (le : ℕ) (word : StatusWord) (cursor : Option Cursor) (values : Values) (old : List ℕ) → row_answered (or_stays (record { cursor = cursor; pending = old }) (given le word cursor values)) ≤ least_read word values
+given-least le word cursor values old =
+    elim (cases_Bool (word.word == done.word)) [
+      | inl t ↦ (let most = size-cut le (row_octets values) in let size = row_size-spelled values in rw t (omega (arith, most, size)))
+      | inr f ↦ (let none = ap (λ (r : Result (Move Reading) StatusWord). row_answered (or_stays (record { cursor = cursor; pending = old }) r)) (given-word le word cursor values f)
+          ∙ ap row_answered (stays-answered word cursor old (if refuses word then old else []) refl) in
+          omega (arith, none))
+    ]
+
+-- so what a move answers of it was read
+pub row-read : (db : Database) (actor : Actor) (reading : Reading) (command : ReadingCommand) (le : ℕ) (word : StatusWord) (cursor : Option Cursor) (values : Values) (move : Move Reading) (a b : Option ℕ)
+    → move_of db actor reading command ≡ move → or_stays (record { cursor = cursor; pending = reading.pending }) (given le word cursor values) ≡ move → Becomes (RisesAtLeast (least_read word values)) a b
+    → Becomes (RisesAtLeast (row_answered (move_of db actor reading command))) a b
+row-read db actor reading command le word cursor values move a b moves gives read = λ after told.
+    let r = read after told in
+    let least = given-least le word cursor values reading.pending in
+    let same = ap row_answered (moves ∙ sym gives) in
+    (r.0, r.1, omega (arith, same, least, r.2))
+
+-- a command that is another one asks for no row where that one doesn't
+other : (x command : ReadingCommand) → Some x ≡ Some command → asks_for_row x ≡ false → asks_for_row command ≡ true → ⊥
+other x command is none asked = false≢true (sym none ∙ (ap asks_for_row (same_Some x command is) ∙ asked))
+
+-- What moves a cursor and gives no octets is one command, whatever its Le is,
+pub goes-within : (db : Database) (actor : Actor) (operation : Operation) (r : Result StatusWord EepromFault) (cursor : Option Cursor) (command : ReadingCommand) (a b : Option ℕ)
+    → ((le : Option ℕ) (other : ReadingCommand) → reading_command operation le ≡ Some other → command ≡ other)
+    → ((goes_over_rows command ≡ true → IfSome cursor (IsOnTableOrView db)) → IfOk r (λ _. Becomes (RisesAtMost (octets_for_operation db actor cursor command)) a b)) → OnOk r (GoesWithin db actor operation cursor a b)
+goes-within db actor operation (Ok word) cursor command a b each reads = λ le other is.
+    subst (λ (command : ReadingCommand). ReadsWithin (octets_for_operation db actor cursor command) db cursor command a b) (each le other is) reads
+goes-within db actor operation (Err fault) cursor command a b each reads = tt
+
+-- and asks for no row
+pub asks-none : (operation : Operation) (le : Option ℕ) (command : ReadingCommand) → is_going (kind_of operation) ≡ true → reading_command operation le ≡ Some command → asks_for_row command ≡ true → ⊥
+asks-none (asks.DeclareCursor object columns conditions) le command goes is = other (declare object columns conditions) command is refl
+asks-none asks.OpenCursor le command goes is = other open_cursor command is refl
+asks-none asks.Next le command goes is = other next command is refl
+asks-none operation le command goes is = absurd cc
+
+-- What doesn't read is no reading command.
+pub reads-none : (operation : Operation) (le : Option ℕ) (command : ReadingCommand) → is_reading (kind_of operation) ≡ false → reading_command operation le ≡ Some command → ⊥
+reads-none (asks.DeclareCursor object columns conditions) le command none is = absurd cc
+reads-none asks.OpenCursor le command none is = absurd cc
+reads-none asks.Next le command none is = absurd cc
+reads-none asks.Fetch le command none is = absurd cc
+reads-none asks.FetchNext le command none is = absurd cc
+reads-none asks.GetResponse le command none is = absurd cc
+reads-none operation le command none is = absurd cc
+
+-- and what reads waits for no transaction
+pub waits-none : (m : Machine) (c : Command) (command : ReadingCommand) → is_kept_waiting (waits (kind_of c.operation)) m.transaction c.channel ≡ true → reading_command c.operation c.le ≡ Some command → ⊥
+waits-none m c command kept is =
+    let wrong : Ok (reading_done m c.channel command) ≡ Err conditions_not_satisfied = sym (carried_out-reads m c command is) ∙ carried_out-waits m c kept in
+    absurd cc
+
+-- What was taken, once octets were read.
+module _ (m : Machine) (octets : List ℕ) (a b : Option ℕ) where
+  -- what isn't a command reads nothing
+  pub reads-untaken : (form : Form) → form_of built_operations octets (open_channels m) (command_chain m) m.committed.limit ≡ form → ((c : Command) → form ≡ a_command c → ⊥) → ReadsAsked m octets a b
+  reads-untaken form is none = λ command are. absurd (none are.command (sym is ∙ are.read))
+
+  -- a command reads what it does where its channel has no parts of one
+  pub reads-taken : (form : Form) (c : Command) → form_of built_operations octets (open_channels m) (command_chain m) m.committed.limit ≡ form → form ≡ a_command c → IfSome (read_on form) (λ channel. channel ≡ channel_named octets)
+      → ReadsFor (taken_at m form) c a b → ReadsAsked m octets a b
+  reads-taken form c is whole named reads = λ command are.
+      let same : a_command c ≡ a_command are.command = sym whole ∙ (sym is ∙ are.read) in
+      let one : c ≡ are.command = cc in
+      let on : c.channel ≡ channel_named octets = subst (λ (form : Form). IfSome (read_on form) (λ channel. channel ≡ channel_named octets)) whole named in
+      let asks_so : reading_command c.operation c.le ≡ Some command = subst (λ (x : Command). reading_command x.operation x.le ≡ Some command) (sym one) are.is in
+      let there = subst (λ (form : Form). ReadsFor (taken_at m form) c a b) whole reads in
+      subst (λ (channel : ℕ). ReadsOn m channel command a b) on
+      (reads-there (base m c.channel) (actor (changing_session without_chain m c.channel) c.channel) (actor m c.channel) (reading_of (changing_session without_chain m c.channel) c.channel) (reading_of m c.channel) command a b
+      (sym (ended-actor m c.channel)) (sym (ended-reading m c.channel)) (there command asks_so))
+
+pub refused-untaken : (form : Form) (word : StatusWord) → taken.Refused word ≡ taken_of form → (c : Command) → form ≡ a_command c → ⊥
+refused-untaken form word is c same = let wrong : taken.Refused word ≡ taken.Whole = is ∙ ap taken_of same in absurd cc
+
+pub kept-untaken : (form : Form) → taken.Kept ≡ taken_of form → (c : Command) → form ≡ a_command c → ⊥
+kept-untaken form is c same = let wrong : taken.Kept ≡ taken.Whole = is ∙ ap taken_of same in absurd cc
