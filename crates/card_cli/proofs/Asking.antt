@@ -1,5 +1,5 @@
--- What the words ask for: a run over lines, or a migration.
-use Rattle.std.proofs.Common.{◌≡◌, inl, inr, ℕ, ◌≤◌, List, [], ◌∷◌, Option, Some, None, true, subst, ◌∙◌, arith}
+-- What the words ask for: a run over lines, a check, or a migration.
+use Rattle.std.proofs.Common.{◌≡◌, inl, inr, ℕ, ◌≤◌, List, [], ◌∷◌, Option, Some, None, true, false, sym, subst, ◌∙◌, arith}
 use Rattle.std.specs.Prelude.{◌||◌, nat_lt, IfSome, option_map, option_and_then, codes}
 use Rattle.std.specs.Str.{bytes_eq}
 use Rattle.std.proofs.lemmas.Bool.{cases_Bool, false≢true}
@@ -9,12 +9,12 @@ use Rattle.eeprom.specs.Chip.{Chip}
 use Rattle.eeprom.specs.Fault.{Rose}
 use Rattle.scql_model.specs.Database.{Database}
 use Rattle.card_cli.specs.declared.status.Status.{Status}
-use Rattle.card_cli.specs.declared.status.Status.TheVariants.{Done, Eeprom, ReadFault, WriteFault, TooLong}
+use Rattle.card_cli.specs.declared.status.Status.TheVariants.{Done, Refused, Eeprom, ReadFault, WriteFault, TooLong}
 use Rattle.card_cli.specs.declared.words.Form.{Form}
-use Rattle.card_cli.specs.declared.words.Form.TheVariants.{New, Migrate}
+use Rattle.card_cli.specs.declared.words.Form.TheVariants.{New}
 use Rattle.card_cli.specs.Beginning.{BeginsWith}
 use Rattle.card_cli.specs.Ends.{AllFaults, EndsBy, ends_opening, has_opened}
-use Rattle.card_cli.specs.Words.{decimal_in, form_in, in_limits, reads_lines, IsWithinLimits}
+use Rattle.card_cli.specs.Words.{decimal_in, form_in, in_limits, load_asked, answers_commands, IsWithinLimits}
 
 -- A card that is to be made has as many cells as one may have.
 limits-decimal : (number : Option ℕ) → IfSome (option_map New (option_and_then in_limits number)) IsWithinLimits
@@ -27,25 +27,38 @@ limits-decimal (Some n) = elim (cases_Bool (nat_lt n fewest_cells || nat_lt most
       rw inside (few, many)
 ]
 
+-- and of a load nothing is asked
+limits-load : (rows seed : Option ℕ) → IfSome (load_asked rows seed) IsWithinLimits
+limits-load None seed = tt
+limits-load (Some rows) None = tt
+limits-load (Some rows) (Some seed) = elim (cases_Bool (nat_lt 1000 rows || nat_lt 65535 seed)) [ inl outside ↦ rw outside tt | inr inside ↦ rw inside tt ]
+
 limits-found : (words : List (List ℕ)) → IfSome (form_in words) IsWithinLimits
 limits-found [] = tt
 limits-found (word ∷ []) = elim (cases_Bool (bytes_eq word (codes "apdu"))) [
   | inl apdu ↦ rw apdu tt
-  | inr other ↦ elim (cases_Bool (bytes_eq word (codes "migrate"))) [ inl migrate ↦ rw (other, migrate) tt | inr none ↦ rw (other, none) tt ]
+  | inr other ↦ elim (cases_Bool (bytes_eq word (codes "term"))) [
+    | inl term ↦ rw (other, term) tt
+    | inr third ↦ elim (cases_Bool (bytes_eq word (codes "check"))) [
+      | inl check ↦ rw (other, third, check) tt
+      | inr fourth ↦ elim (cases_Bool (bytes_eq word (codes "migrate"))) [ inl migrate ↦ rw (other, third, fourth, migrate) tt | inr none ↦ rw (other, third, fourth, none) tt ]
+    ]
+  ]
 ]
 limits-found (word ∷ digits ∷ []) = elim (cases_Bool (bytes_eq word (codes "new"))) [ inl new ↦ rw new (limits-decimal (decimal_in digits)) | inr none ↦ rw none tt ]
-limits-found (word ∷ digits ∷ more ∷ words) = tt
+limits-found (word ∷ rows ∷ seed ∷ []) = elim (cases_Bool (bytes_eq word (codes "load"))) [ inl load ↦ rw load (limits-load (decimal_in rows) (decimal_in seed)) | inr none ↦ rw none tt ]
+limits-found (word ∷ digits ∷ more ∷ another ∷ words) = tt
 
 pub limits-asked : (words : List (List ℕ)) (form : Form) → form_in words ≡ Some form → IsWithinLimits form
 limits-asked words form is = subst (λ (o : Option Form). IfSome o IsWithinLimits) is (limits-found words)
 
--- a migration reads no lines
-pub no_lines : (form : Form) → form ≡ Migrate → reads_lines form ≡ true → ⊥
-no_lines form migrates reads = false≢true (subst (λ (f : Form). reads_lines f ≡ true) migrates reads)
+-- a migration answers no commands, and neither does a terminal
+pub no_lines : (form other : Form) → form ≡ other → answers_commands other ≡ false → answers_commands form ≡ true → ⊥
+no_lines form other is none reads = false≢true (sym none ∙ subst (λ (f : Form). answers_commands f ≡ true) is reads)
 
 -- and so it is no run that begins with lines
-pub no_run : (words : List (List ℕ)) (form : Form) (chip : Chip) (db : Database) → Some form ≡ form_in words → form ≡ Migrate → BeginsWith words chip db → ⊥
-no_run words form chip db is migrates begins = let same : begins.form ≡ form = cc (is, begins.asked) in no_lines begins.form (same ∙ migrates) begins.reads
+pub no_run : (words : List (List ℕ)) (form other : Form) (chip : Chip) (db : Database) → Some form ≡ form_in words → form ≡ other → answers_commands other ≡ false → BeginsWith words chip db → ⊥
+no_run words form other chip db is same none begins = let first : begins.form ≡ form = cc (is, begins.asked) in no_lines begins.form other (first ∙ same) none begins.reads
 
 -- a run that an EEPROM ends has its count risen
 pub eeprom-rose : (status : Status) (was now : AllFaults) → status ≡ Eeprom → EndsBy status was now → Rose was.eeprom now.eeprom
@@ -54,6 +67,7 @@ eeprom-rose status was now is ends = let rose : EndsBy Eeprom was now = subst (�
 -- a run whose card wasn't opened isn't one that only an opened card has
 pub unopened : (status : Status) → ends_opening status ≡ true → has_opened status ≡ true → ⊥
 unopened Done opening opened = false≢true opening
+unopened Refused opening opened = false≢true opening
 unopened TooLong opening opened = false≢true opening
 unopened ReadFault opening opened = false≢true opening
 unopened WriteFault opening opened = false≢true opening

@@ -83,7 +83,10 @@ cells-new (Ok x) old new form n is many made = λ now told. of old.image made no
 -- one that is there has its own
 pub cells-there : (form : Form) (image : Option (List ℕ)) → IsThere form → Becomes (λ was now. own_cells now ≡ run_cells form was) image image
 cells-there form image (inl is) = λ now told. (now, told, subst (λ (f : Form). own_cells now ≡ run_cells f now) (sym is) refl)
-cells-there form image (inr is) = λ now told. (now, told, subst (λ (f : Form). own_cells now ≡ run_cells f now) (sym is) refl)
+cells-there form image (inr (inl is)) = λ now told. (now, told, subst (λ (f : Form). own_cells now ≡ run_cells f now) (sym is) refl)
+cells-there form image (inr (inr (inl is))) = λ now told. (now, told, subst (λ (f : Form). own_cells now ≡ run_cells f now) (sym is) refl)
+cells-there form image (inr (inr (inr (inl is)))) = λ now told. (now, told, subst (λ (f : Form). own_cells now ≡ run_cells f now) (sym is) refl)
+cells-there form image (inr (inr (inr (inr is)))) = λ now told. (now, told, subst (λ (f : Form). own_cells now ≡ run_cells f now) (sym is.2) refl)
 
 -- a card is over an image that says how many cells it has
 cells-ready : (card : Kept) (chip : Chip) → IsReady card chip → (image : List ℕ) → chip.image ≡ Some image → own_cells image ≡ card.store.chains.cells

@@ -1,11 +1,11 @@
 -- How the run of a card ends that was opened.
-use Rattle.std.proofs.Common.{◌≡◌, ◌⊎◌, ℕ, ◌<◌, ◌≤◌, true, false, List, [], length, take, slice_index, get_or, get_or-take, Option, Some, None, refl, sym, ap, subst, ◌∙◌, arith, inl, inr}
+use Rattle.std.proofs.Common.{◌≡◌, ◌⊎◌, ℕ, ◌<◌, ◌≤◌, Bool, true, false, List, [], length, take, slice_index, get_or, get_or-take, Option, Some, None, refl, sym, ap, subst, ◌∙◌, arith, inl, inr}
 use Rattle.std.specs.Prelude.{IsSome, IfSome}
 use Rattle.std.proofs.lemmas.Bool.{false≢true}
 use Rattle.eeprom.specs.Chip.{Chip, Still, Becomes}
 use Rattle.scql_model.specs.Database.{Database, IsValid, fresh}
 use Rattle.scql_model.specs.Machine.{start}
-use Rattle.scql_model.specs.Lines.{Language, lines, run_text}
+use Rattle.scql_model.specs.Lines.{Language, lines, run_text, state_after}
 use Rattle.scql_model.proofs.FreshCard.{IsValid-fresh}
 use Rattle.scql_model.specs.Opens.{Opens}
 use Rattle.eeprom.specs.StoreOf.{store_of, is_gate_open, number_at}
@@ -24,14 +24,14 @@ use Rattle.card_cli.specs.declared.words.Form.TheVariants.{New}
 use Rattle.card_cli.specs.Beginning.{IsOpenTo, Begins, BeginsWith, LacksCard, LeavesUntilOpen}
 use Rattle.card_cli.specs.Words.{IsWithinLimits}
 use Rattle.card_cli.specs.declared.status.Status.{Status}
-use Rattle.card_cli.specs.declared.status.Status.TheVariants.{Done, Eeprom, ReadFault, WriteFault, NoMemory, TooLong}
+use Rattle.card_cli.specs.declared.status.Status.TheVariants.{Done, Refused, Eeprom, ReadFault, WriteFault, NoMemory, TooLong}
 use Rattle.card_cli.specs.declared.stop.FailedDevice.{FailedDevice}
 use Rattle.card_cli.specs.declared.stop.FailedDevice.TheVariants as stop
 use Rattle.card_cli.specs.StatusNumber.{status_of}
 use Rattle.card_cli.specs.RunState.{Prints}
-use Rattle.card_cli.specs.Ends.{AllFaults, EndsBy, ends_input, ends_opening, longest_input}
+use Rattle.card_cli.specs.Ends.{AllFaults, EndsBy, ends_as, ends_input, ends_opening, longest_input, reads_all}
 use Rattle.card_cli.specs.Extent.{Extent, to_end, stopped_in, EndsAt, Runs, RunsInput}
-use Rattle.card_cli.specs.Run.{IsQuiet, AnswersAll, RunsLines}
+use Rattle.card_cli.specs.Run.{IsQuiet, AnswersAll, RunsLines, TellsRefusals}
 use Rattle.card_cli.proofs.Asking.{eeprom-rose, limits-asked, unopened}
 
 -- the card that was opened is at the start of the database to which its EEPROM opens
@@ -76,65 +76,78 @@ becomes-at P start now input left from to becomes =
     let same : b.0 ≡ input = cc (b.1, from) in
     subst (λ (i : List ℕ). P i left) same b.2
 
-not_done : (stop : FailedDevice) → Done ≡ status_of stop → ⊥
-not_done stop.Eeprom is = absurd cc
-not_done stop.Outlet is = absurd cc
-not_done stop.Both is = absurd cc
+not_done : (status : Status) (stop : FailedDevice) → reads_all status ≡ true → status ≡ status_of stop → ⊥
+not_done status stop.Eeprom whole is = false≢true (subst (λ (s : Status). reads_all s ≡ true) is whole)
+not_done status stop.Outlet whole is = false≢true (subst (λ (s : Status). reads_all s ≡ true) is whole)
+not_done status stop.Both whole is = false≢true (subst (λ (s : Status). reads_all s ≡ true) is whole)
 
 -- a run that is done came to the end of its lines
-said-done : {S : Type 0} (L : Language S) (state : S) (taken : List (List ℕ)) (extent : Extent) (from to : ℕ) (old new : Chip) → EndsAt extent Done from to → Runs L state taken extent old new
+said-done : {S : Type 0} (L : Language S) (state : S) (status : Status) (taken : List (List ℕ)) (extent : Extent) (from to : ℕ) (old new : Chip) → reads_all status ≡ true → EndsAt extent status from to → Runs L state taken extent old new
     → Prints (run_text L state taken) old.still.given new.still.given
-said-done L state taken to_end from to old new ends runs = subst (λ (said : List ℕ). Prints said old.still.given new.still.given) runs.text.1 runs.text.2
-said-done L state taken (stopped_in stop.Eeprom answered line) from to old new ends runs = absurd (not_done stop.Eeprom ends.0)
-said-done L state taken (stopped_in stop.Outlet answered line) from to old new ends runs = absurd (not_done stop.Outlet ends.0)
-said-done L state taken (stopped_in stop.Both answered line) from to old new ends runs = absurd (not_done stop.Both ends.0)
+said-done L state status taken to_end from to old new whole ends runs = subst (λ (said : List ℕ). Prints said old.still.given new.still.given) runs.text.1 runs.text.2
+said-done L state status taken (stopped_in stop.Eeprom answered line) from to old new whole ends runs = absurd (not_done status stop.Eeprom whole ends.0)
+said-done L state status taken (stopped_in stop.Outlet answered line) from to old new whole ends runs = absurd (not_done status stop.Outlet whole ends.0)
+said-done L state status taken (stopped_in stop.Both answered line) from to old new whole ends runs = absurd (not_done status stop.Both whole ends.0)
+
+-- and said the text of its whole input
+said-whole : {S : Type 0} (L : Language S) (state : S) (status : Status) (was now : AllFaults) (input left : List ℕ) (before old new : Chip) → before.still ≡ old.still → reads_all status ≡ true
+    → (ran : RunsInput L state status was.eeprom now.eeprom input left before new) → ran.taken ≡ lines input true → Prints (run_text L state (lines input true)) old.still.given new.still.given
+said-whole L state status was now input left before old new still whole ran taken_is =
+    subst (λ (s : Still). Prints (run_text L state (lines input true)) s.given new.still.given) still
+    (subst (λ (taken : List (List ℕ)). Prints (run_text L state taken) before.still.given new.still.given) taken_is
+    (said-done L state status ran.taken ran.extent was.eeprom now.eeprom before new whole ran.ends ran.runs))
 
 -- and so, without a fault, it answers all of its input
-answers_all : {S : Type 0} (L : Language S) (state : S) (status : Status) (was now : AllFaults) (input left : List ℕ) (before old new : Chip) → before.still ≡ old.still → ends_input status ≡ true → EndsBy status was now → IsQuiet was now
-    → length input ≤ longest_input → (status ≡ TooLong → longest_input < length input) → RunsInput L state status was.eeprom now.eeprom input left before new
-    → AnswersAll status (run_text L state (lines input true)) old.still.given new.still.given
-answers_all L state Done was now input left before old new still over ends quiet short long ran =
-    inl (
-      refl,
-      subst (λ (s : Still). Prints (run_text L state (lines input true)) s.given new.still.given) still
-          (subst (λ (taken : List (List ℕ)). Prints (run_text L state taken) before.still.given new.still.given) ran.are_taken
-          (said-done L state ran.taken ran.extent was.eeprom now.eeprom before new ran.ends ran.runs)),
-    )
-answers_all L state TooLong was now input left before old new still over ends quiet short long ran = absurd (omega (arith, long refl, short))
-answers_all L state Eeprom was now input left before old new still over ends quiet short long ran = absurd (quiet.eeprom ends.0)
-answers_all L state ReadFault was now input left before old new still over ends quiet short long ran = absurd (quiet.source ends.0)
-answers_all L state WriteFault was now input left before old new still over ends quiet short long ran = absurd (quiet.outlet ends.0)
-answers_all L state status was now input left before old new still over ends quiet short long ran = absurd cc
+answers_all : {S : Type 0} (L : Language S) (refused : S → Bool) (state : S) (status : Status) (was now : AllFaults) (input left : List ℕ) (before old new : Chip) → before.still ≡ old.still → ends_input status ≡ true → EndsBy status was now → IsQuiet was now
+    → length input ≤ longest_input → (status ≡ TooLong → longest_input < length input) → (reads_all status ≡ true → status ≡ ends_as (refused (state_after L state (lines input true))))
+    → RunsInput L state status was.eeprom now.eeprom input left before new → AnswersAll (ends_as (refused (state_after L state (lines input true)))) status (run_text L state (lines input true)) old.still.given new.still.given
+answers_all L refused state Done was now input left before old new still over ends quiet short long closes ran = inl (closes refl, said-whole L state Done was now input left before old new still refl ran ran.are_taken)
+answers_all L refused state Refused was now input left before old new still over ends quiet short long closes ran = inl (closes refl, said-whole L state Refused was now input left before old new still refl ran ran.are_taken)
+answers_all L refused state TooLong was now input left before old new still over ends quiet short long closes ran = absurd (omega (arith, long refl, short))
+answers_all L refused state Eeprom was now input left before old new still over ends quiet short long closes ran = absurd (quiet.eeprom ends.0)
+answers_all L refused state ReadFault was now input left before old new still over ends quiet short long closes ran = absurd (quiet.source ends.0)
+answers_all L refused state WriteFault was now input left before old new still over ends quiet short long closes ran = absurd (quiet.outlet ends.0)
+answers_all L refused state status was now input left before old new still over ends quiet short long closes ran = absurd cc
+
+-- a run whose card wasn't opened read nothing
+not_whole : (status : Status) → ends_opening status ≡ true → reads_all status ≡ true → ⊥
+not_whole Done opening all = false≢true opening
+not_whole Refused opening all = false≢true opening
+not_whole status opening all = false≢true all
 
 -- What a run over lines owes whose card wasn't opened,
-pub Lines-unopened : {S T : Type 0} (L : Language S) (first : Database → S) (form : Form) (status : Status) (source : T) (start end : Option (List ℕ)) (old new : Chip) (was now : AllFaults) → ends_opening status ≡ true
+pub Lines-unopened : {S T : Type 0} (L : Language S) (refused : S → Bool) (first : Database → S) (form : Form) (status : Status) (source : T) (start end : Option (List ℕ)) (old new : Chip) (was now : AllFaults) → ends_opening status ≡ true
     → ((db : Database) → Begins form old db → (status ≡ NoMemory) ⊎ (status ≡ Eeprom)) → EndsBy status was now → new.still ≡ old.still → LeavesUntilOpen form old new
-    → RunsLines L first form status source source start end old new was now
-Lines-unopened L first form status source start end old new was now opening stopped ends still leaves =
+    → RunsLines L refused first form status source source start end old new was now
+Lines-unopened L refused first form status source start end old new was now opening stopped ends still leaves =
     record {
       begins = λ opened told. absurd (unopened status opening opened);
-      done = λ is. absurd (false≢true (subst (λ (s : Status). ends_opening s ≡ true) is opening));
+      whole = λ all. absurd (not_whole status opening all);
       too_long = λ is. absurd (false≢true (subst (λ (s : Status). ends_opening s ≡ true) is opening));
       text = λ db begins quiet input left from to short. elim (stopped db begins) [
         | inl none ↦ inr (none, ap (λ (s : Still). s.given) still)
         | inr failed ↦ absurd (quiet.eeprom (eeprom-rose status was now failed ends))
       ];
+      refusals = λ db begins all. absurd (not_whole status opening all);
       runs = λ db begins. inl (record { opening = opening; source = refl; given = ap (λ (s : Still). s.given) still; leaves = leaves });
     }
 
 -- and whose card was opened, and then asked
-pub Lines-opened : {S T : Type 0} (L : Language S) (first : Database → S) (form : Form) (status : Status) (source after : T) (start end : Option (List ℕ)) (old mid new : Chip) (was now : AllFaults) → ends_input status ≡ true
+pub Lines-opened : {S T : Type 0} (L : Language S) (refused : S → Bool) (first : Database → S) (form : Form) (status : Status) (source after : T) (start end : Option (List ℕ)) (old mid new : Chip) (was now : AllFaults) → ends_input status ≡ true
     → (IsSome old.image → (db : Database) × Begins form old db) → mid.still ≡ old.still → LeavesUntilOpen form old mid → ((db : Database) → Begins form old db → IfSome mid.image (λ image. Opens image db))
-    → (status ≡ Done → Becomes (λ input left. (left ≡ []) × (length input ≤ longest_input)) start end) → (status ≡ TooLong → Becomes (λ input left. longest_input < length input) start end) → EndsBy status was now
+    → (reads_all status ≡ true → Becomes (λ input left. (left ≡ []) × (length input ≤ longest_input)) start end) → (status ≡ TooLong → Becomes (λ input left. longest_input < length input) start end) → EndsBy status was now
+    → ((db : Database) → Begins form old db → TellsRefusals L refused (first db) status start end)
     → ((db : Database) → Begins form old db → Becomes (λ input left. RunsInput L (first db) status was.eeprom now.eeprom input left mid new) start end)
-    → RunsLines L first form status source after start end old new was now
-Lines-opened L first form status source after start end old mid new was now over begins still until opens done long ends runs =
+    → RunsLines L refused first form status source after start end old new was now
+Lines-opened L refused first form status source after start end old mid new was now over begins still until opens whole long ends tells runs =
     record {
       begins = λ opened told. begins told;
-      done = done;
+      whole = whole;
+      refusals = tells;
       too_long = long;
       text = λ db begins quiet input left from to short.
-          answers_all L (first db) status was now input left mid old new still over ends quiet short (λ is. becomes-at (λ (i l : List ℕ). longest_input < length i) start end input left from to (long is))
+          answers_all L refused (first db) status was now input left mid old new still over ends quiet short (λ is. becomes-at (λ (i l : List ℕ). longest_input < length i) start end input left from to (long is))
+          (λ all. becomes-at (λ (i l : List ℕ). status ≡ ends_as (refused (state_after L (first db) (lines i true)))) start end input left from to (tells db begins all))
           (becomes-at (λ (i l : List ℕ). RunsInput L (first db) status was.eeprom now.eeprom i l mid new) start end input left from to (runs db begins));
       runs = λ db begins. inr (λ left told.
           let last = runs db begins left told in
@@ -234,3 +247,10 @@ until_open form asked old mid new same keeps leaves = of_form asked (subst (λ (
     of_form : (asked : Form) → LeavesUntilOpen asked old mid → LeavesUntilOpen asked old new
     of_form (New n) made = made_then n old mid new made keeps
     of_form other first = keeps_then old mid new first keeps
+
+-- in a language without refusals a run that read all of its input is done
+pub never-tells : {S : Type 0} (L : Language S) (state : S) (status : Status) (start end : Option (List ℕ)) → (status ≡ Refused → ⊥)
+    → (reads_all status ≡ true → Becomes (λ input left. (left ≡ []) × (length input ≤ longest_input)) start end) → TellsRefusals L (λ m. false) state status start end
+never-tells L state Done start end never whole all = λ left told. let b = whole refl left told in (b.0, b.1, refl)
+never-tells L state Refused start end never whole all = absurd (never refl)
+never-tells L state status start end never whole all = absurd (false≢true all)

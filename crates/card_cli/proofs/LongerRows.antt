@@ -150,7 +150,7 @@ text-migrated old db migrates text opens by is =
 
 -- without a fault it said its text, or memory was missing
 pub text-quiet : (status : Status) (db : Database) (was now : AllFaults) (before : Option (List ℕ)) (new : Chip) → MigratesTo status was.eeprom now.eeprom db before new → EndsBy status was now → IsQuiet was now
-    → AnswersAll status (migrate_text db) before new.still.given
+    → AnswersAll Done status (migrate_text db) before new.still.given
 text-quiet Done db was now before new to ends quiet = inl (refl, to.0)
 text-quiet NoMemory db was now before new to ends quiet = inr (refl, to.0)
 text-quiet WriteFault db was now before new to ends quiet = absurd (quiet.outlet ends.0)

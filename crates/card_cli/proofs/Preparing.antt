@@ -6,7 +6,7 @@ use Rattle.eeprom.specs.StoreOf.{image_size}
 use Rattle.scql_model.specs.Database.{Database, fresh}
 use Rattle.scql_model.specs.Opens.{Opens}
 use Rattle.card_cli.specs.declared.words.Form.{Form}
-use Rattle.card_cli.specs.declared.words.Form.TheVariants.{New, Apdu, Migrate}
+use Rattle.card_cli.specs.declared.words.Form.TheVariants.{New, Apdu, Term, Check, Load, Migrate}
 use Rattle.card_cli.specs.Beginning.{IsOpenTo, Begins, LeavesUntilOpen}
 use Rattle.card_cli.proofs.Finishing.{keeps_same}
 
@@ -42,12 +42,18 @@ began-new (Ok x) too_small old new form n make is made small = λ db opens.
 
 -- a form whose card is to be there
 abbrev pub IsThere : Form → Type 0
-IsThere form = (form ≡ Apdu) ⊎ (form ≡ Migrate)
+IsThere form = (form ≡ Apdu) ⊎ ((form ≡ Term) ⊎ ((form ≡ Check) ⊎ ((form ≡ Migrate) ⊎ ((rows : ℕ) × (seed : ℕ) × (form ≡ Load rows seed)))))
 
 pub begins-there : (form : Form) (chip : Chip) (db : Database) → IsThere form → IsOpenTo chip db → Begins form chip db
 begins-there form chip db (inl is) opens = subst (λ (f : Form). Begins f chip db) (sym is) opens
-begins-there form chip db (inr is) opens = subst (λ (f : Form). Begins f chip db) (sym is) opens
+begins-there form chip db (inr (inl is)) opens = subst (λ (f : Form). Begins f chip db) (sym is) opens
+begins-there form chip db (inr (inr (inl is))) opens = subst (λ (f : Form). Begins f chip db) (sym is) opens
+begins-there form chip db (inr (inr (inr (inl is)))) opens = subst (λ (f : Form). Begins f chip db) (sym is) opens
+begins-there form chip db (inr (inr (inr (inr is)))) opens = subst (λ (f : Form). Begins f chip db) (sym is.2) opens
 
 pub leaves-there : (form : Form) (chip : Chip) → IsThere form → LeavesUntilOpen form chip chip
 leaves-there form chip (inl is) = subst (λ (f : Form). LeavesUntilOpen f chip chip) (sym is) (keeps_same chip)
-leaves-there form chip (inr is) = subst (λ (f : Form). LeavesUntilOpen f chip chip) (sym is) (keeps_same chip)
+leaves-there form chip (inr (inl is)) = subst (λ (f : Form). LeavesUntilOpen f chip chip) (sym is) (keeps_same chip)
+leaves-there form chip (inr (inr (inl is))) = subst (λ (f : Form). LeavesUntilOpen f chip chip) (sym is) (keeps_same chip)
+leaves-there form chip (inr (inr (inr (inl is)))) = subst (λ (f : Form). LeavesUntilOpen f chip chip) (sym is) (keeps_same chip)
+leaves-there form chip (inr (inr (inr (inr is)))) = subst (λ (f : Form). LeavesUntilOpen f chip chip) (sym is.2) (keeps_same chip)

@@ -1,5 +1,5 @@
 -- What was taken of the input goes on, and ends.
-use Rattle.std.proofs.Common.{◌≡◌, ℕ, ◌+◌, ◌-◌, ◌≤◌, true, false, List, [], ◌∷◌, ◌++◌, length, take, drop, Option, Some, Err, refl, sym, ap, subst, ◌∙◌, arith, append-nil, append_assoc, length-append, take-append-drop}
+use Rattle.std.proofs.Common.{◌≡◌, ℕ, ◌+◌, ◌-◌, ◌≤◌, Bool, true, false, List, [], ◌∷◌, ◌++◌, length, take, drop, Option, Some, Err, refl, sym, ap, subst, ◌∙◌, arith, append-nil, append_assoc, length-append, take-append-drop}
 use Rattle.std.proofs.lemmas.List.{length-take-le, take-append-le}
 use Rattle.std.proofs.Math.Seq.{take-append_seam}
 use Rattle.eeprom.specs.Input.{TakesPiece}
@@ -11,11 +11,11 @@ use Rattle.scql_model.specs.Heard.{IsLawful, committed_in}
 use Rattle.scql_model.specs.Opens.{Opens}
 use Rattle.card_cli.specs.declared.stop.FailedDevice.{FailedDevice}
 use Rattle.card_cli.specs.declared.stop.FailedDevice.TheVariants.{Eeprom, Outlet, Both}
-use Rattle.card_cli.specs.declared.status.Status.TheVariants.{Done, ReadFault, TooLong}
+use Rattle.card_cli.specs.declared.status.Status.TheVariants.{ReadFault, TooLong}
 use Rattle.card_cli.specs.StatusNumber.{status_of}
 use Rattle.card_cli.specs.Running.{Running, begun_effect, from_state, after, text_of, end_text, after_end}
 use Rattle.card_cli.specs.RunState.{Prints, RunState, IsOver, IsRunning, Feeds, Faults, Causes}
-use Rattle.card_cli.specs.Ends.{longest_input}
+use Rattle.card_cli.specs.Ends.{comes_to_its_end, ends_as, longest_input}
 use Rattle.card_cli.specs.Line.{is_empty_line}
 use Rattle.card_cli.specs.Moments.{IsInStopped, IsAtEnd, IfGiven}
 use Rattle.card_cli.specs.Extent.{AreKept, AreTaken, CountsAt, Runs, RunsInput, to_end, stopped_in}
@@ -89,13 +89,21 @@ taken_all L room piece old mid start before now so_far takes = λ left told.
     let is : first.0 ≡ taken = first.2.split ∙ (ap (λ (x : List ℕ). taken ++ x) (last.2.1 refl) ∙ append-nil taken) in
     (first.0, first.1, subst (λ (input : List ℕ). Feeds L input old mid) (sym is) first.2.feeds)
 
+comes-to-end : (refused : Bool) → comes_to_its_end (ends_as refused) ≡ true
+comes-to-end true = refl
+comes-to-end false = refl
+
+takes-all : (refused : Bool) (input left : List ℕ) → AreTaken (ends_as refused) input left (lines input true)
+takes-all true input left = refl
+takes-all false input left = refl
+
 -- the last line was answered
-pub ends-done : {S : Type 0} (L : Language S) (lawful : IsLawful L) (state : S) (from to : ℕ) (room : ℕ) (piece : List ℕ) (old mid new : RunState S) (start before now : Option (List ℕ)) → IsRunning old (from_state state)
+pub ends-done : {S : Type 0} (L : Language S) (lawful : IsLawful L) (state : S) (refused : Bool) (from to : ℕ) (room : ℕ) (piece : List ℕ) (old mid new : RunState S) (start before now : Option (List ℕ)) → IsRunning old (from_state state)
     → Becomes (HasTaken L room old mid) start before → TakesPiece 0 piece before now → IsOver L new.at new.chip → ((r : Running S) → IsRunning mid r → new.at (after_end L r).state)
     → ((r : Running S) → IsRunning mid r → Prints (end_text L r) mid.chip.still.given new.chip.still.given)
     → ((r : Running S) → IsRunning mid r → IfGiven new.chip (Throughout mid.chip new.chip (IsAtEnd L r mid.chip.still.mark)))
-    → Becomes (λ (input left : List ℕ). RunsInput L state Done from to input left old.chip new.chip) start now
-ends-done {S} L lawful state from to room piece old mid new start before now running so_far takes over at text last = λ left told.
+    → Becomes (λ (input left : List ℕ). RunsInput L state (ends_as refused) from to input left old.chip new.chip) start now
+ends-done {S} L lawful state refused from to room piece old mid new start before now running so_far takes over at text last = λ left told.
     let found = taken_all L room piece old mid start before now so_far takes left told in
     let input : List ℕ = found.0 in
     let r : Running S = after L (from_state state) input in
@@ -105,9 +113,9 @@ ends-done {S} L lawful state from to room piece old mid new start before now run
       found.1,
       record {
         taken = lines input true;
-        are_taken = refl;
+        are_taken = takes-all refused input left;
         extent = to_end;
-        ends = refl;
+        ends = comes-to-end refused;
         runs = Runs-ended L state (lines input true) old.chip new.chip
             (subst (λ (t : List ℕ). Prints t old.chip.still.given new.chip.still.given) (text_of-ended L state input)
             (Prints-then (text_of L (from_state state) input) (end_text L r) old.chip.still.given mid.chip.still.given new.chip.still.given follows.text printed))
@@ -115,6 +123,15 @@ ends-done {S} L lawful state from to room piece old mid new start before now run
             (λ given. kept-ended L lawful state input old.chip mid.chip new.chip (follows.passes (told-before (end_text L r) mid.chip.still.given new.chip.still.given printed given)) (last r follows.running given));
       },
     )
+
+-- and the run is at the state after all lines
+pub at-done : {S : Type 0} (L : Language S) (state : S) (room : ℕ) (piece : List ℕ) (old mid new : RunState S) (start before now : Option (List ℕ)) → IsRunning old (from_state state)
+    → Becomes (HasTaken L room old mid) start before → TakesPiece 0 piece before now → ((r : Running S) → IsRunning mid r → new.at (after_end L r).state)
+    → Becomes (λ (input left : List ℕ). new.at (state_after L state (lines input true))) start now
+at-done {S} L state room piece old mid new start before now running so_far takes at = λ left told.
+    let found = taken_all L room piece old mid start before now so_far takes left told in
+    let r : Running S = after L (from_state state) found.0 in
+    (found.0, found.1, subst new.at (after_end-lines L state found.0) (at r (found.2 (from_state state) running).running))
 
 -- the first octets of a piece, and the others
 take-part : (k count : ℕ) (piece : List ℕ) → k ≤ count → count ≤ length piece → take count piece ≡ take k piece ++ drop k (take count piece)

@@ -10,7 +10,7 @@ use Rattle.card_cli.specs.declared.words.Form.{Form}
 use Rattle.card_cli.specs.declared.words.Form.TheVariants.{New}
 use Rattle.card_cli.specs.declared.status.Status.{Status}
 use Rattle.card_cli.specs.Ends.{ends_opening}
-use Rattle.card_cli.specs.Words.{form_in, reads_lines}
+use Rattle.card_cli.specs.Words.{form_in, answers_commands}
 
 -- the EEPROM tells its image, which opens to this database
 abbrev pub IsOpenTo : Chip → Database → Type 0
@@ -21,11 +21,11 @@ abbrev pub Begins : Form → Chip → Database → Type 0
 Begins (New n) chip db = IsSome chip.image × HasRoom n chip × (db ≡ fresh n)
 Begins form chip db = IsOpenTo chip db
 
--- The words are of a form that reads lines, and over this EEPROM their run begins with this database.
+-- The words are of a form that answers commands, and over this EEPROM their run begins with this database.
 pub record BeginsWith (words : List (List ℕ)) (chip : Chip) (db : Database) : Type 0 where
   pub form : Form
   pub asked : form_in words ≡ Some form
-  pub reads : reads_lines form ≡ true
+  pub reads : answers_commands form ≡ true
   pub begins : Begins form chip db
 
 -- A run of this form asks for the card that is there, and the EEPROM tells an image that opens to no database.

@@ -2,7 +2,7 @@
 use Rattle.std.specs.Prelude.{◌≡◌, ◌≤◌, ℕ, Bool, true, false}
 use Rattle.eeprom.specs.Fault.{Rose}
 use Rattle.card_cli.specs.declared.status.Status.{Status}
-use Rattle.card_cli.specs.declared.status.Status.TheVariants.{Done, Eeprom, ReadFault, WriteFault, NotACard, NoMemory, TooLong, TooSmall}
+use Rattle.card_cli.specs.declared.status.Status.TheVariants.{Done, Refused, Eeprom, ReadFault, WriteFault, NotACard, NoMemory, TooLong, TooSmall}
 
 -- how many octets of input a run takes
 abbrev pub longest_input : ℕ
@@ -24,6 +24,7 @@ EndsBy status old new = new ≡ old
 -- the ends of a run over its input
 abbrev pub ends_input : Status → Bool
 ends_input Done = true
+ends_input Refused = true
 ends_input TooLong = true
 ends_input Eeprom = true
 ends_input ReadFault = true
@@ -41,6 +42,7 @@ ends_opening status = false
 -- the ends that only a run has whose card was opened
 abbrev pub has_opened : Status → Bool
 has_opened Done = true
+has_opened Refused = true
 has_opened TooLong = true
 has_opened ReadFault = true
 has_opened WriteFault = true
@@ -49,6 +51,18 @@ has_opened status = false
 -- the ends of a run over its input that no device ended in a line
 abbrev pub comes_to_its_end : Status → Bool
 comes_to_its_end Done = true
+comes_to_its_end Refused = true
 comes_to_its_end TooLong = true
 comes_to_its_end ReadFault = true
 comes_to_its_end status = false
+
+-- the ends of a run that read its input to its end
+abbrev pub reads_all : Status → Bool
+reads_all Done = true
+reads_all Refused = true
+reads_all status = false
+
+-- how such a run ends in which a line was refused, or none
+abbrev pub ends_as : Bool → Status
+ends_as true = Refused
+ends_as false = Done

@@ -70,7 +70,7 @@ pub record Migrates {S : Type 0} (status : Status) (before after : S) (old new :
   -- Over a database it ends with its text, or as a device or want of memory ends it;
   pub ends : (db : Database) → IsOpenTo old db → MigratesTo status was.eeprom now.eeprom db old.still.given new
   -- without a fault the output is exactly its text, or memory was missing.
-  pub text : (db : Database) → IsOpenTo old db → IsQuiet was now → AnswersAll status (migrate_text db) old.still.given new.still.given
+  pub text : (db : Database) → IsOpenTo old db → IsQuiet was now → AnswersAll Done status (migrate_text db) old.still.given new.still.given
   -- At each moment a power loss leaves the database as it was, or with longer rows.
   pub moments : (db : Database) → IsOpenTo old db → StaysMigrating db old new
   -- An image whose rows are long already and whose gate is closed isn't written,

@@ -1,15 +1,15 @@
 -- What a run owes over lines, and how it ends where there is no card.
-use Rattle.std.specs.Prelude.{◌≡◌, ◌⊎◌, ℕ, ◌<◌, ◌≤◌, true, List, [], length, Option, Some, IsSome, IfSome}
+use Rattle.std.specs.Prelude.{◌≡◌, ◌⊎◌, ℕ, ◌<◌, ◌≤◌, Bool, true, List, [], length, Option, Some, IsSome, IfSome}
 use Rattle.eeprom.specs.Chip.{Chip, Becomes}
 use Rattle.eeprom.specs.Fault.{Rose}
 use Rattle.scql_model.specs.Database.{Database}
-use Rattle.scql_model.specs.Lines.{Language, lines, run_text}
+use Rattle.scql_model.specs.Lines.{Language, lines, run_text, state_after}
 use Rattle.scql_model.specs.Opens.{Opens}
 use Rattle.card_cli.specs.declared.status.Status.{Status}
-use Rattle.card_cli.specs.declared.status.Status.TheVariants.{Done, Eeprom, NotACard, NoMemory, TooLong}
+use Rattle.card_cli.specs.declared.status.Status.TheVariants.{Eeprom, NotACard, NoMemory, TooLong}
 use Rattle.card_cli.specs.declared.words.Form.{Form}
 use Rattle.card_cli.specs.Beginning.{Begins, EndsUnread, LeavesUntilOpen}
-use Rattle.card_cli.specs.Ends.{AllFaults, has_opened, longest_input}
+use Rattle.card_cli.specs.Ends.{AllFaults, ends_as, has_opened, longest_input, reads_all}
 use Rattle.card_cli.specs.Extent.{RunsInput}
 use Rattle.card_cli.specs.RunState.{Prints}
 
@@ -19,9 +19,14 @@ pub record IsQuiet (old new : AllFaults) : Type 0 where
   pub source : ¬ Rose old.source new.source
   pub outlet : ¬ Rose old.outlet new.outlet
 
--- the run was done and printed the text, or there was no memory for it and nothing was printed
-abbrev pub AnswersAll : Status → List ℕ → Option (List ℕ) → Option (List ℕ) → Type 0
-AnswersAll status text old new = ((status ≡ Done) × Prints text old new) ⊎ ((status ≡ NoMemory) × (new ≡ old))
+-- the run ended so and printed the text, or there was no memory for it and nothing was printed
+abbrev pub AnswersAll : Status → Status → List ℕ → Option (List ℕ) → Option (List ℕ) → Type 0
+AnswersAll end status text old new = ((status ≡ end) × Prints text old new) ⊎ ((status ≡ NoMemory) × (new ≡ old))
+
+-- Its lines made a run's status where it read its input to its end: it tells whether one was refused.
+abbrev pub TellsRefusals : {S : Type 0} → Language S → (S → Bool) → S → Status → Option (List ℕ) → Option (List ℕ) → Type 0
+TellsRefusals language refused state status start end =
+    reads_all status ≡ true → Becomes (λ input left. status ≡ ends_as (refused (state_after language state (lines input true)))) start end
 
 -- there was no card; or the EEPROM failed, or there was no memory to see whether there is one
 abbrev pub IsWithoutCard : Status → Type 0
@@ -35,16 +40,18 @@ pub record OpensAndRuns {S : Type 0} (language : Language S) (form : Form) (db :
   pub until : LeavesUntilOpen form old opened
   pub runs : RunsInput language state status from to input left opened new
 
--- What a run of this form owes over the lines of its input, from the first state of a database on, that ended so. The source went from one state to another, and this was left in it before and after.
-pub record RunsLines {S T : Type 0} (language : Language S) (first : Database → S) (form : Form) (status : Status) (source after : T) (start end : Option (List ℕ)) (old new : Chip) (was now : AllFaults) : Type 0 where
+-- What a run of this form owes over the lines of its input, from the first state of a database on, that ended so, where a state tells whether a line was refused so far. The source went from one state to another, and this was left in it before
+-- and after.
+pub record RunsLines {S T : Type 0} (language : Language S) (refused : S → Bool) (first : Database → S) (form : Form) (status : Status) (source after : T) (start end : Option (List ℕ)) (old new : Chip) (was now : AllFaults) : Type 0 where
   -- Where its card was opened, and the image is told, there was a database to begin with.
   pub begins : has_opened status ≡ true → IsSome old.image → (db : Database) × Begins form old db
   -- Its input was read to its end, or more came than a run takes.
-  pub done : status ≡ Done → Becomes (λ input left. (left ≡ []) × (length input ≤ longest_input)) start end
+  pub whole : reads_all status ≡ true → Becomes (λ input left. (left ≡ []) × (length input ≤ longest_input)) start end
   pub too_long : status ≡ TooLong → Becomes (λ input left. longest_input < length input) start end
   -- Without a fault the output is exactly the text of the lines, or memory was missing.
   pub text : (db : Database) → Begins form old db → IsQuiet was now → (input left : List ℕ) → start ≡ Some input → end ≡ Some left → length input ≤ longest_input
-      → AnswersAll status (run_text language (first db) (lines input true)) old.still.given new.still.given
+      → AnswersAll (ends_as (refused (state_after language (first db) (lines input true)))) status (run_text language (first db) (lines input true)) old.still.given new.still.given
+  pub refusals : (db : Database) → Begins form old db → TellsRefusals language refused (first db) status start end
   -- It ended before it read a line. Or else the card was opened, and one extent says which of its lines were answered and in which a device failed; by it go the end, the text, the image, and what a power loss leaves at each moment.
   pub runs : (db : Database) → Begins form old db → EndsUnread form status source after old new
       ⊎ Becomes (λ input left. OpensAndRuns language form db (first db) status was.eeprom now.eeprom input left old new) start end

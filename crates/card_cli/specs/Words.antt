@@ -5,7 +5,7 @@ use Rattle.std.specs.Char.{is_ascii_digit}
 use Rattle.std.specs.Str.{bytes_eq}
 use Rattle.eeprom.specs.StoreOf.{fewest_cells, most_cells}
 use Rattle.card_cli.specs.declared.words.Form.{Form}
-use Rattle.card_cli.specs.declared.words.Form.TheVariants.{New, Apdu, Migrate}
+use Rattle.card_cli.specs.declared.words.Form.TheVariants.{New, Apdu, Term, Check, Load, Migrate}
 
 -- one to five decimal digits
 abbrev pub is_number : List ℕ → Bool
@@ -26,10 +26,21 @@ in_limits cells = if nat_lt cells fewest_cells || nat_lt most_cells cells then N
 abbrev pub cells_asked : List ℕ → Option ℕ
 cells_asked digits = option_and_then in_limits (decimal_in digits)
 
--- what the words ask for: `apdu`, `migrate`, or `new` and a number of cells
+-- the load that two numbers tell: it has at most 1,000 rows, and goes from a number of at most 65,535
+abbrev pub load_asked : Option ℕ → Option ℕ → Option Form
+load_asked (Some rows) (Some seed) = if nat_lt 1000 rows || nat_lt 65535 seed then None else Some (Load rows seed)
+load_asked rows seed = None
+
+-- what the words ask for: `apdu`, `term`, `check`, `migrate`, `new` and a number of cells, or `load`, a number of rows and a seed
 abbrev pub form_in : List (List ℕ) → Option Form
-form_in (word ∷ []) = if bytes_eq word (codes "apdu") then Some Apdu else if bytes_eq word (codes "migrate") then Some Migrate else None
+form_in (word ∷ []) =
+    if bytes_eq word (codes "apdu") then Some Apdu
+    else if bytes_eq word (codes "term") then Some Term
+    else if bytes_eq word (codes "check") then Some Check
+    else if bytes_eq word (codes "migrate") then Some Migrate
+    else None
 form_in (word ∷ digits ∷ []) = if bytes_eq word (codes "new") then option_map New (cells_asked digits) else None
+form_in (word ∷ rows ∷ seed ∷ []) = if bytes_eq word (codes "load") then load_asked (decimal_in rows) (decimal_in seed) else None
 form_in words = None
 
 -- the card that is to be made has 16 to 2,048 cells
@@ -37,7 +48,8 @@ abbrev pub IsWithinLimits : Form → Type 0
 IsWithinLimits (New n) = (fewest_cells ≤ n) × (n ≤ most_cells)
 IsWithinLimits form = Unit {0}
 
--- the run of this form answers the lines of its input
-abbrev pub reads_lines : Form → Bool
-reads_lines Migrate = false
-reads_lines form = true
+-- the run of this form answers the lines of its input as commands
+abbrev pub answers_commands : Form → Bool
+answers_commands (New n) = true
+answers_commands Apdu = true
+answers_commands form = false

@@ -12,7 +12,7 @@ ghost use Rattle.card_cli.specs.RunState.{Prints, Faults, Causes};
 ghost use Rattle.card_cli.specs.CutOff.{FailsIn};
 ghost use Rattle.card_cli.specs.Moments.{IsInStopped, IsAnswered, IfGiven};
 ghost use Rattle.eeprom.specs.Chip.{Becomes, Throughout};
-ghost use Rattle.card_cli.specs.Ends.{AllFaults, EndsBy, ends_input, longest_input};
+ghost use Rattle.card_cli.specs.Ends.{AllFaults, EndsBy, ends_input, longest_input, reads_all};
 ghost use Rattle.card_cli.specs.Extent.{RunsInput};
 
 use crate::input::answer_input;
@@ -38,7 +38,7 @@ pub(crate) struct CommandCard<'a, B: Bench> {
 }
 
 impl<'a, B: Bench> Responder for CommandCard<'a, B> {
-    ghost use Rattle.std.specs.Prelude.{ℕ};
+    ghost use Rattle.std.specs.Prelude.{ℕ, false};
     ghost use Rattle.scql_model.specs.Machine.{Machine};
     ghost use Rattle.scql_model.specs.Lines.{command_lines};
     ghost use Rattle.scql_model.proofs.Hearing.{commands-lawful};
@@ -59,9 +59,16 @@ impl<'a, B: Bench> Responder for CommandCard<'a, B> {
 
     ghost cells = { λ r. r.card.now.store.chains.cells };
 
+    // No command is refused in the sense of a run: each has its answer.
+    ghost has_refused = { λ r. false };
+
     ghost Kept = { ℕ };
 
     ghost kept = { λ r. r.bench.ghost_name };
+
+    fn has_refused(&self) -> bool {
+        false
+    }
 
     fn answer_line(&mut self, line: &Line) -> Result<(), FailedDevice> {
         answer_line(self.card, self.bench, line)
@@ -82,7 +89,8 @@ pub(crate) fn answer_commands<S: Source, B: Bench>(
     ensures runs { (m : Machine) → IsAt card.old (B.chip bench.old) m
         → Becomes (λ input left. RunsInput command_lines m result (B.faults bench.old) (B.faults bench.new) input left (B.chip bench.old) (B.chip bench.new)) (S.left source.old) (S.left source.new) }
     ensures status { ends_input result ≡ true }
-    ensures done { result ≡ Status.Done → Becomes (λ input left. (left ≡ []) × (length input ≤ longest_input)) (S.left source.old) (S.left source.new) }
+    ensures whole { reads_all result ≡ true → Becomes (λ input left. (left ≡ []) × (length input ≤ longest_input)) (S.left source.old) (S.left source.new) }
+    ensures never_refused { ¬ result ≡ Status.Refused }
     ensures too_long { result ≡ Status.TooLong → Becomes (λ input left. longest_input < length input) (S.left source.old) (S.left source.new) }
     ensures ends { EndsBy result
         (record { eeprom = B.faults bench.old; source = S.source_faults source.old; outlet = B.sink_faults bench.old })

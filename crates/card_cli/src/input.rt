@@ -1,13 +1,14 @@
 // A run over its input.
 ghost use Rattle.std.specs.Prelude.{◌≡◌, ◌<◌, ◌≤◌, [], true, false, length, OnOk, IfErr};
 ghost use Rattle.eeprom.specs.Chip.{Becomes, Throughout};
+ghost use Rattle.scql_model.specs.Lines.{lines, state_after};
 ghost use Rattle.card.specs.Behind.{KeepsBehind};
 ghost use Rattle.card_cli.specs.Line.{line_octets, is_empty_line};
 ghost use Rattle.card_cli.specs.Running.{Running, begun_effect, end_text, after_end};
 ghost use Rattle.card_cli.specs.RunState.{Prints, IsRunning, Causes};
 ghost use Rattle.card_cli.specs.Halting.{FailsAt};
 ghost use Rattle.card_cli.specs.Moments.{IsInStopped, IsAtEnd, IfGiven};
-ghost use Rattle.card_cli.specs.Ends.{EndsBy, ends_input, longest_input};
+ghost use Rattle.card_cli.specs.Ends.{EndsBy, ends_as, ends_input, longest_input, reads_all};
 ghost use Rattle.card_cli.specs.Extent.{RunsInput};
 
 use crate::answering::take_octets;
@@ -30,7 +31,11 @@ pub(crate) fn answer_input<S: Source, R: Responder>(responder: &mut R, source: &
         → Becomes (λ input left. RunsInput R.language state result (R.faults responder.old).eeprom (R.faults responder.new).eeprom input left (R.chip responder.old) (R.chip responder.new))
         (S.left source.old) (S.left source.new) }
     ensures status { ends_input result ≡ true }
-    ensures done { result ≡ Status.Done → Becomes (λ input left. (left ≡ []) × (length input ≤ longest_input)) (S.left source.old) (S.left source.new) }
+    ensures whole { reads_all result ≡ true → Becomes (λ input left. (left ≡ []) × (length input ≤ longest_input)) (S.left source.old) (S.left source.new) }
+    // It tells whether a line was refused, and is at the state after all lines.
+    ensures refusals { reads_all result ≡ true → result ≡ ends_as (R.has_refused responder.new) }
+    ensures at { (state : R.State) → R.is_at responder.old state
+        → reads_all result ≡ true → Becomes (λ input left. R.is_at responder.new (state_after R.language state (lines input true))) (S.left source.old) (S.left source.new) }
     ensures too_long { result ≡ Status.TooLong → Becomes (λ input left. longest_input < length input) (S.left source.old) (S.left source.new) }
     ensures ends { EndsBy result
         (record { eeprom = (R.faults responder.old).eeprom; source = S.source_faults source.old; outlet = (R.faults responder.old).outlet })
@@ -48,7 +53,7 @@ pub(crate) fn answer_input<S: Source, R: Responder>(responder: &mut R, source: &
         };
         if count == 0 {
             return match answer_last(responder, &line) {
-                Ok(()) => Status::Done,
+                Ok(()) => Status::at_end(responder.has_refused()),
                 Err(stop) => stop.status(),
             };
         }

@@ -2,24 +2,32 @@
 #![tactic(auto)]
 
 mod answering;
+mod checking;
 mod commands;
 mod ending;
 mod input;
 mod line;
+mod load_lines;
+mod loading;
 mod migration;
 mod opening;
 mod output;
+mod prompt;
 mod responder;
 mod run;
+mod statements;
 mod status;
+mod still_card;
 mod stop;
 mod words;
 
 use ending::Ending;
 use file_bench::{FileBench, StdSource};
+use prompt::Prompted;
 use run::run_card;
 use status::Status;
 use std::fs::File;
+use std::io::IsTerminal;
 use std::process::ExitCode;
 use std::{env, fs, io};
 
@@ -65,8 +73,20 @@ fn run_over(rt: &HostRuntime, path: &str, words: &[String]) -> Result<Status, En
     let create = words.first().is_some_and(|word| word.as_str() == "new");
     let _streams = hold_streams(rt);
     let mut bench = FileBench::open(rt.clone()?, path, create)?;
-    let mut source = StdSource::new(rt.clone()?);
+    let person = if is_typed(rt, words) {
+        Some(rt.stderr())
+    } else {
+        None
+    };
+    let mut source = Prompted::new(StdSource::new(rt.clone()?), person);
     Ok(run_card(rt.alloc(), words, &mut source, &mut bench))
+}
+
+// Whether a person types statements, and reads what comes of them.
+fn is_typed(rt: &HostRuntime, words: &[String]) -> bool {
+    words.first().is_some_and(|word| word.as_str() == "term")
+        && rt.stdin().is_terminal()
+        && rt.stdout().is_terminal()
 }
 
 // A standard stream that is closed leaves its number to the next file that is opened. These three take it
@@ -85,10 +105,9 @@ new N        makes a card of N cells (16 to 2048), then as apdu
 apdu         answers each line of standard input, a command in hexadecimal
 term         runs each line of standard input, a statement
 check        counts what the card holds
-load K SEED  makes K inputs (0 to 1000) from SEED (0 to 65535) and runs them
+load K SEED  fills a table with K rows (0 to 1000) made from SEED (0 to
+             65535), changes and reads it, and counts what came of it
 migrate      lets the rows of the card be longer: up to 1020 octets, not 240
-
-Of these, new, apdu and migrate are built.
 
 FILE is created by new alone. Exit status: 0 done, 1 refused, 2 usage,
 3 EEPROM fault, 4 read fault, 5 write fault, 6 not a card, 7 no memory,

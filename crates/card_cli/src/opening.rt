@@ -78,6 +78,6 @@ fn prepare<B: Bench>(form: Form, bench: &mut B) -> Result<(), FormatRefusal>
 {
     match form {
         Form::New { cells } => Card::format(bench, cells),
-        Form::Apdu | Form::Migrate => Ok(()),
+        Form::Apdu | Form::Term | Form::Check | Form::Migrate | Form::Load { .. } => { Ok(()) }
     }
 }

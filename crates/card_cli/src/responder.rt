@@ -1,5 +1,5 @@
 // What answers the lines of a run.
-ghost use Rattle.std.specs.Prelude.{◌≡◌, ℕ, OnOk, IfErr};
+ghost use Rattle.std.specs.Prelude.{◌≡◌, ℕ, Bool, OnOk, IfErr};
 ghost use Rattle.eeprom.specs.Chip.{Chip};
 ghost use Rattle.scql_model.specs.Heard.{IsLawful};
 ghost use Rattle.scql_model.specs.Lines.{Language};
@@ -33,6 +33,12 @@ pub(crate) trait Responder {
 
     /// How many cells the card has.
     ghost cells: { Self → ℕ };
+
+    /// Whether a line was refused so far.
+    ghost has_refused: { Self → Bool };
+
+    fn has_refused(&self) -> bool
+        ensures { result ≡ has_refused self.now };
 
     /// What else no call changes, such as which references it holds.
     ghost Kept: { Type 0 };

@@ -1,5 +1,5 @@
 // The run of a card by the words of the command line: the program's one call.
-ghost use Rattle.std.specs.Prelude.{◌≡◌, ◌⊎◌, ◌↔◌, ◌<◌, ℕ, Some, None, IsSome, true, map};
+ghost use Rattle.std.specs.Prelude.{◌≡◌, ◌⊎◌, ◌↔◌, ◌<◌, ℕ, Some, None, IsSome, true, false, map};
 ghost use Rattle.std.specs.String.{string_bytes};
 ghost use Rattle.eeprom.specs.StoreOf.{image_size};
 ghost use Rattle.scql_model.specs.Database.{Database};
@@ -7,17 +7,23 @@ ghost use Rattle.scql_model.specs.Machine.{start};
 ghost use Rattle.scql_model.specs.Lines.{command_lines};
 ghost use Rattle.record_store.specs.Recovery.{KeepsStore};
 ghost use Rattle.card.specs.Behind.{KeepsBehind};
-ghost use Rattle.card_cli.specs.Words.{form_in, reads_lines};
+ghost use Rattle.card_cli.specs.Words.{answers_commands, form_in};
 ghost use Rattle.card_cli.specs.Behind.{run_cells};
 ghost use Rattle.card_cli.specs.Beginning.{BeginsWith, FindsNoCard, EndsUnread};
 ghost use Rattle.card_cli.specs.Ends.{AllFaults, EndsBy};
 ghost use Rattle.card_cli.specs.Run.{IsWithoutCard, RunsLines};
 ghost use Rattle.card_cli.specs.Showing.{LinesReadShown};
 ghost use Rattle.card_cli.specs.Migrating.{Migrates};
+ghost use Rattle.card_cli.specs.Checking.{Checks};
+ghost use Rattle.card_cli.specs.Loading.{Loads};
+ghost use Rattle.card_cli.specs.Statements.{opened, term_lines, was_refused};
 
+use crate::checking::run_check;
 use crate::commands::answer_commands;
+use crate::loading::run_load;
 use crate::migration::run_migration;
 use crate::opening::open_card;
+use crate::statements::answer_statements;
 use crate::status::Status;
 use crate::words::{Form, form_of};
 use eeprom::{Bench, Source};
@@ -44,18 +50,32 @@ pub fn run_card<S: Source, B: Bench>(
     // and then the run ends so, unless the EEPROM fails or there is no memory: nothing is read or given, and the image keeps what store it has.
     ensures no_card { FindsNoCard (map string_bytes words.now) (B.chip bench.old)
         → IsWithoutCard result × (source.new ≡ source.old) × KeepsStore (B.chip bench.old) (B.chip bench.new) }
-    ensures never_refused { ¬ result ≡ Status.Refused }
+    // A statement can be refused in `term` and in `load` alone.
+    ensures refused { result ≡ Status.Refused → (form_in (map string_bytes words.now) ≡ Some Form.Term) ⊎ ((rows seed : ℕ) × (form_in (map string_bytes words.now) ≡ Some (Form.Load rows seed))) }
     // Each fault has its cause, and without one the counts stay.
     ensures ends { EndsBy result
         (record { eeprom = B.faults bench.old; source = S.source_faults source.old; outlet = B.sink_faults bench.old })
         (record { eeprom = B.faults bench.new; source = S.source_faults source.new; outlet = B.sink_faults bench.new }) }
-    // A run that reads lines answers commands, from the start of the database with which it begins.
-    ensures lines { (form : Form) → form_in (map string_bytes words.now) ≡ Some form → reads_lines form ≡ true
-        → RunsLines command_lines start form result source.old source.new (S.left source.old) (S.left source.new) (B.chip bench.old) (B.chip bench.new)
+    // A run of `new` or `apdu` answers its lines as commands, from the start of the database with which it begins.
+    ensures commands { (form : Form) → form_in (map string_bytes words.now) ≡ Some form → answers_commands form ≡ true
+        → RunsLines command_lines (λ m. false) start form result source.old source.new (S.left source.old) (S.left source.new) (B.chip bench.old) (B.chip bench.new)
+        (record { eeprom = B.faults bench.old; source = S.source_faults source.old; outlet = B.sink_faults bench.old })
+        (record { eeprom = B.faults bench.new; source = S.source_faults source.new; outlet = B.sink_faults bench.new }) }
+    // A run of `term` carries out its lines as statements, from a terminal on channel 0 on, and tells whether one was refused.
+    ensures statements { form_in (map string_bytes words.now) ≡ Some Form.Term
+        → RunsLines term_lines was_refused opened Form.Term result source.old source.new (S.left source.old) (S.left source.new) (B.chip bench.old) (B.chip bench.new)
         (record { eeprom = B.faults bench.old; source = S.source_faults source.old; outlet = B.sink_faults bench.old })
         (record { eeprom = B.faults bench.new; source = S.source_faults source.new; outlet = B.sink_faults bench.new }) }
     // Each line that is a reading command is answered by what is shown to its channel, and so does what is shown go on.
     ensures shown { (db : Database) → BeginsWith (map string_bytes words.now) (B.chip bench.old) db → LinesReadShown (start db) }
+    // A run of `check` reads no line, and says what the card holds.
+    ensures check { form_in (map string_bytes words.now) ≡ Some Form.Check → Checks result source.old source.new (B.chip bench.old) (B.chip bench.new)
+        (record { eeprom = B.faults bench.old; source = S.source_faults source.old; outlet = B.sink_faults bench.old })
+        (record { eeprom = B.faults bench.new; source = S.source_faults source.new; outlet = B.sink_faults bench.new }) }
+    // A run of `load` reads no line, runs its script, and says what came of it.
+    ensures load { (rows seed : ℕ) → form_in (map string_bytes words.now) ≡ Some (Form.Load rows seed) → Loads rows seed result source.old source.new (B.chip bench.old) (B.chip bench.new)
+        (record { eeprom = B.faults bench.old; source = S.source_faults source.old; outlet = B.sink_faults bench.old })
+        (record { eeprom = B.faults bench.new; source = S.source_faults source.new; outlet = B.sink_faults bench.new }) }
     // A run of `migrate` reads no line.
     ensures migrate { form_in (map string_bytes words.now) ≡ Some Form.Migrate → Migrates result source.old source.new (B.chip bench.old) (B.chip bench.new)
         (record { eeprom = B.faults bench.old; source = S.source_faults source.old; outlet = B.sink_faults bench.old })
@@ -69,7 +89,10 @@ pub fn run_card<S: Source, B: Bench>(
     match open_card(alloc, form, bench) {
         Err(status) => status,
         Ok(mut card) => match form {
+            Form::Check => run_check(&card, bench),
             Form::Migrate => run_migration(bench),
+            Form::Load { rows, seed } => run_load(card, bench, rows, seed),
+            Form::Term => answer_statements(card, source, bench),
             Form::New { .. } | Form::Apdu => answer_commands(&mut card, source, bench),
         },
     }

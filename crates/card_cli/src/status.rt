@@ -1,5 +1,6 @@
 // How a run over a card ends.
 ghost use Rattle.std.specs.Prelude.{◌≡◌, ◌↔◌, ◌≤◌, IsSome};
+ghost use Rattle.card_cli.specs.Ends.{ends_as};
 ghost use Rattle.card_cli.specs.StatusNumber.{number_of};
 
 /// How a run ended. The program's exit status is its number.
@@ -28,6 +29,17 @@ pub enum Status {
 }
 
 impl Status {
+    /// The end of a run that read its input to its end.
+    pub(crate) fn at_end(refused: bool) -> Status
+        ensures { result ≡ ends_as refused }
+    {
+        if refused {
+            Status::Refused
+        } else {
+            Status::Done
+        }
+    }
+
     pub fn number(self) -> u8
         ensures { result ≡ number_of self }
     {

@@ -1,8 +1,10 @@
 // Worked rows over a bench in memory.
+mod loading;
 mod migrating;
 mod opening;
 mod power_loss;
 mod reads;
+mod statements;
 
 use crate::run::run_card;
 use crate::status::Status;

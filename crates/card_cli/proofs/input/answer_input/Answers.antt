@@ -9,7 +9,7 @@ use Rattle.card_cli.specs.Line.{line_octets}
 use Rattle.card_cli.specs.RunState.{RunState, Faults, Feeds}
 use Rattle.card_cli.specs.Ends.{longest_input}
 use Rattle.card_cli.proofs.Behind.{behind-same, behind-on}
-use Rattle.card_cli.proofs.Taking.{counts-at, HasTaken, HasTaken-nothing, HasTaken-more, ends-read_fault, ends-done, ends-last, ends-halted, ends-too_long}
+use Rattle.card_cli.proofs.Taking.{counts-at, HasTaken, HasTaken-nothing, HasTaken-more, at-done, ends-read_fault, ends-done, ends-last, ends-halted, ends-too_long}
 use Rattle.card_cli.proofs.input.answer_input.Given as given
 use Rattle.card_cli.proofs.input.answer_input.Goals.{After-answer_last, After-take_octets}
 use Rattle.card_cli.proofs.input.answer_input.Goals as goal
@@ -57,10 +57,19 @@ returns-in-Ok-answer_last-clause-runs g c = λ state at.
     let old : RunState g.R.Responder.State = run g c.args.responder.now (Some []) in
     let mid : RunState g.R.Responder.State = run g c.loop-count.responder (line_octets c.loop-count.line) in
     let new : RunState g.R.Responder.State = run g c.answer_last.new.responder None in
-    ends-done g.R.Responder.language g.met.R.Responder.lawful state (g.R.Responder.faults c.args.responder.now).eeprom (g.R.Responder.faults c.answer_last.new.responder).eeprom c.loop-count.room c.read.new.into old mid new
+    subst (λ (status : Status). EndsSo g state status c.args.source.now c.read.new.self c.args.responder.now c.answer_last.new.responder) (sym c.at_end.ensures)
+    (ends-done g.R.Responder.language g.met.R.Responder.lawful state c.has_refused.result (g.R.Responder.faults c.args.responder.now).eeprom (g.R.Responder.faults c.answer_last.new.responder).eeprom c.loop-count.room c.read.new.into old mid new
     (g.S.Source.left c.args.source.now) (g.S.Source.left c.loop-count.source) (g.S.Source.left c.read.new.self) (record { at = at; line = refl }) c.loop-count.invariant.taken
     (at_end g (goal.at.returns-in-Ok-answer_last-clause-runs g c).After-answer_last)
-    (g.met.R.Responder.over c.answer_last.new.responder c.in-Ok-answer_last.ensures.ready) c.in-Ok-answer_last.ensures.at c.in-Ok-answer_last.ensures.text c.in-Ok-answer_last.ensures.answered
+    (g.met.R.Responder.over c.answer_last.new.responder c.in-Ok-answer_last.ensures.ready) c.in-Ok-answer_last.ensures.at c.in-Ok-answer_last.ensures.text c.in-Ok-answer_last.ensures.answered)
+
+pub returns-in-Ok-answer_last-clause-at : goal.returns-in-Ok-answer_last-clause-at
+returns-in-Ok-answer_last-clause-at g c = λ state at whole.
+    let old : RunState g.R.Responder.State = run g c.args.responder.now (Some []) in
+    let mid : RunState g.R.Responder.State = run g c.loop-count.responder (line_octets c.loop-count.line) in
+    let new : RunState g.R.Responder.State = run g c.answer_last.new.responder None in
+    at-done g.R.Responder.language state c.loop-count.room c.read.new.into old mid new (g.S.Source.left c.args.source.now) (g.S.Source.left c.loop-count.source) (g.S.Source.left c.read.new.self) (record { at = at; line = refl })
+    c.loop-count.invariant.taken (at_end g (goal.at.returns-in-Ok-answer_last-clause-at g c).After-answer_last) c.in-Ok-answer_last.ensures.at
 
 -- a device failed in the last line
 pub returns-in-Err-clause-runs : goal.returns-in-Err-clause-runs

@@ -1,5 +1,5 @@
 -- The card that was opened is at the start of the database with which the run begins; from there the run over its input, or its migration, tells how it ends.
-use Rattle.std.proofs.Common.{◌≡◌, ℕ, List, Some, refl, sym, ap, subst, ◌∙◌}
+use Rattle.std.proofs.Common.{◌≡◌, ℕ, false, List, Some, refl, sym, ap, subst, ◌∙◌}
 use Rattle.std.specs.Prelude.{map}
 use Rattle.std.specs.String.{string_bytes}
 use Rattle.eeprom.specs.Chip.{Chip, Still, Becomes}
@@ -9,21 +9,28 @@ use Rattle.scql_model.specs.Lines.{command_lines}
 use Rattle.card.specs.Behind.{KeepsBehind, own_cells}
 use Rattle.card.specs.Card.{IsAt}
 use Rattle.card_cli.specs.declared.words.Form.{Form}
-use Rattle.card_cli.specs.declared.words.Form.TheVariants.{Migrate}
+use Rattle.card_cli.specs.declared.words.Form.TheVariants.{Term, Check, Load, Migrate}
 use Rattle.card_cli.specs.Behind.{run_cells}
 use Rattle.card_cli.specs.Beginning.{IsOpenTo, BeginsWith, Begins, LacksCard, LeavesUntilOpen, FindsNoCard}
+use Rattle.card_cli.specs.Checking.{Says}
 use Rattle.card_cli.specs.Ends.{AllFaults, EndsBy}
 use Rattle.card_cli.specs.Extent.{RunsInput}
 use Rattle.card_cli.specs.Showing.{LinesReadShown}
+use Rattle.card_cli.specs.Loading.{LoadsTo}
 use Rattle.card_cli.specs.Migrating.{MigratesTo}
+use Rattle.card_cli.specs.Statements.{opened, term_lines, was_refused}
 use Rattle.card_cli.specs.Words.{form_in}
+use Rattle.terminal.specs.Holding.{terminal_at}
+use Rattle.card_cli.proofs.Asking.{no_lines}
 use Rattle.card_cli.proofs.Behind.{behind-then, cells-over}
-use Rattle.card_cli.proofs.Finishing.{Lines-unopened, Lines-opened, same_faults, valid-beginning}
+use Rattle.card_cli.proofs.CheckedCards.{Checks-opened, Checks-unopened}
+use Rattle.card_cli.proofs.Finishing.{Lines-unopened, Lines-opened, never-tells, same_faults, valid-beginning}
+use Rattle.card_cli.proofs.LoadedCards.{Loads-opened, Loads-unopened}
 use Rattle.card_cli.proofs.LongerRows.{open-at, open-told, Migrates-opened, Migrates-unopened}
 use Rattle.card_cli.proofs.Showing.{lines-read-shown}
 use Rattle.card_cli.proofs.run.run_card.Given as given
 use Rattle.card_cli.proofs.run.run_card.Goals as goal
-use Rattle.card_cli.proofs.run.run_card.Goals.{After-answer_commands as Ended, After-open_card as Opened}
+use Rattle.card_cli.proofs.run.run_card.Goals.{After-answer_commands as Ended, After-answer_statements as Stated, After-open_card as Opened, After-run_check as Checked, After-run_load as Loaded}
 
 -- The card.
 
@@ -52,11 +59,17 @@ outlet_stays g c = outlet_kept g c.open_card.new.bench c.args.bench.now c.open_c
 
 -- It wasn't opened.
 
-pub returns-in-Err-clause-lines : goal.returns-in-Err-clause-lines
-returns-in-Err-clause-lines g c = λ form asked reads.
-    let run : Opened g = (goal.at.returns-in-Err-clause-lines g c).After-open_card in
-    Lines-unopened command_lines start form c.in-Err.status c.args.source.now (g.S.Source.left c.args.source.now) (g.S.Source.left c.args.source.now) (g.B.Eeprom.chip c.args.bench.now) (g.B.Eeprom.chip c.open_card.new.bench) _ _ c.in-Err.ensures.unopened
+pub returns-in-Err-clause-commands : goal.returns-in-Err-clause-commands
+returns-in-Err-clause-commands g c = λ form asked reads.
+    let run : Opened g = (goal.at.returns-in-Err-clause-commands g c).After-open_card in
+    Lines-unopened command_lines (λ m. false) start form c.in-Err.status c.args.source.now (g.S.Source.left c.args.source.now) (g.S.Source.left c.args.source.now) (g.B.Eeprom.chip c.args.bench.now) (g.B.Eeprom.chip c.open_card.new.bench) _ _ c.in-Err.ensures.unopened
     (λ db begins. c.in-Err.ensures.stopped db (of_form g run form db asked begins)) (c.in-Err.ensures.ends (g.S.Source.source_faults c.args.source.now)) c.open_card.ensures.still (left g run form asked)
+
+pub returns-in-Err-clause-statements : goal.returns-in-Err-clause-statements
+returns-in-Err-clause-statements g c = λ asked.
+    let run : Opened g = (goal.at.returns-in-Err-clause-statements g c).After-open_card in
+    Lines-unopened term_lines was_refused opened Term c.in-Err.status c.args.source.now (g.S.Source.left c.args.source.now) (g.S.Source.left c.args.source.now) (g.B.Eeprom.chip c.args.bench.now) (g.B.Eeprom.chip c.open_card.new.bench) _ _ c.in-Err.ensures.unopened
+    (λ db begins. c.in-Err.ensures.stopped db (of_form g run Term db asked begins)) (c.in-Err.ensures.ends (g.S.Source.source_faults c.args.source.now)) c.open_card.ensures.still (left g run Term asked)
 
 pub returns-in-Err-clause-unread : goal.returns-in-Err-clause-unread
 returns-in-Err-clause-unread g c = λ form asked ends.
@@ -104,7 +117,136 @@ returns-in-Migrate-clause-ends g c =
     c.in-Ok.ensures.quiet (outlet_stays g run) in
     subst (λ (f : AllFaults). EndsBy c.run_migration.result f now) same (c.run_migration.ensures.ends (g.S.Source.source_faults c.args.source.now))
 
--- It was opened to answer lines.
+-- It was opened to be checked.
+
+pub returns-in-Err-clause-check : goal.returns-in-Err-clause-check
+returns-in-Err-clause-check g c = λ asked.
+    let run : Opened g = (goal.at.returns-in-Err-clause-check g c).After-open_card in
+    Checks-unopened c.in-Err.status c.args.source.now (g.B.Eeprom.chip c.args.bench.now) (g.B.Eeprom.chip c.open_card.new.bench) _ _ c.in-Err.ensures.unopened
+    (λ db opens. c.in-Err.ensures.stopped db (of_form g run Check db asked opens)) (c.in-Err.ensures.ends (g.S.Source.source_faults c.args.source.now)) (left g run Check asked)
+
+ends_check : (g : given.Over) (c : Checked g)
+    → (let was : AllFaults = record { eeprom = g.B.Eeprom.faults c.args.bench.now; source = g.S.Source.source_faults c.args.source.now; outlet = g.B.Outlet.sink_faults c.args.bench.now } in
+    let now : AllFaults = record { eeprom = g.B.Eeprom.faults c.run_check.new.bench; source = g.S.Source.source_faults c.args.source.now; outlet = g.B.Outlet.sink_faults c.run_check.new.bench } in
+    EndsBy c.run_check.result was now)
+ends_check g c =
+    let now : AllFaults = record { eeprom = g.B.Eeprom.faults c.run_check.new.bench; source = g.S.Source.source_faults c.args.source.now; outlet = g.B.Outlet.sink_faults c.run_check.new.bench } in
+    let sink = outlet_kept g c.open_card.new.bench c.args.bench.now c.open_card.ensures.still in
+    let same = same_faults (g.B.Eeprom.faults c.open_card.new.bench) (g.B.Eeprom.faults c.args.bench.now) (g.S.Source.source_faults c.args.source.now) (g.B.Outlet.sink_faults c.open_card.new.bench) (g.B.Outlet.sink_faults c.args.bench.now) c.in-Ok.ensures.quiet sink in
+    subst (λ (f : AllFaults). EndsBy c.run_check.result f now) same (c.run_check.ensures.ends (g.S.Source.source_faults c.args.source.now))
+
+pub returns-in-Check-clause-ends : goal.returns-in-Check-clause-ends
+returns-in-Check-clause-ends g c = ends_check g (goal.at.returns-in-Check-clause-ends g c).After-run_check
+
+pub returns-in-Check-clause-check : goal.returns-in-Check-clause-check
+returns-in-Check-clause-check g c = λ asked.
+    let run : Opened g = (goal.at.returns-in-Check-clause-check g c).After-open_card in
+    let old : Chip = g.B.Eeprom.chip c.args.bench.now in
+    let mid : Chip = g.B.Eeprom.chip c.open_card.new.bench in
+    let new : Chip = g.B.Eeprom.chip c.run_check.new.bench in
+    let same : c.in-Some.form ≡ Check = cc (c.in-Some.ensures, asked) in
+    Checks-opened c.run_check.result c.args.source.now old mid new _ _ (left g run Check asked)
+    (λ told. let first = c.in-Ok.ensures.begins told in (first.0, subst (λ (f : Form). Begins f old first.0) same first.1))
+    (λ db opens. subst (λ (from : ℕ). Says c.run_check.result db from (g.B.Eeprom.faults c.run_check.new.bench) mid.still.given new.still.given) c.in-Ok.ensures.quiet
+    (c.run_check.ensures.says (start db) (c.in-Ok.ensures.starts db (of_form g run Check db asked opens))))
+    c.run_check.ensures.nothing (ends_check g (goal.at.returns-in-Check-clause-check g c).After-run_check)
+
+-- It was opened to be loaded.
+
+pub returns-in-Err-clause-load : goal.returns-in-Err-clause-load
+returns-in-Err-clause-load g c = λ rows seed asked.
+    let run : Opened g = (goal.at.returns-in-Err-clause-load g c).After-open_card in
+    Loads-unopened rows seed c.in-Err.status c.args.source.now (g.B.Eeprom.chip c.args.bench.now) (g.B.Eeprom.chip c.open_card.new.bench) _ _ c.in-Err.ensures.unopened
+    (λ db opens. c.in-Err.ensures.stopped db (of_form g run (Load rows seed) db asked opens)) (c.in-Err.ensures.ends (g.S.Source.source_faults c.args.source.now)) (left g run (Load rows seed) asked)
+
+ends_load : (g : given.Over) (c : Loaded g)
+    → (let was : AllFaults = record { eeprom = g.B.Eeprom.faults c.args.bench.now; source = g.S.Source.source_faults c.args.source.now; outlet = g.B.Outlet.sink_faults c.args.bench.now } in
+    let now : AllFaults = record { eeprom = g.B.Eeprom.faults c.run_load.new.bench; source = g.S.Source.source_faults c.args.source.now; outlet = g.B.Outlet.sink_faults c.run_load.new.bench } in
+    EndsBy c.run_load.result was now)
+ends_load g c =
+    let now : AllFaults = record { eeprom = g.B.Eeprom.faults c.run_load.new.bench; source = g.S.Source.source_faults c.args.source.now; outlet = g.B.Outlet.sink_faults c.run_load.new.bench } in
+    let sink = outlet_kept g c.open_card.new.bench c.args.bench.now c.open_card.ensures.still in
+    let same = same_faults (g.B.Eeprom.faults c.open_card.new.bench) (g.B.Eeprom.faults c.args.bench.now) (g.S.Source.source_faults c.args.source.now) (g.B.Outlet.sink_faults c.open_card.new.bench) (g.B.Outlet.sink_faults c.args.bench.now) c.in-Ok.ensures.quiet sink in
+    subst (λ (f : AllFaults). EndsBy c.run_load.result f now) same (c.run_load.ensures.ends (g.S.Source.source_faults c.args.source.now))
+
+pub returns-in-Load-clause-ends : goal.returns-in-Load-clause-ends
+returns-in-Load-clause-ends g c = ends_load g (goal.at.returns-in-Load-clause-ends g c).After-run_load
+
+pub returns-in-Load-clause-load : goal.returns-in-Load-clause-load
+returns-in-Load-clause-load g c = λ rows seed asked.
+    let run : Opened g = (goal.at.returns-in-Load-clause-load g c).After-open_card in
+    let old : Chip = g.B.Eeprom.chip c.args.bench.now in
+    let mid : Chip = g.B.Eeprom.chip c.open_card.new.bench in
+    let new : Chip = g.B.Eeprom.chip c.run_load.new.bench in
+    let same : c.in-Some.form ≡ Load rows seed = cc (c.in-Some.ensures, asked) in
+    let same_rows : c.in-Load.rows ≡ rows = cc (c.in-Load.is, same) in
+    let same_seed : c.in-Load.seed ≡ seed = cc (c.in-Load.is, same) in
+    let at = λ (db : Database) (opens : IsOpenTo old db). c.in-Ok.ensures.starts db (of_form g run (Load rows seed) db asked opens) in
+    Loads-opened rows seed c.run_load.result c.args.source.now old mid new _ _ (left g run (Load rows seed) asked)
+    (λ told. let first = c.in-Ok.ensures.begins told in (first.0, subst (λ (f : Form). Begins f old first.0) same first.1))
+    (λ db opens. open-at c.in-Ok.card mid db c.in-Ok.ensures.ready (at db opens))
+    (λ db opens. subst (λ (from : ℕ). LoadsTo rows seed c.run_load.result (terminal_at (start db) 0) from (g.B.Eeprom.faults c.run_load.new.bench) mid new) c.in-Ok.ensures.quiet
+    (subst (λ (n : ℕ). LoadsTo rows n c.run_load.result (terminal_at (start db) 0) (g.B.Eeprom.faults c.open_card.new.bench) (g.B.Eeprom.faults c.run_load.new.bench) mid new) same_seed
+    (subst (λ (n : ℕ). LoadsTo n c.in-Load.seed c.run_load.result (terminal_at (start db) 0) (g.B.Eeprom.faults c.open_card.new.bench) (g.B.Eeprom.faults c.run_load.new.bench) mid new) same_rows (c.run_load.ensures.loads db (at db opens)))))
+    (ends_load g (goal.at.returns-in-Load-clause-load g c).After-run_load)
+
+pub returns-in-Load-clause-shown : goal.returns-in-Load-clause-shown
+returns-in-Load-clause-shown g c = λ db begins. lines-read-shown db (valid-beginning (map string_bytes c.args.words.now) (g.B.Eeprom.chip c.args.bench.now) db begins)
+
+pub returns-in-Load-clause-commands : goal.returns-in-Load-clause-commands
+returns-in-Load-clause-commands g c = λ form asked answers.
+    let same : form ≡ c.in-Some.form = cc (c.in-Some.ensures, asked) in
+    absurd (no_lines form (Load c.in-Load.rows c.in-Load.seed) (same ∙ c.in-Load.is) refl answers)
+
+-- It was opened to carry out statements.
+
+ends_statements : (g : given.Over) (c : Stated g)
+    → (let was : AllFaults = record { eeprom = g.B.Eeprom.faults c.args.bench.now; source = g.S.Source.source_faults c.args.source.now; outlet = g.B.Outlet.sink_faults c.args.bench.now } in
+    let now : AllFaults = record { eeprom = g.B.Eeprom.faults c.answer_statements.new.bench; source = g.S.Source.source_faults c.answer_statements.new.source; outlet = g.B.Outlet.sink_faults c.answer_statements.new.bench } in
+    EndsBy c.answer_statements.result was now)
+ends_statements g c =
+    let now : AllFaults = record { eeprom = g.B.Eeprom.faults c.answer_statements.new.bench; source = g.S.Source.source_faults c.answer_statements.new.source; outlet = g.B.Outlet.sink_faults c.answer_statements.new.bench } in
+    let sink = outlet_kept g c.open_card.new.bench c.args.bench.now c.open_card.ensures.still in
+    let same = same_faults (g.B.Eeprom.faults c.open_card.new.bench) (g.B.Eeprom.faults c.args.bench.now) (g.S.Source.source_faults c.args.source.now) (g.B.Outlet.sink_faults c.open_card.new.bench) (g.B.Outlet.sink_faults c.args.bench.now) c.in-Ok.ensures.quiet sink in
+    subst (λ (f : AllFaults). EndsBy c.answer_statements.result f now) same c.answer_statements.ensures.ends
+
+pub returns-in-Term-clause-ends : goal.returns-in-Term-clause-ends
+returns-in-Term-clause-ends g c = ends_statements g (goal.at.returns-in-Term-clause-ends g c).After-answer_statements
+
+pub returns-in-Term-clause-commands : goal.returns-in-Term-clause-commands
+returns-in-Term-clause-commands g c = λ form asked answers.
+    let same : form ≡ c.in-Some.form = cc (c.in-Some.ensures, asked) in
+    absurd (no_lines form Term (same ∙ c.in-Term.is) refl answers)
+
+-- card and EEPROM are at its start where the run over the input begins
+begins_at : (g : given.Over) (c : Stated g) (db : Database) → form_in (map string_bytes c.args.words.now) ≡ Some Term → Begins Term (g.B.Eeprom.chip c.args.bench.now) db
+    → IsAt c.in-Ok.card (g.B.Eeprom.chip c.open_card.new.bench) (start db)
+begins_at g c db asked begins =
+    let same : Term ≡ c.in-Some.form = cc (c.in-Some.ensures, asked) in
+    c.in-Ok.ensures.starts db (subst (λ (f : Form). Begins f (g.B.Eeprom.chip c.args.bench.now) db) same begins)
+
+pub returns-in-Term-clause-statements : goal.returns-in-Term-clause-statements
+returns-in-Term-clause-statements g c = λ asked.
+    let run : Stated g = (goal.at.returns-in-Term-clause-statements g c).After-answer_statements in
+    let card : Opened g = (goal.at.returns-in-Term-clause-statements g c).After-open_card in
+    let old : Chip = g.B.Eeprom.chip c.args.bench.now in
+    let mid : Chip = g.B.Eeprom.chip c.open_card.new.bench in
+    let new : Chip = g.B.Eeprom.chip c.answer_statements.new.bench in
+    let same : c.in-Some.form ≡ Term = cc (c.in-Some.ensures, asked) in
+    Lines-opened term_lines was_refused opened Term c.answer_statements.result c.args.source.now c.answer_statements.new.source (g.S.Source.left c.args.source.now) (g.S.Source.left c.answer_statements.new.source) old mid new _ _
+    c.answer_statements.ensures.status
+    (λ told. let first = c.in-Ok.ensures.begins told in (first.0, subst (λ (f : Form). Begins f old first.0) same first.1))
+    c.open_card.ensures.still (left g card Term asked)
+    (λ db begins. open-told mid db (open-at c.in-Ok.card mid db c.in-Ok.ensures.ready (begins_at g run db asked begins)))
+    c.answer_statements.ensures.whole c.answer_statements.ensures.too_long (ends_statements g run)
+    (λ db begins. c.answer_statements.ensures.refusals db (begins_at g run db asked begins))
+    (λ db begins. subst (λ (from : ℕ). Becomes (λ (input left : List ℕ). RunsInput term_lines (opened db) c.answer_statements.result from (g.B.Eeprom.faults c.answer_statements.new.bench) input left mid new) (g.S.Source.left c.args.source.now) (g.S.Source.left c.answer_statements.new.source))
+    c.in-Ok.ensures.quiet (c.answer_statements.ensures.runs db (begins_at g run db asked begins)))
+
+pub returns-in-Term-clause-no_card : goal.returns-in-Term-clause-no_card
+returns-in-Term-clause-no_card g c = λ finds. absurd (c.in-Ok.ensures.found (lacking g (goal.at.returns-in-Term-clause-no_card g c).After-open_card finds))
+
+-- It was opened to answer commands.
 
 -- each fault has its cause
 ends_commands : (g : given.Over) (c : Ended g)
@@ -124,28 +266,29 @@ starts g c form db asked begins =
     let same : form ≡ c.in-Some.form = cc (c.in-Some.ensures, asked) in
     c.in-Ok.ensures.starts db (subst (λ (f : Form). Begins f (g.B.Eeprom.chip c.args.bench.now) db) same begins)
 
-pub returns-clause-lines : goal.returns-clause-lines
-returns-clause-lines g c = λ form asked reads.
-    let run : Ended g = (goal.at.returns-clause-lines g c).After-answer_commands in
-    let opened : Opened g = (goal.at.returns-clause-lines g c).After-open_card in
+pub returns-in-New-clause-commands : goal.returns-in-New-clause-commands
+returns-in-New-clause-commands g c = λ form asked reads.
+    let run : Ended g = (goal.at.returns-in-New-clause-commands g c).After-answer_commands in
+    let opened : Opened g = (goal.at.returns-in-New-clause-commands g c).After-open_card in
     let old : Chip = g.B.Eeprom.chip c.args.bench.now in
     let mid : Chip = g.B.Eeprom.chip c.open_card.new.bench in
     let new : Chip = g.B.Eeprom.chip c.answer_commands.new.bench in
     let same : c.in-Some.form ≡ form = cc (c.in-Some.ensures, asked) in
-    Lines-opened command_lines start form c.answer_commands.result c.args.source.now c.answer_commands.new.source (g.S.Source.left c.args.source.now) (g.S.Source.left c.answer_commands.new.source) old mid new _ _
+    Lines-opened command_lines (λ m. false) start form c.answer_commands.result c.args.source.now c.answer_commands.new.source (g.S.Source.left c.args.source.now) (g.S.Source.left c.answer_commands.new.source) old mid new _ _
     c.answer_commands.ensures.status
     (λ told. let first = c.in-Ok.ensures.begins told in (first.0, subst (λ (f : Form). Begins f old first.0) same first.1))
     c.open_card.ensures.still (left g opened form asked)
     (λ db begins. open-told mid db (open-at c.in-Ok.card mid db c.in-Ok.ensures.ready (starts g run form db asked begins)))
-    c.answer_commands.ensures.done c.answer_commands.ensures.too_long (ends_commands g run)
+    c.answer_commands.ensures.whole c.answer_commands.ensures.too_long (ends_commands g run)
+    (λ db begins. never-tells command_lines (start db) c.answer_commands.result (g.S.Source.left c.args.source.now) (g.S.Source.left c.answer_commands.new.source) c.answer_commands.ensures.never_refused c.answer_commands.ensures.whole)
     (λ db begins. subst (λ (from : ℕ). Becomes (λ (input left : List ℕ). RunsInput command_lines (start db) c.answer_commands.result from (g.B.Eeprom.faults c.answer_commands.new.bench) input left mid new) (g.S.Source.left c.args.source.now) (g.S.Source.left c.answer_commands.new.source))
     c.in-Ok.ensures.quiet (c.answer_commands.ensures.runs (start db) (starts g run form db asked begins)))
 
-pub returns-clause-no_card : goal.returns-clause-no_card
-returns-clause-no_card g c = λ finds. absurd (c.in-Ok.ensures.found (lacking g (goal.at.returns-clause-no_card g c).After-open_card finds))
+pub returns-in-New-clause-no_card : goal.returns-in-New-clause-no_card
+returns-in-New-clause-no_card g c = λ finds. absurd (c.in-Ok.ensures.found (lacking g (goal.at.returns-in-New-clause-no_card g c).After-open_card finds))
 
-pub returns-clause-ends : goal.returns-clause-ends
-returns-clause-ends g c = ends_commands g (goal.at.returns-clause-ends g c).After-answer_commands
+pub returns-in-New-clause-ends : goal.returns-in-New-clause-ends
+returns-in-New-clause-ends g c = ends_commands g (goal.at.returns-in-New-clause-ends g c).After-answer_commands
 
 -- What is shown.
 
@@ -158,8 +301,14 @@ returns-in-Err-clause-shown g c = shown g (goal.at.returns-in-Err-clause-shown g
 pub returns-in-Migrate-clause-shown : goal.returns-in-Migrate-clause-shown
 returns-in-Migrate-clause-shown g c = shown g (goal.at.returns-in-Migrate-clause-shown g c).After-open_card
 
-pub returns-clause-shown : goal.returns-clause-shown
-returns-clause-shown g c = shown g (goal.at.returns-clause-shown g c).After-open_card
+pub returns-in-Check-clause-shown : goal.returns-in-Check-clause-shown
+returns-in-Check-clause-shown g c = shown g (goal.at.returns-in-Check-clause-shown g c).After-open_card
+
+pub returns-in-New-clause-shown : goal.returns-in-New-clause-shown
+returns-in-New-clause-shown g c = shown g (goal.at.returns-in-New-clause-shown g c).After-open_card
+
+pub returns-in-Term-clause-shown : goal.returns-in-Term-clause-shown
+returns-in-Term-clause-shown g c = shown g (goal.at.returns-in-Term-clause-shown g c).After-open_card
 
 -- What lies behind the image.
 
@@ -181,8 +330,38 @@ returns-in-Migrate-clause-behind g c =
     asked_behind g (goal.at.returns-in-Migrate-clause-behind g c).After-open_card new
     (behind-then (run_cells c.in-Some.form) own_cells old mid new (cells-over c.in-Some.form c.in-Ok.card old mid c.in-Ok.ensures.ready c.in-Ok.ensures.cells) c.open_card.ensures.behind c.run_migration.ensures.behind)
 
-pub returns-clause-behind : goal.returns-clause-behind
-returns-clause-behind g c =
+pub returns-in-Check-clause-behind : goal.returns-in-Check-clause-behind
+returns-in-Check-clause-behind g c =
+    let new : Chip = g.B.Eeprom.chip c.run_check.new.bench in
+    asked_behind g (goal.at.returns-in-Check-clause-behind g c).After-open_card new
+    (behind-then (run_cells c.in-Some.form) (λ was. c.in-Ok.card.store.chains.cells) (g.B.Eeprom.chip c.args.bench.now) (g.B.Eeprom.chip c.open_card.new.bench) new c.in-Ok.ensures.cells c.open_card.ensures.behind
+    (c.run_check.ensures.behind (λ was. c.in-Ok.card.store.chains.cells)))
+
+pub returns-in-Load-clause-behind : goal.returns-in-Load-clause-behind
+returns-in-Load-clause-behind g c =
+    let new : Chip = g.B.Eeprom.chip c.run_load.new.bench in
+    asked_behind g (goal.at.returns-in-Load-clause-behind g c).After-open_card new
+    (behind-then (run_cells c.in-Some.form) (λ was. c.in-Ok.card.store.chains.cells) (g.B.Eeprom.chip c.args.bench.now) (g.B.Eeprom.chip c.open_card.new.bench) new c.in-Ok.ensures.cells c.open_card.ensures.behind c.run_load.ensures.behind)
+
+pub returns-in-New-clause-behind : goal.returns-in-New-clause-behind
+returns-in-New-clause-behind g c =
     let new : Chip = g.B.Eeprom.chip c.answer_commands.new.bench in
-    asked_behind g (goal.at.returns-clause-behind g c).After-open_card new
+    asked_behind g (goal.at.returns-in-New-clause-behind g c).After-open_card new
     (behind-then (run_cells c.in-Some.form) (λ was. c.in-Ok.card.store.chains.cells) (g.B.Eeprom.chip c.args.bench.now) (g.B.Eeprom.chip c.open_card.new.bench) new c.in-Ok.ensures.cells c.open_card.ensures.behind c.answer_commands.ensures.behind)
+
+pub returns-in-Term-clause-behind : goal.returns-in-Term-clause-behind
+returns-in-Term-clause-behind g c =
+    let new : Chip = g.B.Eeprom.chip c.answer_statements.new.bench in
+    asked_behind g (goal.at.returns-in-Term-clause-behind g c).After-open_card new
+    (behind-then (run_cells c.in-Some.form) (λ was. c.in-Ok.card.store.chains.cells) (g.B.Eeprom.chip c.args.bench.now) (g.B.Eeprom.chip c.open_card.new.bench) new c.in-Ok.ensures.cells c.open_card.ensures.behind c.answer_statements.ensures.behind)
+
+-- a check and a migration answer no commands
+pub returns-in-Check-clause-commands : goal.returns-in-Check-clause-commands
+returns-in-Check-clause-commands g c = λ form asked answers.
+    let same : form ≡ c.in-Some.form = cc (c.in-Some.ensures, asked) in
+    absurd (no_lines form Check (same ∙ c.in-Check.is) refl answers)
+
+pub returns-in-Migrate-clause-commands : goal.returns-in-Migrate-clause-commands
+returns-in-Migrate-clause-commands g c = λ form asked answers.
+    let same : form ≡ c.in-Some.form = cc (c.in-Some.ensures, asked) in
+    absurd (no_lines form Migrate (same ∙ c.in-Migrate.is) refl answers)

@@ -1,0 +1,14 @@
+use Rattle.std.proofs.Common.{◌≡◌, ◌<◌, ◌≤◌, ◌+◌}
+use Rattle.terminal.specs.Load.{insert_lines}
+use Rattle.card_cli.specs.Loading.{CarriesOut}
+use Rattle.card_cli.proofs.InsertedRows.{number_after}
+use Rattle.card_cli.proofs.loading.Loader.insert_rows.Given as goal
+
+abbrev pub invariant-loop-row : goal.invariant-loop-row
+invariant-loop-row g l = record {
+  carried : CarriesOut g.B.Eeprom.chip g.B.Eeprom.faults (insert_lines l.row 1 l.seed) (record { terminal = l.fn.self.terminal; card = l.fn.self.card.card; refused = l.fn.self.refused })
+      (record { terminal = l.self.terminal; card = l.self.card.card; refused = l.self.refused });
+  few : l.self.refused ≤ 2 + l.row;
+  value : l.value ≡ number_after l.row l.seed;
+  below : l.value < 65537;
+}

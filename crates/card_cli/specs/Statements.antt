@@ -1,0 +1,53 @@
+-- Statements as the lines of a run, which tells whether one was refused.
+use Rattle.std.specs.Prelude.{◌≡◌, ℕ, ◌||◌, Bool, true, false, List, Option, Some, None, Result, Ok, Err}
+use Rattle.scql_model.specs.Database.{Database}
+use Rattle.scql_model.specs.Lines.{Effect, Language}
+use Rattle.scql_model.specs.Machine.{Machine, start}
+use Rattle.script.specs.Line.{statement_of}
+use Rattle.planner.specs.StatementLines.{TerminalState, statement_lines}
+use Rattle.terminal.specs.declared.line_end.LineEnd.{LineEnd}
+use Rattle.terminal.specs.declared.line_end.LineEnd.TheVariants as ends
+use Rattle.terminal.specs.Holding.{Holding, Sits}
+use Rattle.terminal.specs.Line.{refuses}
+use Rattle.card_cli.specs.declared.stop.FailedDevice.{FailedDevice}
+use Rattle.card_cli.specs.declared.stop.FailedDevice.TheVariants.{Eeprom, Outlet}
+
+-- where the terminal of a run is, and whether a line was refused so far
+pub record Sitting : Type 0 where
+  pub at : TerminalState
+  pub refused : Bool
+
+-- a line that is too long is refused, and any other one where its closing line is a refusal or an error
+abbrev pub is_refused : TerminalState → Option (List ℕ) → Bool
+is_refused state None = true
+is_refused state (Some line) = refuses state (statement_of line)
+
+-- what a line does
+abbrev pub goes_on_so : Effect TerminalState → Bool → Effect Sitting
+goes_on_so does refused = record { text = does.text; next = record { at = does.next; refused = refused }; commits = does.commits; faulty = does.faulty }
+
+-- the language of statements
+abbrev pub term_lines : Language Sitting
+term_lines = record {
+  machine = λ sitting. sitting.at.machine;
+  effect = λ sitting line. goes_on_so (statement_lines.effect sitting.at line) (sitting.refused || is_refused sitting.at line);
+}
+
+-- a terminal on channel 0 of a card that is opened with a database
+abbrev pub opened : Database → Sitting
+opened db = record { at = record { machine = start db; channel = 0 }; refused = false }
+
+abbrev pub was_refused : Sitting → Bool
+was_refused sitting = sitting.refused
+
+-- a terminal with its link, where a line was refused so far or none
+pub record SitsSo {L : Type 0} (is_at : L → Machine → Type 0) (holding : Holding) (link : L) (refused : Bool) (sitting : Sitting) : Type 0 where
+  pub sits : Sits is_at sitting.at holding link
+  pub tells : refused ≡ sitting.refused
+
+-- whether a line was refused, by how it ended, or which device failed in it
+abbrev pub heard_as : LineEnd → Result Bool FailedDevice
+heard_as ends.Answered = Ok false
+heard_as ends.Refused = Ok true
+heard_as ends.Mute = Err Eeprom
+heard_as ends.SinkFault = Err Outlet

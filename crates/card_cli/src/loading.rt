@@ -1,0 +1,185 @@
+// The run of a load: a script that fills a table, changes it and reads it, and one line of what came of it.
+ghost use Rattle.std.specs.Prelude.{◌≡◌, ◌+◌, ◌<◌, ◌≤◌, ◌∷◌, [], ℕ, nat_lt, List, true, length, cond, OnOk, OnErr, IfOk, IsTrue, Some};
+ghost use Rattle.scql_model.specs.Database.{Database};
+ghost use Rattle.scql_model.specs.Lines.{longest_line, state_after};
+ghost use Rattle.scql_model.specs.Machine.{start};
+ghost use Rattle.script.specs.Line.{statement_of};
+ghost use Rattle.card.specs.Behind.{KeepsBehind};
+ghost use Rattle.card.specs.Card.{IsReady, IsAt};
+ghost use Rattle.planner.specs.StatementLines.{TerminalState};
+ghost use Rattle.terminal.specs.Holding.{terminal_at};
+ghost use Rattle.terminal.specs.Load as model;
+ghost use Rattle.terminal.specs.Load.{filling_lines, insert_lines, load_counts, load_script};
+ghost use Rattle.terminal.specs.Quiet.{closing_in};
+ghost use Rattle.card_cli.specs.Counted.{counts_of};
+ghost use Rattle.card_cli.specs.Ends.{AllFaults, EndsBy};
+ghost use Rattle.card_cli.specs.Loading.{CarriesOut, FailsAmong, IsIn, LoadsTo, ends_load};
+
+use crate::load_lines::{
+    CHANGE, CREATE, DELETE, LoadCounts, PRESENT, SELECT, insert_line, next_number, text_of,
+};
+use crate::output::give;
+use crate::status::Status;
+use crate::still_card::StillCard;
+use card::{Card, LiveCard};
+use eeprom::{Bench, EepromFault};
+use planner::Closing;
+use terminal::{QuietEnd, Terminal};
+
+/// A terminal with its card, and how many statements were refused so far.
+#[derive(Drop)]
+struct Loader<'a, B: Bench> {
+    terminal: Terminal,
+    card: StillCard<'a, B>,
+    refused: u32,
+}
+
+/// Runs the script of so many rows from a number, and says what came of it.
+pub(crate) fn run_load<B: Bench>(card: Card, bench: &mut B, rows: u16, seed: u16) -> Status
+    requires { IsReady card (B.chip bench.old) }
+    ensures loads { (db : Database) → IsAt card (B.chip bench.old) (start db)
+        → LoadsTo rows seed result (terminal_at (start db) 0) (B.faults bench.old) (B.faults bench.new) (B.chip bench.old) (B.chip bench.new) }
+    ensures status { ends_load result ≡ true }
+    ensures ends { (source : ℕ) → EndsBy result
+        (record { eeprom = B.faults bench.old; source = source; outlet = B.sink_faults bench.old })
+        (record { eeprom = B.faults bench.new; source = source; outlet = B.sink_faults bench.new }) }
+    // Nothing is written behind the card's image.
+    ensures behind { KeepsBehind (λ was. card.store.chains.cells) (B.chip bench.old) (B.chip bench.new) }
+{
+    let mut loader = Loader {
+        terminal: Terminal::new(),
+        card: StillCard {
+            card: LiveCard::new(card, bench),
+        },
+        refused: 0,
+    };
+    let counted = loader.run_script(rows, seed);
+    let bench = loader.card.card.into_bench();
+    let Ok(counts) = counted else {
+        return Status::Eeprom;
+    };
+    match give(bench, &text_of(&counts)) {
+        Ok(()) => status_of(counts.refused),
+        Err(_) => Status::WriteFault,
+    }
+}
+
+// How a load ends in which so many statements were refused.
+fn status_of(refused: u32) -> Status
+    ensures { result ≡ cond (nat_lt 0 refused) Status.Refused Status.Done }
+{
+    if 0 < refused {
+        Status::Refused
+    } else {
+        Status::Done
+    }
+}
+
+impl<'a, B: Bench> Loader<'a, B> {
+    // Runs the script.
+    fn run_script(&mut self, rows: u16, seed: u16) -> Result<LoadCounts, EepromFault>
+        requires live { IsTrue self.old.card.card.card.live }
+        requires fresh { self.old.refused ≡ 0 }
+        ensures carried { OnOk result (CarriesOut B.chip B.faults (load_script rows seed)
+            (record { terminal = self.old.terminal; card = self.old.card.card; refused = self.old.refused })
+            (record { terminal = self.new.terminal; card = self.new.card.card; refused = self.new.refused })) }
+        ensures counted { (state : TerminalState) → IsIn B.chip state (record { terminal = self.old.terminal; card = self.old.card.card; refused = self.old.refused })
+            → IfOk result (λ counts. counts_of counts ≡ load_counts state rows seed) }
+        ensures failed { OnErr result (FailsAmong B.chip B.faults (load_script rows seed)
+            (record { terminal = self.old.terminal; card = self.old.card.card; refused = self.old.refused })
+            (record { terminal = self.new.terminal; card = self.new.card.card; refused = self.new.refused })) }
+    {
+        self.fill(rows, seed)?;
+        let changed = self.carry_out(CHANGE)?;
+        let deleted = self.carry_out(DELETE)?;
+        let rows = self.carry_out(SELECT)?;
+        Ok(LoadCounts {
+            rows,
+            changed,
+            deleted,
+            refused: self.refused,
+        })
+    }
+
+    // Makes the table and fills it.
+    fn fill(&mut self, rows: u16, seed: u16) -> Result<(), EepromFault>
+        requires live { IsTrue self.old.card.card.card.live }
+        requires fresh { self.old.refused ≡ 0 }
+        ensures carried { OnOk result (CarriesOut B.chip B.faults (filling_lines rows seed)
+            (record { terminal = self.old.terminal; card = self.old.card.card; refused = self.old.refused })
+            (record { terminal = self.new.terminal; card = self.new.card.card; refused = self.new.refused })) }
+        ensures few { OnOk result (self.new.refused ≤ 65537) }
+        ensures failed { OnErr result (FailsAmong B.chip B.faults (filling_lines rows seed)
+            (record { terminal = self.old.terminal; card = self.old.card.card; refused = self.old.refused })
+            (record { terminal = self.new.terminal; card = self.new.card.card; refused = self.new.refused })) }
+    {
+        self.carry_out(PRESENT)?;
+        self.carry_out(CREATE)?;
+        self.insert_rows(rows, seed)
+    }
+
+    // Inserts so many rows.
+    fn insert_rows(&mut self, rows: u16, seed: u16) -> Result<(), EepromFault>
+        requires live { IsTrue self.old.card.card.card.live }
+        requires few { self.old.refused ≤ 2 }
+        ensures carried { OnOk result (CarriesOut B.chip B.faults (insert_lines rows 1 seed)
+            (record { terminal = self.old.terminal; card = self.old.card.card; refused = self.old.refused })
+            (record { terminal = self.new.terminal; card = self.new.card.card; refused = self.new.refused })) }
+        ensures few { OnOk result (self.new.refused ≤ 2 + rows) }
+        ensures failed { OnErr result (FailsAmong B.chip B.faults (insert_lines rows 1 seed)
+            (record { terminal = self.old.terminal; card = self.old.card.card; refused = self.old.refused })
+            (record { terminal = self.new.terminal; card = self.new.card.card; refused = self.new.refused })) }
+    {
+        let mut value = seed as u32;
+        for row in 0..rows {
+            value = next_number(value);
+            self.carry_out(&insert_line(row + 1, value))?;
+        }
+        Ok(())
+    }
+
+    // Carries out a line, and tells the number of its closing line, or 0 where it has none.
+    fn carry_out(&mut self, line: &[u8]) -> Result<u32, EepromFault>
+        requires live { IsTrue self.old.card.card.card.live }
+        requires short { length line.now ≤ longest_line }
+        requires few { self.old.refused ≤ 70000 }
+        ensures carried { OnOk result (CarriesOut B.chip B.faults (line.now ∷ [])
+            (record { terminal = self.old.terminal; card = self.old.card.card; refused = self.old.refused })
+            (record { terminal = self.new.terminal; card = self.new.card.card; refused = self.new.refused })) }
+        ensures number { (state : TerminalState) → IsIn B.chip state (record { terminal = self.old.terminal; card = self.old.card.card; refused = self.old.refused })
+            → IfOk result (λ number. number ≡ model.number_of (closing_in state (statement_of line.now))) }
+        ensures failed { OnErr result (FailsAmong B.chip B.faults (line.now ∷ [])
+            (record { terminal = self.old.terminal; card = self.old.card.card; refused = self.old.refused })
+            (record { terminal = self.new.terminal; card = self.new.card.card; refused = self.new.refused })) }
+    {
+        match self.terminal.quiet(&mut self.card, line) {
+            QuietEnd::Closed { closing } => {
+                self.refused += refusals_in(closing);
+                Ok(number_in(closing))
+            }
+            QuietEnd::Faulty => Ok(0),
+            QuietEnd::Mute => Err(EepromFault),
+        }
+    }
+}
+
+// The number of a closing line, or 0 where it has none.
+fn number_in(closing: Closing) -> u32
+    ensures { result ≡ model.number_of (Some closing) }
+{
+    match closing {
+        Closing::Rows { number } => number,
+        _ => 0,
+    }
+}
+
+// One where a statement was refused.
+fn refusals_in(closing: Closing) -> u32
+    ensures refused { result ≡ cond (model.is_refused (Some closing)) 1 0 }
+    ensures one { result ≤ 1 }
+{
+    match closing {
+        Closing::Refused { .. } => 1,
+        _ => 0,
+    }
+}
