@@ -1,15 +1,18 @@
 -- Conditions, changes and values, read one after the other.
-use Rattle.std.proofs.Common.{◌≡◌, ◌≤◌, ◌+◌, ℕ, suc, nat_le, ◌&&◌, Bool, true, false, List, [], ◌∷◌, ◌++◌, length, map, Option, Some, None, refl, ap, subst, sym, ◌∙◌, arith, length-append, if◌then◌else◌}
+use Rattle.std.proofs.Common.{◌≡◌, ◌≤◌, ◌<◌, ◌+◌, ℕ, suc, nat_le, ◌&&◌, Bool, true, false, List, [], ◌∷◌, ◌++◌, length, map, Option, Some, None, refl, ap, subst, sym, ◌∙◌, arith, length-append, if◌then◌else◌}
 use Rattle.std.specs.List.{list_all}
-use Rattle.std.proofs.lemmas.Bool.{false≢true, leb-true}
+use Rattle.std.proofs.lemmas.Bool.{false≢true, leb-true, lt-leb}
 use Rattle.std.proofs.lemmas.Option.{none-some, same_Some}
 use Rattle.std.proofs.lemmas.List.{length-map, map-append}
 use Rattle.std.proofs.lemmas.List.Folds.{list_all-append, list_all-map}
 use Rattle.scql_base.specs.declared.condition.Condition.{Condition}
 use Rattle.scql_base.specs.declared.words.Comparison.{Comparison}
 use Rattle.scql_base.specs.Name.{is_name, name_of}
+use Rattle.scql_base.specs.Changes.{ArePacked, change_octets}
 use Rattle.scql_base.specs.Octets.{within}
-use Rattle.scql_base.specs.Strings.{with_string}
+use Rattle.scql_base.specs.Strings.{first_of, with_string}
+use Rattle.scql_base.proofs.PackedRuns.{AreChanges-longer, change_octets-size}
+use Rattle.scql_base.proofs.Splitting.{first_of-length}
 use Rattle.scql_base.specs.Row.{is_narrow}
 use Rattle.scql_model.specs.Database.{are_different}
 use Rattle.scql_model.specs.Records.{comparison_of, is_count_of_conditions, is_count_of_columns}
@@ -210,6 +213,13 @@ name-is octets name is = go (is_name octets) is
     go true is = same_Some name octets is
     go false is = absurd (none-some name (sym is))
 
+pub name-read : (octets name : List ℕ) → Some name ≡ name_of octets → is_name name ≡ true
+name-read octets name is = go (is_name octets) refl is
+  where
+    go : (test : Bool) → is_name octets ≡ test → Some name ≡ (if test then Some octets else None) → is_name name ≡ true
+    go true at is = ap is_name (same_Some name octets is) ∙ at
+    go false at is = absurd (none-some name (sym is))
+
 pub name-none : (octets : List ℕ) → None ≡ name_of octets → is_name octets ≡ false
 name-none octets is = go (is_name octets) refl is
   where
@@ -230,3 +240,14 @@ within-none octets is = go (is_narrow octets) refl is
     go : (test : Bool) → is_narrow octets ≡ test → None ≡ (if test then Some octets else None) → is_narrow octets ≡ false
     go true at is = absurd (none-some octets is)
     go false at is = at
+
+pub too_wide : (octets : List ℕ) → 200 < length octets → is_narrow octets ≡ false
+too_wide octets wide = lt-leb (length octets) 200 wide
+
+-- changes with one more that octets have are changes that one command can have
+pub changes-packed : (xs : List Assigned) (column name value rest after behind octets : List ℕ) → ArePacked xs → length xs < 15 → Some name ≡ name_of column → length value ≤ 200
+    → Some (column, after) ≡ first_of rest → Some (value, behind) ≡ first_of after → length (change_octets xs) + length rest ≤ length octets → length octets ≤ 1275 → ArePacked (xs ++ (name, value) ∷ [])
+changes-packed xs column name value rest after behind octets packed few named narrow one two size short = record {
+  list = AreChanges-longer xs name value packed.list few (name-read column name named) narrow;
+  size = omega (arith, change_octets-size xs name value, ap length (name-is column name named), first_of-length rest column after one, first_of-length after value behind two, size, short);
+}

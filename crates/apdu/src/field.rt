@@ -8,8 +8,8 @@ ghost use Rattle.apdu.specs.Writing.{with_more};
 
 use arrayvec::ArrayVec;
 use scql_base::{
-    Change, Command, Condition, Conditions, Name, NameList, Octets, Operation, Privileges, Profile,
-    Row, Subject,
+    Command, Condition, Conditions, Name, NameList, Octets, Operation, Privileges, Profile, Row,
+    Subject,
 };
 use std::marker::Model;
 
@@ -116,15 +116,6 @@ impl Field {
         }
     }
 
-    fn put_changes(&mut self, changes: &[Change])
-        ensures { self.new ≡ with_more (flat_map spelled (flat_map spelling.change_strings (map (λ change. change.pair) changes.now))) self.old }
-    {
-        for change in changes {
-            self.put_name(&change.pair.0);
-            self.put_string(change.pair.1.as_slice());
-        }
-    }
-
     // The number of columns, their names, and conditions.
     fn put_choice(&mut self, columns: &NameList, conditions: &Conditions)
         ensures { self.new ≡ with_more (flat_map spelled (spelling.choice_strings columns.now conditions.now)) self.old }
@@ -214,7 +205,7 @@ impl Field {
                 conditions,
             } => self.put_cursor(object, columns, conditions),
             Operation::Insert { table, row } => self.put_row(table, row),
-            Operation::Update { changes } => self.put_changes(changes.as_slice()),
+            Operation::Update { changes } => self.put_octets(changes.octets()),
             Operation::CreateUser {
                 name,
                 profile,

@@ -1,15 +1,16 @@
 // The data fields of commands, read: which operation the parameters of each ask for (ISO/IEC 7816-7).
-ghost use Rattle.std.specs.Prelude.{◌≡◌, ◌≤◌, Some, option_map};
+ghost use Rattle.std.specs.Prelude.{◌≡◌, ◌≤◌, Some, length, option_map};
 ghost use Rattle.scql_base.specs.declared.operation.Operation.TheVariants as operation;
+ghost use Rattle.scql_base.specs.declared.operation.TheConstants.Command.{LONGEST_IN_PARTS};
 ghost use Rattle.scql_base.specs.declared.row.TheConstants.Row.{LARGEST};
 ghost use Rattle.scql_model.specs.Operations as table;
 ghost use Rattle.scql_model.specs.Parameters as parameters;
 ghost use Rattle.apdu.specs.Fields as fields;
 
-use crate::lists::{changes_in, columns_in, conditions_in, names_in, row_in};
+use crate::lists::{changes_in, columns_in, conditions_in, names_in, read_row};
 use crate::table::has_instruction;
 use scql_base::{
-    Conditions, Name, NameList, Octets, Operation, OperationKind, Params, Privileges, Profile,
+    Conditions, Name, NameList, Octets, Operation, OperationKind, Params, Privileges, Profile, Row,
     Subject, User,
 };
 
@@ -21,7 +22,8 @@ pub(crate) fn read_operation(
     octets: &[u8],
     place: &mut Operation,
 ) -> Option<()>
-    requires { limit ≤ LARGEST }
+    requires limit { limit ≤ LARGEST }
+    requires short { length octets.now ≤ LONGEST_IN_PARTS }
     ensures { option_map (λ _. place.new) result ≡ parameters.operation_in (table.has_secrets table.built_operations) kind limit octets.now }
 {
     match kind {
@@ -217,13 +219,19 @@ fn read_insert(limit: u16, octets: &[u8], place: &mut Operation) -> Option<()>
 {
     let (table, rest) = Params::first_in(octets)?;
     let table = Name::read(table)?;
-    let row = row_in(limit, rest)?;
-    *place = Operation::Insert { table, row };
-    Some(())
+    *place = Operation::Insert {
+        table,
+        row: Row::new(),
+    };
+    match place {
+        Operation::Insert { row, .. } => read_row(limit, rest, row),
+        _ => unreachable!(),
+    }
 }
 
 #[inline(never)]
 fn read_update(octets: &[u8], place: &mut Operation) -> Option<()>
+    requires { length octets.now ≤ LONGEST_IN_PARTS }
     ensures { option_map (λ _. place.new) result ≡ fields.read_by parameters.update_in octets.now }
 {
     let changes = changes_in(octets)?;

@@ -1,12 +1,15 @@
 // The lists of a data field: names, conditions, changes and the values of a row.
-ghost use Rattle.std.specs.Prelude.{◌≡◌, ◌≤◌, option_map};
+ghost use Rattle.std.specs.Prelude.{◌≡◌, ◌≤◌, length, option_map};
 ghost use Rattle.std.specs.List.{list_any};
 ghost use Rattle.std.specs.Str.{bytes_eq};
+ghost use Rattle.scql_base.specs.declared.operation.TheConstants.Command.{LONGEST_IN_PARTS};
 ghost use Rattle.scql_base.specs.declared.row.TheConstants.Row.{LARGEST};
 ghost use Rattle.scql_model.specs.Database as database;
 ghost use Rattle.apdu.specs.Fields as fields;
 
-use scql_base::{Changes, Comparison, Condition, Conditions, Name, NameList, Octets, Params, Row};
+use scql_base::{
+    Comparison, Condition, Conditions, Name, NameList, Octets, PackedChanges, Params, Row,
+};
 
 // 1 to 15 different names, to the end.
 pub(crate) fn columns_in(octets: &[u8]) -> Option<NameList>
@@ -103,35 +106,39 @@ fn comparison_in(string: &[u8]) -> Option<Comparison>
 }
 
 // 1 to 15 changes of different columns, to the end.
-pub(crate) fn changes_in(octets: &[u8]) -> Option<Changes>
+pub(crate) fn changes_in(octets: &[u8]) -> Option<PackedChanges>
+    requires short { length octets.now ≤ LONGEST_IN_PARTS }
     ensures { result ≡ fields.read_by fields.changes_in octets.now }
 {
     let mut columns = NameList::new();
-    let mut changes = Changes::new();
+    let mut changes = PackedChanges::new();
     let mut rest = octets;
     while let Some((column, after)) = Params::first_in(rest) {
         let (value, after) = Params::first_in(after)?;
         let column = Name::read(column)?;
-        let value = Octets::of(value)?;
+        if value.len() > Row::LONGEST_VALUE {
+            return None;
+        }
         columns.push(column.copy()).ok()?;
-        changes.push((column, value)).ok()?;
+        let pushed = changes.push(&column, value).is_ok();
+        prove!(pushed);
         rest = after;
     }
-    if rest.is_empty() && changes.len() != 0 && are_different(columns.as_slice()) {
+    if rest.is_empty() && columns.len() != 0 && are_different(columns.as_slice()) {
         Some(changes)
     } else {
         None
     }
 }
 
-// A row of 1 to 15 values and at most so many octets, to the end.
-pub(crate) fn row_in(limit: u16, octets: &[u8]) -> Option<Row>
+// Reads a row of 1 to 15 values and at most so many octets, to the end, into a place.
+pub(crate) fn read_row(limit: u16, octets: &[u8], place: &mut Row) -> Option<()>
     requires { limit ≤ LARGEST }
-    ensures { result ≡ fields.read_by (fields.row_in limit) octets.now }
+    ensures { option_map (λ _. place.new) result ≡ fields.read_by (fields.row_in limit) octets.now }
 {
-    let row = Row::read(octets)?;
-    if row.len() != 0 && row.size() <= usize::from(limit) {
-        Some(row)
+    place.read_into(octets)?;
+    if place.len() != 0 && place.size() <= usize::from(limit) {
+        Some(())
     } else {
         None
     }

@@ -1,6 +1,7 @@
 // Command APDUs, read as far as their data fields (ISO/IEC 7816-4).
 ghost use Rattle.std.specs.Prelude.{◌≡◌, ◌≤◌, ◌<◌, ℕ, true, Some, Option, IfOk, IfErr, length, slice_get, min};
 ghost use Rattle.scql_base.specs.Words.{instruction_not_supported};
+ghost use Rattle.scql_base.specs.declared.operation.TheConstants.Command.{LONGEST_IN_PARTS};
 ghost use Rattle.scql_base.specs.declared.row.TheConstants.Row.{LARGEST};
 ghost use Rattle.scql_model.specs.Form as form;
 ghost use Rattle.scql_model.specs.Machine.{Chain};
@@ -58,14 +59,15 @@ impl<'a> Apdu<'a> {
         }
     }
 
-    /// Reads the command of this APDU's operation that has this data field into a place, where a row has at most so many octets,
-    /// and never more than 1,020. Where it is refused, what the place has is left open.
+    /// Reads the command of this APDU's operation that has this data field, of at most 1,275 octets, into a place, where a row has at
+    /// most so many octets, and never more than 1,020. Where it is refused, what the place has is left open.
     pub fn read_into(
         &self,
         body: &[u8],
         limit: u16,
         command: &mut Command,
     ) -> Result<(), StatusWord>
+        requires { length body.now ≤ LONGEST_IN_PARTS }
         ensures { seen (λ _. command.new) result ≡ command_of self.now (min limit LARGEST) body.now }
     {
         let limit = limit.min(LARGEST_ROW);

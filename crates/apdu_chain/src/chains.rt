@@ -11,7 +11,6 @@ ghost use Rattle.apdu_chain.specs.Chaining.{chain_on, chains_after, going_on, on
 
 use crate::chain::Chain;
 use apdu::{Apdu, Refusal, comes_in_parts};
-use arrayvec::ArrayVec;
 use scql_base::{Command, OperationKind, StatusWord};
 use std::marker::Model;
 
@@ -151,25 +150,16 @@ impl Chains {
         ensures command { seen (λ _. command.new) result ≡ command_of apdu.now (min limit LARGEST) (concat (parts_of apdu.now.kind (chain_on self.old apdu.now.channel)) ++ apdu.now.body.now) }
         ensures ended { self.new ≡ slice_set self.old apdu.now.channel None }
     {
-        let joined = self.joined(apdu);
-        self.forget(apdu.channel);
-        let body = match &joined {
-            Some(octets) => octets.as_slice(),
-            None => apdu.body,
-        };
-        apdu.read_into(body, limit, command)
-    }
-
-    // The octets of the parts before an APDU and its own, where there are parts that it goes on with.
-    fn joined(&self, apdu: &Apdu<'_>) -> Option<ArrayVec<u8, 1275>>
-        requires channel { apdu.now.channel < 4 }
-        requires short { length apdu.now.body.now ≤ 255 }
-        ensures some { IfSome result (λ octets. octets.items ≡ concat (parts_of apdu.now.kind (chain_on self.now apdu.now.channel)) ++ apdu.now.body.now) }
-        ensures none { IfNone result (parts_of apdu.now.kind (chain_on self.now apdu.now.channel) ≡ []) }
-    {
         match &self.chains[usize::from(apdu.channel)] {
-            Some(chain) if chain.goes_on_with(apdu.kind) => Some(chain.joined(apdu.body)),
-            _ => None,
+            Some(chain) if chain.goes_on_with(apdu.kind) => {
+                let read = read_joined(chain, apdu, limit, command);
+                self.forget(apdu.channel);
+                read
+            }
+            _ => {
+                self.forget(apdu.channel);
+                apdu.read_into(apdu.body, limit, command)
+            }
         }
     }
 
@@ -184,4 +174,20 @@ impl Chains {
             _ => None,
         }
     }
+}
+
+// Reads the command of the parts so far and an APDU's own data field into a place. It isn't inlined, so that a command that comes whole
+// has no place for parts.
+#[inline(never)]
+fn read_joined(
+    chain: &Chain,
+    apdu: &Apdu<'_>,
+    limit: u16,
+    command: &mut Command,
+) -> Result<(), StatusWord>
+    requires { length apdu.now.body.now ≤ 255 }
+    ensures { seen (λ _. command.new) result ≡ command_of apdu.now (min limit LARGEST) (concat chain.now.parts ++ apdu.now.body.now) }
+{
+    let octets = chain.joined(apdu.body);
+    apdu.read_into(octets.as_slice(), limit, command)
 }

@@ -1,7 +1,8 @@
 // Tables, views and dictionaries in octets.
-ghost use Rattle.std.specs.Prelude.{◌≡◌, ◌∷◌, option_map};
+ghost use Rattle.std.specs.Prelude.{◌≡◌, ◌∷◌, None, if◌then◌else◌, is_some};
 ghost use Rattle.scql_base.specs.declared.records.TheConstants.Object.{TABLE_MARK, VIEW_MARK, DICTIONARY_MARK};
-ghost use Rattle.scql_model.specs.Records.{object_from};
+ghost use Rattle.catalog_codec.specs.Catalog.{object_kind};
+ghost use Rattle.catalog_codec.specs.Kinds.{read_as};
 
 use crate::Record;
 use crate::fields::{name_at, subject_at};
@@ -31,8 +32,21 @@ impl Record for Object {
     }
 
     fn read(octets: &[u8]) -> Option<Object> {
-        let (object, rest) = object_at(octets)?;
-        if rest.is_empty() { Some(object) } else { None }
+        let mut place = None;
+        Object::read_into(octets, &mut place);
+        place
+    }
+
+    fn read_into(octets: &[u8], place: &mut Option<Object>) {
+        let read = match octets {
+            [TABLE, fields @ ..] => read_table(fields, place),
+            [VIEW, fields @ ..] => read_view(fields, place),
+            [DICTIONARY, fields @ ..] => read_dictionary(fields, place),
+            _ => None,
+        };
+        if read.is_none() {
+            *place = None;
+        }
     }
 
     fn encode(&self, out: &mut RecordOctets) {
@@ -75,38 +89,31 @@ impl Record for Object {
     ghost lawful = { IsKind-object };
 }
 
-fn object_at(octets: &[u8]) -> Option<(Object, &[u8])>
-    ensures { option_map (λ x. (x.0, x.1.now)) result ≡ object_from octets.now }
-{
-    match octets {
-        [TABLE, fields @ ..] => table_at(fields),
-        [VIEW, fields @ ..] => view_at(fields),
-        [DICTIONARY, fields @ ..] => dictionary_at(fields),
-        _ => None,
-    }
-}
-
-fn table_at(fields: &[u8]) -> Option<(Object, &[u8])>
-    ensures { option_map (λ x. (x.0, x.1.now)) result ≡ object_from (TABLE_MARK ∷ fields.now) }
+// Reads the table whose record has these fields behind its mark into a place, where there is one.
+fn read_table(fields: &[u8], place: &mut Option<Object>) -> Option<()>
+    ensures { (if is_some result then place.new else None) ≡ read_as object_kind (TABLE_MARK ∷ fields.now) }
 {
     let (stamp, rest) = number_and_rest(fields)?;
     let (owner, rest) = number_and_rest(rest)?;
     let (name, rest) = name_at(rest)?;
     let (columns, rest) = columns_at(rest)?;
-    let kind = ObjectKind::Table { columns };
-    Some((
-        Object {
-            stamp,
-            name,
-            owner,
-            kind,
-        },
-        rest,
-    ))
+    if !rest.is_empty() {
+        return None;
+    }
+    *place = Some(Object {
+        stamp,
+        name,
+        owner,
+        kind: ObjectKind::Table { columns },
+    });
+    Some(())
 }
 
-fn view_at(fields: &[u8]) -> Option<(Object, &[u8])>
-    ensures { option_map (λ x. (x.0, x.1.now)) result ≡ object_from (VIEW_MARK ∷ fields.now) }
+// Reads the view whose record has these fields behind its mark, likewise. What it needs room for is in a function of its own, so
+// that a table doesn't pay for it.
+#[inline(never)]
+fn read_view(fields: &[u8], place: &mut Option<Object>) -> Option<()>
+    ensures { (if is_some result then place.new else None) ≡ read_as object_kind (VIEW_MARK ∷ fields.now) }
 {
     let (stamp, rest) = number_and_rest(fields)?;
     let (owner, rest) = number_and_rest(rest)?;
@@ -114,37 +121,39 @@ fn view_at(fields: &[u8]) -> Option<(Object, &[u8])>
     let (name, rest) = name_at(rest)?;
     let (columns, rest) = columns_at(rest)?;
     let (conditions, rest) = conditions_at(rest)?;
-    let kind = ObjectKind::View {
-        base,
-        columns,
-        conditions,
-    };
-    Some((
-        Object {
-            stamp,
-            name,
-            owner,
-            kind,
+    if !rest.is_empty() {
+        return None;
+    }
+    *place = Some(Object {
+        stamp,
+        name,
+        owner,
+        kind: ObjectKind::View {
+            base,
+            columns,
+            conditions,
         },
-        rest,
-    ))
+    });
+    Some(())
 }
 
-fn dictionary_at(fields: &[u8]) -> Option<(Object, &[u8])>
-    ensures { option_map (λ x. (x.0, x.1.now)) result ≡ object_from (DICTIONARY_MARK ∷ fields.now) }
+// Reads the dictionary whose record has these fields behind its mark, likewise.
+#[inline(never)]
+fn read_dictionary(fields: &[u8], place: &mut Option<Object>) -> Option<()>
+    ensures { (if is_some result then place.new else None) ≡ read_as object_kind (DICTIONARY_MARK ∷ fields.now) }
 {
     let (stamp, rest) = number_and_rest(fields)?;
     let (owner, rest) = number_and_rest(rest)?;
     let (name, rest) = name_at(rest)?;
     let (subject, rest) = subject_at(rest)?;
-    let kind = ObjectKind::Dictionary { subject };
-    Some((
-        Object {
-            stamp,
-            name,
-            owner,
-            kind,
-        },
-        rest,
-    ))
+    if !rest.is_empty() {
+        return None;
+    }
+    *place = Some(Object {
+        stamp,
+        name,
+        owner,
+        kind: ObjectKind::Dictionary { subject },
+    });
+    Some(())
 }

@@ -20,6 +20,13 @@ pub trait Record: Drop {
     fn read(octets: &[u8]) -> Option<Self>
         ensures { result ≡ read_as kind octets.now };
 
+    /// Reads the record whose spelling these octets are into a place, so that it isn't moved there. Where they are none the place is empty.
+    fn read_into(octets: &[u8], place: &mut Option<Self>)
+        ensures { place.new ≡ read_as kind octets.now }
+    {
+        *place = Self::read(octets);
+    }
+
     /// Fills `out` with the spelling.
     fn encode(&self, out: &mut RecordOctets)
         requires { can_encode self.now }

@@ -16,7 +16,8 @@ pub struct Run {
     pub count: u16,
 }
 
-/// Marks of cells. How many cells aren't marked is counted, and runs of them are searched from where one was last found.
+/// Marks of cells. How many cells aren't marked is counted, and runs of them are searched from where one was last found, and at first
+/// behind all that are marked.
 #[derive(Drop)]
 pub struct Marks {
     marks: Vec<bool>,
@@ -78,6 +79,9 @@ impl Marks {
     {
         self.marks[cell as usize] = true;
         self.free -= 1;
+        if self.next <= cell {
+            self.next = cell.saturating_add(1);
+        }
     }
 
     /// Marks a cell no more.

@@ -1,6 +1,6 @@
 -- How many octets are read of a row.
-use Rattle.std.proofs.Common.{◌≡◌, ℕ, zero, suc, ◌*◌, ◌≤◌, ◌==◌, nat_lt, Bool, true, ◌&&◌, if◌then◌else◌, List, [], ◌∷◌, length, get_or, Option, Some, None, Result, Ok, Err, refl, sym, ap, subst, ◌∙◌, inl, inr, arith}
-use Rattle.std.specs.Prelude.{IfSome, IfOk, is_some, option_and_then, option_map}
+use Rattle.std.proofs.Common.{◌≡◌, ℕ, zero, suc, ◌*◌, ◌≤◌, ◌==◌, nat_lt, Bool, true, ◌&&◌, if◌then◌else◌, List, [], ◌∷◌, length, get_or, Option, Some, None, refl, sym, ap, subst, ◌∙◌, inl, inr, arith}
+use Rattle.std.specs.Prelude.{IfSome, is_some, option_and_then, option_map}
 use Rattle.std.specs.List.{cons_option, find}
 use Rattle.std.proofs.lemmas.List.Sums.{sum_by-cons}
 use Rattle.std.proofs.lemmas.Map.Entries.{option_filter}
@@ -161,18 +161,16 @@ pub indexed-other : (stamp of slot table : ℕ) (slots : Option Slots) → IfSom
 indexed-other stamp of slot table None indexed other = tt
 indexed-other stamp of slot table (Some slots) indexed other = rw (indexed.found, ne_eqb indexed.row.table table (λ same. other (sym indexed.table ∙ same))) refl
 
-pub indexed-found : {E : Type 0} (stamp of slot table : ℕ) (slots : Option Slots) (result : Result (Option RowRecord) E) → IfSome slots (IsIndexed stamp of slot) → of ≡ table
-    → IfOk result (λ value. IfSome slots (λ slots. value ≡ at_slot row_kind slot slots)) → IfOk result (λ found. IfSome slots (λ slots. found ≡ of_table table stamp slots))
-indexed-found stamp of slot table slots (Err e) indexed same value = tt
-indexed-found stamp of slot table None (Ok found) indexed same value = tt
-indexed-found stamp of slot table (Some slots) (Ok found) indexed same value = value ∙ (indexed.at ∙ rw (indexed.found, eq-eqb indexed.row.table table (indexed.table ∙ same)) refl)
+pub indexed-found : (stamp of slot table : ℕ) (slots : Option Slots) (value : Option RowRecord) → IfSome slots (IsIndexed stamp of slot) → of ≡ table
+    → IfSome slots (λ slots. value ≡ at_slot row_kind slot slots) → IfSome slots (λ slots. value ≡ of_table table stamp slots)
+indexed-found stamp of slot table None found indexed same value = tt
+indexed-found stamp of slot table (Some slots) found indexed same value = value ∙ (indexed.at ∙ rw (indexed.found, eq-eqb indexed.row.table table (indexed.table ∙ same)) refl)
 
-pub indexed-reads : {E : Type 0} (stamp of slot table : ℕ) (slots : Option Slots) (result : Result (Option RowRecord) E) (a b : Option ℕ) → IfSome slots (IsIndexed stamp of slot) → of ≡ table
-    → IfOk result (λ value. IfSome slots (λ slots. Becomes (RisesBetween (least_of value) (cell_size * kind_cells row_kind (get_or slots slot None))) a b))
-    → IfOk result (λ found. IfSome slots (λ slots. Becomes (RisesBetween (least_of found) (cost_of stamp (row_costs table slots))) a b))
-indexed-reads stamp of slot table slots (Err e) a b indexed same reads = tt
-indexed-reads stamp of slot table None (Ok found) a b indexed same reads = tt
-indexed-reads stamp of slot table (Some slots) (Ok found) a b indexed same reads = λ after told.
+pub indexed-reads : (stamp of slot table : ℕ) (slots : Option Slots) (value : Option RowRecord) (a b : Option ℕ) → IfSome slots (IsIndexed stamp of slot) → of ≡ table
+    → IfSome slots (λ slots. Becomes (RisesBetween (least_of value) (cell_size * kind_cells row_kind (get_or slots slot None))) a b)
+    → IfSome slots (λ slots. Becomes (RisesBetween (least_of value) (cost_of stamp (row_costs table slots))) a b)
+indexed-reads stamp of slot table None found a b indexed same reads = tt
+indexed-reads stamp of slot table (Some slots) found a b indexed same reads = λ after told.
     let h = reads after told in
     let cost = subst (λ (s : ℕ). cell_size * kind_cells row_kind (get_or slots slot None) ≤ cost_of s (row_costs table slots)) indexed.stamped (cost-found table slots slot indexed.row indexed.at (indexed.table ∙ same)) in
     (h.0, h.1, (h.2.0, omega (arith, h.2.1, cost)))

@@ -50,7 +50,7 @@ filters-match [] all (cs ∷ lists) values are = absurd are
 filters-match (b ∷ filters) all [] values are = absurd are
 filters-match (b ∷ filters) all (cs ∷ lists) values are = rw (are.0 values, filters-match filters all lists values are.1) refl
 
-module _ (chosen : Chosen) (r : model.Resolved) (wanted : Columns) (conditions : List Condition) (table : chosen.table ≡ r.table) (places : ArePlaces chosen.places.items r.all wanted) (binds : Binds chosen.conditions r.all conditions)
+module _ (chosen : Chosen) (r : model.Resolved) (wanted : Columns) (conditions : List Condition) (table : chosen.table ≡ r.table) (places : ArePlaces chosen.places.items r.all wanted) (binds : Binds chosen.conditions.now r.all conditions)
     (filters : AreBound chosen.filters.now r.all r.filters) where
   shown-matches : (values : Values) → is_shown chosen values ≡ (matches r.all conditions values && passes_filters r values)
   shown-matches values = rw (binds values, filters-match chosen.filters.now r.all r.filters values filters) refl

@@ -19,7 +19,7 @@ values_at places values = map (λ (place : ℕ). slice_index_or values place [])
 
 -- a row's values meet the cursor's conditions and pass each filter
 abbrev pub is_shown : Chosen → Values → Bool
-is_shown chosen values = passes values chosen.conditions && list_all (passes values) chosen.filters.now
+is_shown chosen values = passes values chosen.conditions.now && list_all (passes values) chosen.filters.now
 
 -- a row of the table whose values are shown
 abbrev pub is_chosen : Chosen → RowRecord → Bool

@@ -48,7 +48,8 @@ pub(crate) fn advance<B: Eeprom>(
         → IfOk result (λ word. Becomes (RisesAtLeast (least_by motion word out.new)) (B.octets_read bench.old) (B.octets_read bench.new)) }
     ensures frame { Reads each_error B.chip B.faults bench.old bench.new result }
 {
-    let object = match find_selected(store, bench, side, actor, cursor.object) {
+    let mut found = None;
+    let object = match find_selected(store, bench, side, actor, cursor.object, &mut found) {
         Ok(object) => object,
         Err(stop) => return stopped(stop),
     };
@@ -57,7 +58,7 @@ pub(crate) fn advance<B: Eeprom>(
         store,
         bench,
         side,
-        &object,
+        object,
         cursor,
         motion,
         &mut reached,

@@ -11,7 +11,7 @@ ghost use Rattle.db_read.specs.Chosen.{values_at};
 
 use crate::telling::Told;
 use scql_base::{Conditions, NameList, Row};
-use search_cond::{Bound, bind};
+use search_cond::{Bound, bind_into};
 use views::{Places, places_of};
 
 /// The rows that a cursor chooses, by where they come from.
@@ -31,7 +31,7 @@ pub(crate) struct Chosen<'a> {
     /// The places of the cursor's columns among the table's.
     pub(crate) places: Places,
     /// The cursor's conditions.
-    pub(crate) conditions: Bound,
+    pub(crate) conditions: &'a Bound,
     /// The conditions of the views between.
     pub(crate) filters: &'a [Bound],
 }
@@ -70,17 +70,20 @@ pub(crate) fn choose<'a>(
     filters: &'a [Bound],
     columns: &NameList,
     conditions: &Conditions,
+    bound: &'a mut Bound,
 ) -> Option<Chosen<'a>>
     ensures chosen { IfSome result (λ chosen. (chosen.table ≡ table) × (chosen.filters.now ≡ filters.now)
-        × ArePlaces chosen.places.items all.now columns.now × Binds chosen.conditions all.now conditions.now) }
+        × ArePlaces chosen.places.items all.now columns.now × Binds chosen.conditions.now all.now conditions.now) }
     ensures few { IfSome result (λ _. length columns.now ≤ MOST) }
     ensures there { are_named_among all.now columns.now conditions.now ≡ true → IsSome result }
 {
     prove!(columns.len() <= NameList::MOST);
+    let places = places_of(all, columns)?;
+    bind_into(all, conditions, bound).ok()?;
     Some(Chosen {
         table,
-        places: places_of(all, columns)?,
-        conditions: bind(all, conditions).ok()?,
+        places,
+        conditions: bound,
         filters,
     })
 }

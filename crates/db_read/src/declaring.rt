@@ -79,7 +79,8 @@ fn cursor_on<B: Eeprom>(
         (λ slots. Becomes (RisesAtMost (cell_size * cells_marked object_kind slots + cell_size * cells_marked grant_kind slots)) (B.octets_read bench.old) (B.octets_read bench.new))) }
     ensures frame { Reads is_stop_fault B.chip B.faults bench.old bench.new result }
 {
-    let object = find_named(store, bench, side, actor, object)?;
+    let mut found = None;
+    let object = find_named(store, bench, side, actor, object, &mut found)?;
     let all = columns_of(&object.kind);
     if !are_named(&all, columns, conditions) {
         return refused(StatusWord::NOT_FOUND);

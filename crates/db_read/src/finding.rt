@@ -1,5 +1,5 @@
 // The object from which a cursor reads.
-ghost use Rattle.std.specs.Prelude.{◌≡◌, ◌+◌, ◌*◌, Ok, IfOk, IfErr, IfSome, option_map};
+ghost use Rattle.std.specs.Prelude.{◌≡◌, ◌+◌, ◌*◌, Ok, IfOk, IfErr, IfSome};
 ghost use Rattle.std.proofs.lemmas.Map.Entries.{option_filter};
 ghost use Rattle.eeprom.specs.Chip.{Becomes, RisesAtMost};
 ghost use Rattle.eeprom.specs.Frame.{Reads};
@@ -16,73 +16,75 @@ ghost use Rattle.db_read.specs.Answered.{Stops, WhereRead, selectable, stop_answ
 
 use crate::sight::{Sight, see};
 use eeprom::{Eeprom, EepromFault};
-use object_table::{find_name, find_stamp};
-use record_store::{Found, Side, Store};
+use object_table::{find_name_into, find_stamp_into};
+use record_store::{Side, Store};
 use record_table::{Stop, refused};
 use scql_base::{Actor, Name, Object, StatusWord};
 
-/// The object of a stamp, from which the actor may select, or the first refusal.
-pub(crate) fn find_selected<B: Eeprom>(
+/// The object of a stamp, from which the actor may select, or the first refusal. It is read into a place of the caller's.
+pub(crate) fn find_selected<'a, B: Eeprom>(
     store: &Store,
     bench: &mut B,
     side: Side,
     actor: Actor,
     stamp: u32,
-) -> Result<Object, Stop>
+    place: &'a mut Option<Object>,
+) -> Result<&'a Object, Stop>
     requires over { IsOver store.now (B.chip bench.old) }
-    ensures found { (db : Database) → IsHeld store.now side (B.chip bench.old) db → IfOk result (λ object. selectable db actor (seen_stamped db actor stamp) ≡ Ok object) }
+    ensures found { (db : Database) → IsHeld store.now side (B.chip bench.old) db → IfOk result (λ object. selectable db actor (seen_stamped db actor stamp) ≡ Ok object.now) }
     ensures refused { (db : Database) → IsHeld store.now side (B.chip bench.old) db → IfErr result (Stops (selectable db actor (seen_stamped db actor stamp))) }
     ensures octets_read { WhereRead result (IfSome (slots_of store.now side (B.chip bench.old))
         (λ slots. Becomes (RisesAtMost (cell_size * cells_marked object_kind slots + cell_size * cells_marked grant_kind slots)) (B.octets_read bench.old) (B.octets_read bench.new))) }
     ensures rises { WhereRead result (NeverFalls (slots_of store.now side (B.chip bench.old)) (B.octets_read bench.old) (B.octets_read bench.new)) }
     ensures frame { Reads is_stop_fault B.chip B.faults bench.old bench.new result }
 {
-    let found = find_stamp(store, bench, side, stamp)?;
-    select(store, bench, side, actor, found)
+    find_stamp_into(store, bench, side, stamp, place)?;
+    select(store, bench, side, actor, place)
 }
 
-/// The object of a name, from which the actor may select, or the first refusal.
-pub(crate) fn find_named<B: Eeprom>(
+/// The object of a name, from which the actor may select, or the first refusal. It is read into a place of the caller's.
+pub(crate) fn find_named<'a, B: Eeprom>(
     store: &Store,
     bench: &mut B,
     side: Side,
     actor: Actor,
     name: Name,
-) -> Result<Object, Stop>
+    place: &'a mut Option<Object>,
+) -> Result<&'a Object, Stop>
     requires over { IsOver store.now (B.chip bench.old) }
-    ensures found { (db : Database) → IsHeld store.now side (B.chip bench.old) db → IfOk result (λ object. selectable db actor (seen_named db actor name) ≡ Ok object) }
+    ensures found { (db : Database) → IsHeld store.now side (B.chip bench.old) db → IfOk result (λ object. selectable db actor (seen_named db actor name) ≡ Ok object.now) }
     ensures refused { (db : Database) → IsHeld store.now side (B.chip bench.old) db → IfErr result (Stops (selectable db actor (seen_named db actor name))) }
     ensures octets_read { WhereRead result (IfSome (slots_of store.now side (B.chip bench.old))
         (λ slots. Becomes (RisesAtMost (cell_size * cells_marked object_kind slots + cell_size * cells_marked grant_kind slots)) (B.octets_read bench.old) (B.octets_read bench.new))) }
     ensures frame { Reads is_stop_fault B.chip B.faults bench.old bench.new result }
 {
-    let found = find_name(store, bench, side, name)?;
-    select(store, bench, side, actor, found)
+    find_name_into(store, bench, side, name, place)?;
+    select(store, bench, side, actor, place)
 }
 
 // The object that was found, if the actor may select from it, or the first refusal.
-fn select<B: Eeprom>(
+fn select<'a, B: Eeprom>(
     store: &Store,
     bench: &mut B,
     side: Side,
     actor: Actor,
-    found: Option<Found<Object>>,
-) -> Result<Object, Stop>
+    found: &'a Option<Object>,
+) -> Result<&'a Object, Stop>
     requires over { IsOver store.now (B.chip bench.old) }
     ensures found { (db : Database) → IsHeld store.now side (B.chip bench.old) db
-        → IfOk result (λ object. selectable db actor (option_filter (model.appears db actor) (option_map (λ found. found.value) found)) ≡ Ok object) }
+        → IfOk result (λ object. selectable db actor (option_filter (model.appears db actor) found.now) ≡ Ok object.now) }
     ensures refused { (db : Database) → IsHeld store.now side (B.chip bench.old) db
-        → IfErr result (Stops (selectable db actor (option_filter (model.appears db actor) (option_map (λ found. found.value) found)))) }
+        → IfErr result (Stops (selectable db actor (option_filter (model.appears db actor) found.now))) }
     ensures octets_read { WhereRead result (IfSome (slots_of store.now side (B.chip bench.old))
         (λ slots. Becomes (RisesAtMost (cell_size * cells_marked grant_kind slots)) (B.octets_read bench.old) (B.octets_read bench.new))) }
     ensures rises { WhereRead result (NeverFalls (slots_of store.now side (B.chip bench.old)) (B.octets_read bench.old) (B.octets_read bench.new)) }
     ensures frame { Reads is_stop_fault B.chip B.faults bench.old bench.new result }
 {
-    let Some(found) = found else {
+    let Some(object) = found else {
         return refused(StatusWord::NOT_FOUND);
     };
-    match see(store, bench, side, actor, &found.value)? {
-        Sight::Open => Ok(found.value),
+    match see(store, bench, side, actor, object)? {
+        Sight::Open => Ok(object),
         Sight::Closed => refused(StatusWord::SECURITY_NOT_SATISFIED),
         Sight::Hidden => refused(StatusWord::NOT_FOUND),
     }

@@ -36,6 +36,7 @@ use record_store::{Side, Store};
 use record_table::{Stop, refused};
 use row_index::RowIndex;
 use scql_base::{Cursor, NameList, Object, ObjectKind, Place, Row, StatusWord};
+use search_cond::Bound;
 use views::resolve;
 
 /// A cursor on this object goes over the rows that it chooses. What only a view needs room for is in a function of its own, so
@@ -101,12 +102,14 @@ fn go_on_table<B: Eeprom>(
     ensures stays { IfOk result (Stays motion place.old place.new) }
     ensures frame { Reads is_stop_fault B.chip B.faults bench.old bench.new result }
 {
+    let mut bound = Bound::default();
     let Some(chosen) = choose(
         object.stamp,
         columns,
         &[],
         &cursor.columns,
         &cursor.conditions,
+        &mut bound,
     ) else {
         return refused(StatusWord::NOT_FOUND);
     };
@@ -137,12 +140,14 @@ fn go_on_view<B: Eeprom>(
     ensures frame { Reads is_stop_fault B.chip B.faults bench.old bench.new result }
 {
     let resolved = resolve(store, bench, side, object)?;
+    let mut bound = Bound::default();
     let Some(chosen) = choose(
         resolved.table,
         &resolved.all,
         resolved.filters.as_slice(),
         &cursor.columns,
         &cursor.conditions,
+        &mut bound,
     ) else {
         return refused(StatusWord::NOT_FOUND);
     };

@@ -1,5 +1,5 @@
 // The rows of a table that a cursor chooses, found by the index and read one at a time.
-ghost use Rattle.std.specs.Prelude.{◌≡◌, ◌<◌, ◌==◌, ◌*◌, ℕ, List, None, IfOk, IfSome, if◌then◌else◌, option_map, slice_index_or};
+ghost use Rattle.std.specs.Prelude.{◌≡◌, ◌<◌, ◌==◌, ◌*◌, ℕ, List, None, IfOk, IfSome, if◌then◌else◌, option_copied, option_map, slice_index_or};
 ghost use Rattle.std.specs.List.{find};
 ghost use Rattle.std.proofs.lemmas.Map.Entries.{option_filter};
 ghost use Rattle.eeprom.specs.Chip.{Becomes};
@@ -45,11 +45,13 @@ pub(crate) fn next_chosen<B: Eeprom>(
     ensures frame { Reads each_error B.chip B.faults bench.old bench.new result }
 {
     let mut passed = stamp;
-    while let Some(row) = row_behind(store, bench, side, chosen.table, passed, index)? {
+    let mut place = None;
+    while let Some(row) = row_behind(store, bench, side, chosen.table, passed, index, &mut place)? {
+        let reached = row.stamp();
         if chosen.shows(&row.row) {
-            return Ok(Some(row.stamp));
+            return Ok(Some(reached));
         }
-        passed = row.stamp;
+        passed = reached;
     }
     Ok(None)
 }
@@ -72,7 +74,9 @@ pub(crate) fn chosen_row<B: Eeprom>(
         (λ costs. Becomes (RisesBetween (if there then row_size out.new else 0) (cost_of stamp costs)) (B.octets_read bench.old) (B.octets_read bench.new))) }
     ensures frame { Reads each_error B.chip B.faults bench.old bench.new result }
 {
-    let Some(record) = row_of_table(store, bench, side, chosen.table, stamp, index)? else {
+    let mut place = None;
+    let Some(record) = row_of_table(store, bench, side, chosen.table, stamp, index, &mut place)?
+    else {
         return Ok(false);
     };
     if !chosen.shows(&record.row) {
@@ -82,27 +86,29 @@ pub(crate) fn chosen_row<B: Eeprom>(
     Ok(true)
 }
 
-// The row of a table behind a stamp.
-fn row_behind<B: Eeprom>(
+// The row of a table behind a stamp, read into a place.
+fn row_behind<'a, B: Eeprom>(
     store: &Store,
     bench: &mut B,
     side: Side,
     table: u32,
     stamp: u32,
     index: &RowIndex,
-) -> Result<Option<RowRecord>, EepromFault>
+    place: &'a mut Option<RowRecord>,
+) -> Result<Option<&'a RowRecord>, EepromFault>
     requires over { IsOver store.now (B.chip bench.old) }
     requires index { Indexes index.now store.now (B.chip bench.old) }
-    ensures behind { IfOk result (λ next. IfSome next (λ row. stamp < row.stamp)) }
-    ensures next { IfOk result (λ next. IfSome (slots_of store.now side (B.chip bench.old)) (λ slots. next ≡ find (is_row_after table stamp) (listed row_kind slots))) }
+    ensures behind { IfOk result (λ next. IfSome next (λ row. stamp < row.now.stamp)) }
+    ensures next { IfOk result (λ next. IfSome (slots_of store.now side (B.chip bench.old)) (λ slots. option_copied next ≡ find (is_row_after table stamp) (listed row_kind slots))) }
     ensures octets_read { IfOk result (λ next. IfSome (slots_of store.now side (B.chip bench.old))
-        (λ slots. Becomes (RisesBetween 0 (cost_reached table slots next)) (B.octets_read bench.old) (B.octets_read bench.new))) }
+        (λ slots. Becomes (RisesBetween 0 (cost_reached table slots (option_copied next))) (B.octets_read bench.old) (B.octets_read bench.new))) }
     ensures frame { Reads each_error B.chip B.faults bench.old bench.new result }
 {
     let Some((_, slot)) = index.next_after(side, table, stamp) else {
         return Ok(None);
     };
-    let Some(row) = row_in(store, bench, side, slot)? else {
+    row_in(store, bench, side, slot, place)?;
+    let Some(row) = place else {
         return Ok(None);
     };
     // No stamp is passed twice, whatever an image tells that isn't a valid one.
@@ -112,21 +118,22 @@ fn row_behind<B: Eeprom>(
     Ok(Some(row))
 }
 
-// The row of a stamp, if it is one of the table. A row of another table isn't read.
-fn row_of_table<B: Eeprom>(
+// The row of a stamp, if it is one of the table, read into a place. A row of another table isn't read.
+fn row_of_table<'a, B: Eeprom>(
     store: &Store,
     bench: &mut B,
     side: Side,
     table: u32,
     stamp: u32,
     index: &RowIndex,
-) -> Result<Option<RowRecord>, EepromFault>
+    place: &'a mut Option<RowRecord>,
+) -> Result<Option<&'a RowRecord>, EepromFault>
     requires over { IsOver store.now (B.chip bench.old) }
     requires index { Indexes index.now store.now (B.chip bench.old) }
     ensures found { IfOk result (λ found. IfSome (slots_of store.now side (B.chip bench.old))
-        (λ slots. found ≡ option_filter (λ row. row.table == table) (find (has row_kind.key stamp) (listed row_kind slots)))) }
+        (λ slots. option_copied found ≡ option_filter (λ row. row.table == table) (find (has row_kind.key stamp) (listed row_kind slots)))) }
     ensures octets_read { IfOk result (λ found. IfSome (slots_of store.now side (B.chip bench.old))
-        (λ slots. Becomes (RisesBetween (least_of found) (cost_of stamp (row_costs table slots))) (B.octets_read bench.old) (B.octets_read bench.new))) }
+        (λ slots. Becomes (RisesBetween (least_of (option_copied found)) (cost_of stamp (row_costs table slots))) (B.octets_read bench.old) (B.octets_read bench.new))) }
     ensures frame { Reads each_error B.chip B.faults bench.old bench.new result }
 {
     let Some((of, slot)) = index.find(side, stamp) else {
@@ -135,32 +142,36 @@ fn row_of_table<B: Eeprom>(
     if of != table {
         return Ok(None);
     }
-    row_in(store, bench, side, slot)
+    row_in(store, bench, side, slot, place)?;
+    Ok(place.as_ref())
 }
 
-// The row of a slot, if it has one.
+// Reads the row of a slot into a place, which is empty if the slot has none.
 fn row_in<B: Eeprom>(
     store: &Store,
     bench: &mut B,
     side: Side,
     slot: u16,
-) -> Result<Option<RowRecord>, EepromFault>
+    place: &mut Option<RowRecord>,
+) -> Result<(), EepromFault>
     requires over { IsOver store.now (B.chip bench.old) }
     requires slot { slot < store.now.chains.cells }
-    ensures value { IfOk result (λ value. IfSome (slots_of store.now side (B.chip bench.old)) (λ slots. value ≡ at_slot row_kind slot slots)) }
-    ensures octets_read { IfOk result (λ value. IfSome (slots_of store.now side (B.chip bench.old))
-        (λ slots. Becomes (RisesBetween (least_of value) (cell_size * kind_cells row_kind (slice_index_or slots slot None))) (B.octets_read bench.old) (B.octets_read bench.new))) }
+    ensures value { IfOk result (λ _. IfSome (slots_of store.now side (B.chip bench.old)) (λ slots. place.new ≡ at_slot row_kind slot slots)) }
+    ensures octets_read { IfOk result (λ _. IfSome (slots_of store.now side (B.chip bench.old))
+        (λ slots. Becomes (RisesBetween (least_of place.new) (cell_size * kind_cells row_kind (slice_index_or slots slot None))) (B.octets_read bench.old) (B.octets_read bench.new))) }
     ensures frame { Reads each_error B.chip B.faults bench.old bench.new result }
 {
     if !is_row(store, side, slot) {
-        return Ok(None);
+        *place = None;
+        return Ok(());
     }
     let mut octets = RecordOctets::new();
-    if store.get(bench, side, slot, &mut octets)? {
-        Ok(RowRecord::decode(octets.as_slice()))
-    } else {
-        Ok(None)
+    if !store.get(bench, side, slot, &mut octets)? {
+        *place = None;
+        return Ok(());
     }
+    *place = RowRecord::decode(octets.as_slice());
+    Ok(())
 }
 
 // Whether the first octet of a slot's record is that of a row.

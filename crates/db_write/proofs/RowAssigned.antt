@@ -1,5 +1,5 @@
 -- The values of a row after changes, one column after another.
-use Rattle.std.proofs.Common.{◌≡◌, ◌==◌, ℕ, ◌+◌, ◌<◌, ◌≤◌, true, ◌||◌, List, [], ◌∷◌, ◌++◌, length, map, Option, Some, None, Ok, Err, refl, sym, ap, subst, ◌∙◌, inl, inr, arith, append_assoc, append-nil, length-append}
+use Rattle.std.proofs.Common.{◌≡◌, ◌==◌, ℕ, ◌+◌, ◌<◌, ◌≤◌, true, ◌||◌, List, [], ◌∷◌, ◌++◌, length, Option, Some, None, Ok, Err, refl, sym, ap, subst, ◌∙◌, inl, inr, arith, append_assoc, append-nil, length-append}
 use Rattle.std.specs.Prelude.{option_map, unwrap_or, nat_lt, if◌then◌else◌}
 use Rattle.std.specs.List.{find, list_all}
 use Rattle.std.specs.Option.{option_map_or}
@@ -7,7 +7,6 @@ use Rattle.std.specs.Str.{bytes_eq}
 use Rattle.std.proofs.lemmas.Bool.{and_parts, cases_Bool, le-ltb, ne_eqb, leb-true, ltb-true}
 use Rattle.std.proofs.lemmas.List.Sums.{sum_by-append, sum_by-cons}
 use Rattle.std.proofs.lemmas.Option.{none-some, same_Some}
-use Rattle.scql_base.specs.declared.changes.Change.{Change}
 use Rattle.scql_base.specs.Row.{is_narrow, row_size, with_value}
 use Rattle.scql_base.specs.Strings.{params_of, with_string}
 use Rattle.scql_base.specs.declared.row_refusal.RowRefusal.{RowRefusal}
@@ -105,21 +104,6 @@ too_long assignments column columns whole row after rest value behind given refu
     let one : row_size (given ∷ more) ≡ length given + 1 + row_size more = sum_by-cons (λ (v : List ℕ). length v + 1) given more in
     let size : row_size whole ≡ row_size after + row_size (given ∷ more) = ap row_size (sym own) ∙ sum_by-append (λ (v : List ℕ). length v + 1) after (given ∷ more) in
     omega (arith, size, one, long)
-
--- the first change of a name, as an assignment
-pub given-found : (changes : List Change) (assignments : List Assignment) (column : List ℕ) (found : Option Change) → map (λ (change : Change). change.pair) changes ≡ assignments → found ≡ find (λ (change : Change). bytes_eq column change.pair.0) changes
-    → option_map (λ (change : Change). change.pair.1) found ≡ value_given assignments column
-given-found changes assignments column found are is =
-    ap (option_map (λ (change : Change). change.pair.1)) is
-    ∙ (of changes ∙ ap (λ (all : List Assignment). value_given all column) are)
-  where
-    of : (changes : List Change) → option_map (λ (change : Change). change.pair.1) (find (λ (change : Change). bytes_eq column change.pair.0) changes) ≡ value_given (map (λ (change : Change). change.pair) changes) column
-    of [] = refl
-    of (c ∷ changes) =
-        elim (cases_Bool (bytes_eq column c.pair.0)) [
-          | inl t ↦ rw t refl
-          | inr f ↦ rw f (of changes)
-        ]
 
 -- a value that a row takes stands at its end
 pub row-pushed : (values new : Values) (value : List ℕ) → with_value values value ≡ Ok new → new ≡ values ++ value ∷ []

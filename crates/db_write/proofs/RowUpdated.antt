@@ -1,8 +1,7 @@
 -- UPDATE: the row after the changes, or the first refusal.
 use Rattle.std.proofs.Common.{◌≡◌, ◌==◌, ◌&&◌, ◌^◌, ℕ, Bool, true, false, List, [], ◌∷◌, length, map, nat_le, Option, Some, None, Result, Ok, Err, refl, sym, ap, subst, ◌∙◌, inl, inr}
 use Rattle.std.specs.Prelude.{nat_lt, option_and_then}
-use Rattle.std.specs.List.{find, list_all, list_any}
-use Rattle.std.specs.Str.{bytes_eq}
+use Rattle.std.specs.List.{find, list_all}
 use Rattle.std.specs.Option.{option_map_or}
 use Rattle.std.proofs.lemmas.Bool.{and_parts, cases_Bool, eqb-true, false≢true, le-leb, ltb-false}
 use Rattle.std.proofs.lemmas.Option.{none-some, same_Some}
@@ -11,7 +10,6 @@ use Rattle.eeprom.specs.Chip.{Chip}
 use Rattle.record_store.specs.Held.{Held}
 use Rattle.scql_base.specs.Row.{IsRow, is_narrow, row_size}
 use Rattle.scql_base.specs.Words.{conditions_not_satisfied, not_found, record_not_found, wrong_data}
-use Rattle.scql_base.specs.declared.changes.Change.{Change}
 use Rattle.scql_base.specs.declared.cursor.Cursor.{Cursor}
 use Rattle.scql_base.specs.declared.operation.Operation.TheVariants.{Update}
 use Rattle.scql_base.specs.declared.records.Object.{Object}
@@ -195,8 +193,3 @@ pub updates-not_kept : (db : Database) (actor : Actor) (cursor : Option Cursor) 
     → (length columns ≡ length r.row → None ≡ within_limit limit (all_assigned assignments columns r.row)) → row_updated db actor cursor assignments ≡ Err wrong_data
 updates-not_kept db actor cursor assignments c o r columns limit is none =
     updates-long db actor cursor assignments c o r is.ready is.written is.names is.there (after-long db assignments r columns limit is.all is.most (as-many db c r is.valid is.there) none)
-
--- changes are to columns among some where each is
-pub named-each : (changes : List Change) (columns : Columns) → list_all (λ (change : Change). list_any (bytes_eq change.pair.0) columns) changes ≡ named (map (λ (change : Change). change.pair) changes) columns
-named-each [] columns = refl
-named-each (c ∷ changes) columns = ap (λ (rest : Bool). list_any (bytes_eq c.pair.0) columns && rest) (named-each changes columns)

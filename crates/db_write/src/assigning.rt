@@ -5,10 +5,15 @@ ghost use Rattle.scql_base.specs.Row.{row_size};
 ghost use Rattle.scql_model.specs.Writing.{all_assigned};
 ghost use Rattle.db_write.specs.Assigned.{value_given, within_limit};
 
-use scql_base::{Changes, Name, NameList, Params, Row};
+use scql_base::{Name, NameList, PackedChanges, Params, Row};
 
 /// A row of these columns after changes, where it is within a limit of octets.
-pub(crate) fn row_after(columns: &NameList, changes: &Changes, row: &Row, limit: u16) -> Option<Row>
+pub(crate) fn row_after(
+    columns: &NameList,
+    changes: &PackedChanges,
+    row: &Row,
+    limit: u16,
+) -> Option<Row>
     requires limit { limit ≤ LARGEST }
     ensures after { length columns.now ≡ length row.now → result ≡ within_limit limit (all_assigned changes.now columns.now row.now) }
 {
@@ -21,7 +26,7 @@ pub(crate) fn row_after(columns: &NameList, changes: &Changes, row: &Row, limit:
 }
 
 // The row after changes, where its values are a row.
-fn assigned(columns: &NameList, changes: &Changes, row: &Row) -> Option<Row>
+fn assigned(columns: &NameList, changes: &PackedChanges, row: &Row) -> Option<Row>
     ensures after { length columns.now ≡ length row.now
         → MatchOption result (LARGEST < row_size (all_assigned changes.now columns.now row.now)) (λ after. after ≡ all_assigned changes.now columns.now row.now) }
 {
@@ -39,13 +44,16 @@ fn assigned(columns: &NameList, changes: &Changes, row: &Row) -> Option<Row>
 }
 
 // The value that changes give a column, where they give it one.
-fn value_given<'a>(changes: &'a Changes, column: &Name) -> Option<&'a [u8]>
+fn value_given<'a>(changes: &'a PackedChanges, column: &Name) -> Option<&'a [u8]>
     ensures given { option_map (λ value. value.now) result ≡ value_given changes.now column.now }
     ensures short { IfSome result (λ value. length value.now ≤ LONGEST_VALUE) }
 {
-    let change = changes
-        .as_slice()
-        .iter()
-        .find(|change| column.octets() == change.pair.0.octets())?;
-    Some(change.pair.1.as_slice())
+    let mut left = changes.run();
+    while let Some(((name, value), behind)) = left.first() {
+        if column.octets() == name {
+            return Some(value);
+        }
+        left = behind;
+    }
+    None
 }

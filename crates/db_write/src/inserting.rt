@@ -20,7 +20,7 @@ ghost use Rattle.row_index.specs.Index.{Indexes, is_above};
 ghost use Rattle.record_table.specs.Making.{Ends, GoesOn, IsHeld, is_stop_fault};
 
 use eeprom::Eeprom;
-use privilege_table::{Privilege, find_seen, holds};
+use privilege_table::{Privilege, find_seen_into, holds};
 use record_store::{Side, Store};
 use record_table::{Stop, make, next_stamp, refused};
 use row_index::RowIndex;
@@ -75,10 +75,11 @@ fn find_table<B: Eeprom>(
         → IfErr result (λ stop. Ends {T = Unit {0}} db (row_inserted db actor name row.now) (Err stop) store.now store.now (B.chip bench.old) (B.chip bench.new)) }
     ensures frame { Reads is_stop_fault B.chip B.faults bench.old bench.new result }
 {
-    let Some(found) = find_seen(store, bench, Side::Working, actor, name)? else {
+    let mut place = None;
+    find_seen_into(store, bench, Side::Working, actor, name, &mut place)?;
+    let Some(object) = &place else {
         return refused(StatusWord::NOT_FOUND);
     };
-    let object = &found.value;
     if !is_table(&object.kind) {
         return refused(StatusWord::NOT_FOUND);
     }

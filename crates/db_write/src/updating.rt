@@ -34,7 +34,7 @@ use privilege_table::Privilege;
 use record_store::{Found, Store};
 use record_table::{Stop, change, refused};
 use row_index::RowIndex;
-use scql_base::{Actor, Changes, Cursor, Name, NameList, ObjectKind, Row, RowRecord, StatusWord};
+use scql_base::{Actor, Cursor, NameList, ObjectKind, PackedChanges, Row, RowRecord, StatusWord};
 
 /// UPDATE: gives named columns of the row at which a cursor stands new values. The row keeps its stamp, its table and its slot, and so the index stands as it did.
 pub fn update<B: Eeprom>(
@@ -42,7 +42,7 @@ pub fn update<B: Eeprom>(
     bench: &mut B,
     actor: Actor,
     cursor: &Option<Cursor>,
-    changes: &Changes,
+    changes: &PackedChanges,
     index: &mut RowIndex,
 ) -> Result<(), Stop>
     requires begun { IsTrue store.old.begun }
@@ -72,7 +72,7 @@ fn find_updated<B: Eeprom>(
     bench: &mut B,
     actor: Actor,
     cursor: &Option<Cursor>,
-    changes: &Changes,
+    changes: &PackedChanges,
     index: &RowIndex,
 ) -> Result<Found<RowRecord>, Stop>
     requires over { IsOver store.now (B.chip bench.old) }
@@ -112,7 +112,7 @@ fn find_updated<B: Eeprom>(
 }
 
 // Whether the changes are to columns of a table or a view.
-fn are_columns(kind: &ObjectKind, changes: &Changes) -> bool
+fn are_columns(kind: &ObjectKind, changes: &PackedChanges) -> bool
     ensures { is_table_or_view kind.now ≡ true → result ≡ are_among (map (λ (change : Assignment). change.0) changes.now) (columns_of kind.now) }
 {
     match kind {
@@ -123,22 +123,26 @@ fn are_columns(kind: &ObjectKind, changes: &Changes) -> bool
     }
 }
 
-fn are_named(columns: &NameList, changes: &Changes) -> bool
+fn are_named(columns: &NameList, changes: &PackedChanges) -> bool
     ensures { result ≡ are_among (map (λ (change : Assignment). change.0) changes.now) columns.now }
 {
-    changes
-        .as_slice()
-        .iter()
-        .all(|change| is_column(columns, &change.pair.0))
+    let mut left = changes.run();
+    while let Some(((name, _), behind)) = left.first() {
+        if !is_column(columns, name) {
+            return false;
+        }
+        left = behind;
+    }
+    true
 }
 
-fn is_column(columns: &NameList, name: &Name) -> bool
+fn is_column(columns: &NameList, name: &[u8]) -> bool
     ensures { result ≡ list_any (bytes_eq name.now) columns.now }
 {
     columns
         .as_slice()
         .iter()
-        .any(|column| name.octets() == column.octets())
+        .any(|column| name == column.octets())
 }
 
 // A row of a table with other values, whose record a store can have.

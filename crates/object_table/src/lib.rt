@@ -4,6 +4,6 @@
 mod finding;
 mod stamps;
 
-pub use finding::{find_name, find_stamp, next_after};
+pub use finding::{find_name, find_name_into, find_stamp, find_stamp_into, next_after};
 pub use record_table::{add, change, remove};
 pub use stamps::{counter, set_counter};

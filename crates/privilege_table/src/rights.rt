@@ -1,5 +1,5 @@
 // Who may do what with an object: its owner all, and others what grants give them.
-ghost use Rattle.std.specs.Prelude.{◌≡◌, ◌<◌, ◌+◌, ◌*◌, Some, IfOk, IfSome, option_map};
+ghost use Rattle.std.specs.Prelude.{◌≡◌, ◌<◌, ◌+◌, ◌*◌, Some, IfOk, IfSome, is_some, option_map};
 ghost use Rattle.std.specs.List.{list_any};
 ghost use Rattle.eeprom.specs.Chip.{Becomes, RisesAtMost};
 ghost use Rattle.eeprom.specs.Fault.{each_error};
@@ -17,7 +17,7 @@ ghost use Rattle.privilege_table.specs.Rights.{privilege_bit};
 
 use crate::held;
 use eeprom::{Eeprom, EepromFault};
-use object_table::find_name;
+use object_table::find_name_into;
 use record_store::{Found, Side, Store};
 use scql_base::{Actor, Name, Object, Privileges};
 
@@ -125,14 +125,45 @@ pub fn find_seen<B: Eeprom>(
         (λ slots. Becomes (RisesAtMost (cell_size * (cells_marked object_kind slots + cells_marked grant_kind slots))) (B.octets_read bench.old) (B.octets_read bench.new))) }
     ensures frame { Reads each_error B.chip B.faults bench.old bench.new result }
 {
-    let Some(found) = find_name(store, bench, side, name)? else {
+    let mut place = None;
+    let Some(slot) = find_seen_into(store, bench, side, actor, name, &mut place)? else {
         return Ok(None);
     };
-    if appears(store, bench, side, actor, &found.value)? {
-        Ok(Some(found))
-    } else {
-        Ok(None)
+    let Some(value) = place else {
+        return Ok(None);
+    };
+    Ok(Some(Found { slot, value }))
+}
+
+/// Finds the object of a name and reads it into a place, where it appears to an actor: its slot is answered. Where none does the
+/// place is empty.
+pub fn find_seen_into<B: Eeprom>(
+    store: &Store,
+    bench: &mut B,
+    side: Side,
+    actor: Actor,
+    name: Name,
+    place: &mut Option<Object>,
+) -> Result<Option<u16>, EepromFault>
+    requires over { IsOver store.now (B.chip bench.old) }
+    ensures there { IfOk result (λ slot. IfSome slot (λ slot. slot < store.now.chains.cells)) }
+    ensures at { IfOk result (λ slot. IfSome slot (λ slot. IfSome (slots_of store.now side (B.chip bench.old))
+        (λ slots. place.new ≡ at_slot object_kind slot slots))) }
+    ensures both { IfOk result (λ slot. is_some slot ≡ is_some place.new) }
+    ensures seen { (db : Database) → IsHeld store.now side (B.chip bench.old) db → IfOk result (λ _. place.new ≡ seen_named db actor name) }
+    ensures octets_read { IfOk result (λ _. IfSome (slots_of store.now side (B.chip bench.old))
+        (λ slots. Becomes (RisesAtMost (cell_size * (cells_marked object_kind slots + cells_marked grant_kind slots))) (B.octets_read bench.old) (B.octets_read bench.new))) }
+    ensures frame { Reads each_error B.chip B.faults bench.old bench.new result }
+{
+    let slot = find_name_into(store, bench, side, name, place)?;
+    let Some(object) = place else {
+        return Ok(None);
+    };
+    if appears(store, bench, side, actor, object)? {
+        return Ok(slot);
     }
+    *place = None;
+    Ok(None)
 }
 
 // Whether the bit of a privilege is among bits.

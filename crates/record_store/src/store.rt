@@ -86,7 +86,7 @@ impl Opening {
             committed_weight: self.weight,
             working_weight: self.weight,
             slots_in_use,
-            next_slot: 0,
+            next_slot: slots_in_use,
             touched: self.touched,
             entries: self.entries,
         }

@@ -1,5 +1,7 @@
 -- A search that goes through slots from the first on: the answer of all of them is that of those that are left.
-use Rattle.std.proofs.Common.{◌≡◌, ◌⊎◌, ℕ, zero, suc, ◌*◌, ◌+◌, ◌≤◌, Bool, true, false, List, [], ◌∷◌, Option, Some, None, drop, get_or, refl, sym, ap, ◌∙◌, inl, inr, subst, arith, add-one}
+use Rattle.std.proofs.Common.{◌≡◌, ◌⊎◌, ℕ, zero, suc, ◌*◌, ◌+◌, ◌≤◌, Bool, true, false, if◌then◌else◌, List, [], ◌∷◌, Option, Some, None, drop, get_or, refl, sym, ap, ◌∙◌, inl, inr, subst, arith, add-one}
+use Rattle.std.proofs.lemmas.Bool.{false≢true}
+use Rattle.std.specs.Option.{option_map_or}
 use Rattle.std.specs.Prelude.{IfSome, IfOk, filter, Result, Ok, Err, option_and_then}
 use Rattle.std.specs.List.{find, cons_option}
 use Rattle.std.proofs.Math.Seq.{drop-nil}
@@ -23,6 +25,21 @@ stronger (Err e) slots P Q says told = tt
 pub passed_over : {X : Type 0} (p : X → Bool) (entry : Option X) → IfSome entry (λ x. p x ≡ false) → (rest : List X) → find p (cons_option entry rest) ≡ find p rest
 passed_over p None fails rest = refl
 passed_over p (Some x) fails rest = rw fails refl
+
+-- one that was read into a place and passes is what is found, and one that doesn't pass isn't
+pub taken-found : {X : Type 0} (p : X → Bool) (read : Bool) (place : Option X) → option_map_or p (if read then place else None) false ≡ true → (rest : List X) → find p (cons_option place rest) ≡ place
+taken-found p false place taken rest = absurd (false≢true taken)
+taken-found p true None taken rest = absurd (false≢true taken)
+taken-found p true (Some x) taken rest = rw taken refl
+
+pub passed-place : {X : Type 0} (p : X → Bool) (entry : Option X) → option_map_or p entry false ≡ false → IfSome entry (λ x. p x ≡ false)
+passed-place p None passed = tt
+passed-place p (Some x) passed = passed
+
+pub here-taken : {X : Type 0} (kind : Kind X) (p : X → Bool) (read : Bool) (place : Option X) (slots : Option Slots) (slot : ℕ) → option_map_or p (if read then place else None) false ≡ true
+    → IfSome slots (λ slots. (if read then place else None) ≡ at_slot kind slot slots) → IfSome slots (λ slots. place ≡ at_slot kind slot slots)
+here-taken kind p false place slots slot taken here = absurd (false≢true taken)
+here-taken kind p true place slots slot taken here = here
 
 -- the same of the nearest: one that doesn't pass is passed over, and one that does is taken in
 pub nearest-passed : {X : Type 0} (key : X → ℕ) (k : ℕ) (p : X → Bool) (best : Option X) (x : X) → p x ≡ false → (rest : List X)

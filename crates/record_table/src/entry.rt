@@ -1,5 +1,5 @@
 // The record of one slot, if it is of a kind.
-ghost use Rattle.std.specs.Prelude.{◌≡◌, ◌<◌, ◌*◌, ℕ, List, None, IfOk, IfSome, slice_index_or};
+ghost use Rattle.std.specs.Prelude.{◌≡◌, ◌<◌, ◌*◌, ℕ, List, None, IfOk, IfSome, if◌then◌else◌, slice_index_or};
 ghost use Rattle.eeprom.specs.Chip.{Becomes, RisesAtMost};
 ghost use Rattle.eeprom.specs.Fault.{each_error};
 ghost use Rattle.eeprom.specs.Frame.{Reads};
@@ -36,6 +36,35 @@ pub fn read_entry<R: Record, B: Eeprom>(
         Ok(R::decode(octets.as_slice()))
     } else {
         Ok(None)
+    }
+}
+
+/// Reads the record of a slot into a place, if it is of the kind, and answers whether it did. A record with another first octet
+/// isn't read. Records are read into `octets`.
+pub(crate) fn read_into<R: Record, B: Eeprom>(
+    store: &Store,
+    bench: &mut B,
+    side: Side,
+    slot: u16,
+    octets: &mut RecordOctets,
+    place: &mut Option<R>,
+) -> Result<bool, EepromFault>
+    requires over { IsOver store.now (B.chip bench.old) }
+    requires slot { slot < store.now.chains.cells }
+    ensures value { IfOk result (λ read. IfSome (slots_of store.now side (B.chip bench.old)) (λ slots. (if read then place.new else None) ≡ at_slot R.kind slot slots)) }
+    ensures octets_read { IfOk result (λ _. IfSome (slots_of store.now side (B.chip bench.old))
+        (λ slots. Becomes (RisesAtMost (cell_size * kind_cells R.kind (slice_index_or slots slot None))) (B.octets_read bench.old) (B.octets_read bench.new))) }
+    ensures rises { IfOk result (λ _. NeverFalls (slots_of store.now side (B.chip bench.old)) (B.octets_read bench.old) (B.octets_read bench.new)) }
+    ensures frame { Reads each_error B.chip B.faults bench.old bench.new result }
+{
+    if !is_marked::<R>(store, side, slot) {
+        return Ok(false);
+    }
+    if store.get(bench, side, slot, octets)? {
+        R::read_into(octets.as_slice(), place);
+        Ok(true)
+    } else {
+        Ok(false)
     }
 }
 

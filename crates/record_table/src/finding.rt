@@ -1,5 +1,6 @@
 // Searches among the records of a kind.
-ghost use Rattle.std.specs.Prelude.{◌≡◌, ◌<◌, ◌≤◌, ◌*◌, Some, count_by, IfOk, IfSome, is_some, option_map};
+ghost use Rattle.std.specs.Prelude.{◌≡◌, ◌<◌, ◌≤◌, ◌*◌, None, Some, count_by, false, if◌then◌else◌, IfOk, IfSome, is_some, option_map};
+ghost use Rattle.std.specs.Option.{option_map_or};
 ghost use Rattle.std.specs.List.{find, list_any};
 ghost use Rattle.eeprom.specs.Chip.{Becomes, RisesAtMost};
 ghost use Rattle.eeprom.specs.Fault.{each_error};
@@ -10,7 +11,7 @@ ghost use Rattle.record_store.specs.Held.{IsOver};
 ghost use Rattle.record_table.specs.Listed.{at_slot, in_slots, listed, cells_marked, slots_of};
 ghost use Rattle.record_table.specs.Reading.{NeverFalls};
 
-use crate::entry::read_entry;
+use crate::entry::read_into;
 use crate::{Stamped, Wanted};
 use catalog_codec::Record;
 use eeprom::{Eeprom, EepromFault};
@@ -38,15 +39,60 @@ pub fn find_by<R: Record, W: Wanted<R>, B: Eeprom>(
     ensures rises { IfOk result (λ _. NeverFalls (slots_of store.now side (B.chip bench.old)) (B.octets_read bench.old) (B.octets_read bench.new)) }
     ensures frame { Reads each_error B.chip B.faults bench.old bench.new result }
 {
+    let mut place = None;
+    let Some(slot) = find_into(store, bench, side, wanted, &mut place)? else {
+        return Ok(None);
+    };
+    let Some(value) = place else {
+        return Ok(None);
+    };
+    Ok(Some(Found { slot, value }))
+}
+
+/// Finds a record of the kind that is wanted and reads it into a place, where there is one: that of the lowest slot, which is answered.
+/// Where there is none the place is empty.
+pub fn find_into<R: Record, W: Wanted<R>, B: Eeprom>(
+    store: &Store,
+    bench: &mut B,
+    side: Side,
+    wanted: &W,
+    place: &mut Option<R>,
+) -> Result<Option<u16>, EepromFault>
+    requires over { IsOver store.now (B.chip bench.old) }
+    ensures there { IfOk result (λ slot. IfSome slot (λ slot. slot < store.now.chains.cells)) }
+    ensures at { IfOk result (λ slot. IfSome slot (λ slot. IfSome (slots_of store.now side (B.chip bench.old))
+        (λ slots. place.new ≡ at_slot R.kind slot slots))) }
+    ensures both { IfOk result (λ slot. is_some slot ≡ is_some place.new) }
+    ensures some { IfOk result (λ _. IfSome (slots_of store.now side (B.chip bench.old))
+        (λ slots. is_some place.new ≡ list_any (W.wants wanted.now) (listed R.kind slots))) }
+    ensures first { IfOk result (λ _. IfSome (slots_of store.now side (B.chip bench.old))
+        (λ slots. place.new ≡ find (W.wants wanted.now) (in_slots R.kind slots))) }
+    ensures found { IfOk result (λ _. IfSome (slots_of store.now side (B.chip bench.old))
+        (λ slots. count_by (W.wants wanted.now) (listed R.kind slots) ≤ 1 → place.new ≡ find (W.wants wanted.now) (listed R.kind slots))) }
+    ensures octets_read { IfOk result (λ _. IfSome (slots_of store.now side (B.chip bench.old))
+        (λ slots. Becomes (RisesAtMost (cell_size * cells_marked R.kind slots)) (B.octets_read bench.old) (B.octets_read bench.new))) }
+    ensures rises { IfOk result (λ _. NeverFalls (slots_of store.now side (B.chip bench.old)) (B.octets_read bench.old) (B.octets_read bench.new)) }
+    ensures frame { Reads each_error B.chip B.faults bench.old bench.new result }
+{
     let mut octets = RecordOctets::new();
     for slot in 0..store.slots_in_use() {
-        if let Some(value) = read_entry(store, bench, side, slot, &mut octets)? {
-            if wanted.is(&value) {
-                return Ok(Some(Found { slot, value }));
-            }
+        let read = read_into(store, bench, side, slot, &mut octets, place)?;
+        if has_wanted(wanted, read, place) {
+            return Ok(Some(slot));
         }
     }
+    *place = None;
     Ok(None)
+}
+
+// Whether a record that is wanted was read into a place.
+fn has_wanted<R: Record, W: Wanted<R>>(wanted: &W, read: bool, place: &Option<R>) -> bool
+    ensures { result ≡ option_map_or (W.wants wanted.now) (if read then place.now else None) false }
+{
+    match place {
+        Some(value) if read => wanted.is(value),
+        _ => false,
+    }
 }
 
 /// Finds the record of a stamp.
@@ -68,4 +114,27 @@ pub fn find_stamp<R: Record, B: Eeprom>(
     ensures frame { Reads each_error B.chip B.faults bench.old bench.new result }
 {
     find_by(store, bench, side, &Stamped(stamp))
+}
+
+/// Finds the record of a stamp and reads it into a place, where there is one: its slot is answered. Where there is none the place is empty.
+pub fn find_stamp_into<R: Record, B: Eeprom>(
+    store: &Store,
+    bench: &mut B,
+    side: Side,
+    stamp: u32,
+    place: &mut Option<R>,
+) -> Result<Option<u16>, EepromFault>
+    requires over { IsOver store.now (B.chip bench.old) }
+    ensures there { IfOk result (λ slot. IfSome slot (λ slot. slot < store.now.chains.cells)) }
+    ensures at { IfOk result (λ slot. IfSome slot (λ slot. IfSome (slots_of store.now side (B.chip bench.old))
+        (λ slots. place.new ≡ at_slot R.kind slot slots))) }
+    ensures both { IfOk result (λ slot. is_some slot ≡ is_some place.new) }
+    ensures found { IfOk result (λ _. IfSome (slots_of store.now side (B.chip bench.old))
+        (λ slots. Rises R.kind.key (listed R.kind slots) → place.new ≡ find (has R.kind.key stamp) (listed R.kind slots))) }
+    ensures octets_read { IfOk result (λ _. IfSome (slots_of store.now side (B.chip bench.old))
+        (λ slots. Becomes (RisesAtMost (cell_size * cells_marked R.kind slots)) (B.octets_read bench.old) (B.octets_read bench.new))) }
+    ensures rises { IfOk result (λ _. NeverFalls (slots_of store.now side (B.chip bench.old)) (B.octets_read bench.old) (B.octets_read bench.new)) }
+    ensures frame { Reads each_error B.chip B.faults bench.old bench.new result }
+{
+    find_into(store, bench, side, &Stamped(stamp), place)
 }

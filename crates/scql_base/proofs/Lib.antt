@@ -1,3 +1,4 @@
 mod ExampleValues
+pub mod PackedRuns
 pub mod RowOctets
 pub mod Splitting

@@ -2,9 +2,10 @@
 use Rattle.std.proofs.Common.{◌≡◌, ℕ, zero, suc, ◌+◌, ◌<◌, ◌≤◌, nat_lt, List, [], ◌∷◌, ◌++◌, length, take, drop, Option, Some, None, refl, sym, ◌∙◌, ap, arith, ◌-◌, ◌==◌, if◌then◌else◌, get_or, Bool, true, false, slice_get, add-one, option_map, unwrap_or, ◌≢◌, append-nil}
 use Rattle.std.proofs.lemmas.Bool.{false≢true, eqb-true, ltb-false, ltb-true}
 use Rattle.std.proofs.lemmas.List.{length-take-le, take-append-drop, length-append, length-drop}
+use Rattle.std.proofs.lemmas.Option.{none-some, same_Some}
 use Rattle.std.proofs.Math.Seq.{take-append_seam, drop-append_seam, take-length}
 use Rattle.std.specs.List.{flat_map}
-use Rattle.scql_base.specs.Strings.{spelled, AreParams, Pieces, begun, with_octet, strings_in, pieces_of, params_of, with_string}
+use Rattle.scql_base.specs.Strings.{spelled, AreParams, Pieces, begun, with_octet, strings_in, pieces_of, params_of, first_of, with_string}
 
 -- a string's rest before the strings behind it
 abbrev piece : List ℕ → Option (List (List ℕ)) → Pieces
@@ -184,3 +185,20 @@ pub the_one : (strings : List (List ℕ)) (string : List ℕ) → length strings
 the_one [] string one at = absurd (omega arith)
 the_one (first ∷ []) string one at = grind arith
 the_one (first ∷ other ∷ others) string one at = absurd (omega arith)
+
+-- the first string, its length and what is behind it are the octets
+pub first_of-length : (octets string rest : List ℕ) → Some (string, rest) ≡ first_of octets → length octets ≡ length string + 1 + length rest
+first_of-length [] string rest is = absurd (none-some _ (sym is))
+first_of-length (len ∷ octets) string rest is = of (nat_lt (length octets) len) refl is
+  where
+    found : Bool → Option (List ℕ × List ℕ)
+    found test = if test then None else Some (take len octets, drop len octets)
+
+    of : (test : Bool) → nat_lt (length octets) len ≡ test → Some (string, rest) ≡ found test → length (len ∷ octets) ≡ length string + 1 + length rest
+    of true at is = absurd (none-some _ (sym is))
+    of false at is =
+        let short : len ≤ length octets = omega (arith, ltb-false (length octets) len at) in
+        let both = same_Some _ _ is in
+        let front : string ≡ take len octets = ap (λ (x : List ℕ × List ℕ). x.0) both in
+        let back : rest ≡ drop len octets = ap (λ (x : List ℕ × List ℕ). x.1) both in
+        omega (arith, ap length front, ap length back, length-take-le len octets short, length-drop len octets)

@@ -14,17 +14,6 @@ pub struct Change {
     pub pair: (Name, Octets<200>),
 }
 
-impl Change {
-    /// The same change once more.
-    pub fn copy(&self) -> Change
-        ensures { result ≡ self.now }
-    {
-        Change {
-            pair: (self.pair.0.copy(), self.pair.1.copy()),
-        }
-    }
-}
-
 /// A list of at most 15 changes.
 #[derive(Drop)]
 pub struct Changes {
@@ -95,16 +84,5 @@ impl Changes {
         change.1.told();
         self.held.push(Change { pair: change });
         Ok(())
-    }
-
-    /// The same changes once more.
-    pub fn copy(&self) -> Changes
-        ensures { result ≡ self.now }
-    {
-        let mut held = ArrayVec::new_in(Blank);
-        for change in self.held.as_slice() {
-            held.push(change.copy());
-        }
-        Changes { held }
     }
 }

@@ -1,5 +1,5 @@
 // Commands: the operations of SCQL and of the card, each with its fields (ISO/IEC 7816-7).
-use crate::{Changes, Conditions, Name, NameList, Octets, Privileges, Profile, Row, Subject};
+use crate::{Conditions, Name, NameList, Octets, PackedChanges, Privileges, Profile, Row, Subject};
 
 /// What a command asks for. An empty list of columns means all columns of an object.
 #[derive(Drop)]
@@ -49,7 +49,7 @@ pub enum Operation {
         row: Row,
     },
     Update {
-        changes: Changes,
+        changes: PackedChanges,
     },
     Delete,
     Begin,

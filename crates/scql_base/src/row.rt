@@ -1,5 +1,5 @@
 // Rows of values.
-ghost use Rattle.std.specs.Prelude.{◌≡◌, ◌<◌, ◌≤◌, ◌+◌, ◌↔◌, [], ◌∷◌, ◌++◌, Ok, Err, IsSome, OnErr, OnOk, IfErr, length, option_and_then, option_copied, slice_get};
+ghost use Rattle.std.specs.Prelude.{◌≡◌, ◌<◌, ◌≤◌, ◌+◌, ◌↔◌, [], ◌∷◌, ◌++◌, Ok, Err, IsSome, OnErr, OnOk, IfErr, length, option_and_then, option_copied, option_map, slice_get};
 ghost use Rattle.std.specs.List.{flat_map};
 ghost use Rattle.scql_base.specs.Strings.{params_of, spelled};
 ghost use Rattle.scql_base.specs.Row.{IsRow, narrow_count, row_from, row_size, with_value};
@@ -58,14 +58,24 @@ impl Row {
     pub fn read(octets: &[u8]) -> Option<Row>
         ensures { result ≡ row_from octets.now }
     {
+        let mut row = Row::new();
+        row.read_into(octets)?;
+        Some(row)
+    }
+
+    /// Becomes the row that these octets spell, as `read` gives it. Where they spell none it stays as it is.
+    pub fn read_into(&mut self, octets: &[u8]) -> Option<()>
+        ensures { option_map (λ _. self.new) result ≡ row_from octets.now }
+    {
         let count = count_narrow(octets)?;
         if count > Row::MOST || octets.len() > Row::LARGEST {
             return None;
         }
-        let mut run = ArrayVec::new();
-        let fits = run.try_extend_from_slice(octets).is_ok();
+        self.octets.clear();
+        let fits = self.octets.try_extend_from_slice(octets).is_ok();
         prove!(fits);
-        Some(Row { octets: run, count })
+        self.count = count;
+        Some(())
     }
 
     /// How many values there are.

@@ -54,14 +54,25 @@ pub fn bind(columns: &NameList, conditions: &Conditions) -> Result<Bound, Name>
     ensures known { IfOk result (λ _. first_unknown columns.now conditions.now ≡ None) }
     ensures unknown { IfErr result (λ column. first_unknown columns.now conditions.now ≡ Some column) }
 {
-    let mut held = ArrayVec::new_in(Blank);
+    let mut bound = Bound::default();
+    bind_into(columns, conditions, &mut bound)?;
+    Ok(bound)
+}
+
+/// Binds conditions to columns in a place, or answers the first column that isn't among these.
+pub fn bind_into(columns: &NameList, conditions: &Conditions, bound: &mut Bound) -> Result<(), Name>
+    ensures bound { IfOk result (λ _. Binds bound.new columns.now conditions.now) }
+    ensures known { IfOk result (λ _. first_unknown columns.now conditions.now ≡ None) }
+    ensures unknown { IfErr result (λ column. first_unknown columns.now conditions.now ≡ Some column) }
+{
+    bound.held.clear();
     for condition in conditions.as_slice() {
         let Some(place) = place_of(columns, &condition.column) else {
             return Err(condition.column.copy());
         };
-        held.push(placed_at(place, condition));
+        bound.held.push(placed_at(place, condition));
     }
-    Ok(Bound { held })
+    Ok(())
 }
 
 // The first place of a column.

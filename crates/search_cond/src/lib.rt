@@ -5,5 +5,5 @@ mod bound;
 mod comparing;
 mod placed;
 
-pub use bound::{Bound, bind};
+pub use bound::{Bound, bind, bind_into};
 pub use placed::Placed;

@@ -9,5 +9,5 @@ use Rattle.db_read.proofs.choosing.choose.Goals as goal
 pub returns-in_err-ok-clause-there : goal.returns-in_err-ok-clause-there
 returns-in_err-ok-clause-there c = λ named.
     let all = c.args.all.now in
-    let unknown = err-none _ c.bind.result c.ok.result c.ok.ensures.value c.in_err-ok.was c.bind.ensures.unknown in
+    let unknown = err-none _ c.bind_into.result c.ok.result c.ok.ensures.value c.in_err-ok.was c.bind_into.ensures.unknown in
     absurd (false≢true (sym (AreKnown-unknown all c.args.conditions.now unknown.0 unknown.1) ∙ (and_parts (are_among c.args.columns.now all) (AreKnown all c.args.conditions.now) named).1))

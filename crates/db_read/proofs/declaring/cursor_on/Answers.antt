@@ -16,7 +16,7 @@ returns-in_err-object-clause-refused g c = λ db held before.
 
 pub returns-then-not-are_named-clause-refused : goal.returns-then-not-are_named-clause-refused
 returns-then-not-are_named-clause-refused g c = λ db held before.
-    let o = c.in_ok-object.object in
+    let o = c.in_ok-object.object.now in
     let is = c.in_ok-object.ensures.found db held in
     let all = c.columns_of-all.ensures in
     stops-refused _ c.refused.result not_found c.refused.ensures
@@ -24,7 +24,7 @@ returns-then-not-are_named-clause-refused g c = λ db held before.
 
 pub returns-clause-declared : goal.returns-clause-declared
 returns-clause-declared g c = λ db held before.
-    let o = c.in_ok-object.object in
+    let o = c.in_ok-object.object.now in
     let is = c.in_ok-object.ensures.found db held in
     let all = c.columns_of-all.ensures in
     declares db c.args.actor before c.args.object c.args.columns.now c.args.conditions.now o c.columns_of-all.result c.wanted.result c.copy.result held.valid is all (sym c.if-not-are_named.false ∙ c.are_named.ensures) c.wanted.ensures c.copy.ensures

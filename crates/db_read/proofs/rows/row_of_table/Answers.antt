@@ -14,12 +14,12 @@ returns-then-of-table-clause-found g c =
 
 pub returns-clause-found : goal.returns-clause-found
 returns-clause-found g c =
-    indexed-found c.args.stamp c.in-Some.of c.in-Some.slot c.args.table (slots_of c.args.store.now c.args.side (g.B.Eeprom.chip c.args.bench.now)) c.row_in.result
+    rw c.as_ref.ensures.value (indexed-found c.args.stamp c.in-Some.of c.in-Some.slot c.args.table (slots_of c.args.store.now c.args.side (g.B.Eeprom.chip c.args.bench.now)) c.row_in.new.place
     (indexed-told c.args.index.now c.args.store.now (g.B.Eeprom.chip c.args.bench.now) c.args.side c.args.stamp c.in-Some.of c.in-Some.slot c.find.result c.find.ensures.value c.requires.index c.in-Some.is) c.if-of-table.false
-    c.row_in.ensures.value
+    c.in_ok-row_in.ensures.value)
 
 pub returns-clause-octets_read : goal.returns-clause-octets_read
 returns-clause-octets_read g c =
-    indexed-reads c.args.stamp c.in-Some.of c.in-Some.slot c.args.table (slots_of c.args.store.now c.args.side (g.B.Eeprom.chip c.args.bench.now)) c.row_in.result _ _
+    rw c.as_ref.ensures.value (indexed-reads c.args.stamp c.in-Some.of c.in-Some.slot c.args.table (slots_of c.args.store.now c.args.side (g.B.Eeprom.chip c.args.bench.now)) c.row_in.new.place _ _
     (indexed-told c.args.index.now c.args.store.now (g.B.Eeprom.chip c.args.bench.now) c.args.side c.args.stamp c.in-Some.of c.in-Some.slot c.find.result c.find.ensures.value c.requires.index c.in-Some.is) c.if-of-table.false
-    c.row_in.ensures.octets_read
+    c.in_ok-row_in.ensures.octets_read)

@@ -2,11 +2,11 @@ use Rattle.std.proofs.Common.{◌≡◌, List, ℕ, Some, refl, sym, ap, ◌∙�
 use Rattle.scql_base.specs.Strings.{params_of, strings_of}
 use Rattle.scql_base.proofs.RowOctets.{IsRow-read, counted, row_from-long, row_from-many, row_from-row, row_from-uncounted}
 use Rattle.scql_base.proofs.Splitting.{AreParams-from_params_of}
-use Rattle.scql_base.proofs.row.Row.read.Goals.{then-count-gt-MOST-via-then-count-gt-MOST, then-count-gt-MOST-via-else-count-gt-MOST+then-octets-gt-LARGEST}
-use Rattle.scql_base.proofs.row.Row.read.Goals as goal
+use Rattle.scql_base.proofs.row.Row.read_into.Goals.{then-count-gt-MOST-via-then-count-gt-MOST, then-count-gt-MOST-via-else-count-gt-MOST+then-octets-gt-LARGEST}
+use Rattle.scql_base.proofs.row.Row.read_into.Goals as goal
 
 pub returns-in_err-count : goal.returns-in_err-count
-returns-in_err-count c = c.from_residual.ensures ∙ row_from-uncounted c.args.octets.now c.in_err-count.ensures
+returns-in_err-count c = rw c.from_residual.ensures (row_from-uncounted c.args.octets.now c.in_err-count.ensures)
 
 pub returns-then-count-gt-MOST : goal.returns-then-count-gt-MOST
 returns-then-count-gt-MOST c =
@@ -19,8 +19,8 @@ returns-then-count-gt-MOST c =
 split-of : (octets run : List ℕ) (values : List (List ℕ)) → run ≡ octets → params_of octets ≡ Some values → strings_of run ≡ values
 split-of octets run values same is = ap strings_of same ∙ rw is refl
 
-pub invariant_of-result : goal.invariant_of-result
-invariant_of-result c =
+pub invariant_of-self : goal.invariant_of-self
+invariant_of-self c =
     let told = counted c.args.octets.now c.in_ok-count.count c.in_ok-count.ensures in
     let run : c.try_extend_from_slice.new.self.items ≡ c.args.octets.now = search rules in
     rw (split-of c.args.octets.now c.try_extend_from_slice.new.self.items told.values run told.split) (

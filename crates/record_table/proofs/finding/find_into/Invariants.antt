@@ -5,7 +5,7 @@ use Rattle.eeprom.specs.Chip.{Becomes}
 use Rattle.record_table.specs.Listed.{in_slots, slots_of}
 use Rattle.record_table.specs.Reading.{NeverFalls}
 use Rattle.record_table.proofs.Scan.{AreEmptyFrom, IsOfLeft, ReadsUpTo}
-use Rattle.record_table.proofs.finding.find_by.Given as goal
+use Rattle.record_table.proofs.finding.find_into.Given as goal
 
 abbrev pub invariant-loop-slot : goal.invariant-loop-slot
 invariant-loop-slot g l = record {

@@ -1,0 +1,11 @@
+-- At most one record has a stamp where the list rises.
+use Rattle.std.proofs.Common.{◌∙◌}
+use Rattle.record_table.specs.Listed.{slots_of}
+use Rattle.record_table.proofs.ListedSearches.{stamped-listed}
+use Rattle.record_table.proofs.Scan.{stronger}
+use Rattle.record_table.proofs.finding.find_stamp_into.Goals as goal
+
+pub returns-clause-found : goal.returns-clause-found
+returns-clause-found g c =
+    stronger c.find_into.result (slots_of c.args.store.now c.args.side (g.B.Eeprom.chip c.args.bench.now)) _ _
+    (λ found slots first rises. first ∙ stamped-listed g.R.Record.kind c.args.stamp slots rises) c.find_into.ensures.first
