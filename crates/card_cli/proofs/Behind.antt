@@ -1,41 +1,20 @@
 -- How what lies behind the image of a card stays, from call to call.
-use Rattle.std.proofs.Common.{◌≡◌, ◌≤◌, inl, inr, ℕ, List, length, drop, Option, Some, None, IfSome, Result, Ok, Err, refl, sym, subst, ◌∙◌, arith}
+use Rattle.std.proofs.Common.{◌≡◌, ◌≤◌, inl, inr, ℕ, List, drop, Option, Some, None, Result, Ok, Err, refl, sym, subst, ◌∙◌, arith}
 use Rattle.std.specs.Prelude.{OnOk, option_map}
-use Rattle.eeprom.specs.Chip.{Chip, Becomes, Gives, Keeps}
+use Rattle.eeprom.specs.Chip.{Chip, Becomes, Keeps}
 use Rattle.eeprom.specs.Image.{overwrite}
 use Rattle.eeprom.specs.StoreOf.{image_size}
 use Rattle.eeprom.proofs.Leaves.{at-told}
-use Rattle.eeprom.proofs.Moments.{throughout-weaker}
 use Rattle.record_store.specs.Held.{StandsFor}
 use Rattle.record_store.specs.Recovery.{KeepsStore}
 use Rattle.card.specs.Behind.{KeepsBehind, own_cells}
 use Rattle.card.specs.Card.{Kept, IsReady, fresh_card}
+use Rattle.card.specs.GivenMoments.{behind-keeps}
 use Rattle.card_cli.specs.declared.words.Form.{Form}
 use Rattle.card_cli.specs.declared.words.Form.TheVariants.{New}
 use Rattle.card_cli.specs.Behind.{run_cells}
 use Rattle.card_cli.proofs.Finishing.{front-cells}
-use Rattle.card_cli.proofs.Moving.{gives-throughout, throughout-same}
 use Rattle.card_cli.proofs.Preparing.{IsThere}
-
--- nothing is written
-pub behind-same : (cells : List ℕ → ℕ) (old new : Chip) → new ≡ old → KeepsBehind cells old new
-behind-same cells old new same = subst (λ (chip : Chip). KeepsBehind cells old chip) (sym same) (throughout-same old _ (λ image told. (image, told, refl)))
-
--- a piece of output goes out
-pub behind-gives : (cells : List ℕ → ℕ) (old new : Chip) → IfSome old.past (λ past. length past ≡ old.clock) → Gives old new → KeepsBehind cells old new
-behind-gives cells old new clocked gives = throughout-weaker old new _ _ (gives-throughout old new clocked gives) (λ g left during. (left, during.2, refl))
-
--- a call gives nothing, and keeps what lies behind so many cells
-pub behind-keeps : (cells : ℕ) (old new : Chip) → Keeps (drop (image_size cells)) old new → KeepsBehind (λ was. cells) old new
-behind-keeps cells old new keeps = record {
-  later = keeps.later;
-  only = λ t g left since there. elim (keeps.only t g left since there) [
-    | inl before ↦ inl before
-    | inr now ↦ inr (now.1, now.2, now.3)
-  ];
-  stays = keeps.stays;
-  now = keeps.image;
-}
 
 -- one call, and then another that speaks of as many cells
 pub behind-then : (first second : List ℕ → ℕ) (old mid new : Chip) → Becomes (λ was between. second between ≡ first was) old.image mid.image → KeepsBehind first old mid → KeepsBehind second mid new → KeepsBehind first old new

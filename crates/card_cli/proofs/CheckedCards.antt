@@ -6,6 +6,7 @@ use Rattle.eeprom.proofs.Moments.{throughout-weaker}
 use Rattle.record_store.specs.Recovery.{KeepsStore}
 use Rattle.scql_model.specs.Database.{Database}
 use Rattle.card.specs.Counting.{check_text}
+use Rattle.card.specs.GivenMoments.{IsInPiece, throughout-same}
 use Rattle.card_cli.specs.declared.status.Status.{Status}
 use Rattle.card_cli.specs.declared.status.Status.TheVariants.{Done, Eeprom, WriteFault, NoMemory}
 use Rattle.card_cli.specs.Beginning.{IsOpenTo}
@@ -14,7 +15,6 @@ use Rattle.card_cli.specs.Ends.{AllFaults, EndsBy, ends_opening}
 use Rattle.card_cli.specs.Migrating.{WritesNothing}
 use Rattle.card_cli.specs.Run.{AnswersAll, IsQuiet}
 use Rattle.card_cli.proofs.Asking.{unopened}
-use Rattle.card_cli.proofs.Moving.{IsInPiece, throughout-same}
 
 -- nothing was done
 pub nothing-done : (chip : Chip) → WritesNothing chip chip

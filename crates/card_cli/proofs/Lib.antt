@@ -1,9 +1,11 @@
 mod Asking
 mod Behind
+mod Blanks
 mod CheckedCards
 mod Commanding
 mod Feeding
 mod Finishing
+mod HexadecimalTexts
 mod InsertedRows
 mod Keeping
 mod LoadedCards
@@ -11,9 +13,9 @@ mod LoadedLines
 mod LongerRows
 mod Moving
 mod Preparing
+mod Selecting
 mod Showing
 pub mod Sittings
 mod Stopping
 mod Streaming
 mod Taking
-pub mod UpperCase

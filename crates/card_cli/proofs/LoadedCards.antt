@@ -9,6 +9,7 @@ use Rattle.scql_model.specs.Database.{Database}
 use Rattle.scql_model.specs.Lines.{state_after}
 use Rattle.scql_model.specs.Machine.{start}
 use Rattle.scql_model.specs.Opens.{Opens}
+use Rattle.card.specs.GivenMoments.{IsInPiece}
 use Rattle.card.specs.LiveCardLaws.{opens-at}
 use Rattle.planner.specs.StatementLines.{TerminalState, statement_lines}
 use Rattle.terminal.specs.Holding.{terminal_at}
@@ -26,7 +27,7 @@ use Rattle.card_cli.specs.Run.{AnswersAll, IsQuiet}
 use Rattle.card_cli.specs.RunState.{Prints}
 use Rattle.card_cli.proofs.Asking.{eeprom-rose, unopened}
 use Rattle.card_cli.proofs.LongerRows.{open-told}
-use Rattle.card_cli.proofs.Moving.{IsInPiece, throughout-both}
+use Rattle.card_cli.proofs.Moving.{throughout-both}
 
 -- The script was carried out, and its text went out, or the start of it.
 

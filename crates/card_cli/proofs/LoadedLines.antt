@@ -14,6 +14,7 @@ use Rattle.scql_model.specs.Machine.{Machine}
 use Rattle.scql_model.specs.Opens.{Opens, OpensToOneOf}
 use Rattle.script.specs.Line.{statement_of}
 use Rattle.card_link.specs.Link.{IsOneOf, LeavesOpen}
+use Rattle.card.specs.GivenMoments.{throughout-same}
 use Rattle.card.specs.LiveCard.{IsReadyAt, LastsOn}
 use Rattle.card.specs.LiveCardLaws.{lasts-same, lasts-then}
 use Rattle.planner.specs.declared.closing.Closing.{Closing}
@@ -23,7 +24,7 @@ use Rattle.terminal.specs.Holding.{Knows, terminal_at}
 use Rattle.terminal.specs.Load.{change_line, closings, delete_line, filling_lines, is_refused, load_counts, load_script, number_of, select_line}
 use Rattle.terminal.specs.Quiet.{closing_in}
 use Rattle.card_cli.specs.Loading.{CarriesOut, FailsAmong, IsIn, IsInLines, Loader, PassesLines, refused_in}
-use Rattle.card_cli.proofs.Moving.{throughout-both, throughout-same}
+use Rattle.card_cli.proofs.Moving.{throughout-both}
 use Rattle.card_cli.proofs.Sittings.{one-opens}
 
 -- Lines and then others.

@@ -1,13 +1,13 @@
 -- How moments of a run go on: of a piece of output, of a line, of octets of input.
-use Rattle.std.proofs.Common.{◌≡◌, inl, inr, ℕ, ◌+◌, ◌≤◌, List, [], ◌∷◌, ◌++◌, length, drop, Option, Some, None, IfSome, false, refl, sym, ap, subst, ◌∙◌, arith, length-append, append_assoc, append-nil}
+use Rattle.std.proofs.Common.{◌≡◌, inl, inr, ℕ, ◌+◌, ◌≤◌, List, [], ◌∷◌, ◌++◌, length, Option, Some, None, IfSome, false, refl, sym, ap, subst, ◌∙◌, arith, length-append, append_assoc, append-nil}
 use Rattle.std.specs.Prelude.{IsSome, is_some}
-use Rattle.std.proofs.lemmas.Option.{same_Some}
-use Rattle.eeprom.specs.Chip.{Chip, Still, Stretch, giving, LeftIn, MayBeLeftSince, Gives, Throughout}
-use Rattle.eeprom.proofs.Moments.{left-in-more, left-in-longer, drop-more, left-told, left-cases, may-be-left, may-be-cases, throughout-weaker}
+use Rattle.eeprom.specs.Chip.{Chip, Still, Gives, Throughout}
+use Rattle.eeprom.proofs.Moments.{throughout-then, throughout-weaker}
 use Rattle.scql_model.specs.Lines.{Effect, Language, is_line_feed}
 use Rattle.scql_model.specs.Heard.{committed_in}
 use Rattle.scql_model.specs.Opens.{Opens, OpensToOneOf}
 use Rattle.card.specs.Answering.{LeavesOneOf}
+use Rattle.card.specs.GivenMoments.{IsInPiece, gives-throughout, throughout-same}
 use Rattle.card_cli.specs.declared.stop.FailedDevice.{FailedDevice}
 use Rattle.card_cli.specs.RunState.{Prints}
 use Rattle.card_cli.specs.Line.{is_empty_line}
@@ -18,70 +18,7 @@ use Rattle.card_cli.proofs.Streaming.{after-append, text_of-append}
 -- one run of calls, and then another
 pub throughout-both : (old mid new : Chip) (P Q R : ℕ → List ℕ → Type 0) → Throughout old mid P → Throughout mid new Q
     → ((g : ℕ) (left : List ℕ) → P g left → R g left) → ((g : ℕ) (left : List ℕ) → Q g left → R g left) → Throughout old new R
-throughout-both old mid new P Q R first second of_first of_second = record {
-  later = omega (arith, first.later, second.later);
-  only = λ t g left since there. elim (second.only t g left (omega (arith, since, first.later)) there) [
-    | inl before ↦ elim (first.only t g left since before) [
-      | inl earlier ↦ inl earlier
-      | inr now ↦ inr (of_first g left now)
-    ]
-    | inr now ↦ inr (of_second g left now)
-  ];
-  stays = λ t g left since there. second.stays t g left (omega (arith, since, first.later)) (first.stays t g left since there);
-  now = λ image told. of_second new.still.mark image (second.now image told);
-}
-
--- nothing happens
-pub throughout-same : (chip : Chip) (P : ℕ → List ℕ → Type 0) → ((image : List ℕ) → chip.image ≡ Some image → P chip.still.mark image) → Throughout chip chip P
-throughout-same chip P now = record { later = omega arith; only = λ t g left since there. inl there; stays = λ t g left since there. there; now = now }
-
--- while a piece of output goes out, the image stays
-abbrev pub IsInPiece : Chip → ℕ → ℕ → List ℕ → Type 0
-IsInPiece old to g left = (old.still.mark ≤ g) × (g ≤ to) × (old.image ≡ Some left)
-
--- a moment before it stays one
-gives-stays : (old new : Chip) → IfSome old.past (λ past. length past ≡ old.clock) → Gives old new → (t g : ℕ) (left : List ℕ) → t ≤ old.clock → MayBeLeftSince old t g left → MayBeLeftSince new t g left
-gives-stays old new clocked gives t g left since there = may-be-left new t g left (λ past told.
-    let from = gives.past past told in
-    let was = may-be-cases old t g left there from.0 from.1 in
-    let within : t ≤ length from.0 = omega (arith, since, rw (from.1) at clocked) in
-    elim (from.2) [
-      | inl more ↦
-          let stretch = giving more.0 old.still.mark new.still.mark in
-          let longer : LeftIn (drop t from.0 ++ stretch ∷ []) g left = left-in-longer (drop t from.0) stretch g left (elim was [
-            | inl now ↦ inr (omega (arith, now.1), omega (arith, now.1, gives.mark), same_Some left more.0 (sym now.0 ∙ more.1))
-            | inr before ↦ inl before
-          ]) in
-          inr (subst (λ (past : List Stretch). LeftIn (drop t past) g left) (sym more.2) (subst (λ (past : List Stretch). LeftIn past g left) (sym (drop-more t from.0 stretch within)) longer))
-      | inr none ↦ elim was [
-        | inl now ↦ inl (none.1 ∙ now.0, now.1 ∙ sym none.2)
-        | inr before ↦ inr (subst (λ (past : List Stretch). LeftIn (drop t past) g left) (sym none.0) before)
-      ]
-    ])
-
-pub gives-throughout : (old new : Chip) → IfSome old.past (λ past. length past ≡ old.clock) → Gives old new → Throughout old new (IsInPiece old new.still.mark)
-gives-throughout old new clocked gives = record {
-  later = gives.later;
-  only = λ t g left since there.
-      let case = left-cases new t g left there in
-      let told = gives.past case.0 case.1 in
-      let within : t ≤ length told.0 = omega (arith, since, rw (told.1) at clocked) in
-      elim case.2 [
-        | inl now ↦ inr (omega (arith, gives.mark, now.1), omega (arith, now.1), sym gives.image ∙ now.0)
-        | inr past ↦ elim (told.2) [
-          | inl more ↦
-              let longer : LeftIn (drop t told.0 ++ giving more.0 old.still.mark new.still.mark ∷ []) g left =
-              rw (drop-more t told.0 (giving more.0 old.still.mark new.still.mark) within) at (rw (more.2) at past) in
-              elim (left-in-more (drop t told.0) (giving more.0 old.still.mark new.still.mark) g left longer) [
-                | inl before ↦ inl (left-told old told.0 t g left told.1 before)
-                | inr during ↦ inr (during.0, during.1, more.1 ∙ ap Some (sym during.2))
-              ]
-          | inr none ↦ inl (left-told old told.0 t g left told.1 (rw (none.0) at past))
-        ]
-      ];
-  stays = gives-stays old new clocked gives;
-  now = λ image told. (gives.mark, omega arith, sym gives.image ∙ told);
-}
+throughout-both old mid new P Q R first second of_first of_second = throughout-then old mid new R (throughout-weaker old mid P R first of_first) (throughout-weaker mid new Q R second of_second)
 
 -- what was given is told before where it is told now
 pub told-before : (text : List ℕ) (before now : Option (List ℕ)) → Prints text before now → IsSome now → IsSome before

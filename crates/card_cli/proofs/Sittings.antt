@@ -151,11 +151,11 @@ line-cut-off is_at given mark chip is sitting line rows old new faulty cut momen
     }
 
 -- The outlet failed in it.
-line-cut-short : {L : Type 0} (is_at : L → Machine → Type 0) (given : L → Option (List ℕ)) (mark : L → ℕ) (chip : L → Chip) → IsTold is_at given mark chip → (sitting : Sitting) (line : Option (List ℕ)) (old new : L)
-    → terminal.IsCutShort is_at given sitting.at.machine (statement_lines.effect sitting.at line) old new
+line-cut-short : {L : Type 0} (is_at : L → Machine → Type 0) (given : L → Option (List ℕ)) (mark : L → ℕ) (chip : L → Chip) → IsTold is_at given mark chip → (sitting : Sitting) (line : Option (List ℕ)) (holding : Holding) (old new : L)
+    → terminal.IsCutShort is_at given sitting.at.machine (statement_lines.effect sitting.at line) holding old new
     → LeavesOpen (IsMoment (mark old) sitting.at.machine.committed (statement_lines.effect sitting.at line).commits) (chip old) (chip new) → Throughout (chip old) (chip new) (λ g left. g ≤ (chip new).still.mark)
     → Failed Outlet term_lines sitting (term_lines.effect sitting line) (chip old) (chip new)
-line-cut-short is_at given mark chip is sitting line old new cut moments marks =
+line-cut-short is_at given mark chip is sitting line holding old new cut moments marks =
     let prints = prints-chip is_at given mark chip is cut.said old new cut.printed in
     record {
       fails = record {
@@ -199,7 +199,7 @@ pub heard-failed : {L : Type 0} (is_at : L → Machine → Type 0) (given : L �
 heard-failed is_at given mark chip is sitting line rows refused holding ends.Answered old new end faulty moments marks = tt
 heard-failed is_at given mark chip is sitting line rows refused holding ends.Refused old new end faulty moments marks = tt
 heard-failed is_at given mark chip is sitting line rows refused holding ends.Mute old new end faulty moments marks = line-cut-off is_at given mark chip is sitting line rows old new faulty end moments
-heard-failed is_at given mark chip is sitting line rows refused holding ends.SinkFault old new end faulty moments marks = line-cut-short is_at given mark chip is sitting line old new end moments marks
+heard-failed is_at given mark chip is sitting line rows refused holding ends.SinkFault old new end faulty moments marks = line-cut-short is_at given mark chip is sitting line holding old new end moments marks
 
 pub faulty-read : (state : TerminalState) (read : Result Statement ScriptFault) → (read_effect state read).faulty ≡ first_texts (map row_text (rows_in state read))
 faulty-read state (Ok statement) = refl

@@ -11,9 +11,11 @@ pub mod Line
 pub mod Loading
 pub mod Migrating
 pub mod Moments
+pub mod Progress
 pub mod Run
 pub mod RunState
 pub mod Running
+pub mod Selecting
 pub mod Showing
 pub mod SittingLaws
 pub mod Statements

@@ -1,6 +1,7 @@
 -- A line as far as it has come in, as the list of its octets, and what it is read as.
-use Rattle.std.specs.Prelude.{ℕ, ◌==◌, nat_lt, Bool, false, List, [], ◌∷◌, ◌++◌, length, Option, Some, None, if◌then◌else◌}
+use Rattle.std.specs.Prelude.{ℕ, ◌==◌, ◌≤◌, nat_lt, Bool, false, List, [], ◌∷◌, ◌++◌, length, take, Option, Some, None, if◌then◌else◌}
 use Rattle.scql_model.specs.Lines as model
+use Rattle.card_cli.specs.declared.line.TheConstants.{LONGEST_COMMAND}
 use Rattle.card_cli.specs.declared.line.Line.{Line}
 use Rattle.card_cli.specs.declared.line.Line.TheVariants.{Octets, TooLong}
 use Rattle.card_cli.specs.declared.line.LineContent.{LineContent}
@@ -21,10 +22,15 @@ abbrev pub is_empty_line : Option (List ℕ) → Bool
 is_empty_line None = false
 is_empty_line (Some line) = length line == 0
 
--- what the line that is read is
-abbrev pub reading_view : LineContent → model.LineContent
-reading_view ReadTooLong = model.too_long
-reading_view Nothing = model.nothing
-reading_view Reset = model.resets
-reading_view NotHexadecimal = model.not_hexadecimal
-reading_view (Command octets) = model.command octets.items
+-- what the line that is read is, where a command's octets are the first ones of a place
+abbrev pub reading_view : List ℕ → LineContent → model.LineContent
+reading_view place ReadTooLong = model.too_long
+reading_view place Nothing = model.nothing
+reading_view place Reset = model.resets
+reading_view place NotHexadecimal = model.not_hexadecimal
+reading_view place (Command size) = model.command (take size place)
+
+-- the command has its place
+abbrev pub IsWithinPlace : LineContent → Type 0
+IsWithinPlace (Command size) = size ≤ LONGEST_COMMAND
+IsWithinPlace content = Unit {0}

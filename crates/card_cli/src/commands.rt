@@ -16,7 +16,7 @@ ghost use Rattle.card_cli.specs.Ends.{AllFaults, EndsBy, ends_input, longest_inp
 ghost use Rattle.card_cli.specs.Extent.{RunsInput};
 
 use crate::input::answer_input;
-use crate::line::{Line, LineContent};
+use crate::line::{LONGEST_COMMAND, Line, LineContent};
 use crate::output::give;
 use crate::responder::Responder;
 use crate::status::Status;
@@ -35,6 +35,50 @@ const LONGEST_ANSWER: usize = 517;
 pub(crate) struct CommandCard<'a, B: Bench> {
     pub(crate) card: &'a mut Card,
     pub(crate) bench: &'a mut B,
+    pub(crate) places: Places,
+}
+
+/// Places for a command, and for the reply to it.
+#[derive(Drop)]
+pub(crate) struct Places {
+    command: [u8; LONGEST_COMMAND],
+    reply: ReplyPlace,
+}
+
+impl Places {
+    fn new() -> Places {
+        Places {
+            command: [0; LONGEST_COMMAND],
+            reply: ReplyPlace::new(),
+        }
+    }
+}
+
+/// A place for a reply, and for its text.
+#[derive(Drop)]
+pub(crate) struct ReplyPlace {
+    reply: Reply,
+    text: ArrayVec<u8, LONGEST_ANSWER>,
+}
+
+impl ReplyPlace {
+    fn new() -> ReplyPlace {
+        ReplyPlace {
+            reply: Reply {
+                body: ArrayVec::new(),
+                word: StatusWord::DONE,
+            },
+            text: ArrayVec::new(),
+        }
+    }
+
+    // The reply in hexadecimal, with a line feed.
+    fn text(&mut self) -> &[u8]
+        ensures { result.now ≡ model.reply_text self.old.reply }
+    {
+        write_reply(&mut self.text, &self.reply);
+        self.text.as_slice()
+    }
 }
 
 impl<'a, B: Bench> Responder for CommandCard<'a, B> {
@@ -71,7 +115,7 @@ impl<'a, B: Bench> Responder for CommandCard<'a, B> {
     }
 
     fn answer_line(&mut self, line: &Line) -> Result<(), FailedDevice> {
-        answer_line(self.card, self.bench, line)
+        answer_line(self.card, self.bench, line, &mut self.places)
     }
 
     ghost lawful = { commands-lawful };
@@ -98,12 +142,21 @@ pub(crate) fn answer_commands<S: Source, B: Bench>(
     // Nothing is written behind the card's image.
     ensures behind { KeepsBehind (λ was. card.old.store.chains.cells) (B.chip bench.old) (B.chip bench.new) }
 {
-    let mut commands = CommandCard { card, bench };
+    let mut commands = CommandCard {
+        card,
+        bench,
+        places: Places::new(),
+    };
     answer_input(&mut commands, source)
 }
 
 // Answers a whole line.
-fn answer_line<B: Bench>(card: &mut Card, bench: &mut B, line: &Line) -> Result<(), FailedDevice>
+fn answer_line<B: Bench>(
+    card: &mut Card,
+    bench: &mut B,
+    line: &Line,
+    places: &mut Places,
+) -> Result<(), FailedDevice>
     requires ready { IsReady card.old (B.chip bench.old) }
     ensures at { (m : Machine) → IsAt card.old (B.chip bench.old) m
         → OnOk result (IsAt card.new (B.chip bench.new) (model.content_effect m (model.content_of (line_octets line.now))).next) }
@@ -123,7 +176,7 @@ fn answer_line<B: Bench>(card: &mut Card, bench: &mut B, line: &Line) -> Result<
     ensures cells { OnOk result (card.new.store.chains.cells ≡ card.old.store.chains.cells) }
     ensures behind { KeepsBehind (λ was. card.old.store.chains.cells) (B.chip bench.old) (B.chip bench.new) }
 {
-    match line.read() {
+    match line.read(&mut places.command) {
         LineContent::Nothing => Ok(()),
         LineContent::TooLong => Ok(give(bench, b"line too long\n")?),
         LineContent::Reset => {
@@ -131,7 +184,9 @@ fn answer_line<B: Bench>(card: &mut Card, bench: &mut B, line: &Line) -> Result<
             Ok(give(bench, b"reset\n")?)
         }
         LineContent::NotHexadecimal => Ok(give(bench, b"not hexadecimal\n")?),
-        LineContent::Command(octets) => answer_command(card, bench, &octets),
+        LineContent::Command { size } => {
+            answer_command(card, bench, &places.command[..size], &mut places.reply)
+        }
     }
 }
 
@@ -139,6 +194,7 @@ fn answer_command<B: Bench>(
     card: &mut Card,
     bench: &mut B,
     octets: &[u8],
+    place: &mut ReplyPlace,
 ) -> Result<(), FailedDevice>
     requires ready { IsReady card.old (B.chip bench.old) }
     ensures at { (m : Machine) → IsAt card.old (B.chip bench.old) m → OnOk result (IsAt card.new (B.chip bench.new) (step m octets.now).machine) }
@@ -156,44 +212,37 @@ fn answer_command<B: Bench>(
     ensures cells { OnOk result (card.new.store.chains.cells ≡ card.old.store.chains.cells) }
     ensures behind { KeepsBehind (λ was. card.old.store.chains.cells) (B.chip bench.old) (B.chip bench.new) }
 {
-    let mut reply = Reply {
-        body: ArrayVec::new(),
-        word: StatusWord::DONE,
-    };
-    match card.answer(bench, octets, &mut reply) {
-        Outcome::Replied => Ok(give(bench, &reply_text(&reply))?),
-        Outcome::Mute => match give(bench, &reply_text(&reply)) {
+    match card.answer(bench, octets, &mut place.reply) {
+        Outcome::Replied => Ok(give(bench, place.text())?),
+        Outcome::Mute => match give(bench, place.text()) {
             Ok(()) => Err(FailedDevice::Eeprom),
             Err(_) => Err(FailedDevice::Both),
         },
     }
 }
 
-// A reply in hexadecimal, with a line feed.
-fn reply_text(reply: &Reply) -> ArrayVec<u8, LONGEST_ANSWER>
-    ensures { result.items ≡ model.reply_text reply.now }
+fn write_reply(text: &mut ArrayVec<u8, LONGEST_ANSWER>, reply: &Reply)
+    ensures { text.new.items ≡ model.reply_text reply.now }
 {
-    let mut octets: ArrayVec<u8, 258> = ArrayVec::new();
-    put(&mut octets, &reply.body);
-    put(&mut octets, &reply.word.word.to_be_bytes());
-    let mut digits = [0; LONGEST_ANSWER - 1];
-    let digits = &mut digits[..2 * octets.len()];
-    print_into(&octets, digits);
-    let mut text = ArrayVec::new();
-    put(&mut text, digits);
+    let word = reply.word.word;
+    text.clear();
+    put_hexadecimal(text, &reply.body);
+    put_hexadecimal(text, &word.to_be_bytes());
     text.push(b'\n');
-    text
 }
 
-fn put<const CAP: usize>(out: &mut ArrayVec<u8, CAP>, octets: &[u8])
-    requires { length out.old.items + length octets.now ≤ CAP }
-    ensures { out.new.items ≡ out.old.items ++ octets.now }
+// Puts octets in hexadecimal behind a text.
+fn put_hexadecimal(text: &mut ArrayVec<u8, LONGEST_ANSWER>, octets: &[u8])
+    requires { length text.old.items + 2 * length octets.now ≤ LONGEST_ANSWER }
+    ensures { text.new.items ≡ text.old.items ++ encode_upper octets.now }
 {
-    let fits = out.try_extend_from_slice(octets).is_ok();
+    let mut digits = [0; LONGEST_ANSWER];
+    let digits = &mut digits[..2 * octets.len()];
+    print_into(octets, digits);
+    let fits = text.try_extend_from_slice(digits).is_ok();
     prove!(fits);
 }
 
-#[tactic(auto, using(crate::proofs::UpperCase::upper_of_lower))]
 fn print_into(octets: &[u8], digits: &mut [u8])
     requires { length digits.old ≡ 2 * length octets.now }
     ensures { digits.new ≡ encode_upper octets.now }

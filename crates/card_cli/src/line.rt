@@ -1,16 +1,16 @@
 // A line of commands: as it comes in, and what it is.
-ghost use Rattle.std.specs.Prelude.{◌≡◌, ◌≤◌, Some, [], length, option_map};
-ghost use Rattle.std.specs.Result.{result_ok};
+ghost use Rattle.std.specs.Prelude.{◌≡◌, ◌≤◌, Some, [], length};
 ghost use Rattle.hex.specs.Hex.{decode_of};
 ghost use Rattle.scql_model.specs.Lines as model;
-ghost use Rattle.card_cli.specs.Line.{line_octets, longer_by, is_empty_line, reading_view};
+ghost use Rattle.card_cli.specs.Line.{IsWithinPlace, is_empty_line, line_octets, longer_by, reading_view};
 
 use arrayvec::ArrayVec;
 
-/// How many octets a line has at most, and a command that is written in it.
+/// How many octets a line has at most.
 pub(crate) const LONGEST: usize = 1000;
 
-const LONGEST_COMMAND: usize = LONGEST / 2;
+/// How many octets a command has at most that is written in a line.
+pub(crate) const LONGEST_COMMAND: usize = LONGEST / 2;
 
 /// A line as far as it has come in.
 #[derive(Drop)]
@@ -22,7 +22,7 @@ pub(crate) enum Line {
 }
 
 /// What a whole line is.
-#[derive(Drop)]
+#[derive(Clone, Copy)]
 pub(crate) enum LineContent {
     TooLong,
     /// Blank, or a note.
@@ -30,8 +30,8 @@ pub(crate) enum LineContent {
     /// The word `reset`.
     Reset,
     NotHexadecimal,
-    /// The octets of a command.
-    Command(ArrayVec<u8, LONGEST_COMMAND>),
+    /// A command of so many octets, the first ones of the place to which it was read.
+    Command { size: usize },
 }
 
 impl Line {
@@ -72,27 +72,61 @@ impl Line {
         }
     }
 
-    pub fn read(&self) -> LineContent
-        ensures { reading_view result ≡ model.content_of (line_octets self.now) }
+    /// Reads the line. A command's octets are put into its place.
+    pub fn read(&self, command: &mut [u8; LONGEST_COMMAND]) -> LineContent
+        ensures content { reading_view command.new result ≡ model.content_of (line_octets self.now) }
+        ensures within { IsWithinPlace result }
     {
         match self {
             Line::TooLong => LineContent::TooLong,
-            Line::Octets(octets) => read_digits(&without_blanks(octets)),
+            Line::Octets(octets) => read_octets(octets, command),
         }
     }
 }
 
-fn read_digits(line: &[u8]) -> LineContent
+// Most lines have no blanks. They are taken out where the line isn't hexadecimal as it is.
+fn read_octets(line: &[u8], command: &mut [u8; LONGEST_COMMAND]) -> LineContent
     requires { length line.now ≤ LONGEST }
-    ensures { reading_view result ≡ model.content_without_blanks line.now }
+    ensures content { reading_view command.new result ≡ model.content_without_blanks (model.without_blanks line.now) }
+    ensures within { IsWithinPlace result }
+{
+    match read_digits(line, command) {
+        LineContent::NotHexadecimal => read_with_blanks(line, command),
+        content => content,
+    }
+}
+
+#[inline(never)]
+fn read_with_blanks(line: &[u8], command: &mut [u8; LONGEST_COMMAND]) -> LineContent
+    requires { length line.now ≤ LONGEST }
+    ensures content { reading_view command.new result ≡ model.content_without_blanks (model.without_blanks line.now) }
+    ensures within { IsWithinPlace result }
+{
+    read_digits(&without_blanks(line), command)
+}
+
+// Reads a line without blanks.
+fn read_digits(line: &[u8], command: &mut [u8; LONGEST_COMMAND]) -> LineContent
+    requires { length line.now ≤ LONGEST }
+    ensures content { reading_view command.new result ≡ model.content_without_blanks line.now }
+    ensures within { IsWithinPlace result }
 {
     match line {
         [] | [b'#', ..] => LineContent::Nothing,
         b"reset" => LineContent::Reset,
-        digits => match octets_of(digits) {
-            None => LineContent::NotHexadecimal,
-            Some(octets) => LineContent::Command(octets),
-        },
+        digits => read_command(digits, command),
+    }
+}
+
+fn read_command(digits: &[u8], command: &mut [u8; LONGEST_COMMAND]) -> LineContent
+    requires { length digits.now ≤ LONGEST }
+    ensures content { reading_view command.new result ≡ model.hexadecimal_in (decode_of digits.now) }
+    ensures within { IsWithinPlace result }
+{
+    let size = digits.len() / 2;
+    match hex::decode_to_slice(digits, &mut command[..size]) {
+        Ok(()) => LineContent::Command { size },
+        Err(_) => LineContent::NotHexadecimal,
     }
 }
 
@@ -114,18 +148,4 @@ fn is_blank(octet: u8) -> bool
     ensures { result ≡ model.is_blank octet }
 {
     octet == b' ' || octet == b'\t' || octet == b'\r'
-}
-
-fn octets_of(digits: &[u8]) -> Option<ArrayVec<u8, LONGEST_COMMAND>>
-    requires { length digits.now ≤ LONGEST }
-    ensures { option_map (λ octets. octets.items) result ≡ result_ok (decode_of digits.now) }
-{
-    let mut held = [0u8; LONGEST_COMMAND];
-    let count = digits.len() / 2;
-    let room = &mut held[..count];
-    hex::decode_to_slice(digits, room).ok()?;
-    let mut octets = ArrayVec::new();
-    let fits = octets.try_extend_from_slice(&held[..count]).is_ok();
-    prove!(fits);
-    Some(octets)
 }

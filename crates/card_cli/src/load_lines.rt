@@ -98,8 +98,9 @@ pub(crate) fn text_of(counts: &LoadCounts) -> ArrayVec<u8, LONGEST_TEXT>
     text
 }
 
-fn put_count(text: &mut ArrayVec<u8, LONGEST_TEXT>, words: &[u8], count: u32)
-    requires { length text.old.items + length words.now + 10 ≤ 78 }
+/// Puts words and a count behind a text.
+pub(crate) fn put_count<const N: usize>(text: &mut ArrayVec<u8, N>, words: &[u8], count: u32)
+    requires { length text.old.items + length words.now + 10 ≤ N }
     ensures text { text.new.items ≡ text.old.items ++ (words.now ++ decimal count) }
     ensures size { length text.new.items ≤ length text.old.items + length words.now + 10 }
 {

@@ -19,6 +19,7 @@ use crate::load_lines::{
     CHANGE, CREATE, DELETE, LoadCounts, PRESENT, SELECT, insert_line, next_number, text_of,
 };
 use crate::output::give;
+use crate::progress::{Progress, Watched};
 use crate::status::Status;
 use crate::still_card::StillCard;
 use card::{Card, LiveCard};
@@ -26,16 +27,23 @@ use eeprom::{Bench, EepromFault};
 use planner::Closing;
 use terminal::{QuietEnd, Terminal};
 
-/// A terminal with its card, and how many statements were refused so far.
+/// A terminal with its card, how many statements were refused so far, and what a person is told meanwhile.
 #[derive(Drop)]
-struct Loader<'a, B: Bench> {
+struct Loader<'a, P: Watched, B: Bench> {
     terminal: Terminal,
     card: StillCard<'a, B>,
     refused: u32,
+    progress: Progress<'a, P>,
 }
 
 /// Runs the script of so many rows from a number, and says what came of it.
-pub(crate) fn run_load<B: Bench>(card: Card, bench: &mut B, rows: u16, seed: u16) -> Status
+pub(crate) fn run_load<P: Watched, B: Bench>(
+    card: Card,
+    person: &P,
+    bench: &mut B,
+    rows: u16,
+    seed: u16,
+) -> Status
     requires { IsReady card (B.chip bench.old) }
     ensures loads { (db : Database) → IsAt card (B.chip bench.old) (start db)
         → LoadsTo rows seed result (terminal_at (start db) 0) (B.faults bench.old) (B.faults bench.new) (B.chip bench.old) (B.chip bench.new) }
@@ -52,8 +60,10 @@ pub(crate) fn run_load<B: Bench>(card: Card, bench: &mut B, rows: u16, seed: u16
             card: LiveCard::new(card, bench),
         },
         refused: 0,
+        progress: Progress::new(person),
     };
     let counted = loader.run_script(rows, seed);
+    loader.progress.end();
     let bench = loader.card.card.into_bench();
     let Ok(counts) = counted else {
         return Status::Eeprom;
@@ -75,7 +85,7 @@ fn status_of(refused: u32) -> Status
     }
 }
 
-impl<'a, B: Bench> Loader<'a, B> {
+impl<'a, P: Watched, B: Bench> Loader<'a, P, B> {
     // Runs the script.
     fn run_script(&mut self, rows: u16, seed: u16) -> Result<LoadCounts, EepromFault>
         requires live { IsTrue self.old.card.card.card.live }
@@ -91,7 +101,9 @@ impl<'a, B: Bench> Loader<'a, B> {
     {
         self.fill(rows, seed)?;
         let changed = self.carry_out(CHANGE)?;
+        self.progress.set_changed(changed);
         let deleted = self.carry_out(DELETE)?;
+        self.progress.set_deleted(deleted);
         let rows = self.carry_out(SELECT)?;
         Ok(LoadCounts {
             rows,
@@ -133,7 +145,9 @@ impl<'a, B: Bench> Loader<'a, B> {
         let mut value = seed as u32;
         for row in 0..rows {
             value = next_number(value);
+            let refused = self.refused;
             self.carry_out(&insert_line(row + 1, value))?;
+            self.progress.pass_row(row + 1, self.refused == refused);
         }
         Ok(())
     }

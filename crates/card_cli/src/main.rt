@@ -12,6 +12,7 @@ mod loading;
 mod migration;
 mod opening;
 mod output;
+mod progress;
 mod prompt;
 mod responder;
 mod run;
@@ -73,7 +74,7 @@ fn run_over(rt: &HostRuntime, path: &str, words: &[String]) -> Result<Status, En
     let create = words.first().is_some_and(|word| word.as_str() == "new");
     let _streams = hold_streams(rt);
     let mut bench = FileBench::open(rt.clone()?, path, create)?;
-    let person = if is_typed(rt, words) {
+    let person = if is_typed(rt, words) || is_watched(rt, words) {
         Some(rt.stderr())
     } else {
         None
@@ -87,6 +88,11 @@ fn is_typed(rt: &HostRuntime, words: &[String]) -> bool {
     words.first().is_some_and(|word| word.as_str() == "term")
         && rt.stdin().is_terminal()
         && rt.stdout().is_terminal()
+}
+
+// Whether a person watches a load.
+fn is_watched(rt: &HostRuntime, words: &[String]) -> bool {
+    words.first().is_some_and(|word| word.as_str() == "load") && rt.stderr().is_terminal()
 }
 
 // A standard stream that is closed leaves its number to the next file that is opened. These three take it

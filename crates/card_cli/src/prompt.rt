@@ -1,9 +1,10 @@
-// A prompt for a person who types the lines.
+// A person at the terminal, who types lines or watches a load.
 ghost use Rattle.std.specs.Prelude.{◌≡◌};
 
+use crate::progress::Watched;
 use eeprom::{Source, SourceFault};
 
-/// A source of lines. Where a person types them, a prompt is printed before each.
+/// A source of lines. Where a person is there, a prompt is printed before each, and a load may be watched.
 #[derive(Drop)]
 pub(crate) struct Prompted<S: Source, P: Print + Drop> {
     source: S,
@@ -30,5 +31,14 @@ impl<S: Source, P: Print + Drop> Source for Prompted<S, P> {
             let _ = person.print("> ");
         }
         self.source.read(into)
+    }
+}
+
+impl<S: Source, P: Print + Drop> Watched for Prompted<S, P> {
+    fn show(&self, text: &[u8]) {
+        if let Some(person) = &self.person {
+            // Where the text can't be printed, the load goes on all the same.
+            let _ = person.write_all(text);
+        }
     }
 }

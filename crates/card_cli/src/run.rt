@@ -9,9 +9,10 @@ ghost use Rattle.record_store.specs.Recovery.{KeepsStore};
 ghost use Rattle.card.specs.Behind.{KeepsBehind};
 ghost use Rattle.card_cli.specs.Words.{answers_commands, form_in};
 ghost use Rattle.card_cli.specs.Behind.{run_cells};
-ghost use Rattle.card_cli.specs.Beginning.{BeginsWith, FindsNoCard, EndsUnread};
+ghost use Rattle.card_cli.specs.Beginning.{BeginsWith, FindsNoCard, EndsUnread, IsOpenTo};
 ghost use Rattle.card_cli.specs.Ends.{AllFaults, EndsBy};
 ghost use Rattle.card_cli.specs.Run.{IsWithoutCard, RunsLines};
+ghost use Rattle.card_cli.specs.Selecting.{TermLinesSelectShown};
 ghost use Rattle.card_cli.specs.Showing.{LinesReadShown};
 ghost use Rattle.card_cli.specs.Migrating.{Migrates};
 ghost use Rattle.card_cli.specs.Checking.{Checks};
@@ -23,6 +24,7 @@ use crate::commands::answer_commands;
 use crate::loading::run_load;
 use crate::migration::run_migration;
 use crate::opening::open_card;
+use crate::progress::Watched;
 use crate::statements::answer_statements;
 use crate::status::Status;
 use crate::words::{Form, form_of};
@@ -30,7 +32,7 @@ use eeprom::{Bench, Source};
 use std::alloc::Global;
 
 /// Runs the card of the bench by the words behind the file's name.
-pub fn run_card<S: Source, B: Bench>(
+pub fn run_card<S: Source + Watched, B: Bench>(
     alloc: Global,
     words: &[String],
     source: &mut S,
@@ -68,6 +70,8 @@ pub fn run_card<S: Source, B: Bench>(
         (record { eeprom = B.faults bench.new; source = S.source_faults source.new; outlet = B.sink_faults bench.new }) }
     // Each line that is a reading command is answered by what is shown to its channel, and so does what is shown go on.
     ensures shown { (db : Database) → BeginsWith (map string_bytes words.now) (B.chip bench.old) db → LinesReadShown (start db) }
+    // Each line of `term` that is a SELECT on an open channel prints what is shown to the channel, and so does what is shown go on.
+    ensures selected { (db : Database) → form_in (map string_bytes words.now) ≡ Some Form.Term → IsOpenTo (B.chip bench.old) db → TermLinesSelectShown (opened db) }
     // A run of `check` reads no line, and says what the card holds.
     ensures check { form_in (map string_bytes words.now) ≡ Some Form.Check → Checks result source.old source.new (B.chip bench.old) (B.chip bench.new)
         (record { eeprom = B.faults bench.old; source = S.source_faults source.old; outlet = B.sink_faults bench.old })
@@ -91,7 +95,7 @@ pub fn run_card<S: Source, B: Bench>(
         Ok(mut card) => match form {
             Form::Check => run_check(&card, bench),
             Form::Migrate => run_migration(bench),
-            Form::Load { rows, seed } => run_load(card, bench, rows, seed),
+            Form::Load { rows, seed } => run_load(card, source, bench, rows, seed),
             Form::Term => answer_statements(card, source, bench),
             Form::New { .. } | Form::Apdu => answer_commands(&mut card, source, bench),
         },

@@ -6,6 +6,7 @@ mod power_loss;
 mod reads;
 mod statements;
 
+use crate::progress::Watched;
 use crate::run::run_card;
 use crate::status::Status;
 use eeprom::{FaultPlan, MemBench, MemSource, SteadySource};
@@ -82,6 +83,19 @@ const FULL_CARD_ANSWERS: &str = "9000
 6A84
 9000
 ";
+
+// Nobody watches.
+impl Watched for SteadySource {
+    fn show(&self, text: &[u8]) {
+        let _ = text;
+    }
+}
+
+impl Watched for MemSource {
+    fn show(&self, text: &[u8]) {
+        let _ = text;
+    }
+}
 
 // A bench of so many equal octets, which never fails.
 fn bench_of(alloc: Global, size: usize, octet: u8) -> Result<MemBench, AllocError> {

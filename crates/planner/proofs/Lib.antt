@@ -5,8 +5,10 @@ pub mod Changed
 pub mod Changing
 pub mod Closed
 pub mod CutRows
+pub mod GoingOn
 pub mod KindsRead
 pub mod Parts
+pub mod Readings
 pub mod Selected
 pub mod SelectLines
 pub mod Selecting
@@ -20,4 +22,6 @@ pub mod Stepping
 pub mod Transacted
 pub mod TransactionKnown
 pub mod Turning
+pub mod ValidLines
+pub mod ValidParts
 mod WorkedLines

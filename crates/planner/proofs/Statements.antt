@@ -22,7 +22,7 @@ use Rattle.planner.specs.declared.closing.Closing.TheVariants.{Refused}
 use Rattle.planner.specs.declared.stage.Stage.TheVariants.{Start}
 use Rattle.planner.specs.Meaning.{Meaning, Declared, declared, ended, selects_all, changed_inside, changed_at_once, changed_outside, changed_by, changes_all, on_open, meaning}
 use Rattle.planner.specs.Planned.{Planned, started}
-use Rattle.planner.specs.Running.{AreRows, IsBrief, IsOfRows, RunsTo, shown}
+use Rattle.planner.specs.Running.{AreRows, IsBrief, IsOfRows, RunsTo, RunsToMeaning, shown}
 use Rattle.planner.proofs.Brief.{brief-runs}
 use Rattle.planner.proofs.Closed.{closed-run}
 use Rattle.planner.proofs.Changed.{ChangesBy}
@@ -109,7 +109,7 @@ select-rows m channel object columns conditions is_open valid chosen =
 
 module _ (m : Machine) (channel : ℕ) (valid : IsValid (base m channel)) where
   abbrev Meant : Statement → Type 0
-  Meant s = RunsTo m (started s channel (is_some (own_transaction m.transaction channel))) (shown (meaning operations m channel s))
+  Meant s = RunsToMeaning m channel s
 
   brief : (s : Statement) → IsBrief s → Meant s
   brief s is =

@@ -39,7 +39,7 @@ use Rattle.planner.specs.declared.closing.Closing.{Closing}
 use Rattle.planner.specs.declared.closing.Closing.TheVariants.{Fine, Refused}
 use Rattle.planner.specs.Words.{is_done, closing_of}
 use Rattle.planner.specs.Meaning.{Meaning, Declared, Changed, answer_to, in_turn, parts_from, all_in_turn, declared, ended, selects_all, all_changed, once_changed, row_changed, at_stamp, changed_by, changed_outside, committed_after, changed_in, on_open, begun, meaning}
-use Rattle.planner.specs.Held.{transaction_channel, held_by, held_after, held_when}
+use Rattle.planner.specs.Held.{transaction_channel, held_by, held_when, TellsWhoHolds}
 use Rattle.planner.proofs.Asking.{answer-whole}
 use Rattle.planner.proofs.Closed.{answer-closed}
 use Rattle.planner.proofs.KindsRead.{kind-read}
@@ -271,13 +271,10 @@ kept-open m channel x kept = go (is_channel_open m channel)
     go false = refl
 
 -- Every statement.
-abbrev IsTold : Machine → ℕ → Statement → Meaning → Type 0
-IsTold m channel s x = transaction_channel x.machine ≡ held_when x.closing (held_after s channel (transaction_channel m)) (transaction_channel m)
-
 kept-told : (m : Machine) (x : Meaning) → Keeps m x.machine → transaction_channel x.machine ≡ held_when x.closing (transaction_channel m) (transaction_channel m)
 kept-told m x kept = kept ∙ sym (held_when-same x.closing (transaction_channel m))
 
-pub transaction-told : (m : Machine) (channel : ℕ) (s : Statement) → CanBeSent channel s → IsTold m channel s (meaning operations m channel s)
+pub transaction-told : (m : Machine) (channel : ℕ) (s : Statement) → CanBeSent channel s → TellsWhoHolds m channel s (meaning operations m channel s)
 unfolding meaning
 transaction-told m channel Blank can = refl
 transaction-told m channel (Single operation) can = told-single m channel operation can.commands.0

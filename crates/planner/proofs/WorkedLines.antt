@@ -24,6 +24,8 @@ use Rattle.script.specs.Meanings.{undoubled}
 use Rattle.script.specs.Grammar.{with_name, names, columns, with_condition, conditions, where_conditions, with_literal, literals, with_change, changes, with_privilege, privileges, create_table, create_view, create_dictionary, create_user, create, drop_table, drop_view, dropping, grant, revoke, insert, select, update, delete_rows, delete_user, delete, present, verify, open_channel, close_channel, use_channel, about_channels, about_transactions, about_users, about_objects, about_rows, statement, at_end, whole, name, literal}
 use Rattle.planner.specs.Meaning.{meaning, answer_to, declared, row_changed}
 use Rattle.scql_model.specs.Lines.{line_text, line_step}
+use Rattle.scql_base.specs.declared.words.Comparison.TheVariants.{Less}
+use Rattle.planner.specs.SelectLines.{IsSelectLine}
 use Rattle.planner.specs.StatementLines.{term_text}
 
 -- the text of lines on a fresh card of so many cells, with all operations and all definitions open
@@ -125,3 +127,9 @@ row_too_long : printed 64
     ≡ codes "ok\nok\nok\nrefused 6A80\n'1', '2'\nrows 1\n"
 unfolding printed
 row_too_long = refl
+
+-- a line of which the law of SELECTs speaks
+select_line : IsSelectLine (record { machine = start (fresh 16); channel = 0 }) (codes "SELECT NAME FROM ITEM WHERE QTY < '0010'") (codes "ITEM") (codes "NAME" ∷ [])
+    (record { column = codes "QTY"; comparison = Less; value = codes "0010" } ∷ [])
+unfolding closed tokens_from tokens_of undoubled one optional the more listed name literal with_name names columns with_condition conditions where_conditions with_literal literals select about_channels about_transactions about_users about_objects about_rows statement at_end whole
+select_line = record { octets = codes "SELECT NAME FROM ITEM WHERE QTY < '0010'"; taken = refl; statement = refl; opened = refl }

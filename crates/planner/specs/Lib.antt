@@ -1,10 +1,12 @@
 pub mod Held
 pub mod Meaning
 pub mod Planned
+pub mod Readings
 pub mod Running
 pub mod SelectLines
 pub mod Selecting
 pub mod StatementLines
 pub mod Text
 pub mod Turns
+pub mod ValidStates
 pub mod Words

@@ -1,5 +1,5 @@
 -- A plan over a machine: each command is answered by the steps of its parts in turn, and the plan goes on by that answer.
-use Rattle.std.specs.Prelude.{◌≡◌, ℕ, zero, suc, ◌<◌, ◌≤◌, true, List, [], ◌∷◌, ◌++◌, length, map, Option, Some, None}
+use Rattle.std.specs.Prelude.{◌≡◌, ℕ, zero, suc, ◌<◌, ◌≤◌, true, List, [], ◌∷◌, ◌++◌, length, map, Option, Some, None, is_some}
 use Rattle.std.specs.List.{AllByRecursion}
 use Rattle.scql_base.specs.declared.operation.Line.{Line}
 use Rattle.scql_model.specs.Replies.{Reply}
@@ -10,14 +10,15 @@ use Rattle.scql_model.specs.Matching.{Values}
 use Rattle.scql_model.specs.ReadingCommands.{row_octets}
 use Rattle.scql_model.specs.Operations.{operations}
 use Rattle.scql_model.specs.Step.{Answer}
+use Rattle.scql_model.specs.Transactions.{own_transaction}
 use Rattle.script.specs.declared.statement.Statement.{Statement}
 use Rattle.script.specs.declared.statement.Statement.TheVariants.{Blank, Single, Select, UpdateRows, DeleteRows, OpenNumber, CloseNumber, UseNumber, Reset}
 use Rattle.planner.specs.declared.closing.Closing.{Closing}
 use Rattle.planner.specs.declared.closing.Closing.TheVariants.{Nothing}
 use Rattle.planner.specs.declared.step.Step.{Step}
 use Rattle.planner.specs.declared.step.Step.TheVariants.{Send, Row, ResetCard, Done}
-use Rattle.planner.specs.Meaning.{Meaning, answer_to}
-use Rattle.planner.specs.Planned.{Planned, next_of}
+use Rattle.planner.specs.Meaning.{Meaning, answer_to, meaning}
+use Rattle.planner.specs.Planned.{Planned, next_of, started}
 use Rattle.planner.specs.Turns.{turns_left}
 
 -- the octets of the rows that were given, how it ended, the machine after it, and the databases that were committed in turn
@@ -78,6 +79,10 @@ pub record AreRows (rows : List Values) : Type 0 where
 -- a plan that was started on a machine runs so, in as many steps as it may take
 pub record RunsTo (m : Machine) (p : Planned) (ran : Ran) : Type 0 where
   pub runs : (turns : ℕ) → turns_left p < turns → run operations turns m None p ≡ ran
+
+-- a statement's plan, which knows whether its channel has the open transaction, runs to the statement's meaning
+abbrev pub RunsToMeaning : Machine → ℕ → Statement → Type 0
+RunsToMeaning m channel s = RunsTo m (started s channel (is_some (own_transaction m.transaction channel))) (shown (meaning operations m channel s))
 
 -- a statement of rows
 abbrev pub IsOfRows : Statement → Type 0

@@ -1,9 +1,7 @@
 -- A line that is a SELECT prints what follows from what is shown to its channel.
 use Rattle.std.specs.Prelude.{◌≡◌, ℕ, true, List, Some, Ok}
 use Rattle.scql_base.specs.declared.condition.Condition.{Condition}
-use Rattle.scql_model.specs.Database.{IsValid}
 use Rattle.scql_model.specs.Lines.{line_step, line_text, state_after, taken_line}
-use Rattle.scql_model.specs.Machine.{base}
 use Rattle.scql_model.specs.Matching.{Columns}
 use Rattle.scql_model.specs.Sessions.{is_channel_open}
 use Rattle.scql_model.specs.Shown.{shown_on}
@@ -27,8 +25,8 @@ pub record SelectsShown (state : TerminalState) (line object : List ℕ) (column
   pub others : (other : ℕ) → ¬ (state.channel ≡ other) → shown_on (line_step statement_lines state line).machine other ≡ shown_on state.machine other
   pub channel : (line_step statement_lines state line).channel ≡ state.channel
 
--- so does each line from a state on, whatever lines stand before it, where its channel reads a valid database
+-- so does each line from a state on, whatever lines stand before it
 abbrev pub LinesSelectShown : TerminalState → Type 0
 LinesSelectShown from = (before : List (List ℕ)) (line object : List ℕ) (columns : Columns) (conditions : List Condition)
     → (let state = state_after statement_lines from before in
-    IsSelectLine state line object columns conditions → IsValid (base state.machine state.channel) → SelectsShown state line object columns conditions)
+    IsSelectLine state line object columns conditions → SelectsShown state line object columns conditions)

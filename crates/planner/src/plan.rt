@@ -1,9 +1,14 @@
 // Which command comes next.
-ghost use Rattle.std.specs.Prelude.{◌≡◌, ◌++◌, nat_le, nat_lt, length, option_copied, if◌then◌else◌};
+ghost use Rattle.std.specs.Prelude.{◌≡◌, ◌≤◌, ◌++◌, OnOk, IfErr, Ok, Err, unwrap_or, nat_le, nat_lt, length, option_copied, if◌then◌else◌};
 ghost use Rattle.scql_base.specs.declared.row.TheConstants.Row.{LARGEST};
 ghost use Rattle.scql_base.specs.declared.operation.Operation.TheVariants.{DeclareCursor};
 ghost use Rattle.script.specs.Commands as commands;
-ghost use Rattle.script.specs.Commands.{CanBeSent, IsSendable};
+ghost use Rattle.script.specs.Commands.{CanAlwaysBeSent, CanBeSent, IsSendable};
+ghost use Rattle.script.specs.Line.{statement_of};
+ghost use Rattle.scql_base.specs.declared.operation.TheConstants.Command.{LAST_CHANNEL};
+ghost use Rattle.scql_model.specs.Lines.{longest_line};
+ghost use Rattle.planner.specs.declared.stage.Stage.TheVariants as Stage;
+ghost use Rattle.script.specs.declared.statement.Statement.TheVariants.{Blank, Reset};
 ghost use Rattle.planner.specs.Planned as planned;
 ghost use Rattle.planner.specs.Planned.{IfSent, Turn};
 
@@ -12,15 +17,17 @@ use crate::words::{closing_of, has_more, is_end, is_refusal};
 use crate::{Closing, Step};
 use apdu::Reply;
 use arrayvec::ArrayVec;
-use scql_base::{Command, Conditions, Name, NameList, Operation, Row, StatusWord};
-use script::Statement;
+use scql_base::{Command, Conditions, Name, NameList, Operation, PackedChanges, Row, StatusWord};
+use script::{ScriptFault, Statement};
 use std::marker::Model;
 use std::mem;
 
 /// What is left of a statement on a channel.
 #[derive(Drop)]
 pub struct Plan {
+    // The statement, as long as it is kept.
     statement: Statement,
+    kept: bool,
     channel: u8,
     own: bool,
     stage: Stage,
@@ -31,13 +38,15 @@ pub struct Plan {
 
 impl Model for Plan {
     ghost use Rattle.script.specs.Commands.{CanBeSent};
+    ghost use Rattle.std.specs.Prelude.{if◌then◌else◌};
+    ghost use Rattle.script.specs.declared.statement.Statement.TheVariants.{Blank};
     ghost use Rattle.planner.specs.Planned.{Planned};
 
     ghost Value = { Planned };
 
-    ghost view = { λ p. record { statement = p.statement; channel = p.channel; own = p.own; stage = p.stage; rows = p.rows; responses = p.responses; row = p.row.items } };
+    ghost view = { λ p. record { statement = if p.kept then p.statement else Blank; channel = p.channel; own = p.own; stage = p.stage; rows = p.rows; responses = p.responses; row = p.row.items } };
 
-    ghost invariant = { λ p. CanBeSent p.channel p.statement };
+    ghost invariant = { λ p. CanBeSent p.channel (if p.kept then p.statement else Blank) };
 }
 
 impl Plan {
@@ -55,12 +64,46 @@ impl Plan {
         let own = changes_rows(&statement) && !inside;
         Plan {
             statement,
+            kept: true,
             channel,
             own,
             stage: Stage::Start,
             rows: 0,
             responses: 0,
             row: ArrayVec::new(),
+        }
+    }
+
+    /// Makes this the plan for the statement of a line, as `start` does of what `Statement::read` gives. Where there is none the plan has
+    /// nothing to do.
+    pub fn read(&mut self, line: &[u8], channel: u8, inside: bool) -> Result<(), ScriptFault>
+        requires short { length line.now ≤ longest_line }
+        requires within { channel ≤ LAST_CHANNEL }
+        ensures statement { OnOk result (statement_of line.now ≡ Ok self.new.statement) }
+        ensures started { OnOk result (self.new ≡ planned.started self.new.statement channel inside) }
+        ensures sendable { OnOk result (CanAlwaysBeSent self.new.statement) }
+        ensures fault { IfErr result (λ fault. statement_of line.now ≡ Err fault) }
+    {
+        let read = Statement::read_into(line, &mut self.statement);
+        self.kept = read.is_ok();
+        self.own = changes_rows(&self.statement) && !inside;
+        self.channel = channel;
+        self.stage = Stage::Start;
+        self.rows = 0;
+        self.responses = 0;
+        self.row.clear();
+        read
+    }
+
+    /// The statement, where it is kept: that of one command, or of none, is gone with the first step.
+    pub fn statement(&self) -> Option<&Statement>
+        ensures statement { unwrap_or (option_copied result) Blank ≡ self.now.statement }
+        ensures sendable { CanBeSent self.now.channel self.now.statement }
+    {
+        if self.kept {
+            Some(&self.statement)
+        } else {
+            None
         }
     }
 
@@ -115,29 +158,49 @@ impl Plan {
     fn begin(&mut self) -> Step
         ensures { planned.begins self.old.statement self.old ≡ record { plan = self.new; step = result } }
     {
-        match mem::replace(&mut self.statement, Statement::Blank) {
-            Statement::Blank => self.end(Closing::Nothing),
-            Statement::Single { operation } => self.ask(Stage::Alone, operation),
-            Statement::OpenNumber { number } => self.send(
-                Stage::Alone,
-                asking(0, Operation::OpenChannel { number }),
-            ),
-            Statement::CloseNumber { number } => self.send(
-                Stage::Alone,
-                asking(0, Operation::CloseChannel { number }),
-            ),
-            Statement::UseNumber { .. } => self.end(Closing::Fine),
-            Statement::Reset => {
-                self.stage = Stage::Ended {
-                    closing: Closing::Fine,
-                };
-                Step::ResetCard
-            }
-            statement => {
-                self.statement = statement;
-                self.begin_with()
-            }
+        if !self.kept {
+            return self.end(Closing::Nothing);
         }
+        match &mut self.statement {
+            Statement::Blank => self.end(Closing::Nothing),
+            Statement::Single { operation } => {
+                let operation = mem::replace(operation, Operation::Next);
+                self.kept = false;
+                self.ask(Stage::Alone, operation)
+            }
+            Statement::OpenNumber { number } => {
+                let number = *number;
+                self.ask_on_first(Operation::OpenChannel { number })
+            }
+            Statement::CloseNumber { number } => {
+                let number = *number;
+                self.ask_on_first(Operation::CloseChannel { number })
+            }
+            Statement::UseNumber { .. } => {
+                self.kept = false;
+                self.end(Closing::Fine)
+            }
+            Statement::Reset => self.reset_card(),
+            _ => self.begin_with(),
+        }
+    }
+
+    // Asks for an operation on channel 0, which is always open.
+    fn ask_on_first(&mut self, operation: Operation) -> Step
+        ensures { planned.sends Stage.Alone (commands.asking 0 operation) (planned.empty self.old) ≡ record { plan = self.new; step = result } }
+    {
+        self.kept = false;
+        self.send(Stage::Alone, asking(0, operation))
+    }
+
+    fn reset_card(&mut self) -> Step
+        ensures { planned.begins Reset self.old ≡ record { plan = self.new; step = result } }
+    {
+        self.kept = false;
+        self.stage = Stage::Ended {
+            closing: Closing::Fine,
+        };
+        Step::ResetCard
     }
 
     fn begin_with(&mut self) -> Step
@@ -154,20 +217,22 @@ impl Plan {
     fn declare(&mut self) -> Step
         ensures { planned.declares self.old ≡ record { plan = self.new; step = result } }
     {
-        let operation = match &self.statement {
-            Statement::Select {
-                object,
-                columns,
-                conditions,
-            } => cursor_over(object, columns, conditions),
-            Statement::UpdateRows {
-                object,
-                conditions,
-                ..
-            }
-            | Statement::DeleteRows { object, conditions } => {
-                cursor_over(object, &NameList::new(), conditions)
-            }
+        let operation = match self.statement() {
+            Some(
+                Statement::Select {
+                    object,
+                    columns,
+                    conditions,
+                },
+            ) => cursor_over(object, columns, conditions),
+            Some(
+                Statement::UpdateRows {
+                    object,
+                    conditions,
+                    ..
+                }
+                | Statement::DeleteRows { object, conditions },
+            ) => { cursor_over(object, &NameList::new(), conditions) }
             _ => return self.end(Closing::Nothing),
         };
         self.ask(Stage::Declaring, operation)
@@ -177,12 +242,14 @@ impl Plan {
     fn reach(&mut self) -> Step
         ensures { planned.reaches self.old.statement self.old ≡ record { plan = self.new; step = result } }
     {
-        match &self.statement {
-            Statement::UpdateRows { changes, .. } => {
-                let changes = changes.copy();
+        match self.statement() {
+            Some(Statement::UpdateRows { changes, .. }) => {
+                let Some(changes) = PackedChanges::of(changes) else {
+                    unreachable!();
+                };
                 self.change(Operation::Update { changes })
             }
-            Statement::DeleteRows { .. } => self.change(Operation::Delete),
+            Some(Statement::DeleteRows { .. }) => self.change(Operation::Delete),
             _ => self.want(Stage::Fetching, Operation::Fetch),
         }
     }

@@ -173,7 +173,7 @@ no_parts : (asked : OperationKind) (chain : Option Chain) → comes_in_parts ask
 no_parts asked None alone = refl
 no_parts asked (Some chain) alone = rw (goes_on-alone asked chain.operation alone) refl
 
-command-fits : (secrets : Bool) (channel : ℕ) (asked : OperationKind) (limit : ℕ) (parts : List (List ℕ)) (tail : Tail) (c : Command) → limit ≤ 1020 → has_channel asked ≡ true
+pub command-fits : (secrets : Bool) (channel : ℕ) (asked : OperationKind) (limit : ℕ) (parts : List (List ℕ)) (tail : Tail) (c : Command) → limit ≤ 1020 → has_channel asked ≡ true
     → length (data_in tail) ≤ 255 → (comes_in_parts asked ≡ false → parts ≡ []) → command_in secrets channel asked limit parts tail ≡ Ok (a_command c) → FitsCard limit c.operation
 command-fits secrets channel asked limit parts tail c least number few alone is =
     let octets : List ℕ = concat parts ++ data_in tail in

@@ -529,7 +529,7 @@ valid-answered m (Err word) valid is = record { machine = valid; commits = tt }
 pub valid-ended : (m : Machine) (channel : ℕ) → IsValidMachine m → IsValidMachine (changing_session without_chain m channel)
 valid-ended m channel valid = valid-changing m channel without_chain (λ db s is. is) (λ s is. is) valid
 
-valid-stepped : (m : Machine) (form : Form) → IsValidMachine m → ((c : Command) → form ≡ a_command c → HasForm c.operation × FitsCard m.committed.limit c.operation) → IsValidAnswer (stepped m form)
+pub valid-stepped : (m : Machine) (form : Form) → IsValidMachine m → ((c : Command) → form ≡ a_command c → HasForm c.operation × FitsCard m.committed.limit c.operation) → IsValidAnswer (stepped m form)
 valid-stepped m (refused word) valid right = record { machine = valid; commits = tt }
 valid-stepped m (refused_on channel word) valid right = record { machine = valid-ended m channel valid; commits = tt }
 valid-stepped m (part_on channel kind octets) valid right =

@@ -7,6 +7,6 @@ pub mod FormedRules
 pub mod Fresh
 pub mod Listing
 pub mod Locality
-pub mod Rows
+pub mod ReadingRows
 pub mod Sendable
 pub mod Undoubling

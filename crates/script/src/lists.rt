@@ -1,5 +1,5 @@
 // The rules of the grammar that stand for parts of a statement: names, literals, lists, conditions, changes, privileges.
-ghost use Rattle.std.specs.Prelude.{◌≡◌, ◌<◌, ◌≤◌, ◌+◌, IfSome, bit_or, length, map};
+ghost use Rattle.std.specs.Prelude.{◌≡◌, ◌<◌, ◌≤◌, ◌+◌, [], IfSome, bit_or, length, map, option_map};
 ghost use Rattle.std.specs.List.{list_any};
 ghost use Rattle.std.specs.Str.{bytes_eq};
 ghost use Rattle.script.specs.Grammar as grammar;
@@ -7,7 +7,6 @@ ghost use Rattle.script.specs.Meanings.{is_among};
 
 use crate::literal::literal_of;
 use crate::reader::Reader;
-use crate::values::Values;
 use crate::words::{comparison_of, privilege_of};
 use scql_base::{Change, Changes, Condition, Conditions, Name, NameList, Octets, Privileges};
 
@@ -22,7 +21,7 @@ impl<'a> Reader<'a> {
     }
 
     #[tactic(auto, unfolding(crate::specs::Grammar::literal, crate::specs::Reading::one))]
-    fn literal(&mut self) -> Option<Octets<200>>
+    pub(crate) fn literal(&mut self) -> Option<Octets<200>>
         ensures { grammar.literal self.old ≡ (result, self.new) }
     {
         let literal = literal_of(self.next())?;
@@ -109,54 +108,32 @@ impl<'a> Reader<'a> {
         }
     }
 
-    #[tactic(auto, unfolding(crate::specs::Grammar::with_literal))]
-    fn with_literal(&mut self, mut literals: Values) -> Option<Values>
-        requires { length literals < 15 }
-        ensures value { grammar.with_literal literals self.old ≡ (result, self.new) }
-        ensures grown { IfSome result (λ longer. length longer ≡ length literals + 1) }
-    {
-        let value = self.literal()?;
-        literals.push(value);
-        Some(literals)
-    }
-
-    /// One to 15 literals.
-    pub(crate) fn literals(&mut self) -> Option<Values>
-        ensures { grammar.literals self.old ≡ (result, self.new) }
-    {
-        let mut literals = self.with_literal(Values::new())?;
-        while literals.len() < 15 && self.takes(b",") {
-            literals = self.with_literal(literals)?;
-        }
-        Some(literals)
-    }
-
     #[tactic(auto, unfolding(crate::specs::Grammar::with_change, crate::specs::Reading::one))]
-    fn with_change(&mut self, mut changes: Changes) -> Option<Changes>
-        requires { length changes < 15 }
-        ensures value { grammar.with_change changes self.old ≡ (result, self.new) }
-        ensures grown { IfSome result (λ longer. length longer ≡ length changes + 1) }
+    fn with_change(&mut self, changes: &mut Changes) -> Option<()>
+        requires { length changes.old < 15 }
+        ensures value { grammar.with_change changes.old self.old ≡ (option_map (λ _. changes.new) result, self.new) }
+        ensures grown { IfSome result (λ _. length changes.new ≡ length changes.old + 1) }
     {
-        if changes_name(&changes, self.next()) {
+        if changes_name(changes, self.next()) {
             return None;
         }
         let column = Name::read(self.next())?;
         self.skip();
         self.expect(b"=")?;
         let value = self.literal()?;
-        changes.push((column, value)).ok()?;
-        Some(changes)
+        changes.push((column, value)).ok()
     }
 
     /// One to 15 changes, of columns that are all different.
-    pub(crate) fn changes(&mut self) -> Option<Changes>
-        ensures { grammar.changes self.old ≡ (result, self.new) }
+    pub(crate) fn changes(&mut self, changes: &mut Changes) -> Option<()>
+        requires { changes.old ≡ [] }
+        ensures { grammar.changes self.old ≡ (option_map (λ _. changes.new) result, self.new) }
     {
-        let mut changes = self.with_change(Changes::new())?;
+        self.with_change(changes)?;
         while changes.len() < 15 && self.takes(b",") {
-            changes = self.with_change(changes)?;
+            self.with_change(changes)?;
         }
-        Some(changes)
+        Some(())
     }
 
     #[tactic(auto, unfolding(crate::specs::Grammar::with_privilege, crate::specs::Reading::one))]

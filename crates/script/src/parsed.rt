@@ -1,52 +1,63 @@
 // A statement as its grammar has it, before its size is looked at.
-ghost use Rattle.std.specs.Prelude.{◌≡◌, option_map};
+ghost use Rattle.std.specs.Prelude.{◌≡◌};
 ghost use Rattle.script.specs.Grammar as grammar;
-ghost use Rattle.script.specs.Parsed.{stated};
+ghost use Rattle.script.specs.Parsed.{IsRead};
 
 use crate::Statement;
 use crate::reader::Reader;
-use crate::values::Values;
-use scql_base::Name;
+use crate::rules::put;
+use scql_base::{Operation, Row};
 
-/// A statement of the grammar. The values of an INSERT may be too many octets for a row.
-#[derive(Drop)]
+/// What was read: a statement, which stands in its place, or one of which a row is known to be too large.
+#[derive(Clone, Copy, PartialEq, Eq, Debug)]
 pub(crate) enum Parsed {
-    InsertValues { table: Name, values: Values },
-    Other { statement: Statement },
+    Held,
+    TooLarge,
 }
 
 impl<'a> Reader<'a> {
     /// The one statement that all tokens are.
     #[tactic(auto, unfolding(crate::specs::Grammar::whole, crate::specs::Grammar::at_end))]
-    pub(crate) fn whole(&mut self) -> Option<Parsed>
-        ensures { grammar.whole self.old ≡ (option_map stated result, self.new) }
+    pub(crate) fn whole(&mut self, place: &mut Statement) -> Option<Parsed>
+        ensures statement { IsRead result place.new (grammar.whole self.old).0 }
+        ensures rest { self.new ≡ (grammar.whole self.old).1 }
     {
-        let parsed = self.statement()?;
+        let parsed = self.statement(place)?;
         self.takes(b";");
         if self.is_at_end() { Some(parsed) } else { None }
     }
 
     #[tactic(auto, unfolding(crate::specs::Grammar::statement))]
-    fn statement(&mut self) -> Option<Parsed>
-        ensures { grammar.statement self.old ≡ (option_map stated result, self.new) }
+    fn statement(&mut self, place: &mut Statement) -> Option<Parsed>
+        ensures statement { IsRead result place.new (grammar.statement self.old).0 }
+        ensures rest { self.new ≡ (grammar.statement self.old).1 }
     {
         if self.takes(b"INSERT") {
-            return self.insert();
+            return self.insert(place);
         }
-        let statement = self.about_rows()?;
-        Some(Parsed::Other { statement })
+        self.about_rows(place)?;
+        Some(Parsed::Held)
     }
 
+    #[inline(never)]
     #[tactic(auto, unfolding(crate::specs::Grammar::insert))]
-    fn insert(&mut self) -> Option<Parsed>
-        ensures { grammar.insert self.old ≡ (option_map stated result, self.new) }
+    fn insert(&mut self, place: &mut Statement) -> Option<Parsed>
+        ensures statement { IsRead result place.new (grammar.insert self.old).0 }
+        ensures rest { self.new ≡ (grammar.insert self.old).1 }
     {
         self.expect(b"INTO")?;
         let table = self.name()?;
         self.expect(b"VALUES")?;
         self.expect(b"(")?;
-        let values = self.literals()?;
+        let mut row = Some(Row::new());
+        self.values(&mut row)?;
         self.expect(b")")?;
-        Some(Parsed::InsertValues { table, values })
+        match row {
+            Some(row) => {
+                put(Operation::Insert { table, row }, place)?;
+                Some(Parsed::Held)
+            }
+            None => Some(Parsed::TooLarge),
+        }
     }
 }

@@ -32,17 +32,23 @@ impl<'a> Reader<'a> {
     pub fn next(&self) -> &'a [u8]
         ensures { result.now ≡ octets_of self.now }
     {
-        let line = after_blanks(self.rest);
-        &line[..token_len(line)]
+        self.cut().0
     }
 
     /// Goes past the next token.
     pub fn skip(&mut self)
         ensures { self.new ≡ behind self.old }
     {
+        self.rest = self.cut().1;
+    }
+
+    // The octets of the next token, and the line behind it.
+    fn cut(&self) -> (&'a [u8], &'a [u8])
+        ensures token { result.0.now ≡ octets_of self.now }
+        ensures rest { tokens.tokens_of result.1.now ≡ behind self.now }
+    {
         let line = after_blanks(self.rest);
-        let (_, rest) = line.split_at(token_len(line));
-        self.rest = rest;
+        line.split_at(token_len(line))
     }
 
     /// How many octets of the line there are from the next token on.
@@ -64,9 +70,10 @@ impl<'a> Reader<'a> {
         ensures value { result ≡ is_next text.now self.old }
         ensures rest { self.new ≡ (if result then behind self.old else self.old) }
     {
-        let found = self.next() == text;
+        let (token, rest) = self.cut();
+        let found = token == text;
         if found {
-            self.skip();
+            self.rest = rest;
         }
         found
     }

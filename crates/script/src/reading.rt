@@ -1,15 +1,13 @@
 // Reads the statement of a line.
-ghost use Rattle.std.specs.Prelude.{◌≡◌, ◌≤◌, IfOk, length};
+ghost use Rattle.std.specs.Prelude.{◌≡◌, ◌≤◌, IfOk, length, OnOk, IfErr, Ok, Err};
 ghost use Rattle.scql_model.specs.Lines.{longest_line};
 ghost use Rattle.script.specs.Commands.{CanAlwaysBeSent};
 ghost use Rattle.script.specs.Line as lines;
-ghost use Rattle.script.specs.Parsed.{stated};
 
 use crate::parsed::Parsed;
 use crate::reader::{Reader, after_blanks};
 use crate::size::is_too_large;
 use crate::{ScriptFault, Statement};
-use scql_base::Operation;
 
 impl Statement {
     /// The statement that a line of at most 1,000 octets is.
@@ -22,20 +20,38 @@ impl Statement {
         // Each command that the statement becomes, on whichever channel, is well-formed and fits.
         ensures sendable { IfOk result CanAlwaysBeSent }
     {
-        statement_in(line)
+        let mut statement = Statement::Blank;
+        match Statement::read_into(line, &mut statement) {
+            Ok(()) => Ok(statement),
+            Err(fault) => Err(fault),
+        }
+    }
+
+    /// Reads the statement of a line into a place, as `read` does. Where there is none, what the place has is left open.
+    pub fn read_into(line: &[u8], place: &mut Statement) -> Result<(), ScriptFault>
+        requires { length line.now ≤ longest_line }
+        ensures statement { OnOk result (lines.statement_of line.now ≡ Ok place.new) }
+        ensures fault { IfErr result (λ fault. lines.statement_of line.now ≡ Err fault) }
+        ensures sendable { OnOk result (CanAlwaysBeSent place.new) }
+    {
+        read_statement(line, place)
     }
 }
 
-fn statement_in(line: &[u8]) -> Result<Statement, ScriptFault>
+// Reads the statement of a line into a place.
+fn read_statement(line: &[u8], place: &mut Statement) -> Result<(), ScriptFault>
     requires { length line.now ≤ longest_line }
-    ensures { result ≡ lines.statement_of line.now }
+    ensures statement { OnOk result (lines.statement_of line.now ≡ Ok place.new) }
+    ensures fault { IfErr result (λ fault. lines.statement_of line.now ≡ Err fault) }
 {
     if is_nothing(after_blanks(line)) {
-        return Ok(Statement::Blank);
+        *place = Statement::Blank;
+        return Ok(());
     }
     let mut reader = Reader::new(line);
-    match reader.whole() {
-        Some(parsed) => sized(parsed),
+    match reader.whole(place) {
+        Some(Parsed::Held) if !is_too_large(place) => Ok(()),
+        Some(_) => Err(ScriptFault::TooLarge),
         None => Err(ScriptFault::At {
             place: line.len().saturating_sub(reader.left()) as u16,
         }),
@@ -48,24 +64,5 @@ fn is_nothing(line: &[u8]) -> bool
     match line {
         [first, ..] => *first == b'#',
         [] => true,
-    }
-}
-
-fn sized(parsed: Parsed) -> Result<Statement, ScriptFault>
-    ensures { result ≡ lines.sized (stated parsed) }
-{
-    let statement = match parsed {
-        Parsed::InsertValues { table, values } => match values.row() {
-            Some(row) => Statement::Single {
-                operation: Operation::Insert { table, row },
-            },
-            None => return Err(ScriptFault::TooLarge),
-        },
-        Parsed::Other { statement } => statement,
-    };
-    if is_too_large(&statement) {
-        Err(ScriptFault::TooLarge)
-    } else {
-        Ok(statement)
     }
 }

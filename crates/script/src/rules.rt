@@ -1,30 +1,32 @@
-// The rules of the grammar that stand for a statement.
-ghost use Rattle.std.specs.Prelude.{◌≡◌, []};
+// The rules of the grammar that stand for a statement. Each reads its statement into a place, in a function of its own that isn't
+// inlined: what a function clears as it is entered is then cleared for its statement alone.
+ghost use Rattle.std.specs.Prelude.{◌≡◌, [], option_map, Some};
 ghost use Rattle.script.specs.Grammar as grammar;
+ghost use Rattle.script.specs.declared.statement.Statement.TheVariants.{Reset, Single};
 
 use crate::Statement;
 use crate::literal::{given_secret_of, presented_secret_of};
 use crate::reader::Reader;
 use crate::words::{channel_of, further_channel_of, profile_of, subject_of};
-use scql_base::{Octets, Operation};
+use scql_base::{Changes, Octets, Operation};
 
 impl<'a> Reader<'a> {
+    #[inline(never)]
     #[tactic(auto, unfolding(crate::specs::Grammar::create_table))]
-    fn create_table(&mut self) -> Option<Statement>
-        ensures { grammar.create_table self.old ≡ (result, self.new) }
+    fn create_table(&mut self, place: &mut Statement) -> Option<()>
+        ensures { grammar.create_table self.old ≡ (option_map (λ _. place.new) result, self.new) }
     {
         let name = self.name()?;
         self.expect(b"(")?;
         let columns = self.names()?;
         self.expect(b")")?;
-        Some(Statement::Single {
-            operation: Operation::CreateTable { name, columns },
-        })
+        put(Operation::CreateTable { name, columns }, place)
     }
 
+    #[inline(never)]
     #[tactic(auto, unfolding(crate::specs::Grammar::create_view))]
-    fn create_view(&mut self) -> Option<Statement>
-        ensures { grammar.create_view self.old ≡ (result, self.new) }
+    fn create_view(&mut self, place: &mut Statement) -> Option<()>
+        ensures { grammar.create_view self.old ≡ (option_map (λ _. place.new) result, self.new) }
     {
         let name = self.name()?;
         self.expect(b"AS")?;
@@ -33,32 +35,33 @@ impl<'a> Reader<'a> {
         self.expect(b"FROM")?;
         let base = self.name()?;
         let conditions = self.where_conditions()?;
-        Some(Statement::Single {
-            operation: Operation::CreateView {
+        put(
+            Operation::CreateView {
                 name,
                 base,
                 columns,
                 conditions,
             },
-        })
+            place,
+        )
     }
 
+    #[inline(never)]
     #[tactic(auto, unfolding(crate::specs::Grammar::create_dictionary, crate::specs::Reading::one))]
-    fn create_dictionary(&mut self) -> Option<Statement>
-        ensures { grammar.create_dictionary self.old ≡ (result, self.new) }
+    fn create_dictionary(&mut self, place: &mut Statement) -> Option<()>
+        ensures { grammar.create_dictionary self.old ≡ (option_map (λ _. place.new) result, self.new) }
     {
         let name = self.name()?;
         self.expect(b"ON")?;
         let subject = subject_of(self.next())?;
         self.skip();
-        Some(Statement::Single {
-            operation: Operation::CreateDictionary { name, subject },
-        })
+        put(Operation::CreateDictionary { name, subject }, place)
     }
 
+    #[inline(never)]
     #[tactic(auto, unfolding(crate::specs::Grammar::create_user, crate::specs::Reading::one, crate::specs::Reading::optional))]
-    fn create_user(&mut self) -> Option<Statement>
-        ensures { grammar.create_user self.old ≡ (result, self.new) }
+    fn create_user(&mut self, place: &mut Statement) -> Option<()>
+        ensures { grammar.create_user self.old ≡ (option_map (λ _. place.new) result, self.new) }
     {
         let name = self.name()?;
         let profile = profile_of(self.next())?;
@@ -70,295 +73,320 @@ impl<'a> Reader<'a> {
             }
             None => no_secret(),
         };
-        Some(Statement::Single {
-            operation: Operation::CreateUser {
+        put(
+            Operation::CreateUser {
                 name,
                 profile,
                 secret,
             },
-        })
+            place,
+        )
     }
 
     #[tactic(auto, unfolding(crate::specs::Grammar::create))]
-    fn create(&mut self) -> Option<Statement>
-        ensures { grammar.create self.old ≡ (result, self.new) }
+    fn create(&mut self, place: &mut Statement) -> Option<()>
+        ensures { grammar.create self.old ≡ (option_map (λ _. place.new) result, self.new) }
     {
         if self.takes(b"TABLE") {
-            self.create_table()
+            self.create_table(place)
         } else if self.takes(b"VIEW") {
-            self.create_view()
+            self.create_view(place)
         } else if self.takes(b"DICTIONARY") {
-            self.create_dictionary()
+            self.create_dictionary(place)
         } else if self.takes(b"USER") {
-            self.create_user()
+            self.create_user(place)
         } else {
             None
         }
     }
 
+    #[inline(never)]
     #[tactic(auto, unfolding(crate::specs::Grammar::drop_table))]
-    fn drop_table(&mut self) -> Option<Statement>
-        ensures { grammar.drop_table self.old ≡ (result, self.new) }
+    fn drop_table(&mut self, place: &mut Statement) -> Option<()>
+        ensures { grammar.drop_table self.old ≡ (option_map (λ _. place.new) result, self.new) }
     {
         let name = self.name()?;
-        Some(Statement::Single {
-            operation: Operation::DropTable { name },
-        })
+        put(Operation::DropTable { name }, place)
     }
 
+    #[inline(never)]
     #[tactic(auto, unfolding(crate::specs::Grammar::drop_view))]
-    fn drop_view(&mut self) -> Option<Statement>
-        ensures { grammar.drop_view self.old ≡ (result, self.new) }
+    fn drop_view(&mut self, place: &mut Statement) -> Option<()>
+        ensures { grammar.drop_view self.old ≡ (option_map (λ _. place.new) result, self.new) }
     {
         let name = self.name()?;
-        Some(Statement::Single {
-            operation: Operation::DropView { name },
-        })
+        put(Operation::DropView { name }, place)
     }
 
     #[tactic(auto, unfolding(crate::specs::Grammar::dropping))]
-    fn dropping(&mut self) -> Option<Statement>
-        ensures { grammar.dropping self.old ≡ (result, self.new) }
+    fn dropping(&mut self, place: &mut Statement) -> Option<()>
+        ensures { grammar.dropping self.old ≡ (option_map (λ _. place.new) result, self.new) }
     {
         if self.takes(b"TABLE") {
-            self.drop_table()
+            self.drop_table(place)
         } else if self.takes(b"VIEW") {
-            self.drop_view()
+            self.drop_view(place)
         } else {
             None
         }
     }
 
+    #[inline(never)]
     #[tactic(auto, unfolding(crate::specs::Grammar::grant))]
-    fn grant(&mut self) -> Option<Statement>
-        ensures { grammar.grant self.old ≡ (result, self.new) }
+    fn grant(&mut self, place: &mut Statement) -> Option<()>
+        ensures { grammar.grant self.old ≡ (option_map (λ _. place.new) result, self.new) }
     {
         let privileges = self.privileges()?;
         self.expect(b"ON")?;
         let object = self.name()?;
         self.expect(b"TO")?;
         let grantee = self.name()?;
-        Some(Statement::Single {
-            operation: Operation::Grant {
+        put(
+            Operation::Grant {
                 privileges,
                 object,
                 grantee,
             },
-        })
+            place,
+        )
     }
 
+    #[inline(never)]
     #[tactic(auto, unfolding(crate::specs::Grammar::revoke))]
-    fn revoke(&mut self) -> Option<Statement>
-        ensures { grammar.revoke self.old ≡ (result, self.new) }
+    fn revoke(&mut self, place: &mut Statement) -> Option<()>
+        ensures { grammar.revoke self.old ≡ (option_map (λ _. place.new) result, self.new) }
     {
         let privileges = self.privileges()?;
         self.expect(b"ON")?;
         let object = self.name()?;
         self.expect(b"FROM")?;
         let grantee = self.name()?;
-        Some(Statement::Single {
-            operation: Operation::Revoke {
+        put(
+            Operation::Revoke {
                 privileges,
                 object,
                 grantee,
             },
-        })
+            place,
+        )
     }
 
+    #[inline(never)]
     #[tactic(auto, unfolding(crate::specs::Grammar::select))]
-    fn select(&mut self) -> Option<Statement>
-        ensures { grammar.select self.old ≡ (result, self.new) }
+    fn select(&mut self, place: &mut Statement) -> Option<()>
+        ensures { grammar.select self.old ≡ (option_map (λ _. place.new) result, self.new) }
     {
         let columns = self.columns()?;
         self.expect(b"FROM")?;
         let object = self.name()?;
         let conditions = self.where_conditions()?;
-        Some(Statement::Select {
+        *place = Statement::Select {
             object,
             columns,
             conditions,
-        })
+        };
+        Some(())
     }
 
+    #[inline(never)]
     #[tactic(auto, unfolding(crate::specs::Grammar::update))]
-    fn update(&mut self) -> Option<Statement>
-        ensures { grammar.update self.old ≡ (result, self.new) }
+    fn update(&mut self, place: &mut Statement) -> Option<()>
+        ensures { grammar.update self.old ≡ (option_map (λ _. place.new) result, self.new) }
     {
         let object = self.name()?;
         self.expect(b"SET")?;
-        let changes = self.changes()?;
+        let mut changes = Changes::new();
+        self.changes(&mut changes)?;
         let conditions = self.where_conditions()?;
-        Some(Statement::UpdateRows {
+        *place = Statement::UpdateRows {
             object,
             changes,
             conditions,
-        })
+        };
+        Some(())
     }
 
+    #[inline(never)]
     #[tactic(auto, unfolding(crate::specs::Grammar::delete_rows))]
-    fn delete_rows(&mut self) -> Option<Statement>
-        ensures { grammar.delete_rows self.old ≡ (result, self.new) }
+    fn delete_rows(&mut self, place: &mut Statement) -> Option<()>
+        ensures { grammar.delete_rows self.old ≡ (option_map (λ _. place.new) result, self.new) }
     {
         let object = self.name()?;
         let conditions = self.where_conditions()?;
-        Some(Statement::DeleteRows { object, conditions })
+        *place = Statement::DeleteRows { object, conditions };
+        Some(())
     }
 
+    #[inline(never)]
     #[tactic(auto, unfolding(crate::specs::Grammar::delete_user))]
-    fn delete_user(&mut self) -> Option<Statement>
-        ensures { grammar.delete_user self.old ≡ (result, self.new) }
+    fn delete_user(&mut self, place: &mut Statement) -> Option<()>
+        ensures { grammar.delete_user self.old ≡ (option_map (λ _. place.new) result, self.new) }
     {
         let name = self.name()?;
-        Some(Statement::Single {
-            operation: Operation::DeleteUser { name },
-        })
+        put(Operation::DeleteUser { name }, place)
     }
 
     #[tactic(auto, unfolding(crate::specs::Grammar::delete))]
-    fn delete(&mut self) -> Option<Statement>
-        ensures { grammar.delete self.old ≡ (result, self.new) }
+    fn delete(&mut self, place: &mut Statement) -> Option<()>
+        ensures { grammar.delete self.old ≡ (option_map (λ _. place.new) result, self.new) }
     {
         if self.takes(b"FROM") {
-            self.delete_rows()
+            self.delete_rows(place)
         } else if self.takes(b"USER") {
-            self.delete_user()
+            self.delete_user(place)
         } else {
             None
         }
     }
 
+    #[inline(never)]
     #[tactic(auto, unfolding(crate::specs::Grammar::present))]
-    fn present(&mut self) -> Option<Statement>
-        ensures { grammar.present self.old ≡ (result, self.new) }
+    fn present(&mut self, place: &mut Statement) -> Option<()>
+        ensures { grammar.present self.old ≡ (option_map (λ _. place.new) result, self.new) }
     {
         let name = self.name()?;
-        Some(Statement::Single {
-            operation: Operation::PresentUser { name },
-        })
+        put(Operation::PresentUser { name }, place)
     }
 
+    #[inline(never)]
     #[tactic(auto, unfolding(crate::specs::Grammar::verify, crate::specs::Reading::one))]
-    fn verify(&mut self) -> Option<Statement>
-        ensures { grammar.verify self.old ≡ (result, self.new) }
+    fn verify(&mut self, place: &mut Statement) -> Option<()>
+        ensures { grammar.verify self.old ≡ (option_map (λ _. place.new) result, self.new) }
     {
         let secret = presented_secret_of(self.next())?;
         self.skip();
-        Some(Statement::Single {
-            operation: Operation::Verify { secret },
-        })
+        put(Operation::Verify { secret }, place)
     }
 
+    #[inline(never)]
     #[tactic(auto, unfolding(crate::specs::Grammar::open_channel, crate::specs::Reading::one))]
-    fn open_channel(&mut self) -> Option<Statement>
-        ensures { grammar.open_channel self.old ≡ (result, self.new) }
+    fn open_channel(&mut self, place: &mut Statement) -> Option<()>
+        ensures { grammar.open_channel self.old ≡ (option_map (λ _. place.new) result, self.new) }
     {
         self.expect(b"CHANNEL")?;
         let number = further_channel_of(self.next())?;
         self.skip();
-        Some(Statement::OpenNumber { number })
+        *place = Statement::OpenNumber { number };
+        Some(())
     }
 
+    #[inline(never)]
     #[tactic(auto, unfolding(crate::specs::Grammar::close_channel, crate::specs::Reading::one))]
-    fn close_channel(&mut self) -> Option<Statement>
-        ensures { grammar.close_channel self.old ≡ (result, self.new) }
+    fn close_channel(&mut self, place: &mut Statement) -> Option<()>
+        ensures { grammar.close_channel self.old ≡ (option_map (λ _. place.new) result, self.new) }
     {
         self.expect(b"CHANNEL")?;
         let number = further_channel_of(self.next())?;
         self.skip();
-        Some(Statement::CloseNumber { number })
+        *place = Statement::CloseNumber { number };
+        Some(())
     }
 
+    #[inline(never)]
     #[tactic(auto, unfolding(crate::specs::Grammar::use_channel, crate::specs::Reading::one))]
-    fn use_channel(&mut self) -> Option<Statement>
-        ensures { grammar.use_channel self.old ≡ (result, self.new) }
+    fn use_channel(&mut self, place: &mut Statement) -> Option<()>
+        ensures { grammar.use_channel self.old ≡ (option_map (λ _. place.new) result, self.new) }
     {
         let number = channel_of(self.next())?;
         self.skip();
-        Some(Statement::UseNumber { number })
+        *place = Statement::UseNumber { number };
+        Some(())
     }
 
     #[tactic(auto, unfolding(crate::specs::Grammar::about_channels))]
-    fn about_channels(&mut self) -> Option<Statement>
-        ensures { grammar.about_channels self.old ≡ (result, self.new) }
+    fn about_channels(&mut self, place: &mut Statement) -> Option<()>
+        ensures { grammar.about_channels self.old ≡ (option_map (λ _. place.new) result, self.new) }
     {
         if self.takes(b"OPEN") {
-            self.open_channel()
+            self.open_channel(place)
         } else if self.takes(b"CLOSE") {
-            self.close_channel()
+            self.close_channel(place)
         } else if self.takes(b"CHANNEL") {
-            self.use_channel()
+            self.use_channel(place)
         } else {
             None
         }
     }
 
     #[tactic(auto, unfolding(crate::specs::Grammar::about_transactions))]
-    fn about_transactions(&mut self) -> Option<Statement>
-        ensures { grammar.about_transactions self.old ≡ (result, self.new) }
+    fn about_transactions(&mut self, place: &mut Statement) -> Option<()>
+        ensures { grammar.about_transactions self.old ≡ (option_map (λ _. place.new) result, self.new) }
     {
         if self.takes(b"BEGIN") {
-            Some(Statement::Single {
-                operation: Operation::Begin,
-            })
+            put(Operation::Begin, place)
         } else if self.takes(b"COMMIT") {
-            Some(Statement::Single {
-                operation: Operation::Commit,
-            })
+            put(Operation::Commit, place)
         } else if self.takes(b"ROLLBACK") {
-            Some(Statement::Single {
-                operation: Operation::Rollback,
-            })
+            put(Operation::Rollback, place)
         } else if self.takes(b"RESET") {
-            Some(Statement::Reset)
+            put_reset(place)
         } else {
-            self.about_channels()
+            self.about_channels(place)
         }
     }
 
     #[tactic(auto, unfolding(crate::specs::Grammar::about_users))]
-    fn about_users(&mut self) -> Option<Statement>
-        ensures { grammar.about_users self.old ≡ (result, self.new) }
+    fn about_users(&mut self, place: &mut Statement) -> Option<()>
+        ensures { grammar.about_users self.old ≡ (option_map (λ _. place.new) result, self.new) }
     {
         if self.takes(b"PRESENT") {
-            self.present()
+            self.present(place)
         } else if self.takes(b"VERIFY") {
-            self.verify()
+            self.verify(place)
         } else {
-            self.about_transactions()
+            self.about_transactions(place)
         }
     }
 
     #[tactic(auto, unfolding(crate::specs::Grammar::about_objects))]
-    fn about_objects(&mut self) -> Option<Statement>
-        ensures { grammar.about_objects self.old ≡ (result, self.new) }
+    fn about_objects(&mut self, place: &mut Statement) -> Option<()>
+        ensures { grammar.about_objects self.old ≡ (option_map (λ _. place.new) result, self.new) }
     {
         if self.takes(b"CREATE") {
-            self.create()
+            self.create(place)
         } else if self.takes(b"DROP") {
-            self.dropping()
+            self.dropping(place)
         } else if self.takes(b"GRANT") {
-            self.grant()
+            self.grant(place)
         } else if self.takes(b"REVOKE") {
-            self.revoke()
+            self.revoke(place)
         } else {
-            self.about_users()
+            self.about_users(place)
         }
     }
 
     #[tactic(auto, unfolding(crate::specs::Grammar::about_rows))]
-    pub(crate) fn about_rows(&mut self) -> Option<Statement>
-        ensures { grammar.about_rows self.old ≡ (result, self.new) }
+    pub(crate) fn about_rows(&mut self, place: &mut Statement) -> Option<()>
+        ensures { grammar.about_rows self.old ≡ (option_map (λ _. place.new) result, self.new) }
     {
         if self.takes(b"SELECT") {
-            self.select()
+            self.select(place)
         } else if self.takes(b"UPDATE") {
-            self.update()
+            self.update(place)
         } else if self.takes(b"DELETE") {
-            self.delete()
+            self.delete(place)
         } else {
-            self.about_objects()
+            self.about_objects(place)
         }
     }
+}
+
+/// Puts an operation into a place. Where the place has one already, what stands behind it is left as it is.
+pub(crate) fn put(operation: Operation, place: &mut Statement) -> Option<()>
+    ensures { option_map (λ _. place.new) result ≡ Some (Single operation) }
+{
+    match place {
+        Statement::Single { operation: held } => *held = operation,
+        _ => *place = Statement::Single { operation },
+    }
+    Some(())
+}
+
+fn put_reset(place: &mut Statement) -> Option<()>
+    ensures { option_map (λ _. place.new) result ≡ Some Reset }
+{
+    *place = Statement::Reset;
+    Some(())
 }
 
 fn no_secret() -> Octets<8>

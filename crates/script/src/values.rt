@@ -1,78 +1,41 @@
 // The values of an INSERT, which may be too many octets for a row.
-ghost use Rattle.std.specs.Prelude.{◌≡◌, ◌<◌, ◌≤◌, [], ◌∷◌, ◌++◌, length, if◌then◌else◌, Some, None, nat_le};
-ghost use Rattle.scql_base.specs.Row.{row_size};
-ghost use Rattle.scql_base.specs.declared.row.TheConstants.Row.{LARGEST};
+ghost use Rattle.std.specs.Prelude.{◌≡◌, ◌<◌, [], ◌∷◌, ◌++◌, IfSome, Some, length, option_and_then, option_map};
+ghost use Rattle.script.specs.Grammar as grammar;
+ghost use Rattle.script.specs.Parsed.{row_of};
 
-use arrayvec::ArrayVec;
-use scql_base::{Octets, Row};
-use std::default::MadeWith;
-use std::marker::Model;
+use crate::reader::Reader;
+use scql_base::Row;
 
-/// A list of at most 15 values.
-#[derive(Drop)]
-pub(crate) struct Values {
-    held: ArrayVec<Value, 15, Unused>,
-}
-
-/// A value of an INSERT.
-#[derive(Drop)]
-struct Value {
-    octets: Octets<200>,
-}
-
-/// Makes a value for a place that isn't used. Nobody sees that value.
-#[derive(Clone, Copy)]
-struct Unused;
-
-impl MadeWith<Unused> for Value {
-    fn made_with(_unused: Unused) -> Value {
-        Value {
-            octets: Octets::of(b"").unwrap(),
+impl<'a> Reader<'a> {
+    /// One to 15 literals, as a row where they aren't too wide for one.
+    pub(crate) fn values(&mut self, row: &mut Option<Row>) -> Option<()>
+        requires { row.old ≡ Some [] }
+        ensures row { option_map (λ _. row.new) result ≡ option_map row_of (grammar.literals self.old).0 }
+        ensures rest { self.new ≡ (grammar.literals self.old).1 }
+    {
+        self.with_value(row)?;
+        let mut count = 1;
+        while count < Row::MOST && self.takes(b",") {
+            self.with_value(row)?;
+            count += 1;
         }
+        Some(())
     }
-}
 
-impl Model for Values {
-    ghost use Rattle.std.specs.Prelude.{List, ℕ, map};
-
-    ghost Value = { List (List ℕ) };
-
-    ghost view = { λ v. map (λ value. value.octets) v.held.items };
-}
-
-impl Values {
-    pub fn new() -> Values
-        ensures { result ≡ [] }
+    // Another value, behind those of a row.
+    fn with_value(&mut self, row: &mut Option<Row>) -> Option<()>
+        requires { IfSome row.old (λ values. length values < 15) }
+        ensures row { option_map (λ _. row.new) result ≡ option_map (λ value. option_and_then (λ values. row_of (values ++ value ∷ [])) row.old) (grammar.literal self.old).0 }
+        ensures rest { self.new ≡ (grammar.literal self.old).1 }
     {
-        Values {
-            held: ArrayVec::new_in(Unused),
+        let value = self.literal()?;
+        let fits = match row {
+            Some(row) => row.push(value.as_slice()).is_ok(),
+            None => true,
+        };
+        if !fits {
+            *row = None;
         }
-    }
-
-    pub fn len(&self) -> usize
-        ensures count { result ≡ length self.now }
-        ensures short { result ≤ 15 }
-    {
-        self.held.len()
-    }
-
-    pub fn push(&mut self, value: Octets<200>)
-        requires { length self.old < 15 }
-        ensures { self.new ≡ self.old ++ value ∷ [] }
-    {
-        self.held.push(Value { octets: value });
-    }
-    /// The row of these values, where it isn't too wide.
-    pub fn row(&self) -> Option<Row>
-        ensures { result ≡ (if nat_le (row_size self.now) LARGEST then Some self.now else None) }
-    {
-        let mut row = Row::new();
-        for value in self.held.as_slice() {
-            match row.push(value.octets.as_slice()) {
-                Ok(()) => {}
-                Err(_) => return None,
-            }
-        }
-        Some(row)
+        Some(())
     }
 }

@@ -27,17 +27,19 @@ use Rattle.script.specs.Line.{statement_of}
 use Rattle.planner.specs.declared.closing.Closing.{Closing}
 use Rattle.planner.specs.declared.closing.Closing.TheVariants.{Refused}
 use Rattle.planner.specs.Meaning.{Meaning, Declared, Changed, declared, ended, selects_all, changed_by, changed_outside, committed_after, changed_in, on_open, begun, meaning}
+use Rattle.planner.specs.Readings.{IsSelect}
 use Rattle.planner.specs.Running.{shown}
 use Rattle.planner.specs.Held.{transaction_channel, held_after, held_when}
 use Rattle.planner.specs.StatementLines.{TerminalState, read_effect, statement_lines, unread}
 use Rattle.planner.specs.Text.{row_text, closing_text, meaning_text}
+use Rattle.planner.proofs.GoingOn.{goes-on}
 use Rattle.planner.proofs.Statements.{select-rows}
 use Rattle.planner.proofs.TransactionKnown.{transaction-told}
 use Rattle.terminal.specs.declared.failure.Failure.TheVariants.{Card, Outlet}
 use Rattle.terminal.specs.declared.line_end.LineEnd.{LineEnd}
 use Rattle.terminal.specs.declared.line_end.LineEnd.TheVariants as ends
 use Rattle.terminal.specs.Going.{printed_row, rows_text, ran_text, after_all, Prints, IsAmong, IsInRun, IsMute, IsCut, IsOver, FailsSo}
-use Rattle.terminal.specs.Holding.{Holding, Knows, Sits, terminal_at, channel_after, holding_after}
+use Rattle.terminal.specs.Holding.{Holding, Knows, Sits, terminal_at, holding_after}
 use Rattle.terminal.specs.Line.{IsAnswered, IsCutOff, IsCutShort, EndsSo, EndsBy, ClosesSo, IsMoment, is_refusal, refuses, rows_in}
 use Rattle.terminal.specs.Stays.{Works}
 use Rattle.terminal.proofs.Meant.{base-valid}
@@ -98,17 +100,29 @@ select-sound m channel object columns conditions valid can = go (is_channel_open
     go : (b : Bool) → is_channel_open m channel ≡ b → IsSound (on_open m channel (selects_all m channel (declared m channel object columns conditions)))
     go b is = record { formed = formed b is; either = inl (commits (is_channel_open m channel)) }
 
-pub sound : (m : Machine) (channel : ℕ) (s : Statement) → IsOverValid m → CanBeSent channel s → IsSound (meaning operations m channel s)
+-- a SELECT alone gives rows
+select-or-none : (m : Machine) (channel : ℕ) (s : Statement) → IsSelect s ⊎ ((meaning operations m channel s).rows ≡ [])
 unfolding meaning
-sound m channel (Select object columns conditions) over can = select-sound m channel object columns conditions (base-valid m channel over) can
-sound m channel (UpdateRows object changes conditions) over can = no-rows _ (on-open-rows m channel _ (changed-rows m channel _ (declared m channel object [] conditions) (own_transaction m.transaction channel)))
-sound m channel (DeleteRows object conditions) over can = no-rows _ (on-open-rows m channel _ (changed-rows m channel _ (declared m channel object [] conditions) (own_transaction m.transaction channel)))
-sound m channel Blank over can = no-rows _ refl
-sound m channel (Single operation) over can = no-rows _ refl
-sound m channel (OpenNumber number) over can = no-rows _ refl
-sound m channel (CloseNumber number) over can = no-rows _ refl
-sound m channel (UseNumber number) over can = no-rows _ refl
-sound m channel Reset over can = no-rows _ refl
+select-or-none m channel (Select object columns conditions) = inl tt
+select-or-none m channel (UpdateRows object changes conditions) = inr (on-open-rows m channel _ (changed-rows m channel _ (declared m channel object [] conditions) (own_transaction m.transaction channel)))
+select-or-none m channel (DeleteRows object conditions) = inr (on-open-rows m channel _ (changed-rows m channel _ (declared m channel object [] conditions) (own_transaction m.transaction channel)))
+select-or-none m channel Blank = inr refl
+select-or-none m channel (Single operation) = inr refl
+select-or-none m channel (OpenNumber number) = inr refl
+select-or-none m channel (CloseNumber number) = inr refl
+select-or-none m channel (UseNumber number) = inr refl
+select-or-none m channel Reset = inr refl
+
+pub sound : (m : Machine) (channel : ℕ) (s : Statement) → IsOverValid m → CanBeSent channel s → IsSound (meaning operations m channel s)
+sound m channel s over can = go (select-or-none m channel s)
+  where
+    select : (s : Statement) → IsSelect s → CanBeSent channel s → IsSound (meaning operations m channel s)
+    select (Select object columns conditions) is can = select-sound m channel object columns conditions (base-valid m channel over) can
+    select s is can = absurd is
+
+    go : IsSelect s ⊎ ((meaning operations m channel s).rows ≡ []) → IsSound (meaning operations m channel s)
+    go (inl is) = select s is can
+    go (inr none) = no-rows (meaning operations m channel s) none
 
 -- The text of rows.
 row-again : (values : Values) → is_row values ≡ true → printed_row (row_octets values) ≡ row_text values
@@ -160,9 +174,9 @@ none-first : (xs ys : List Database) → xs ++ ys ≡ [] → xs ≡ []
 none-first [] ys none = refl
 none-first (x ∷ xs) ys none = absurd cc
 
-cut-short : {L : Type 0} (is_at : L → Machine → Type 0) (given : L → Option (List ℕ)) (m : Machine) (channel : ℕ) (s : Statement) (old new : L) → IsSound (meaning operations m channel s)
-    → IsCut is_at given m (shown (meaning operations m channel s)) old new → IsCutShort is_at given m (read_effect (terminal_at m channel) (Ok s)) old new
-cut-short is_at given m channel s old new is cut =
+cut-short : {L : Type 0} (is_at : L → Machine → Type 0) (given : L → Option (List ℕ)) (m : Machine) (channel : ℕ) (s : Statement) (holding : Holding) (old new : L) → IsSound (meaning operations m channel s)
+    → Knows holding.transaction m → IsCut is_at given m (IsSelect s) (shown (meaning operations m channel s)) old new → IsCutShort is_at given m (read_effect (terminal_at m channel) (Ok s)) holding old new
+cut-short is_at given m channel s holding old new is knows cut =
     let x : Meaning = meaning operations m channel s in
     record {
       said = cut.said;
@@ -172,56 +186,24 @@ cut-short is_at given m channel s old new is cut =
       machine = cut.machine;
       at = cut.at;
       committed = cut.committed.3 ∙ go is.either;
+      knows = knows ∙ sym (kept (select-or-none m channel s));
     }
   where
     go : ((meaning operations m channel s).commits ≡ []) ⊎ ((meaning operations m channel s).rows ≡ []) → after_all m.committed cut.committed.0 ≡ after_all m.committed (meaning operations m channel s).commits
     go (inl none) = ap (after_all m.committed) (none-first cut.committed.0 cut.committed.1 (sym cut.committed.2 ∙ none)) ∙ ap (after_all m.committed) (sym none)
     go (inr none) = absurd (cut.in_row (ap (map row_octets) none))
 
-pub failure-ends : {L : Type 0} (is_at : L → Machine → Type 0) (given : L → Option (List ℕ)) (m : Machine) (channel : ℕ) (s : Statement) (old new : L) → IsOverValid m → CanBeSent channel s
-    → (FailsSo is_at given m (shown (meaning operations m channel s)) Card old new → IsCutOff given (meaning operations m channel s).rows old new)
-    × (FailsSo is_at given m (shown (meaning operations m channel s)) Outlet old new → IsCutShort is_at given m (read_effect (terminal_at m channel) (Ok s)) old new)
-failure-ends is_at given m channel s old new over can =
+    kept : IsSelect s ⊎ ((meaning operations m channel s).rows ≡ []) → transaction_channel cut.machine ≡ transaction_channel m
+    kept (inl select) = cut.kept select
+    kept (inr none) = absurd (cut.in_row (ap (map row_octets) none))
+
+pub failure-ends : {L : Type 0} (is_at : L → Machine → Type 0) (given : L → Option (List ℕ)) (m : Machine) (channel : ℕ) (s : Statement) (holding : Holding) (old new : L) → IsOverValid m → CanBeSent channel s
+    → Knows holding.transaction m
+    → (FailsSo is_at given m (IsSelect s) (shown (meaning operations m channel s)) Card old new → IsCutOff given (meaning operations m channel s).rows old new)
+    × (FailsSo is_at given m (IsSelect s) (shown (meaning operations m channel s)) Outlet old new → IsCutShort is_at given m (read_effect (terminal_at m channel) (Ok s)) holding old new)
+failure-ends is_at given m channel s holding old new over can knows =
     let is = sound m channel s over can in
-    ((λ mute. cut-off given (meaning operations m channel s) old new is mute), (λ cut. cut-short is_at given m channel s old new is cut))
-
--- The channel on which the terminal goes on.
-on-open-channel : (m : Machine) (channel : ℕ) (x : Meaning) → x.channel ≡ channel → (on_open m channel x).channel ≡ channel
-on-open-channel m channel x same = go (is_channel_open m channel)
-  where
-    go : (b : Bool) → (if b then x else ended (Refused channel_not_supported) m channel).channel ≡ channel
-    go true = same
-    go false = refl
-
-changed-channel : (m : Machine) (channel : ℕ) (operation : Operation) (d : Result Declared StatusWord) (own : Option Transaction) → (changed_by m channel operation d own).channel ≡ channel
-changed-channel m channel operation (Err word) (Some t) = refl
-changed-channel m channel operation (Ok d) (Some t) = refl
-changed-channel m channel operation d None = outside m.transaction d
-  where
-    committed : (d : Declared) (c : Changed) (refusal : Option StatusWord) → (committed_after m channel d c refusal).channel ≡ channel
-    committed d c None = refl
-    committed d c (Some word) = refl
-
-    outside : (t : Option Transaction) (d : Result Declared StatusWord) → (changed_outside m channel operation d t).channel ≡ channel
-    outside (Some t) d = refl
-    outside None (Err word) = refl
-    outside None (Ok d) = committed d (changed_in m channel operation d (begun m channel)) (changed_in m channel operation d (begun m channel)).refusal
-
-selected-channel : (m : Machine) (channel : ℕ) (d : Result Declared StatusWord) → (selects_all m channel d).channel ≡ channel
-selected-channel m channel (Err word) = refl
-selected-channel m channel (Ok d) = refl
-
-pub goes-on : (m : Machine) (channel : ℕ) (s : Statement) → (meaning operations m channel s).channel ≡ channel_after s channel
-unfolding meaning
-goes-on m channel (Select object columns conditions) = on-open-channel m channel _ (selected-channel m channel (declared m channel object columns conditions))
-goes-on m channel (UpdateRows object changes conditions) = on-open-channel m channel _ (changed-channel m channel _ (declared m channel object [] conditions) (own_transaction m.transaction channel))
-goes-on m channel (DeleteRows object conditions) = on-open-channel m channel _ (changed-channel m channel _ (declared m channel object [] conditions) (own_transaction m.transaction channel))
-goes-on m channel Blank = refl
-goes-on m channel (Single operation) = refl
-goes-on m channel (OpenNumber number) = refl
-goes-on m channel (CloseNumber number) = refl
-goes-on m channel (UseNumber number) = refl
-goes-on m channel Reset = refl
+    ((λ mute. cut-off given (meaning operations m channel s) old new is mute), (λ cut. cut-short is_at given m channel s holding old new is knows cut))
 
 -- Whether the channel has the open transaction.
 pub inside-known : (m : Machine) (channel : ℕ) (held : Option ℕ) → Knows held m → option_map_or (λ (n : ℕ). n == channel) held false ≡ is_some (own_transaction m.transaction channel)
@@ -263,16 +245,20 @@ run-moments mark g m channel s left over can within = run-moment mark g m (meani
 
 -- The closing line.
 -- What is held after a statement.
+knows-after : (m : Machine) (before : Holding) (s : Statement) (closing : Closing) (after : Holding) → CanBeSent before.channel s → Knows before.transaction m
+    → after ≡ holding_after s closing before → closing ≡ (meaning operations m before.channel s).closing → Knows after.transaction (meaning operations m before.channel s).machine
+knows-after m before s closing after can knows holds closes =
+    ap (λ (h : Holding). h.transaction) holds
+    ∙ (ap (λ (held : Option ℕ). held_when closing (held_after s before.channel held) held) knows
+    ∙ (ap (λ (c : Closing). held_when c (held_after s before.channel (transaction_channel m)) (transaction_channel m)) closes ∙ sym (transaction-told m before.channel s can)))
+
 pub sits-after : {L : Type 0} (is_at : L → Machine → Type 0) (m : Machine) (before : Holding) (s : Statement) (closing : Closing) (after : Holding) (new : L) → CanBeSent before.channel s → Knows before.transaction m
     → after ≡ holding_after s closing before → closing ≡ (meaning operations m before.channel s).closing → is_at new (meaning operations m before.channel s).machine
     → Sits is_at (read_effect (terminal_at m before.channel) (Ok s)).next after new
 sits-after is_at m before s closing after new can knows holds closes at = record {
   at = at;
   channel = ap (λ (h : Holding). h.channel) holds ∙ sym (goes-on m before.channel s);
-  knows =
-      ap (λ (h : Holding). h.transaction) holds
-      ∙ (ap (λ (held : Option ℕ). held_when closing (held_after s before.channel held) held) knows
-      ∙ (ap (λ (c : Closing). held_when c (held_after s before.channel (transaction_channel m)) (transaction_channel m)) closes ∙ sym (transaction-told m before.channel s can)));
+  knows = knows-after m before s closing after can knows holds closes;
 }
 
 pub closes-ends : {L : Type 0} (is_at : L → Machine → Type 0) (given : L → Option (List ℕ)) (is_live : L → Bool) (faults sink_faults mark : L → ℕ) (m : Machine) (before : Holding) (s : Statement) (closing : Closing) (after : Holding) (result : LineEnd) (old mid new : L)
@@ -306,6 +292,7 @@ closes-ends is_at given is_live faults sink_faults mark m before s closing after
       machine = (meaning operations m before.channel s).machine;
       at = at;
       committed = o.committed;
+      knows = knows-after m before s closing after can knows holds o.closes;
     }
 
 pub closes-by : {L : Type 0} (given : L → Option (List ℕ)) (is_live : L → Bool) (faults sink_faults : L → ℕ) (text : List ℕ) (refused : Bool) (result : LineEnd) (old mid new : L) → Works is_live faults sink_faults old mid
@@ -324,7 +311,7 @@ unread-ends is_at given is_live faults sink_faults m holding said text ends.Refu
     (record { sits = record { at = at; channel = refl; knows = knows }; text = subst (λ (text : List ℕ). Prints text (given old) (given new)) is c.1 }, refl)
 unread-ends is_at given is_live faults sink_faults m holding said text ends.Mute old new is knows c at = absurd c
 unread-ends is_at given is_live faults sink_faults m holding said text ends.SinkFault old new is knows c at =
-    record { said = c.0.said; rest = c.0.rest; start = sym is ∙ c.0.start; printed = c.0.printed; machine = m; at = at; committed = refl }
+    record { said = c.0.said; rest = c.0.rest; start = sym is ∙ c.0.start; printed = c.0.printed; machine = m; at = at; committed = refl; knows = knows }
 
 -- a line that is short enough is taken
 pub line-is : (state : TerminalState) (line : List ℕ) → length line ≤ 1000 → line_effect statement_lines state line ≡ read_effect state (statement_of line)

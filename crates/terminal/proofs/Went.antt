@@ -9,6 +9,7 @@ use Rattle.scql_model.specs.Operations.{operations}
 use Rattle.scql_model.specs.Replies.{Reply}
 use Rattle.scql_model.specs.Step.{Answer}
 use Rattle.card_link.specs.Link.{Answered, HoldsWithin}
+use Rattle.script.specs.Commands.{IsSendable}
 use Rattle.planner.specs.declared.closing.Closing.{Closing}
 use Rattle.planner.specs.declared.step.Step.{Step}
 use Rattle.planner.specs.declared.step.Step.TheVariants.{Send, Row, ResetCard, Done}
@@ -16,6 +17,8 @@ use Rattle.planner.specs.Meaning.{answer_to}
 use Rattle.planner.specs.Planned.{Planned, Turn, next_of}
 use Rattle.planner.specs.Turns.{turns_left, IfGoesOn}
 use Rattle.planner.specs.Running.{Ran, run, taken, committing, giving}
+use Rattle.planner.specs.Readings.{IsReadingAt}
+use Rattle.planner.proofs.Readings.{reading-kept, reads-on}
 use Rattle.planner.proofs.Settled.{settled, more-is}
 use Rattle.planner.proofs.StatementsLawful.{after-append, last-answer}
 use Rattle.planner.proofs.Turning.{next_of-below}
@@ -82,9 +85,9 @@ rows-append xs ys = ap concat (map-append xs ys) ∙ concat-append (map printed_
 
 -- A command was sent: the run goes on by its answer.
 pub sent-goes : {L : Type 0} (is_at : L → Machine → Type 0) (given : L → Option (List ℕ)) (mark sink_faults : L → ℕ) (m : Machine) (p q : Planned) (c : Command) (next : Step) (heard : Reply) (old new : L)
-    → Answered is_at (answer_to operations m c) heard new → Stays given sink_faults mark old new → next_of (Some heard) p ≡ record { plan = q; step = next }
+    → IsSendable c → Answered is_at (answer_to operations m c) heard new → Stays given sink_faults mark old new → next_of (Some heard) p ≡ record { plan = q; step = next }
     → Goes is_at given mark m p (Send c) old new q next
-sent-goes is_at given mark sink_faults m p q c next heard old new answered stays is-turn =
+sent-goes is_at given mark sink_faults m p q c next heard old new can answered stays is-turn =
     let a : Answer = answer_to operations m c in
     record {
       machine = a.machine;
@@ -98,6 +101,7 @@ sent-goes is_at given mark sink_faults m p q c next heard old new answered stays
       committed = sym (last-answer m c);
       later = omega (arith, stays.mark_same);
       still = λ none. stays.mark_same;
+      reads = λ is. (subst (λ (turn : Turn). IsReadingAt turn.plan turn.step) is-turn (reads-on (Some heard) p is.select is.own), reading-kept m c can is.reads);
     }
 
 -- the moments of a command are moments of the run
@@ -121,6 +125,7 @@ row-goes is_at given mark m p q c next old mid new printed later e = record {
   committed = e.committed;
   later = omega (arith, later, e.later);
   still = λ none. absurd cc;
+  reads = λ is. e.reads (record { select = is.select; own = is.own; reads = is.reads });
 }
 
 pub given-moments : (from to : ℕ) (m : Machine) (p : Planned) (c : Command) (g : ℕ) (left : Database) → HoldsWithin from to m.committed g left → IsInRun from m (run_from m p (Row c)) g left
@@ -138,7 +143,7 @@ row-mute given m p c old mid new printed same = record {
 }
 
 pub row-cut : {L : Type 0} (is_at : L → Machine → Type 0) (given : L → Option (List ℕ)) (m : Machine) (p : Planned) (c : Command) (old new : L) → IsStart (printed_row p.row) (given old) (given new) → is_at new m
-    → IsCut is_at given m (run_from m p (Row c)) old new
+    → IsCut is_at given m (IsReadingAt p (Row c)) (run_from m p (Row c)) old new
 row-cut is_at given m p c old new s at =
     let ran : Ran = run_from m p (Send c) in
     record {
@@ -152,6 +157,7 @@ row-cut is_at given m p c old new s at =
       at = at;
       committed = ([], ran.commits, refl, refl);
       in_row = λ none. cc;
+      kept = λ is. refl;
     }
 
 -- The card was reset.
@@ -167,6 +173,7 @@ reset-goes is_at given mark m p q next old new at same marked is-turn = record {
   committed = refl;
   later = omega (arith, marked);
   still = λ none. marked;
+  reads = λ is. absurd is.reads;
 }
 
 pub nothing-goes : {L : Type 0} (is_at : L → Machine → Type 0) (given : L → Option (List ℕ)) (mark : L → ℕ) (m : Machine) (p : Planned) (step : Step) (now : L) → is_at now m → Goes is_at given mark m p step now now p step
@@ -180,6 +187,7 @@ nothing-goes is_at given mark m p step now at = record {
   committed = refl;
   later = omega arith;
   still = λ none. refl;
+  reads = λ is. (is, refl);
 }
 
 -- Outcomes.
@@ -187,17 +195,21 @@ pub if-ok : {A E : Type 0} (P Q : A → Type 0) (r : Result A E) → ((x : A) �
 if-ok P Q (Ok x) each is = each x is
 if-ok P Q (Err error) each is = tt
 
+pub if-err : {A E : Type 0} (P Q : E → Type 0) (r : Result A E) → ((error : E) → P error → Q error) → IfErr r P → IfErr r Q
+if-err P Q (Ok x) each is = tt
+if-err P Q (Err error) each is = each error is
+
 pub failed-row : {L : Type 0} (is_at : L → Machine → Type 0) (given : L → Option (List ℕ)) (is_live : L → Bool) (faults : L → ℕ) (m : Machine) (p : Planned) (c : Command) (r : Result Step Failure) (old mid new : L)
     → Prints (printed_row p.row) (given old) (given mid) → IfErr r (λ failure. (failure ≡ Card) × Mutes is_live faults mid new) → OnErr r (given new ≡ given mid)
-    → IfErr r (λ failure. FailsSo is_at given m (run_from m p (Row c)) failure old new)
+    → IfErr r (λ failure. FailsSo is_at given m (IsReadingAt p (Row c)) (run_from m p (Row c)) failure old new)
 failed-row is_at given is_live faults m p c (Ok next) old mid new printed mute same = tt
 failed-row is_at given is_live faults m p c (Err failure) old mid new printed mute same =
-    subst (λ (f : Failure). FailsSo is_at given m (run_from m p (Row c)) f old new) (sym mute.0) (row-mute given m p c old mid new printed same)
+    subst (λ (f : Failure). FailsSo is_at given m (IsReadingAt p (Row c)) (run_from m p (Row c)) f old new) (sym mute.0) (row-mute given m p c old mid new printed same)
 
 pub cut-row : {L : Type 0} (is_at : L → Machine → Type 0) (given : L → Option (List ℕ)) (m : Machine) (p : Planned) (c : Command) (failure : Failure) (old new : L) → failure ≡ Outlet → IsStart (printed_row p.row) (given old) (given new) → is_at new m
-    → FailsSo is_at given m (run_from m p (Row c)) failure old new
+    → FailsSo is_at given m (IsReadingAt p (Row c)) (run_from m p (Row c)) failure old new
 cut-row is_at given m p c failure old new is s at =
-    subst (λ (f : Failure). FailsSo is_at given m (run_from m p (Row c)) f old new) (sym is) (row-cut is_at given m p c old new s at)
+    subst (λ (f : Failure). FailsSo is_at given m (IsReadingAt p (Row c)) (run_from m p (Row c)) f old new) (sym is) (row-cut is_at given m p c old new s at)
 
 none-before : (xs ys : List (List ℕ)) → xs ++ ys ≡ [] → xs ≡ []
 none-before [] ys none = refl
@@ -223,6 +235,7 @@ goes-both is_at given mark m p q s step next last old mid new first second = rec
   committed = second.committed ∙ (ap (λ (db : Database). after_all db second.commits) first.committed ∙ sym (after-append m.committed first.commits second.commits));
   later = omega (arith, first.later, second.later);
   still = λ none. second.still (none-behind first.rows second.rows none) ∙ first.still (none-before first.rows second.rows none);
+  reads = λ is. let one = first.reads is in let two = second.reads one.0 in (two.0, two.1 ∙ one.1);
 }
 
 -- a moment of what goes on is one of the whole
@@ -247,7 +260,7 @@ mute-behind is_at given mark m p q step next old mid new first mute = record {
 }
 
 cut-behind : {L : Type 0} (is_at : L → Machine → Type 0) (given : L → Option (List ℕ)) (mark : L → ℕ) (m : Machine) (p q : Planned) (step next : Step) (old mid new : L)
-    → (first : Goes is_at given mark m p step old mid q next) → IsCut is_at given first.machine (run_from first.machine q next) mid new → IsCut is_at given m (run_from m p step) old new
+    → (first : Goes is_at given mark m p step old mid q next) → IsCut is_at given first.machine (IsReadingAt q next) (run_from first.machine q next) mid new → IsCut is_at given m (IsReadingAt p step) (run_from m p step) old new
 cut-behind is_at given mark m p q step next old mid new first cut =
     let ran : Ran = run_from first.machine q next in
     record {
@@ -268,12 +281,29 @@ cut-behind is_at given mark m p q step next old mid new first cut =
         cut.committed.3 ∙ (ap (λ (db : Database). after_all db cut.committed.0) first.committed ∙ sym (after-append m.committed first.commits cut.committed.0)),
       );
       in_row = λ none. cut.in_row (none-behind first.rows ran.rows (sym (ap (λ (ran : Ran). ran.rows) first.left) ∙ none));
+      kept = λ is. let one = first.reads is in cut.kept one.0 ∙ one.1;
     }
 
 pub fails-behind : {L : Type 0} (is_at : L → Machine → Type 0) (given : L → Option (List ℕ)) (mark : L → ℕ) (m : Machine) (p q : Planned) (step next : Step) (failure : Failure) (old mid new : L)
-    → (first : Goes is_at given mark m p step old mid q next) → FailsSo is_at given first.machine (run_from first.machine q next) failure mid new → FailsSo is_at given m (run_from m p step) failure old new
+    → (first : Goes is_at given mark m p step old mid q next) → FailsSo is_at given first.machine (IsReadingAt q next) (run_from first.machine q next) failure mid new → FailsSo is_at given m (IsReadingAt p step) (run_from m p step) failure old new
 fails-behind is_at given mark m p q step next Card old mid new first mute = mute-behind is_at given mark m p q step next old mid new first mute
 fails-behind is_at given mark m p q step next Outlet old mid new first cut = cut-behind is_at given mark m p q step next old mid new first cut
+
+-- what only reads by another telling
+pub fails-told : {L : Type 0} (is_at : L → Machine → Type 0) (given : L → Option (List ℕ)) (m : Machine) (reads told : Type 0) (ran : Ran) (failure : Failure) (old new : L)
+    → (told → reads) → FailsSo is_at given m reads ran failure old new → FailsSo is_at given m told ran failure old new
+fails-told is_at given m reads told ran Card old new are mute = mute
+fails-told is_at given m reads told ran Outlet old new are cut = record {
+  said = cut.said;
+  rest = cut.rest;
+  start = cut.start;
+  printed = cut.printed;
+  machine = cut.machine;
+  at = cut.at;
+  committed = cut.committed;
+  in_row = cut.in_row;
+  kept = λ is. cut.kept (are is);
+}
 
 -- a run that came to its last step is over
 pub is-over : {L : Type 0} (is_at : L → Machine → Type 0) (given : L → Option (List ℕ)) (mark : L → ℕ) (m : Machine) (p q : Planned) (step : Step) (closing : Closing) (old new : L)

@@ -12,7 +12,9 @@ use Rattle.eeprom.specs.Chip.{Becomes}
 use Rattle.planner.specs.declared.closing.Closing.{Closing}
 use Rattle.planner.specs.declared.step.Step.{Step}
 use Rattle.planner.specs.declared.step.Step.TheVariants.{Done}
+use Rattle.planner.specs.Held.{transaction_channel}
 use Rattle.planner.specs.Planned.{Planned, next_of}
+use Rattle.planner.specs.Readings.{IsReadingAt}
 use Rattle.planner.specs.Turns.{turns_left}
 use Rattle.planner.specs.Running.{Ran, run, taken}
 use Rattle.planner.specs.Text.{row_text, closing_text}
@@ -39,6 +41,10 @@ run_from m p step = taken operations whole_run m p step
 -- the run of a plan that takes its first step
 abbrev pub run_of : Machine → Planned → Ran
 run_of m p = run_from m (next_of None p).plan (next_of None p).step
+
+-- the run of a plan that takes its first step only reads
+abbrev pub OnlyReads : Planned → Type 0
+OnlyReads p = IsReadingAt (next_of None p).plan (next_of None p).step
 
 -- a run behind rows that were given before it, and databases that were committed
 abbrev pub behind : List (List ℕ) → List Database → Ran → Ran
@@ -67,7 +73,8 @@ pub record IsWithin (from : ℕ) (rows : List (List ℕ)) (dbs : List Database) 
 abbrev pub IsInRun : ℕ → Machine → Ran → ℕ → Database → Type 0
 IsInRun from m ran g left = IsWithin from ran.rows (m.committed ∷ ran.commits) g left
 
--- A link went from a machine and a step of a plan to another machine and step: the run from there on follows what was given and committed until then.
+-- A link went from a machine and a step of a plan to another machine and step: the run from there on follows what was given and committed until then. A plan that reads
+-- reads on, and keeps the open transaction.
 pub record Goes {L : Type 0} (is_at : L → Machine → Type 0) (given : L → Option (List ℕ)) (mark : L → ℕ) (m : Machine) (p : Planned) (step : Step) (old new : L) (q : Planned) (next : Step) : Type 0 where
   pub machine : Machine
   pub rows : List (List ℕ)
@@ -78,6 +85,7 @@ pub record Goes {L : Type 0} (is_at : L → Machine → Type 0) (given : L → O
   pub committed : machine.committed ≡ after_all m.committed commits
   pub later : mark old ≤ mark new
   pub still : rows ≡ [] → mark new ≡ mark old
+  pub reads : IsReadingAt p step → IsReadingAt q next × (transaction_channel machine ≡ transaction_channel m)
 
 -- a card that goes mute: some first rows of what was left were printed
 pub record IsMute {L : Type 0} (given : L → Option (List ℕ)) (ran : Ran) (old new : L) : Type 0 where
@@ -86,8 +94,8 @@ pub record IsMute {L : Type 0} (given : L → Option (List ℕ)) (ran : Ran) (ol
   pub split : ran.rows ≡ first ++ rest
   pub printed : Prints (rows_text first) (given old) (given new)
 
--- an outlet that fails in a row: the start of what was left was printed, and the card is where it was before
-pub record IsCut {L : Type 0} (is_at : L → Machine → Type 0) (given : L → Option (List ℕ)) (m : Machine) (ran : Ran) (old new : L) : Type 0 where
+-- an outlet that fails in a row: the start of what was left was printed, and the card is where it was before; where the run only reads the open transaction is kept
+pub record IsCut {L : Type 0} (is_at : L → Machine → Type 0) (given : L → Option (List ℕ)) (m : Machine) (reads : Type 0) (ran : Ran) (old new : L) : Type 0 where
   pub said : List ℕ
   pub rest : List ℕ
   pub start : ran_text ran ≡ said ++ rest
@@ -96,10 +104,11 @@ pub record IsCut {L : Type 0} (is_at : L → Machine → Type 0) (given : L → 
   pub at : is_at new machine
   pub committed : (commits : List Database) × (more : List Database) × (ran.commits ≡ commits ++ more) × (machine.committed ≡ after_all m.committed commits)
   pub in_row : ran.rows ≡ [] → ⊥
+  pub kept : reads → transaction_channel machine ≡ transaction_channel m
 
-abbrev pub FailsSo : {L : Type 0} → (L → Machine → Type 0) → (L → Option (List ℕ)) → Machine → Ran → Failure → L → L → Type 0
-FailsSo is_at given m ran Card old new = IsMute given ran old new
-FailsSo is_at given m ran Outlet old new = IsCut is_at given m ran old new
+abbrev pub FailsSo : {L : Type 0} → (L → Machine → Type 0) → (L → Option (List ℕ)) → Machine → Type 0 → Ran → Failure → L → L → Type 0
+FailsSo is_at given m reads ran Card old new = IsMute given ran old new
+FailsSo is_at given m reads ran Outlet old new = IsCut is_at given m reads ran old new
 
 -- a run that is over, but for its closing line
 pub record IsOver {L : Type 0} (is_at : L → Machine → Type 0) (given : L → Option (List ℕ)) (mark : L → ℕ) (m : Machine) (ran : Ran) (closing : Closing) (old new : L) : Type 0 where

@@ -1,10 +1,11 @@
 -- What a terminal holds: the channel of its statements, and which channel has the open transaction.
-use Rattle.std.specs.Prelude.{◌≡◌, ℕ, Option}
+use Rattle.std.specs.Prelude.{◌≡◌, ◌==◌, ℕ, false, Option}
+use Rattle.std.specs.Option.{option_map_or}
 use Rattle.scql_model.specs.Machine.{Machine}
 use Rattle.script.specs.declared.statement.Statement.{Statement}
-use Rattle.script.specs.declared.statement.Statement.TheVariants.{UseNumber, Reset}
 use Rattle.planner.specs.declared.closing.Closing.{Closing}
-use Rattle.planner.specs.Held.{transaction_channel, held_after, held_when}
+use Rattle.planner.specs.Held.{channel_after, transaction_channel, held_after, held_when}
+use Rattle.planner.specs.Planned.{Planned, started}
 use Rattle.planner.specs.StatementLines.{TerminalState}
 
 pub record Holding : Type 0 where
@@ -25,15 +26,13 @@ pub record Sits {L : Type 0} (is_at : L → Machine → Type 0) (state : Termina
   pub channel : holding.channel ≡ state.channel
   pub knows : Knows holding.transaction state.machine
 
--- the channel on which a terminal goes on after a statement
-abbrev pub channel_after : Statement → ℕ → ℕ
-channel_after (UseNumber number) channel = number
-channel_after Reset channel = 0
-channel_after statement channel = channel
-
 -- what a terminal holds after a statement that closed so
 abbrev pub holding_after : Statement → Closing → Holding → Holding
 holding_after statement closing holding = record {
   channel = channel_after statement holding.channel;
   transaction = held_when closing (held_after statement holding.channel holding.transaction) holding.transaction;
 }
+
+-- A plan is at the start of its statement, on the terminal's channel. Inside that channel's transaction it needs none of its own.
+abbrev pub IsStarted : Holding → Planned → Type 0
+IsStarted holding plan = plan ≡ started plan.statement holding.channel (option_map_or (λ own. own == holding.channel) holding.transaction false)

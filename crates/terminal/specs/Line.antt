@@ -17,7 +17,7 @@ use Rattle.planner.specs.Text.{row_text}
 use Rattle.terminal.specs.declared.line_end.LineEnd.{LineEnd}
 use Rattle.terminal.specs.declared.line_end.LineEnd.TheVariants as ends
 use Rattle.terminal.specs.Going.{Prints, after_all}
-use Rattle.terminal.specs.Holding.{Holding, Sits}
+use Rattle.terminal.specs.Holding.{Holding, Knows, Sits}
 use Rattle.terminal.specs.Stays.{Breaks, IsStart, Mutes, Works}
 
 -- the closing line is a refusal, or an error
@@ -46,8 +46,8 @@ pub record IsCutOff {L : Type 0} (given : L → Option (List ℕ)) (rows : List 
   pub split : rows ≡ first ++ rest
   pub printed : Prints (concat (map row_text first)) (given old) (given new)
 
--- an outlet that fails: it printed the start of the text, and the card is where all of the line's commits were made
-pub record IsCutShort {L : Type 0} (is_at : L → Machine → Type 0) (given : L → Option (List ℕ)) (m : Machine) (does : Effect TerminalState) (old new : L) : Type 0 where
+-- an outlet that fails: it printed the start of the text, the card is where all of the line's commits were made, and the terminal knows which channel has the open transaction
+pub record IsCutShort {L : Type 0} (is_at : L → Machine → Type 0) (given : L → Option (List ℕ)) (m : Machine) (does : Effect TerminalState) (holding : Holding) (old new : L) : Type 0 where
   pub said : List ℕ
   pub rest : List ℕ
   pub start : does.text ≡ said ++ rest
@@ -55,13 +55,14 @@ pub record IsCutShort {L : Type 0} (is_at : L → Machine → Type 0) (given : L
   pub machine : Machine
   pub at : is_at new machine
   pub committed : machine.committed ≡ after_all m.committed does.commits
+  pub knows : Knows holding.transaction machine
 
 -- How a line ends that does this, gives these rows, and ends with a refusal or an error or not.
 abbrev pub EndsSo : {L : Type 0} → (L → Machine → Type 0) → (L → Option (List ℕ)) → Machine → Effect TerminalState → List Values → Bool → Holding → LineEnd → L → L → Type 0
 EndsSo is_at given m does rows refused holding ends.Answered old new = IsAnswered is_at given does holding old new × (refused ≡ false)
 EndsSo is_at given m does rows refused holding ends.Refused old new = IsAnswered is_at given does holding old new × (refused ≡ true)
 EndsSo is_at given m does rows refused holding ends.Mute old new = IsCutOff given rows old new
-EndsSo is_at given m does rows refused holding ends.SinkFault old new = IsCutShort is_at given m does old new
+EndsSo is_at given m does rows refused holding ends.SinkFault old new = IsCutShort is_at given m does holding old new
 
 -- Why it ends so: no device failed, the card did, or the outlet.
 abbrev pub EndsBy : {L : Type 0} → (L → Bool) → (L → ℕ) → (L → ℕ) → LineEnd → L → L → Type 0

@@ -2,6 +2,7 @@
 #![tactic(auto)]
 
 mod asking;
+mod channels;
 mod failure;
 mod following;
 mod line_end;

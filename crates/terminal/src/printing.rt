@@ -18,15 +18,14 @@ pub(crate) const LONGEST_ROW: usize = 2086;
 /// The longest closing line.
 pub(crate) const LONGEST_CLOSING: usize = 50;
 
-/// A row of an answer, on a line of its own.
-pub(crate) fn row_text(octets: &[u8]) -> ArrayVec<u8, LONGEST_ROW>
-    ensures { result.items ≡ printed_row octets.now }
+/// Makes the text of a row of an answer, on a line of its own.
+pub(crate) fn put_row_text(octets: &[u8], text: &mut ArrayVec<u8, LONGEST_ROW>)
+    ensures { text.new.items ≡ printed_row octets.now }
 {
-    let mut text = ArrayVec::new();
+    text.clear();
     if let Some(row) = Row::read(octets) {
-        put_row(&mut text, &row);
+        put_row(text, &row);
     }
-    text
 }
 
 fn put_row(text: &mut ArrayVec<u8, LONGEST_ROW>, row: &Row)

@@ -1,9 +1,9 @@
 use Rattle.std.proofs.lemmas.Result.{err_from_is_err_and}
 use Rattle.std.proofs.Common.{List, ℕ, Option, refl}
+use Rattle.card.specs.GivenMoments.{behind-same}
 use Rattle.card_cli.specs.declared.stop.FailedDevice.{FailedDevice}
 use Rattle.card_cli.specs.RunState.{RunState}
 use Rattle.card_cli.specs.Line.{line_octets}
-use Rattle.card_cli.proofs.Behind.{behind-same}
 use Rattle.card_cli.proofs.Stopping.{Halts-line_feed}
 use Rattle.card_cli.proofs.Feeding.{Feeds-line_feed, Feeds-other}
 use Rattle.card_cli.proofs.answering.take_octet.Given as given

@@ -3,10 +3,11 @@ use Rattle.std.proofs.Common.{◌≡◌, ◌∷◌, [], ◌++◌, ◌+◌, ℕ, 
 use Rattle.std.proofs.lemmas.List.{take_more, drop_more}
 use Rattle.std.proofs.lemmas.Result.{err_from_is_err_and}
 use Rattle.std.proofs.Math.Seq.{take-length}
+use Rattle.card.specs.GivenMoments.{behind-same}
 use Rattle.card_cli.specs.Halting.{Halts}
 use Rattle.card_cli.specs.Line.{line_octets}
 use Rattle.card_cli.specs.RunState.{RunState, Feeds}
-use Rattle.card_cli.proofs.Behind.{behind-same, behind-on}
+use Rattle.card_cli.proofs.Behind.{behind-on}
 use Rattle.card_cli.proofs.Stopping.{Halts-within}
 use Rattle.card_cli.proofs.Feeding.{Feeds-nothing, Feeds-then}
 use Rattle.card_cli.proofs.answering.take_octets.Given as given

@@ -2,9 +2,9 @@
 use Rattle.std.proofs.Common.{List, ℕ, ◌≡◌, ap, subst}
 use Rattle.eeprom.specs.Chip.{Chip}
 use Rattle.card.specs.Behind.{KeepsBehind}
+use Rattle.card.specs.GivenMoments.{gives-throughout}
 use Rattle.card_cli.specs.Migrating.{WritesNothing}
 use Rattle.card_cli.proofs.CheckedCards.{nothing-given}
-use Rattle.card_cli.proofs.Moving.{gives-throughout}
 use Rattle.card_cli.proofs.checking.run_check.Goals as goal
 use Rattle.card_cli.proofs.checking.run_check.Goals.{After-give as Told}
 

@@ -4,15 +4,16 @@ use Rattle.eeprom.specs.Chip.{Chip, Still, Throughout}
 use Rattle.scql_model.specs.Machine.{Machine}
 use Rattle.scql_model.specs.Opens.{Opens}
 use Rattle.card.specs.Card.{IsAt}
+use Rattle.card.specs.GivenMoments.{behind-keeps, gives-throughout}
 use Rattle.card_cli.specs.Moments.{IsInLine, IsInAnswered}
 use Rattle.scql_model.specs.Step.{step}
 use Rattle.card.proofs.Leaving.{Opens-at}
-use Rattle.card_cli.proofs.Moving.{gives-throughout, line-moments, answered-moments}
+use Rattle.card_cli.proofs.Moving.{line-moments, answered-moments}
 use Rattle.scql_model.specs.Lines.{command, command_lines, content_effect, mute_text, reply_text}
 use Rattle.card_cli.specs.declared.stop.FailedDevice.TheVariants.{Eeprom, Outlet, Both}
 use Rattle.card_cli.specs.CutOff.{FailsIn, IsCutShort}
 use Rattle.card.specs.Behind.{KeepsBehind}
-use Rattle.card_cli.proofs.Behind.{behind-keeps, behind-on}
+use Rattle.card_cli.proofs.Behind.{behind-on}
 use Rattle.card_cli.proofs.Commanding.{mute_text-reply}
 use Rattle.card_cli.proofs.Stopping.{at_outlet, fails_giving, fails_mute, fails_both}
 use Rattle.card_cli.proofs.commands.answer_command.Goals.{After-give, After-give-in-Mute}
@@ -20,16 +21,16 @@ use Rattle.card.proofs.Giving.{IsAt-given, IsReady-given}
 use Rattle.card_cli.proofs.commands.answer_command.Goals as goal
 
 -- what a card says that replies, and to what its image opens
-replied_text : (g : _) (c : After-give g) (m : Machine) → IsAt c.args.card.now (g.B.Eeprom.chip c.args.bench.now) m → c.deref.result.now ≡ (content_effect m (command c.args.octets.now)).text
+replied_text : (g : _) (c : After-give g) (m : Machine) → IsAt c.args.card.now (g.B.Eeprom.chip c.args.bench.now) m → c.text.result.now ≡ (content_effect m (command c.args.octets.now)).text
 replied_text g c m at =
-    c.deref.ensures.0 ∙ (c.reply_text.ensures ∙ ap reply_text (c.in-Replied.ensures.step m at refl).reply)
+    c.text.ensures ∙ ap reply_text (c.in-Replied.ensures.step m at refl).reply
 
 replied_opens : (g : _) (c : After-give g) (m : Machine) → IsAt c.args.card.now (g.B.Eeprom.chip c.args.bench.now) m
     → (image : List ℕ) → (g.B.Eeprom.chip c.answer.new.bench).image ≡ Some image → Opens image (step m c.args.octets.now).machine.committed
 replied_opens g c m at = Opens-at c.answer.new.self (g.B.Eeprom.chip c.answer.new.bench) (step m c.args.octets.now).machine (c.in-Replied.ensures.ready refl) (c.in-Replied.ensures.step m at refl).at
 
 replied_moments : (g : _) (c : After-give g) (m : Machine) → IsAt c.args.card.now (g.B.Eeprom.chip c.args.bench.now) m
-    → (g.B.Eeprom.chip c.give.new.bench).still.mark ≤ (g.B.Eeprom.chip c.answer.new.bench).still.mark + length c.deref.result.now
+    → (g.B.Eeprom.chip c.give.new.bench).still.mark ≤ (g.B.Eeprom.chip c.answer.new.bench).still.mark + length c.text.result.now
     → Throughout (g.B.Eeprom.chip c.args.bench.now) (g.B.Eeprom.chip c.give.new.bench) (IsInAnswered command_lines m (content_effect m (command c.args.octets.now)) (g.B.Eeprom.chip c.args.bench.now).still.mark)
 replied_moments g c m at within =
     let mid : Chip = g.B.Eeprom.chip c.answer.new.bench in
@@ -60,17 +61,17 @@ returns-in_err-give-in-Replied-clause-fails g c = λ m at.
     (subst (λ (t : List ℕ). IsCutShort t mid.still.given now.still.given) (replied_text g after m at) c.in_err-give-in-Replied.ensures.fails) c.give.ensures.image (replied_opens g after m at)))
 
 -- what the card says that goes mute
-mute : (g : _) (c : After-give-in-Mute g) → c.deref-in-Mute.result.now ≡ mute_text
+mute : (g : _) (c : After-give-in-Mute g) → c.text-in-Mute.result.now ≡ mute_text
 mute g c =
     let mute = c.in-Mute.ensures.mute refl in
-    c.deref-in-Mute.ensures.0 ∙ (c.reply_text-in-Mute.ensures ∙ mute_text-reply c.answer.new.reply.body c.answer.new.reply.word mute.0 mute.1)
+    c.text-in-Mute.ensures ∙ mute_text-reply c.answer.new.reply.body c.answer.new.reply.word mute.0 mute.1
 
 pub returns-in-Ok-clause-fails : goal.returns-in-Ok-clause-fails
 returns-in-Ok-clause-fails g c = λ m at.
     let mid : Chip = g.B.Eeprom.chip c.answer.new.bench in
     let now : Chip = g.B.Eeprom.chip c.give-in-Mute.new.bench in
     subst (λ (before : Option (List ℕ)). FailsIn Eeprom command_lines [] m (content_effect m (command c.args.octets.now)) before now) (ap (λ (s : Still). s.given) c.answer.ensures.still)
-    (fails_mute command_lines m (content_effect m (command c.args.octets.now)) c.deref-in-Mute.result.now mid.still.given mid now (inl (mute g (goal.at.returns-in-Ok-clause-fails g c).After-give-in-Mute)) c.in-Ok.ensures.text c.give-in-Mute.ensures.image
+    (fails_mute command_lines m (content_effect m (command c.args.octets.now)) c.text-in-Mute.result.now mid.still.given mid now (inl (mute g (goal.at.returns-in-Ok-clause-fails g c).After-give-in-Mute)) c.in-Ok.ensures.text c.give-in-Mute.ensures.image
     (λ image told. ((c.answer.ensures.moments m at).now image told).1))
 
 pub returns-in-Err-clause-fails : goal.returns-in-Err-clause-fails
@@ -78,7 +79,7 @@ returns-in-Err-clause-fails g c = λ m at.
     let mid : Chip = g.B.Eeprom.chip c.answer.new.bench in
     let now : Chip = g.B.Eeprom.chip c.give-in-Mute.new.bench in
     subst (λ (before : Option (List ℕ)). FailsIn Both command_lines [] m (content_effect m (command c.args.octets.now)) before now) (ap (λ (s : Still). s.given) c.answer.ensures.still)
-    (fails_both command_lines m (content_effect m (command c.args.octets.now)) c.deref-in-Mute.result.now mid.still.given mid now (inl (mute g (goal.at.returns-in-Err-clause-fails g c).After-give-in-Mute)) c.in-Err.ensures.fails c.give-in-Mute.ensures.image
+    (fails_both command_lines m (content_effect m (command c.args.octets.now)) c.text-in-Mute.result.now mid.still.given mid now (inl (mute g (goal.at.returns-in-Err-clause-fails g c).After-give-in-Mute)) c.in-Err.ensures.fails c.give-in-Mute.ensures.image
     (λ image told. ((c.answer.ensures.moments m at).now image told).1))
 
 -- the card went mute: the line left what it had committed by then

@@ -3,12 +3,13 @@ use Rattle.std.proofs.Common.{◌≡◌, ℕ, ◌≤◌, List, [], take, Option,
 use Rattle.eeprom.specs.Chip.{Chip, Becomes}
 use Rattle.eeprom.specs.Input.{TakesPiece}
 use Rattle.card.specs.Behind.{KeepsBehind}
+use Rattle.card.specs.GivenMoments.{behind-same}
 use Rattle.card_cli.specs.declared.status.Status.{Status}
 use Rattle.card_cli.specs.Extent.{RunsInput}
 use Rattle.card_cli.specs.Line.{line_octets}
 use Rattle.card_cli.specs.RunState.{RunState, Faults, Feeds}
 use Rattle.card_cli.specs.Ends.{longest_input}
-use Rattle.card_cli.proofs.Behind.{behind-same, behind-on}
+use Rattle.card_cli.proofs.Behind.{behind-on}
 use Rattle.card_cli.proofs.Taking.{counts-at, HasTaken, HasTaken-nothing, HasTaken-more, at-done, ends-read_fault, ends-done, ends-last, ends-halted, ends-too_long}
 use Rattle.card_cli.proofs.input.answer_input.Given as given
 use Rattle.card_cli.proofs.input.answer_input.Goals.{After-answer_last, After-take_octets}

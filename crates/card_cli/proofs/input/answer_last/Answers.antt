@@ -1,11 +1,10 @@
 -- The line that has begun is answered, where it has an octet.
 use Rattle.std.proofs.Common.{List, ℕ, Option, refl, inl, sym, ◌∙◌}
+use Rattle.card.specs.GivenMoments.{behind-same, throughout-same}
 use Rattle.card_cli.specs.Line.{line_octets}
 use Rattle.card_cli.specs.Moments.{IsAtEnd}
 use Rattle.card_cli.specs.RunState.{RunState}
-use Rattle.card_cli.proofs.Behind.{behind-same}
 use Rattle.card_cli.proofs.Feeding.{last-text, last-at, last-answered}
-use Rattle.card_cli.proofs.Moving.{throughout-same}
 use Rattle.card_cli.proofs.Stopping.{last-fails, last-moments}
 use Rattle.card_cli.proofs.input.answer_last.Given as given
 use Rattle.card_cli.proofs.input.answer_last.Goals as goal

@@ -2,8 +2,9 @@
 use Rattle.std.proofs.Common.{ℕ, List, refl, rules}
 use Rattle.eeprom.specs.Image.{overwrite}
 use Rattle.card.specs.Card.{fresh_card}
+use Rattle.card.specs.GivenMoments.{behind-same}
 use Rattle.card_cli.specs.Behind.{run_cells}
-use Rattle.card_cli.proofs.Behind.{behind-same, behind-new, cells-new, cells-there}
+use Rattle.card_cli.proofs.Behind.{behind-new, cells-new, cells-there}
 use Rattle.card_cli.proofs.Preparing.{begins-new, began-new, begins-there, leaves-there}
 use Rattle.card_cli.proofs.opening.prepare.Goals as goal
 

@@ -15,6 +15,7 @@ use Rattle.card_cli.specs.Beginning.{IsOpenTo, BeginsWith, Begins, LacksCard, Le
 use Rattle.card_cli.specs.Checking.{Says}
 use Rattle.card_cli.specs.Ends.{AllFaults, EndsBy}
 use Rattle.card_cli.specs.Extent.{RunsInput}
+use Rattle.card_cli.specs.Selecting.{TermLinesSelectShown}
 use Rattle.card_cli.specs.Showing.{LinesReadShown}
 use Rattle.card_cli.specs.Loading.{LoadsTo}
 use Rattle.card_cli.specs.Migrating.{MigratesTo}
@@ -27,6 +28,7 @@ use Rattle.card_cli.proofs.CheckedCards.{Checks-opened, Checks-unopened}
 use Rattle.card_cli.proofs.Finishing.{Lines-unopened, Lines-opened, never-tells, same_faults, valid-beginning}
 use Rattle.card_cli.proofs.LoadedCards.{Loads-opened, Loads-unopened}
 use Rattle.card_cli.proofs.LongerRows.{open-at, open-told, Migrates-opened, Migrates-unopened}
+use Rattle.card_cli.proofs.Selecting.{term-lines-select-shown}
 use Rattle.card_cli.proofs.Showing.{lines-read-shown}
 use Rattle.card_cli.proofs.run.run_card.Given as given
 use Rattle.card_cli.proofs.run.run_card.Goals as goal
@@ -309,6 +311,27 @@ returns-in-New-clause-shown g c = shown g (goal.at.returns-in-New-clause-shown g
 
 pub returns-in-Term-clause-shown : goal.returns-in-Term-clause-shown
 returns-in-Term-clause-shown g c = shown g (goal.at.returns-in-Term-clause-shown g c).After-open_card
+
+selected : (chip : Chip) (db : Database) → IsOpenTo chip db → TermLinesSelectShown (opened db)
+selected chip db opens = term-lines-select-shown db opens.2.valid
+
+pub returns-in-Err-clause-selected : goal.returns-in-Err-clause-selected
+returns-in-Err-clause-selected g c = λ db asked opens. selected (g.B.Eeprom.chip c.args.bench.now) db opens
+
+pub returns-in-Migrate-clause-selected : goal.returns-in-Migrate-clause-selected
+returns-in-Migrate-clause-selected g c = λ db asked opens. selected (g.B.Eeprom.chip c.args.bench.now) db opens
+
+pub returns-in-Check-clause-selected : goal.returns-in-Check-clause-selected
+returns-in-Check-clause-selected g c = λ db asked opens. selected (g.B.Eeprom.chip c.args.bench.now) db opens
+
+pub returns-in-Load-clause-selected : goal.returns-in-Load-clause-selected
+returns-in-Load-clause-selected g c = λ db asked opens. selected (g.B.Eeprom.chip c.args.bench.now) db opens
+
+pub returns-in-New-clause-selected : goal.returns-in-New-clause-selected
+returns-in-New-clause-selected g c = λ db asked opens. selected (g.B.Eeprom.chip c.args.bench.now) db opens
+
+pub returns-in-Term-clause-selected : goal.returns-in-Term-clause-selected
+returns-in-Term-clause-selected g c = λ db asked opens. selected (g.B.Eeprom.chip c.args.bench.now) db opens
 
 -- What lies behind the image.
 

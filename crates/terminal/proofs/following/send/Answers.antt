@@ -10,7 +10,7 @@ returns-in_err-ask-clause-moments g c = λ m at.
 pub returns-clause-goes : goal.returns-clause-goes
 returns-clause-goes g c = λ m at.
     sent-goes g.L.CardLink.is_at g.L.Outlet.given g.L.CardLink.mark g.L.Outlet.sink_faults m c.args.plan.now c.next.new.self c.args.command.now c.next.result c.ask.new.reply c.args.desk.now c.ask.new.desk
-    (c.in_ok-ask.ensures.answer m at) c.ask.ensures.stays c.next.ensures.next
+    c.requires.sendable (c.in_ok-ask.ensures.answer m at) c.ask.ensures.stays c.next.ensures.next
 
 pub returns-clause-moments : goal.returns-clause-moments
 returns-clause-moments g c = λ m at.

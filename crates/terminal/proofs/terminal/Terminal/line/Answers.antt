@@ -1,47 +1,52 @@
 use Rattle.std.proofs.Common.{[], Result, sym, subst, ◌∙◌}
 use Rattle.card_link.specs.Link.{LeavesOpen}
-use Rattle.scql_model.specs.Lines.{Effect}
+use Rattle.scql_model.specs.Lines.{Effect, line_effect}
+use Rattle.scql_model.specs.Machine.{Machine}
 use Rattle.script.specs.declared.fault.ScriptFault.{ScriptFault}
 use Rattle.script.specs.declared.statement.Statement.{Statement}
 use Rattle.script.specs.Line.{statement_of}
-use Rattle.planner.specs.StatementLines.{TerminalState, read_effect}
+use Rattle.planner.specs.StatementLines.{TerminalState, read_effect, statement_lines}
 use Rattle.planner.specs.Text.{fault_text}
-use Rattle.terminal.specs.Holding.{terminal_at}
+use Rattle.terminal.specs.Holding.{Holding, Knows, terminal_at}
 use Rattle.terminal.specs.Line.{EndsSo, IsMoment, refuses, rows_in}
 use Rattle.terminal.proofs.Sent.{leaves-all}
 use Rattle.terminal.proofs.Ended.{unread-ends, line-is, last-moment}
 use Rattle.terminal.proofs.terminal.Terminal.line.Goals as goal
 
 pub returns-in-Ok-clause-ends : goal.returns-in-Ok-clause-ends
-returns-in-Ok-clause-ends g c = λ m at knows.
-    let state = terminal_at m c.args.self.now.channel in
+returns-in-Ok-clause-ends g c = rw (← c.self.view_is) (λ m at knows.
+    let state = terminal_at m c.self.inside.channels.channel in
     subst (λ (does : Effect TerminalState). EndsSo g.L.CardLink.is_at g.L.Outlet.given m does (rows_in state (statement_of c.args.line.now)) (refuses state (statement_of c.args.line.now)) c.run.new.self
     c.run.result c.args.link.now c.run.new.link) (sym (line-is state c.args.line.now c.requires.short))
     (subst (λ (r : Result Statement ScriptFault). EndsSo g.L.CardLink.is_at g.L.Outlet.given m (read_effect state r) (rows_in state r) (refuses state r) c.run.new.self
-    c.run.result c.args.link.now c.run.new.link) c.in-Ok.ensures.statement (c.run.ensures.ends m at knows))
+    c.run.result c.args.link.now c.run.new.link) (sym c.in-Ok.ensures.statement) (c.run.ensures.ends m at knows)))
 
 pub returns-in-Ok-clause-moments : goal.returns-in-Ok-clause-moments
-returns-in-Ok-clause-moments g c = λ m at knows.
-    let state = terminal_at m c.args.self.now.channel in
+returns-in-Ok-clause-moments g c =
+    subst (λ (holding : Holding). (m : Machine) → g.L.CardLink.is_at c.args.link.now m → Knows holding.transaction m
+    → LeavesOpen (IsMoment (g.L.CardLink.mark c.args.link.now) m.committed (line_effect statement_lines (terminal_at m holding.channel) c.args.line.now).commits) (g.L.CardLink.chip c.args.link.now) (g.L.CardLink.chip c.run.new.link)) c.self.view_is (λ m at knows.
+    let state = terminal_at m c.self.inside.channels.channel in
     subst (λ (does : Effect TerminalState). LeavesOpen (IsMoment (g.L.CardLink.mark c.args.link.now) m.committed does.commits) (g.L.CardLink.chip c.args.link.now) (g.L.CardLink.chip c.run.new.link)) (sym (line-is state c.args.line.now c.requires.short))
     (subst (λ (r : Result Statement ScriptFault). LeavesOpen (IsMoment (g.L.CardLink.mark c.args.link.now) m.committed (read_effect state r).commits) (g.L.CardLink.chip c.args.link.now) (g.L.CardLink.chip c.run.new.link))
-    c.in-Ok.ensures.statement (c.run.ensures.moments m at knows))
+    (sym c.in-Ok.ensures.statement) (c.run.ensures.moments m at knows)))
 
 pub returns-in-Err-clause-ends : goal.returns-in-Err-clause-ends
-returns-in-Err-clause-ends g c = λ m at knows.
-    let state = terminal_at m c.args.self.now.channel in
-    subst (λ (does : Effect TerminalState). EndsSo g.L.CardLink.is_at g.L.Outlet.given m does (rows_in state (statement_of c.args.line.now)) (refuses state (statement_of c.args.line.now)) c.args.self.now
+returns-in-Err-clause-ends g c = rw (← c.self.view_is) (λ m at knows.
+    let state = terminal_at m c.self.inside.channels.channel in
+    subst (λ (does : Effect TerminalState). EndsSo g.L.CardLink.is_at g.L.Outlet.given m does (rows_in state (statement_of c.args.line.now)) (refuses state (statement_of c.args.line.now)) c.self.inside.channels
     c.close.result c.args.link.now c.close.new.link) (sym (line-is state c.args.line.now c.requires.short))
-    (subst (λ (r : Result Statement ScriptFault). EndsSo g.L.CardLink.is_at g.L.Outlet.given m (read_effect state r) (rows_in state r) (refuses state r) c.args.self.now
-    c.close.result c.args.link.now c.close.new.link) c.in-Err.ensures.statement
-    (unread-ends g.L.CardLink.is_at g.L.Outlet.given g.L.CardLink.is_live g.L.CardLink.faults g.L.Outlet.sink_faults m c.args.self.now (fault_text c.in-Err.fault) c.deref.result.now c.close.result c.args.link.now c.close.new.link
-    (c.deref.ensures.0 ∙ c.fault_text.ensures) knows c.close.ensures.closes (c.close.ensures.gives.machine m at)))
+    (subst (λ (r : Result Statement ScriptFault). EndsSo g.L.CardLink.is_at g.L.Outlet.given m (read_effect state r) (rows_in state r) (refuses state r) c.self.inside.channels
+    c.close.result c.args.link.now c.close.new.link) (sym c.in-Err.ensures.fault)
+    (unread-ends g.L.CardLink.is_at g.L.Outlet.given g.L.CardLink.is_live g.L.CardLink.faults g.L.Outlet.sink_faults m c.self.inside.channels (fault_text c.in-Err.fault) c.deref.result.now c.close.result c.args.link.now c.close.new.link
+    (c.deref.ensures.0 ∙ c.fault_text.ensures) knows c.close.ensures.closes (c.close.ensures.gives.machine m at))))
 
 pub returns-in-Err-clause-moments : goal.returns-in-Err-clause-moments
-returns-in-Err-clause-moments g c = λ m at knows.
-    let state = terminal_at m c.args.self.now.channel in
+returns-in-Err-clause-moments g c =
+    subst (λ (holding : Holding). (m : Machine) → g.L.CardLink.is_at c.args.link.now m → Knows holding.transaction m
+    → LeavesOpen (IsMoment (g.L.CardLink.mark c.args.link.now) m.committed (line_effect statement_lines (terminal_at m holding.channel) c.args.line.now).commits) (g.L.CardLink.chip c.args.link.now) (g.L.CardLink.chip c.close.new.link)) c.self.view_is (λ m at knows.
+    let state = terminal_at m c.self.inside.channels.channel in
     subst (λ (does : Effect TerminalState). LeavesOpen (IsMoment (g.L.CardLink.mark c.args.link.now) m.committed does.commits) (g.L.CardLink.chip c.args.link.now) (g.L.CardLink.chip c.close.new.link)) (sym (line-is state c.args.line.now c.requires.short))
     (subst (λ (r : Result Statement ScriptFault). LeavesOpen (IsMoment (g.L.CardLink.mark c.args.link.now) m.committed (read_effect state r).commits) (g.L.CardLink.chip c.args.link.now) (g.L.CardLink.chip c.close.new.link))
-    c.in-Err.ensures.statement
+    (sym c.in-Err.ensures.fault)
     (leaves-all g.L.CardLink.chip _ _ c.args.link.now c.close.new.link
-    (λ n left holds. last-moment (g.L.CardLink.mark c.args.link.now) n m.committed [] left holds.above holds.same) (c.close.ensures.gives.moments m at)))
+    (λ n left holds. last-moment (g.L.CardLink.mark c.args.link.now) n m.committed [] left holds.above holds.same) (c.close.ensures.gives.moments m at))))

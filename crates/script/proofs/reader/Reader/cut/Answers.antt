@@ -1,0 +1,10 @@
+use Rattle.std.proofs.Common.{sym, ◌∙◌, ap}
+use Rattle.script.specs.Reading.{behind, octets_of}
+use Rattle.script.proofs.Cutting.{behind-tokens, octets_of-tokens}
+use Rattle.script.proofs.reader.Reader.cut.Goals as goal
+
+pub returns-clause-token : goal.returns-clause-token
+returns-clause-token c = rw (c.split_at.ensures.front, c.token_len.ensures.value, c.after_blanks-line.ensures) (sym (octets_of-tokens c.self.inside.rest.now) ∙ ap octets_of c.self.view_is)
+
+pub returns-clause-rest : goal.returns-clause-rest
+returns-clause-rest c = rw (c.split_at.ensures.back, c.token_len.ensures.value, c.after_blanks-line.ensures) (sym (behind-tokens c.self.inside.rest.now) ∙ ap behind c.self.view_is)

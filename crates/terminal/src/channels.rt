@@ -1,0 +1,233 @@
+// The channels of a terminal, and what becomes of them as a plan is carried out.
+ghost use Rattle.std.specs.Prelude.{◌≡◌, ◌≤◌, ◌==◌, ◌∷◌, length, IsTrue, IfOk, IfErr, OnOk, OnErr, false, None, Ok, unwrap_or, option_copied};
+ghost use Rattle.script.specs.declared.statement.Statement.TheVariants.{Blank};
+ghost use Rattle.std.specs.Option.{option_map_or};
+ghost use Rattle.scql_model.specs.Machine.{Machine};
+ghost use Rattle.scql_model.specs.Lines.{longest_line};
+ghost use Rattle.scql_model.specs.Operations.{operations};
+ghost use Rattle.script.specs.Commands.{CanAlwaysBeSent, CanBeSent};
+ghost use Rattle.script.specs.Line.{statement_of};
+ghost use Rattle.card_link.specs.Link.{Gives, IsOneOf, LeavesOpen};
+ghost use Rattle.planner.specs.Held as held;
+ghost use Rattle.planner.specs.Meaning.{meaning};
+ghost use Rattle.planner.specs.Readings.{IsSelect};
+ghost use Rattle.planner.specs.Running.{shown};
+ghost use Rattle.planner.specs.StatementLines.{read_effect};
+ghost use Rattle.terminal.specs.Going.{FailsSo, IsInRun, IsOver};
+ghost use Rattle.terminal.specs.Holding as holding;
+ghost use Rattle.terminal.specs.Holding.{IsStarted, Knows, terminal_at};
+ghost use Rattle.terminal.specs.Line as line_specs;
+ghost use Rattle.terminal.specs.Line.{ClosesSo, EndsBy, EndsSo, IsMoment, refuses, rows_in};
+ghost use Rattle.terminal.specs.Quiet.{EndsQuietly, EndsQuietlyBy, closing_in};
+ghost use Rattle.terminal.specs.Stays.{Causes, Works};
+
+use crate::failure::Failure;
+use crate::following::{Room, carry_out, give};
+use crate::printing::closing_text;
+use crate::quiet_desk::QuietDesk;
+use crate::{LineEnd, QuietEnd};
+use card_link::{CardLink, Desk};
+use planner::{Closing, Plan};
+use scql_base::Operation;
+use script::{ScriptFault, Statement};
+use std::marker::Model;
+
+/// The channel of a terminal's statements, and the one that has the open transaction.
+#[derive(Drop)]
+pub(crate) struct Channels {
+    channel: u8,
+    transaction: Option<u8>,
+}
+
+impl Model for Channels {
+    ghost use Rattle.std.specs.Prelude.{◌≤◌};
+    ghost use Rattle.terminal.specs.Holding.{Holding};
+
+    ghost Value = { Holding };
+
+    ghost view = { λ c. record { channel = c.channel; transaction = c.transaction } };
+
+    ghost invariant = { λ c. c.channel ≤ 3 };
+}
+
+impl Channels {
+    /// Channel 0, and no transaction.
+    pub fn new() -> Channels
+        ensures { result ≡ record { channel = 0; transaction = None } }
+    {
+        Channels {
+            channel: 0,
+            transaction: None,
+        }
+    }
+
+    /// Reads the statement of a line into its plan.
+    pub fn read(&self, line: &[u8], plan: &mut Plan) -> Result<(), ScriptFault>
+        requires { length line.now ≤ longest_line }
+        ensures statement { OnOk result (statement_of line.now ≡ Ok plan.new.statement) }
+        ensures started { OnOk result (IsStarted self.now plan.new) }
+        ensures sendable { OnOk result (CanAlwaysBeSent plan.new.statement) }
+        ensures fault { IfErr result (λ fault. statement_of line.now ≡ Err fault) }
+    {
+        plan.read(
+            line,
+            self.channel,
+            is_inside(self.transaction, self.channel),
+        )
+    }
+
+    /// Carries out the plan of a statement.
+    pub(crate) fn run<L: Desk>(&mut self, link: &mut L, plan: &mut Plan, room: &mut Room) -> LineEnd
+        requires live { IsTrue (L.is_live link.old) }
+        requires sendable { CanAlwaysBeSent plan.old.statement }
+        requires started { IsStarted self.old plan.old }
+        ensures ends { (m : Machine) → L.is_at link.old m → Knows self.old.transaction m
+            → EndsSo L.is_at L.given m (read_effect (terminal_at m self.old.channel) (Ok plan.old.statement)) (rows_in (terminal_at m self.old.channel) (Ok plan.old.statement))
+            (refuses (terminal_at m self.old.channel) (Ok plan.old.statement)) self.new result link.old link.new }
+        ensures ends_by { EndsBy L.is_live L.faults L.sink_faults result link.old link.new }
+        ensures goes_on { L.goes_on link.old link.new }
+        ensures moments { (m : Machine) → L.is_at link.old m → Knows self.old.transaction m
+            → LeavesOpen (IsMoment (L.mark link.old) m.committed (read_effect (terminal_at m self.old.channel) (Ok plan.old.statement)).commits) (L.chip link.old) (L.chip link.new) }
+    {
+        match self.carry(link, plan, room) {
+            Ok(closing) => close(link, &closing_text(closing), is_refusal(closing)),
+            Err(Failure::Card) => LineEnd::Mute,
+            Err(Failure::Outlet) => LineEnd::SinkFault,
+        }
+    }
+
+    // Carries out the plan of a statement, but for its closing line.
+    fn carry<L: Desk>(
+        &mut self,
+        desk: &mut L,
+        plan: &mut Plan,
+        room: &mut Room,
+    ) -> Result<Closing, Failure>
+        requires live { IsTrue (L.is_live desk.old) }
+        requires sendable { CanAlwaysBeSent plan.old.statement }
+        requires started { IsStarted self.old plan.old }
+        ensures sent { CanBeSent self.old.channel plan.old.statement }
+        ensures holds { IfOk result (λ closing. self.new ≡ holding.holding_after plan.old.statement closing self.old) }
+        ensures stays { OnErr result (self.new ≡ self.old) }
+        ensures over { (m : Machine) → L.is_at desk.old m → Knows self.old.transaction m
+            → IfOk result (λ closing. IsOver L.is_at L.given L.mark m (shown (meaning operations m self.old.channel plan.old.statement)) closing desk.old desk.new) }
+        ensures moments { (m : Machine) → L.is_at desk.old m → Knows self.old.transaction m
+            → LeavesOpen (IsInRun (L.mark desk.old) m (shown (meaning operations m self.old.channel plan.old.statement))) (L.chip desk.old) (L.chip desk.new) }
+        ensures fails { (m : Machine) → L.is_at desk.old m → Knows self.old.transaction m
+            → IfErr result (λ failure. FailsSo L.is_at L.given m (IsSelect plan.old.statement) (shown (meaning operations m self.old.channel plan.old.statement)) failure desk.old desk.new) }
+        ensures causes { IfErr result (λ failure. Causes L.is_live L.faults L.sink_faults failure desk.old desk.new) }
+        ensures works { OnOk result (Works L.is_live L.faults L.sink_faults desk.old desk.new) }
+        ensures goes_on { L.goes_on desk.old desk.new }
+    {
+        let channel = channel_after(plan.statement(), self.channel);
+        let transaction = transaction_after(plan.statement(), self.channel, self.transaction);
+        match carry_out(desk, plan, room) {
+            Ok(closing) => {
+                self.go_on(channel, transaction, closing);
+                Ok(closing)
+            }
+            Err(failure) => Err(failure),
+        }
+    }
+
+    /// Carries out the plan of a statement, and prints nothing.
+    pub(crate) fn run_quietly<L: CardLink>(
+        &mut self,
+        link: &mut L,
+        plan: &mut Plan,
+        room: &mut Room,
+    ) -> QuietEnd
+        requires live { IsTrue (L.is_live link.old) }
+        requires sendable { CanAlwaysBeSent plan.old.statement }
+        requires started { IsStarted self.old plan.old }
+        ensures ends { (m : Machine) → L.is_at link.old m → Knows self.old.transaction m
+            → EndsQuietly L.is_at (read_effect (terminal_at m self.old.channel) (Ok plan.old.statement)) (closing_in (terminal_at m self.old.channel) (Ok plan.old.statement)) self.new result link.new }
+        ensures ends_by { EndsQuietlyBy L.is_live L.faults result link.old link.new }
+        ensures goes_on { L.goes_on link.old link.new }
+        ensures mark { L.mark link.new ≡ L.mark link.old }
+        ensures moments { (m : Machine) → L.is_at link.old m → Knows self.old.transaction m
+            → LeavesOpen (IsOneOf (L.mark link.old) (m.committed ∷ (read_effect (terminal_at m self.old.channel) (Ok plan.old.statement)).commits)) (L.chip link.old) (L.chip link.new) }
+    {
+        let mut desk = QuietDesk { link };
+        match self.carry(&mut desk, plan, room) {
+            Ok(closing) => QuietEnd::Closed { closing },
+            Err(_) => QuietEnd::Mute,
+        }
+    }
+
+    // Goes on with a channel, and where a statement was done with what it made of the open transaction.
+    fn go_on(&mut self, channel: u8, transaction: Option<u8>, closing: Closing)
+        requires { channel ≤ 3 }
+        ensures channel { self.new.channel ≡ channel }
+        ensures transaction { self.new.transaction ≡ held.held_when closing transaction self.old.transaction }
+    {
+        self.channel = channel;
+        if closing == Closing::Fine {
+            self.transaction = transaction;
+        }
+    }
+}
+
+/// Prints a closing line, if there is one.
+pub(crate) fn close<L: Desk>(link: &mut L, text: &[u8], refused: bool) -> LineEnd
+    ensures closes { ClosesSo L.given L.is_live L.faults L.sink_faults text.now refused result link.old link.new }
+    ensures gives { Gives L.is_at L.is_live L.faults L.mark L.chip link.old link.new }
+    ensures goes_on { L.goes_on link.old link.new }
+{
+    if !text.is_empty() && give(link, text).is_err() {
+        LineEnd::SinkFault
+    } else if refused {
+        LineEnd::Refused
+    } else {
+        LineEnd::Answered
+    }
+}
+
+fn is_refusal(closing: Closing) -> bool
+    ensures { result ≡ line_specs.is_refusal closing }
+{
+    matches!(closing, Closing::Refused { .. })
+}
+
+// Whether a channel has the open transaction.
+fn is_inside(transaction: Option<u8>, channel: u8) -> bool
+    ensures { result ≡ option_map_or (λ own. own == channel) transaction false }
+{
+    match transaction {
+        Some(held) => held == channel,
+        None => false,
+    }
+}
+
+fn channel_after(statement: Option<&Statement>, channel: u8) -> u8
+    ensures { result ≡ held.channel_after (unwrap_or (option_copied statement.entry) Blank) channel }
+{
+    match statement {
+        Some(Statement::UseNumber { number }) => *number,
+        Some(Statement::Reset) => 0,
+        _ => channel,
+    }
+}
+
+fn transaction_after(
+    statement: Option<&Statement>,
+    channel: u8,
+    transaction: Option<u8>,
+) -> Option<u8>
+    ensures { result ≡ held.held_after (unwrap_or (option_copied statement.entry) Blank) channel transaction }
+{
+    match statement {
+        Some(
+            Statement::Single {
+                operation: Operation::Begin,
+            },
+        ) => Some(channel),
+        Some(
+            Statement::Single {
+                operation: Operation::Commit | Operation::Rollback,
+            }
+            | Statement::Reset,
+        ) => None,
+        _ => transaction,
+    }
+}
