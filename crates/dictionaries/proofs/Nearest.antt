@@ -16,6 +16,7 @@ use Rattle.catalog_codec.specs.Catalog.{grant_kind, object_kind}
 use Rattle.record_table.specs.Listed.{cells_marked, in_slots, kind_cells}
 use Rattle.record_table.specs.Making.{IsHeld}
 use Rattle.record_table.proofs.ListedSearches.{nearest-listed}
+use Rattle.record_table.proofs.Scan.{cells-fewer}
 use Rattle.dictionaries.specs.Told.{tells_of_grant}
 
 -- the nearest of all grants that are told is that of one so far and those of the slots from one on
@@ -52,6 +53,13 @@ reads-next (Some slots) slot a b c d so_far here object = λ after is.
     let h = here o.0 o.1 in
     let s = so_far h.0 h.1 in
     (s.0, s.1, rw add-one (omega (arith, o.2, h.2, s.2, cells-from slots slot)))
+
+-- slots are passed over
+pub reads-over : (slots : Option Slots) (from to : ℕ) (a b : Option ℕ) → from ≤ to → IfSome slots (λ slots. Becomes (ReadsGrants from slots) a b) → IfSome slots (λ slots. Becomes (ReadsGrants to slots) a b)
+reads-over None from to a b onward so_far = tt
+reads-over (Some slots) from to a b onward so_far = λ after is.
+    let s = so_far after is in
+    (s.0, s.1, omega (arith, s.2, cells-fewer grant_kind slots from to onward, mul-le-mul_left (cell_size * cells_marked object_kind slots) onward))
 
 pub reads-end : (slots : Option Slots) (slot cells : ℕ) (a b : Option ℕ) → slot ≤ cells → IfSome slots (λ slots. Becomes (ReadsGrants slot slots) a b)
     → IfSome slots (λ slots. Becomes (RisesAtMost (cell_size * (cells_marked grant_kind slots + cells * cells_marked object_kind slots))) a b)

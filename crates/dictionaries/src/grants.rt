@@ -23,7 +23,7 @@ use crate::rows::grant_row;
 use crate::telling::TellsOf;
 use eeprom::{Eeprom, EepromFault};
 use record_store::{Found, RecordOctets, Side, Store};
-use record_table::read_entry;
+use record_table::{next_slot, read_entry};
 use scql_base::{Grant, Name, Object, Row};
 
 /// The grant of the least stamp above a stamp of which a dictionary tells: its stamp, and its row.
@@ -86,9 +86,12 @@ fn find_next<B: Eeprom>(
 {
     let mut octets = RecordOctets::new();
     let mut nearest: Option<Grant> = None;
-    for slot in 0..store.slots_in_use() {
+    let end = store.slots_in_use();
+    let mut slot = next_slot::<Grant>(store, 0);
+    while slot < end {
         let grant = read_entry::<Grant, B>(store, bench, side, slot, &mut octets)?;
         nearest = nearest_told(store, bench, side, owner, stamp, nearest, grant)?;
+        slot = next_slot::<Grant>(store, slot + 1);
     }
     Ok(nearest)
 }

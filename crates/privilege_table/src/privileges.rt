@@ -13,7 +13,7 @@ ghost use Rattle.privilege_table.specs.Granted.{AreHeld, gives_bit};
 
 use eeprom::{Eeprom, EepromFault};
 use record_store::{RecordOctets, Side, Store};
-use record_table::read_entry;
+use record_table::{next_slot, read_entry};
 use scql_base::Grant;
 
 /// The bits of the privileges on an object that grants give to a user or to PUBLIC.
@@ -33,10 +33,13 @@ pub fn held<B: Eeprom>(
 {
     let mut octets = RecordOctets::new();
     let mut bits = 0;
-    for slot in 0..store.slots_in_use() {
+    let end = store.slots_in_use();
+    let mut slot = next_slot::<Grant>(store, 0);
+    while slot < end {
         if let Some(grant) = read_entry(store, bench, side, slot, &mut octets)? {
             bits |= bits_given(&grant, object, grantee);
         }
+        slot = next_slot::<Grant>(store, slot + 1);
     }
     Ok(bits)
 }

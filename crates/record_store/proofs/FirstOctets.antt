@@ -19,7 +19,7 @@ use Rattle.record_store.proofs.Sides.{same-or-other, among-all, in-chains, chain
 use Rattle.record_store.proofs.Weights.{side-chains, slots-chains}
 
 -- an octet that is kept for another cell
-kept-other : (octets : List ℕ) (cell x other : ℕ) → other ≢ cell → kept_octet (set octets cell x) other ≡ kept_octet octets other
+pub kept-other : (octets : List ℕ) (cell x other : ℕ) → other ≢ cell → kept_octet (set octets cell x) other ≡ kept_octet octets other
 kept-other octets cell x other apart = ap (λ (octet : ℕ). if other == no_cell then None else Some octet) (get_or-set_other octets cell other x 0 apart)
 
 kept-here : (octets : List ℕ) (cell x : ℕ) → cell < length octets → cell < 65535 → kept_octet (set octets cell x) cell ≡ Some x

@@ -15,7 +15,7 @@ use Rattle.record_store.proofs.Records.{contents-there, record-nowhere}
 use Rattle.record_store.proofs.Sides.{same-or-other}
 use Rattle.record_store.proofs.Weights.{some-slots}
 
-inside-or-past : (a b : ℕ) → (a < b) ⊎ (b ≤ a)
+pub inside-or-past : (a b : ℕ) → (a < b) ⊎ (b ≤ a)
 inside-or-past zero zero = inr (omega arith)
 inside-or-past zero (suc b) = inl (omega arith)
 inside-or-past (suc a) zero = inr (omega arith)

@@ -13,6 +13,7 @@ pub mod HeaderRead
 pub mod InUse
 pub mod Keeping
 pub mod OpeningSlots
+pub mod RunsOfRows
 pub mod Putting
 pub mod Records
 pub mod Replaced

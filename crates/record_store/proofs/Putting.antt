@@ -147,7 +147,7 @@ pub record PutsOctet (held : Held) (first : ℕ) (octets kept : List ℕ) : Type
   pub inside : first < 2 * held.chains.cells
   pub kept_is : kept ≡ set held.first_octets first (slice_index octets 0)
 
-long-chain : (links : List ℕ) (first : ℕ) (chain : List ℕ) → first < 65535 → AreLinked (link_in links) (length links) first chain → 1 ≤ length chain
+pub long-chain : (links : List ℕ) (first : ℕ) (chain : List ℕ) → first < 65535 → AreLinked (link_in links) (length links) first chain → 1 ≤ length chain
 long-chain links first [] some linked = absurd (omega (arith, some, linked))
 long-chain links first (cell ∷ chain) some linked = omega arith
 

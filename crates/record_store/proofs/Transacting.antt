@@ -16,6 +16,7 @@ use Rattle.record_store.specs.Weighed.{walk, IsWeighed}
 use Rattle.record_store.specs.declared.side.Side.TheVariants.{Working}
 use Rattle.record_store.proofs.InUse.{in_use-begun}
 use Rattle.record_store.proofs.OpeningSlots.{finished}
+use Rattle.record_store.proofs.RunsOfRows.{passed-begun}
 use Rattle.record_store.proofs.Sorting.{among-sorted, none-sorted}
 use Rattle.record_store.proofs.Touching.{none-touched}
 
@@ -41,8 +42,8 @@ begun-stands held image stands = record {
 pub touched-begun : (held : Held) (touched : TouchedSlots) (room : ℕ) → IsTouched held touched room → IsTouched (record held { begun = true }) touched room
 touched-begun held touched room t = record { size = t.size; others = t.others; idle = λ wrong. absurd (true≢false wrong); room_is = t.room_is }
 
-pub touched-finished : (held : HeldSoFar) (working : List ℕ) (touched : TouchedSlots) (room : ℕ) → working ≡ held.firsts → HasMemory held.chains.cells touched room → IsTouched (finished held working) touched room
-touched-finished held working touched room same m = record {
+pub touched-finished : (held : HeldSoFar) (working : List ℕ) (touched : TouchedSlots) (room : ℕ) → working ≡ held.firsts → (next : List ℕ) → HasMemory held.chains.cells touched room next → IsTouched (finished held working) touched room
+touched-finished held working touched room same next m = record {
   size = ap (λ (touched : TouchedSlots). touched.size) m.none;
   others = λ slot none. ap (λ (firsts : List ℕ). slice_index firsts slot) same;
   idle = λ _. ap (λ (touched : TouchedSlots). touched.slots) m.none;
@@ -146,11 +147,12 @@ begun-weighed held committed working w idle = record {
   working_is = w.working_is ∙ ap (λ (cells : List ℕ). walk held.chains.links cells) (let same : firsts held Working ≡ held.committed = rw idle refl in same);
 }
 
-pub begun-kept : (held : Held) (committed working count : ℕ) (touched : TouchedSlots) (room : ℕ) → IsInMemory held committed working count touched room → held.begun ≡ false → IsInMemory (record held { begun = true }) committed working count touched room
-begun-kept held committed working count touched room k idle =
+pub begun-kept : (held : Held) (committed working count : ℕ) (touched : TouchedSlots) (room : ℕ) (next : List ℕ) → IsInMemory held committed working count touched room next → held.begun ≡ false → IsInMemory (record held { begun = true }) committed working count touched room next
+begun-kept held committed working count touched room next k idle =
     let same : record held { begun = true } ≡ begun_from held = begun-view held held touched room refl k.weighed.sound k.transaction idle in
     record {
       weighed = subst (λ (held : Held). IsWeighed held committed working) (sym same) (begun-weighed held committed working k.weighed idle);
       in_use = in_use-begun held count k.in_use;
+      passed = passed-begun held next k.passed;
       transaction = touched-begun held touched room k.transaction;
     }

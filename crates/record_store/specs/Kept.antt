@@ -2,6 +2,7 @@
 use Rattle.std.specs.Prelude.{◌≡◌, ℕ, ◌<◌, ◌≤◌, false, List, [], length, slice_index}
 use Rattle.eeprom.specs.StoreOf.{no_cell}
 use Rattle.record_store.specs.Held.{Held}
+use Rattle.record_store.specs.RowRuns.{ArePassed}
 use Rattle.record_store.specs.Touched.{TouchedSlots, none_touched, SameOutside}
 use Rattle.record_store.specs.Weighed.{IsWeighed}
 
@@ -15,10 +16,11 @@ pub record AreInUse (held : Held) (count : ℕ) : Type 0 where
   pub committed : AreEmptyBehind count held.committed
   pub working : AreEmptyBehind count held.working
 
--- memory for a transaction over so many slots, of which none is touched
-pub record HasMemory (cells : ℕ) (touched : TouchedSlots) (room : ℕ) : Type 0 where
+-- memory for searches and for a transaction over so many slots, of which none is touched
+pub record HasMemory (cells : ℕ) (touched : TouchedSlots) (room : ℕ) (ends : List ℕ) : Type 0 where
   pub none : touched ≡ none_touched cells
   pub room_is : cells ≤ room
+  pub searched : length ends ≡ cells
 
 -- the working chains differ from the committed ones in touched slots alone, where no transaction is begun in none, and there is room for
 -- an entry of each slot
@@ -28,8 +30,10 @@ pub record IsTouched (held : Held) (touched : TouchedSlots) (room : ℕ) : Type 
   pub idle : held.begun ≡ false → touched.slots ≡ []
   pub room_is : held.chains.cells ≤ room
 
--- how many cells the committed records and the working ones have, how many slots are in use, and which ones a transaction touched
-pub record IsInMemory (held : Held) (committed_weight working_weight slots_in_use : ℕ) (touched : TouchedSlots) (room : ℕ) : Type 0 where
+-- how many cells the committed records and the working ones have, how many slots are in use, which ones a search passes over, and which ones
+-- a transaction touched
+pub record IsInMemory (held : Held) (committed_weight working_weight slots_in_use : ℕ) (touched : TouchedSlots) (room : ℕ) (ends : List ℕ) : Type 0 where
   pub weighed : IsWeighed held committed_weight working_weight
   pub in_use : AreInUse held slots_in_use
+  pub passed : ArePassed held ends
   pub transaction : IsTouched held touched room

@@ -1,3 +1,4 @@
+pub mod RowRuns
 pub mod Appends
 pub mod Faults
 pub mod FreshImage

@@ -9,6 +9,7 @@ mod header;
 mod layout;
 mod opening;
 mod refusal;
+mod row_runs;
 mod side;
 mod slots;
 mod store;

@@ -16,6 +16,7 @@ ghost use Rattle.record_store.specs.Recovery.{Recovers};
 use crate::OpenRefusal;
 use crate::first_octets::keep_octet;
 use crate::header::{Header, read_directory, read_header};
+use crate::row_runs::RowRuns;
 use crate::touched::Touched;
 use cell_store::{CellStore, ClaimRefusal, RecordOctets};
 use eeprom::{Eeprom, NO_CELL};
@@ -36,6 +37,8 @@ pub struct Opening {
     /// The memory of transactions.
     pub(crate) touched: Touched,
     pub(crate) entries: Vec<Entry>,
+    /// The memory of searches.
+    pub(crate) row_runs: RowRuns,
     /// How many slots were claimed, and how many cells their chains have.
     pub(crate) claimed: u16,
     pub(crate) weight: u16,
@@ -51,7 +54,7 @@ impl Model for Opening {
 
     ghost view = { λ opening. record { chains = opening.chains; row_limit = opening.row_limit; firsts = opening.committed.items; claimed = opening.claimed; weight = opening.weight; first_octets = opening.first_octets.items } };
 
-    ghost invariant = { λ opening. (opening.working.items ≡ opening.committed.items) × HasMemory opening.chains.cells opening.touched (vec_capacity opening.entries) × IsSoundSoFar (record { chains = opening.chains; row_limit = opening.row_limit; firsts = opening.committed.items; claimed = opening.claimed; weight = opening.weight; first_octets = opening.first_octets.items }) };
+    ghost invariant = { λ opening. (opening.working.items ≡ opening.committed.items) × HasMemory opening.chains.cells opening.touched (vec_capacity opening.entries) opening.row_runs × IsSoundSoFar (record { chains = opening.chains; row_limit = opening.row_limit; firsts = opening.committed.items; claimed = opening.claimed; weight = opening.weight; first_octets = opening.first_octets.items }) };
 }
 
 impl Opening {
@@ -76,6 +79,7 @@ impl Opening {
         let first_octets = vec![in alloc; 0u8; 2 * header.cells as usize]?;
         let touched = Touched::with_room(alloc, header.cells)?;
         let entries = Vec::with_capacity(alloc, header.cells as usize)?;
+        let row_runs = RowRuns::with_room(alloc, header.cells)?;
         let chains = CellStore::with_room(alloc, header.cells)?;
         Ok(Opening {
             chains,
@@ -85,6 +89,7 @@ impl Opening {
             first_octets,
             touched,
             entries,
+            row_runs,
             claimed: 0,
             weight: 0,
         })
@@ -144,6 +149,7 @@ impl Opening {
             mut first_octets,
             touched,
             entries,
+            row_runs,
             claimed,
             weight,
         } = self;
@@ -162,6 +168,7 @@ impl Opening {
             first_octets,
             touched,
             entries,
+            row_runs,
             claimed: claimed + 1,
             weight,
         })

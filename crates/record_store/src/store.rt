@@ -1,5 +1,5 @@
 // A store of records, of which a directory in memory knows where each begins.
-ghost use Rattle.std.specs.Prelude.{◌≡◌, ◌↔◌, ◌+◌, ◌*◌, ◌≤◌, ◌<◌, ℕ, List, Some, None, false, IsTrue, IsSome, if◌then◌else◌, length, drop, slice_index, is_some, IfSome, IfOk, IsErrOf, OnOk, OnErr};
+ghost use Rattle.std.specs.Prelude.{◌≡◌, ◌↔◌, ◌+◌, ◌*◌, ◌≤◌, ◌<◌, ℕ, List, Some, None, false, true, IsTrue, IsSome, if◌then◌else◌, length, drop, slice_index, is_some, IfSome, IfOk, IsErrOf, OnOk, OnErr};
 ghost use Rattle.eeprom.specs.Chip.{Becomes, RisesBy, RisesAtMost, Keeps};
 ghost use Rattle.eeprom.specs.Fault.{Counts, CountsFaults, each_error};
 ghost use Rattle.eeprom.specs.Frame.{Reads};
@@ -10,6 +10,7 @@ ghost use Rattle.record_store.specs.Opening.{ReadsFront, ReadsStore, StandsSoFar
 ghost use Rattle.record_store.specs.Faults.{is_open_fault, is_put_fault};
 ghost use Rattle.record_store.specs.Recovery.{Recovers};
 ghost use Rattle.eeprom.specs.StoreOf.{weight_of};
+ghost use Rattle.record_store.specs.RowRuns.{is_row_or_none};
 ghost use Rattle.record_store.specs.Put.{IsPut, IsRemoved, IsFull, IsWithin, emptied};
 ghost use Rattle.record_store.specs.Slots.{steps_without};
 ghost use Rattle.cell_store.specs.Marks.{StaysMarked};
@@ -20,6 +21,7 @@ ghost use Rattle.record_store.specs.declared.side.Side.TheVariants.{Committed, W
 
 use crate::entries::take_entries;
 use crate::opening::Opening;
+use crate::row_runs::{RowRuns, take_in_all};
 use crate::slots::{copy_slots, free_replaced, named_or_empty, search_from, slots_in_use};
 use crate::touched::Touched;
 use crate::{OpenRefusal, Side, StoreRefusal};
@@ -46,6 +48,8 @@ pub struct Store {
     slots_in_use: u16,
     /// From where an empty slot is searched.
     next_slot: u16,
+    /// The runs of slots with rows.
+    row_runs: RowRuns,
     /// The slots that a transaction touched: in all others both sides have the same chains.
     touched: Touched,
     /// The entries of a commit, of which only the memory is kept.
@@ -61,12 +65,12 @@ impl Model for Store {
 
     ghost view = { λ store. record { chains = store.chains; row_limit = store.row_limit; committed = store.committed.items; working = store.working.items; begun = store.begun; first_octets = store.first_octets.items } };
 
-    ghost invariant = { λ store. IsInMemory (record { chains = store.chains; row_limit = store.row_limit; committed = store.committed.items; working = store.working.items; begun = store.begun; first_octets = store.first_octets.items }) store.committed_weight store.working_weight store.slots_in_use store.touched (vec_capacity store.entries) };
+    ghost invariant = { λ store. IsInMemory (record { chains = store.chains; row_limit = store.row_limit; committed = store.committed.items; working = store.working.items; begun = store.begun; first_octets = store.first_octets.items }) store.committed_weight store.working_weight store.slots_in_use store.touched (vec_capacity store.entries) store.row_runs };
 }
 
 impl Opening {
     /// The store, once all slots were claimed.
-    pub fn finish(self) -> Store
+    pub fn finish(mut self) -> Store
         requires all { self.claimed ≡ self.chains.cells }
         ensures stands { (image : List ℕ) → StandsSoFar self image → StandsFor result image }
         ensures opened { (image : List ℕ) → StandsSoFar self image → store_of image ≡ stored result Committed image }
@@ -75,7 +79,9 @@ impl Opening {
         ensures idle { result.begun ≡ false }
         ensures cells { result.chains.cells ≡ self.chains.cells }
     {
-        let slots_in_use = slots_in_use(self.committed.as_slice());
+        let firsts = self.committed.as_slice();
+        take_in_all(&mut self.row_runs, firsts, self.first_octets.as_slice());
+        let slots_in_use = slots_in_use(firsts);
         Store {
             chains: self.chains,
             row_limit: self.row_limit,
@@ -87,6 +93,7 @@ impl Opening {
             working_weight: self.weight,
             slots_in_use,
             next_slot: slots_in_use,
+            row_runs: self.row_runs,
             touched: self.touched,
             entries: self.entries,
         }
@@ -158,6 +165,15 @@ impl Store {
         ensures empty { (image : List ℕ) (side : Side) (slot : ℕ) → StandsFor self.now image → result ≤ slot → record_at self.now side slot image ≡ None }
     {
         self.slots_in_use
+    }
+
+    /// The next slot from this one on that may have another record than a row: the slots before it have rows on both sides, or none.
+    pub fn end_of_rows(&self, slot: u16) -> u16
+        ensures onward { slot ≤ result }
+        ensures most { slot ≤ self.now.chains.cells → result ≤ self.now.chains.cells }
+        ensures rows { (image : List ℕ) (side : Side) (passed : ℕ) → StandsFor self.now image → slot ≤ passed → passed < result → is_row_or_none (record_at self.now side passed image) ≡ true }
+    {
+        self.row_runs.end(slot)
     }
 
     /// The first octet of the record of a slot, which says its kind. Nothing is read.
@@ -257,6 +273,7 @@ impl Store {
                 self.touched.touch(slot);
                 self.working[slot as usize] = first;
                 self.first_octets[first as usize] = octets[0];
+                self.row_runs.take_in(slot, octets[0]);
                 self.working_weight = weight + count;
                 self.slots_in_use = self.slots_in_use.max(slot + 1);
                 self.next_slot = search_from(named, slot, next);

@@ -1,5 +1,5 @@
 -- A search that goes through slots from the first on: the answer of all of them is that of those that are left.
-use Rattle.std.proofs.Common.{◌≡◌, ◌⊎◌, ℕ, zero, suc, ◌*◌, ◌+◌, ◌≤◌, Bool, true, false, if◌then◌else◌, List, [], ◌∷◌, Option, Some, None, drop, get_or, refl, sym, ap, ◌∙◌, inl, inr, subst, arith, add-one}
+use Rattle.std.proofs.Common.{◌≡◌, ◌⊎◌, ℕ, zero, suc, ◌*◌, ◌+◌, ◌<◌, ◌≤◌, Bool, true, false, if◌then◌else◌, List, [], ◌∷◌, Option, Some, None, drop, get_or, refl, sym, ap, ◌∙◌, inl, inr, subst, arith, add-one}
 use Rattle.std.proofs.lemmas.Bool.{false≢true}
 use Rattle.std.specs.Option.{option_map_or}
 use Rattle.std.specs.Prelude.{IfSome, IfOk, filter, Result, Ok, Err, option_and_then}
@@ -7,12 +7,13 @@ use Rattle.std.specs.List.{find, cons_option}
 use Rattle.std.proofs.Math.Seq.{drop-nil}
 use Rattle.std.proofs.lemmas.List.Sums.{sum_by-cons}
 use Rattle.eeprom.specs.Chip.{Becomes, RisesAtMost}
-use Rattle.eeprom.specs.Slots.{nearest_from, nearer, above}
+use Rattle.eeprom.specs.Slots.{in_slot, nearest_from, nearer, above}
 use Rattle.eeprom.specs.StoreOf.{Slots, cell_size}
 use Rattle.record_store.specs.Held.{Held, contents, record_at, StandsFor}
 use Rattle.record_store.specs.declared.side.Side.{Side}
-use Rattle.catalog_codec.specs.Kinds.{Kind}
-use Rattle.record_table.specs.Listed.{in_slots, at_slot, kind_cells, cells_marked}
+use Rattle.catalog_codec.specs.Kinds.{Kind, IsKind, read_as}
+use Rattle.record_table.specs.Listed.{in_slots, at_slot, has_kind_mark, kind_cells, cells_marked}
+use Rattle.record_table.proofs.SlotReads.{unmarked}
 
 -- what is told of the slots that a search saw
 pub stronger : {A E : Type 0} (result : Result A E) (slots : Option Slots) (P Q : A → Slots → Type 0) → ((a : A) (slots : Slots) → P a slots → Q a slots)
@@ -68,6 +69,19 @@ empty-told store side end (Some image) stands empty = told (contents store side 
     told None h = tt
     told (Some slots) h = h
 
+-- from a slot to another none has a record with a mark of the kind
+abbrev pub AreOthers : {X : Type 0} → Kind X → ℕ → ℕ → Slots → Type 0
+AreOthers {X} kind from to slots = (slot : ℕ) → from ≤ slot → slot < to → has_kind_mark kind (get_or slots slot None) ≡ false
+
+pub others-told : {X : Type 0} (kind : Kind X) (store : Held) (side : Side) (from to : ℕ) (image : Option (List ℕ)) → IfSome image (StandsFor store)
+    → ((image : List ℕ) (side : Side) (slot : ℕ) → StandsFor store image → from ≤ slot → slot < to → has_kind_mark kind (record_at store side slot image) ≡ false) → IfSome (option_and_then (contents store side) image) (AreOthers kind from to)
+others-told kind store side from to None stands others = tt
+others-told kind store side from to (Some image) stands others = told (contents store side image) (λ slot later earlier. others image side slot stands later earlier)
+  where
+    told : (o : Option Slots) → ((slot : ℕ) → from ≤ slot → slot < to → has_kind_mark kind (option_and_then (λ (slots : Slots). get_or slots slot None) o) ≡ false) → IfSome o (AreOthers kind from to)
+    told None h = tt
+    told (Some slots) h = h
+
 module _ {X : Type 0} (kind : Kind X) where
   in_slots-from : (slots : Slots) (slot : ℕ) → in_slots kind (drop slot slots) ≡ cons_option (at_slot kind slot slots) (in_slots kind (drop (suc slot) slots))
   in_slots-from [] slot = ap (in_slots kind) (drop-nil slot)
@@ -81,6 +95,22 @@ module _ {X : Type 0} (kind : Kind X) where
       rw here (in_slots-empty slots zero (λ slot behind. empty (suc slot) (omega arith)))
   in_slots-empty (entry ∷ slots) (suc slot) empty = in_slots-empty slots slot (λ k behind. empty (suc k) (omega arith))
 
+  in_slots-others : (slots : Slots) (from to : ℕ) → IsKind kind → from ≤ to → AreOthers kind from to slots → in_slots kind (drop from slots) ≡ in_slots kind (drop to slots)
+  in_slots-others [] from to is onward others = ap (in_slots kind) (drop-nil from) ∙ sym (ap (in_slots kind) (drop-nil to))
+  in_slots-others (entry ∷ slots) zero zero is onward others = refl
+  in_slots-others (entry ∷ slots) zero (suc to) is onward others =
+      let here : in_slot (read_as kind) entry ≡ None = unmarked kind entry is (others 0 (omega arith) (omega arith)) in
+      rw here (in_slots-others slots zero to is (omega arith) (λ slot later earlier. others (suc slot) (omega arith) (omega (arith, earlier))))
+  in_slots-others (entry ∷ slots) (suc from) zero is onward others = absurd (omega (arith, onward))
+  in_slots-others (entry ∷ slots) (suc from) (suc to) is onward others = in_slots-others slots from to is (omega (arith, onward)) (λ slot later earlier. others (suc slot) (omega (arith, later)) (omega (arith, earlier)))
+
+  pub cells-fewer : (slots : Slots) (from to : ℕ) → from ≤ to → cells_marked kind (drop to slots) ≤ cells_marked kind (drop from slots)
+  cells-fewer [] from to onward = omega (arith, ap (cells_marked kind) (drop-nil from), ap (cells_marked kind) (drop-nil to))
+  cells-fewer (entry ∷ slots) zero zero onward = omega arith
+  cells-fewer (entry ∷ slots) zero (suc to) onward = omega (arith, cells-fewer slots zero to (omega arith), sum_by-cons (kind_cells kind) entry slots)
+  cells-fewer (entry ∷ slots) (suc from) zero onward = absurd (omega (arith, onward))
+  cells-fewer (entry ∷ slots) (suc from) (suc to) onward = cells-fewer slots from to (omega (arith, onward))
+
   module _ {Y : Type 0} (answer : Slots → Y) where
     -- the answer of all slots is what F makes of the records from a slot on
     abbrev pub IsOfLeft : (List X → Y) → ℕ → Slots → Type 0
@@ -92,6 +122,11 @@ module _ {X : Type 0} (kind : Kind X) where
     left-behind F G None slot entry here step left = tt
     left-behind F G (Some slots) slot entry here step left =
         rw add-one (left ∙ (ap F (in_slots-from slots slot) ∙ (ap (λ entry. F (cons_option entry (in_slots kind (drop (suc slot) slots)))) (sym here) ∙ step (in_slots kind (drop (suc slot) slots)))))
+
+    -- slots that have others are passed over
+    pub left-others : (F : List X → Y) (slots : Option Slots) (from to : ℕ) → IsKind kind → from ≤ to → IfSome slots (AreOthers kind from to) → IfSome slots (IsOfLeft F from) → IfSome slots (IsOfLeft F to)
+    left-others F None from to is onward others left = tt
+    left-others F (Some slots) from to is onward others left = left ∙ ap F (in_slots-others slots from to is onward others)
 
     -- with it the answer is known
     pub left-known : (F : List X → Y) (slots : Option Slots) (slot : ℕ) (entry : Option X) (y : Y) → IfSome slots (λ slots. entry ≡ at_slot kind slot slots) → ((rest : List X) → F (cons_option entry rest) ≡ y)
@@ -129,6 +164,10 @@ module _ {X : Type 0} (kind : Kind X) where
       let h = here after told in
       let s = so_far h.0 h.1 in
       (s.0, s.1, rw add-one (omega (arith, h.2, s.2, cells-from slots slot)))
+
+  pub reads-on : (slots : Option Slots) (from to : ℕ) (a b : Option ℕ) → from ≤ to → IfSome slots (λ slots. Becomes (ReadsUpTo from slots) a b) → IfSome slots (λ slots. Becomes (ReadsUpTo to slots) a b)
+  reads-on None from to a b onward so_far = tt
+  reads-on (Some slots) from to a b onward so_far = λ after told. let s = so_far after told in (s.0, s.1, omega (arith, s.2, cells-fewer slots from to onward))
 
   pub reads-all : (slots : Option Slots) (slot : ℕ) (a b : Option ℕ) → IfSome slots (λ slots. Becomes (ReadsUpTo slot slots) a b) → IfSome slots (λ slots. Becomes (RisesAtMost (cell_size * cells_marked kind slots)) a b)
   reads-all None slot a b so_far = tt

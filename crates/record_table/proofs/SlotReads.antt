@@ -27,7 +27,7 @@ stood : (P Q : List ℕ → Type 0) (image : Option (List ℕ)) → IfSome image
 stood P Q None h says = tt
 stood P Q (Some image) h says = says image h
 
-unmarked : {X : Type 0} (kind : Kind X) (entry : Option (List ℕ)) → IsKind kind → has_kind_mark kind entry ≡ false → in_slot (read_as kind) entry ≡ None
+pub unmarked : {X : Type 0} (kind : Kind X) (entry : Option (List ℕ)) → IsKind kind → has_kind_mark kind entry ≡ false → in_slot (read_as kind) entry ≡ None
 unmarked kind None is other = refl
 unmarked kind (Some []) is other = is.others [] refl
 unmarked kind (Some (octet ∷ octets)) is other = is.others (octet ∷ octets) other

@@ -1,10 +1,11 @@
 // The record of one slot, if it is of a kind.
-ghost use Rattle.std.specs.Prelude.{◌≡◌, ◌<◌, ◌*◌, ℕ, List, None, IfOk, IfSome, if◌then◌else◌, slice_index_or};
+ghost use Rattle.std.specs.Prelude.{◌≡◌, ◌<◌, ◌≤◌, ◌*◌, ℕ, List, None, false, IfOk, IfSome, if◌then◌else◌, slice_index_or};
 ghost use Rattle.eeprom.specs.Chip.{Becomes, RisesAtMost};
 ghost use Rattle.eeprom.specs.Fault.{each_error};
 ghost use Rattle.eeprom.specs.Frame.{Reads};
 ghost use Rattle.eeprom.specs.StoreOf.{cell_size};
 ghost use Rattle.record_store.specs.Held.{IsOver, StandsFor, record_at};
+ghost use Rattle.record_store.specs.declared.side.Side.{Side};
 ghost use Rattle.record_table.specs.Listed.{at_slot, kind_cells, slots_of};
 ghost use Rattle.record_table.specs.Listed as listed;
 ghost use Rattle.record_table.specs.Reading.{NeverFalls};
@@ -12,6 +13,7 @@ ghost use Rattle.record_table.specs.Reading.{NeverFalls};
 use catalog_codec::Record;
 use eeprom::{Eeprom, EepromFault};
 use record_store::{RecordOctets, Side, Store};
+use scql_base::RowRecord;
 
 /// The record of a slot, if it is of the kind. A record with another first octet isn't read. Records are read into `octets`.
 pub fn read_entry<R: Record, B: Eeprom>(
@@ -65,6 +67,19 @@ pub(crate) fn read_into<R: Record, B: Eeprom>(
         Ok(true)
     } else {
         Ok(false)
+    }
+}
+
+/// The next slot from this one on that may have a record of the kind: the slots before it have none.
+pub fn next_slot<R: Record>(store: &Store, slot: u16) -> u16
+    ensures onward { slot ≤ result }
+    ensures most { slot ≤ store.now.chains.cells → result ≤ store.now.chains.cells }
+    ensures others { (image : List ℕ) (side : Side) (passed : ℕ) → StandsFor store.now image → slot ≤ passed → passed < result → listed.has_kind_mark R.kind (record_at store.now side passed image) ≡ false }
+{
+    if R::has_mark(RowRecord::MARK) {
+        slot
+    } else {
+        store.end_of_rows(slot)
     }
 }
 

@@ -11,7 +11,7 @@ ghost use Rattle.record_store.specs.Held.{IsOver};
 ghost use Rattle.record_table.specs.Listed.{at_slot, in_slots, listed, cells_marked, slots_of};
 ghost use Rattle.record_table.specs.Reading.{NeverFalls};
 
-use crate::entry::read_into;
+use crate::entry::{next_slot, read_into};
 use crate::{Stamped, Wanted};
 use catalog_codec::Record;
 use eeprom::{Eeprom, EepromFault};
@@ -75,11 +75,14 @@ pub fn find_into<R: Record, W: Wanted<R>, B: Eeprom>(
     ensures frame { Reads each_error B.chip B.faults bench.old bench.new result }
 {
     let mut octets = RecordOctets::new();
-    for slot in 0..store.slots_in_use() {
+    let end = store.slots_in_use();
+    let mut slot = next_slot::<R>(store, 0);
+    while slot < end {
         let read = read_into(store, bench, side, slot, &mut octets, place)?;
         if has_wanted(wanted, read, place) {
             return Ok(Some(slot));
         }
+        slot = next_slot::<R>(store, slot + 1);
     }
     *place = None;
     Ok(None)

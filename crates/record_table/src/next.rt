@@ -9,7 +9,7 @@ ghost use Rattle.eeprom.specs.StoreOf.{cell_size};
 ghost use Rattle.record_store.specs.Held.{IsOver};
 ghost use Rattle.record_table.specs.Listed.{at_slot, listed, cells_marked, slots_of};
 
-use crate::entry::read_entry;
+use crate::entry::{next_slot, read_entry};
 use crate::{Any, Wanted};
 use catalog_codec::Record;
 use eeprom::{Eeprom, EepromFault};
@@ -36,12 +36,15 @@ pub fn next_by<R: Record, W: Wanted<R>, B: Eeprom>(
 {
     let mut octets = RecordOctets::new();
     let mut nearest: Option<Found<R>> = None;
-    for slot in 0..store.slots_in_use() {
+    let end = store.slots_in_use();
+    let mut slot = next_slot::<R>(store, 0);
+    while slot < end {
         if let Some(value) = read_entry(store, bench, side, slot, &mut octets)? {
             if wanted.is(&value) {
                 nearest = nearer_of(nearest, Found { slot, value }, stamp);
             }
         }
+        slot = next_slot::<R>(store, slot + 1);
     }
     Ok(nearest)
 }

@@ -1,4 +1,4 @@
-use Rattle.std.proofs.Common.{◌≡◌, ◌≤◌, ◌^◌, ℕ}
+use Rattle.std.proofs.Common.{◌≡◌, ◌≤◌, ◌-◌, ◌^◌, ℕ}
 use Rattle.std.specs.Prelude.{IfSome}
 use Rattle.std.specs.List.{list_any}
 use Rattle.eeprom.specs.Chip.{Becomes}
@@ -14,11 +14,14 @@ abbrev pub invariant-loop-slot : goal.invariant-loop-slot
 invariant-loop-slot g l = record {
   same : g.B.Eeprom.chip l.bench ≡ g.B.Eeprom.chip l.fn.bench;
   faults : g.B.Eeprom.faults l.bench ≡ g.B.Eeprom.faults l.fn.bench;
-  bound : l.slot-end ≤ l.store.chains.cells;
-  empty : IfSome (slots_of l.store l.side (g.B.Eeprom.chip l.fn.bench)) (AreEmptyFrom l.slot-end);
+  bound : l.end ≤ l.store.chains.cells;
+  empty : IfSome (slots_of l.store l.side (g.B.Eeprom.chip l.fn.bench)) (AreEmptyFrom l.end);
   left : (i : ℕ) → IfSome (slots_of l.store l.side (g.B.Eeprom.chip l.fn.bench))
       (IsOfLeft grant_kind (λ slots. list_any (gives_bit l.object l.grantee (2 ^ i)) (in_slots grant_kind slots)) (any_left l.bits (gives_bit l.object l.grantee (2 ^ i)) i) l.slot);
   read : IfSome (slots_of l.store l.side (g.B.Eeprom.chip l.fn.bench))
       (λ slots. Becomes (ReadsUpTo grant_kind l.slot slots) (g.B.Eeprom.octets_read l.fn.bench) (g.B.Eeprom.octets_read l.bench));
   rises : NeverFalls (slots_of l.store l.side (g.B.Eeprom.chip l.fn.bench)) (g.B.Eeprom.octets_read l.fn.bench) (g.B.Eeprom.octets_read l.bench);
 }
+
+abbrev pub decreases-loop-slot : goal.decreases-loop-slot
+decreases-loop-slot g l = l.end - l.slot

@@ -1,11 +1,11 @@
 -- The answer of all slots is that of those that are left, slot by slot.
-use Rattle.std.proofs.Common.{◌+◌, Option, refl, sym, ◌∙◌}
+use Rattle.std.proofs.Common.{◌+◌, Option, refl, sym, ◌∙◌, arith}
 use Rattle.std.specs.List.{find}
 use Rattle.eeprom.specs.StoreOf.{Slots}
 use Rattle.record_table.specs.Listed.{in_slots, slots_of}
 use Rattle.record_table.proofs.ListedSearches.{found-listed, some-listed}
 use Rattle.record_table.proofs.ReadingCosts.{falls-both, falls-none}
-use Rattle.record_table.proofs.Scan.{empty-told, left-all, left-behind, left-known, left-empty, passed-place, passed_over, here-taken, taken-found, reads-none, reads-behind, reads-all}
+use Rattle.record_table.proofs.Scan.{empty-told, others-told, left-all, left-others, left-behind, left-known, left-empty, passed-place, passed_over, here-taken, taken-found, reads-none, reads-behind, reads-on, reads-all}
 use Rattle.record_table.proofs.finding.find_into.Goals as goal
 
 pub loop-slot-init : goal.loop-slot-init
@@ -14,10 +14,11 @@ loop-slot-init g c =
     record {
       same = refl;
       faults = refl;
-      bound = c.slots_in_use-slot-end.ensures.most;
-      empty = empty-told c.args.store.now c.args.side c.slots_in_use-slot-end.result (g.B.Eeprom.chip c.args.bench.now).image c.requires.over.stands c.slots_in_use-slot-end.ensures.empty;
-      left = left-all g.R.Record.kind (find (g.W.Wanted.wants c.args.wanted.now)) slots;
-      read = reads-none g.R.Record.kind slots (g.B.Eeprom.octets_read c.args.bench.now);
+      bound = c.slots_in_use-end.ensures.most;
+      empty = empty-told c.args.store.now c.args.side c.slots_in_use-end.result (g.B.Eeprom.chip c.args.bench.now).image c.requires.over.stands c.slots_in_use-end.ensures.empty;
+      left = left-others g.R.Record.kind (λ slots. find (g.W.Wanted.wants c.args.wanted.now) (in_slots g.R.Record.kind slots)) (find (g.W.Wanted.wants c.args.wanted.now)) slots 0 c.next_slot-slot.result g.met.R.Record.lawful (omega arith)
+          (others-told g.R.Record.kind c.args.store.now c.args.side 0 c.next_slot-slot.result (g.B.Eeprom.chip c.args.bench.now).image c.requires.over.stands c.next_slot-slot.ensures.others) (left-all g.R.Record.kind (find (g.W.Wanted.wants c.args.wanted.now)) slots);
+      read = reads-on g.R.Record.kind slots 0 c.next_slot-slot.result _ _ (omega arith) (reads-none g.R.Record.kind slots (g.B.Eeprom.octets_read c.args.bench.now));
       rises = falls-none slots (g.B.Eeprom.octets_read c.args.bench.now);
     }
 
@@ -61,16 +62,18 @@ loop-slot-preserved g c =
       faults = c.in_ok-read.ensures.frame.counts.1 ∙ c.loop-slot.invariant.faults;
       bound = c.loop-slot.invariant.bound;
       empty = c.loop-slot.invariant.empty;
-      left = left-behind g.R.Record.kind (λ slots. find (g.W.Wanted.wants c.args.wanted.now) (in_slots g.R.Record.kind slots)) (find (g.W.Wanted.wants c.args.wanted.now)) (find (g.W.Wanted.wants c.args.wanted.now)) slots
-          c.loop-slot.slot _ here (passed_over (g.W.Wanted.wants c.args.wanted.now) _ fails) c.loop-slot.invariant.left;
-      read = reads-behind g.R.Record.kind slots c.loop-slot.slot _ _ _ c.loop-slot.invariant.read (rw c.loop-slot.invariant.same at c.in_ok-read.ensures.octets_read);
+      left = left-others g.R.Record.kind (λ slots. find (g.W.Wanted.wants c.args.wanted.now) (in_slots g.R.Record.kind slots)) (find (g.W.Wanted.wants c.args.wanted.now)) slots (c.loop-slot.slot + 1) c.next_slot-slot-in-loop-slot.result g.met.R.Record.lawful c.next_slot-slot-in-loop-slot.ensures.onward
+          (others-told g.R.Record.kind c.args.store.now c.args.side (c.loop-slot.slot + 1) c.next_slot-slot-in-loop-slot.result (g.B.Eeprom.chip c.args.bench.now).image c.requires.over.stands c.next_slot-slot-in-loop-slot.ensures.others)
+          (left-behind g.R.Record.kind (λ slots. find (g.W.Wanted.wants c.args.wanted.now) (in_slots g.R.Record.kind slots)) (find (g.W.Wanted.wants c.args.wanted.now)) (find (g.W.Wanted.wants c.args.wanted.now)) slots
+          c.loop-slot.slot _ here (passed_over (g.W.Wanted.wants c.args.wanted.now) _ fails) c.loop-slot.invariant.left);
+      read = reads-on g.R.Record.kind slots (c.loop-slot.slot + 1) c.next_slot-slot-in-loop-slot.result _ _ c.next_slot-slot-in-loop-slot.ensures.onward (reads-behind g.R.Record.kind slots c.loop-slot.slot _ _ _ c.loop-slot.invariant.read (rw c.loop-slot.invariant.same at c.in_ok-read.ensures.octets_read));
       rises = falls-both slots _ _ _ c.loop-slot.invariant.rises (rw c.loop-slot.invariant.same at c.in_ok-read.ensures.rises);
     }
 
 pub returns-clause-first : goal.returns-clause-first
 returns-clause-first g c =
     left-empty g.R.Record.kind (λ slots. find (g.W.Wanted.wants c.args.wanted.now) (in_slots g.R.Record.kind slots)) (find (g.W.Wanted.wants c.args.wanted.now))
-    (slots_of c.args.store.now c.args.side (g.B.Eeprom.chip c.args.bench.now)) c.slots_in_use-slot-end.result c.loop-slot.slot c.loop-slot-test.false c.loop-slot.invariant.empty c.loop-slot.invariant.left
+    (slots_of c.args.store.now c.args.side (g.B.Eeprom.chip c.args.bench.now)) c.slots_in_use-end.result c.loop-slot.slot c.loop-slot-test.false c.loop-slot.invariant.empty c.loop-slot.invariant.left
 
 pub returns-clause-some : goal.returns-clause-some
 returns-clause-some g c =

@@ -1,12 +1,12 @@
 -- The nearest of all slots is the nearest of one so far and those that are left, slot by slot.
-use Rattle.std.proofs.Common.{◌≡◌, ◌<◌, List, Option, Some, None, refl, sym, ◌∙◌, arith}
+use Rattle.std.proofs.Common.{◌≡◌, ◌+◌, ◌<◌, List, Option, Some, None, refl, sym, ◌∙◌, arith}
 use Rattle.std.specs.Prelude.{IfSome, option_map, filter}
 use Rattle.std.specs.List.{cons_option}
 use Rattle.eeprom.specs.StoreOf.{Slots}
 use Rattle.eeprom.specs.Slots.{nearest_from}
 use Rattle.record_table.specs.Listed.{in_slots, at_slot, slots_of}
 use Rattle.record_table.proofs.ListedSearches.{next-listed}
-use Rattle.record_table.proofs.Scan.{empty-told, left-all, left-behind, left-empty, nearest-passed, nearest-taken, one_of_both, reads-none, reads-behind}
+use Rattle.record_table.proofs.Scan.{empty-told, others-told, left-all, left-behind, left-empty, left-others, nearest-passed, nearest-taken, one_of_both, reads-none, reads-behind, reads-on}
 use Rattle.record_table.proofs.next.next_by.Goals as goal
 use Rattle.record_table.proofs.next.next_by.Goals.{in-Some+then-is, in-Some+else-is, in_default}
 
@@ -16,12 +16,13 @@ loop-slot-init g c =
     record {
       same = refl;
       faults = refl;
-      bound = c.slots_in_use-slot-end.ensures.most;
-      empty = empty-told c.args.store.now c.args.side c.slots_in_use-slot-end.result (g.B.Eeprom.chip c.args.bench.now).image c.requires.over.stands c.slots_in_use-slot-end.ensures.empty;
+      bound = c.slots_in_use-end.ensures.most;
+      empty = empty-told c.args.store.now c.args.side c.slots_in_use-end.result (g.B.Eeprom.chip c.args.bench.now).image c.requires.over.stands c.slots_in_use-end.ensures.empty;
       there = tt;
       at = tt;
-      left = left-all g.R.Record.kind (λ rest. nearest_from g.R.Record.kind.key c.args.stamp None (filter (g.W.Wanted.wants c.args.wanted.now) rest)) slots;
-      read = reads-none g.R.Record.kind slots (g.B.Eeprom.octets_read c.args.bench.now);
+      left = left-others g.R.Record.kind (λ slots. nearest_from g.R.Record.kind.key c.args.stamp None (filter (g.W.Wanted.wants c.args.wanted.now) (in_slots g.R.Record.kind slots))) (λ rest. nearest_from g.R.Record.kind.key c.args.stamp None (filter (g.W.Wanted.wants c.args.wanted.now) rest)) slots 0 c.next_slot-slot.result g.met.R.Record.lawful (omega arith)
+          (others-told g.R.Record.kind c.args.store.now c.args.side 0 c.next_slot-slot.result (g.B.Eeprom.chip c.args.bench.now).image c.requires.over.stands c.next_slot-slot.ensures.others) (left-all g.R.Record.kind (λ rest. nearest_from g.R.Record.kind.key c.args.stamp None (filter (g.W.Wanted.wants c.args.wanted.now) rest)) slots);
+      read = reads-on g.R.Record.kind slots 0 c.next_slot-slot.result _ _ (omega arith) (reads-none g.R.Record.kind slots (g.B.Eeprom.octets_read c.args.bench.now));
     }
 
 pub loop-slot-preserved : goal.loop-slot-preserved
@@ -55,9 +56,11 @@ loop-slot-preserved g c =
         | in-Some+else-is w ↦ rw w.nearest-is c.loop-slot.invariant.at
         | in_default w ↦ rw w.nearest-is c.loop-slot.invariant.at
       ];
-      left = left-behind g.R.Record.kind (λ slots. nearest_from key c.args.stamp None (filter wants (in_slots g.R.Record.kind slots)))
-          (λ rest. nearest_from key c.args.stamp (option_map (λ near. near.value) c.loop-slot.nearest) (filter wants rest)) (λ rest. nearest_from key c.args.stamp (option_map (λ near. near.value) c.match-branch-2.nearest) (filter wants rest)) slots c.loop-slot.slot c.in_ok-value.field-0 here step c.loop-slot.invariant.left;
-      read = reads-behind g.R.Record.kind slots c.loop-slot.slot _ _ _ c.loop-slot.invariant.read (rw c.loop-slot.invariant.same at c.in_ok-value.ensures.octets_read);
+      left = left-others g.R.Record.kind (λ slots. nearest_from key c.args.stamp None (filter wants (in_slots g.R.Record.kind slots))) (λ rest. nearest_from key c.args.stamp (option_map (λ near. near.value) c.match-branch-2.nearest) (filter wants rest)) slots (c.loop-slot.slot + 1) c.next_slot-slot-in-loop-slot.result g.met.R.Record.lawful c.next_slot-slot-in-loop-slot.ensures.onward
+          (others-told g.R.Record.kind c.args.store.now c.args.side (c.loop-slot.slot + 1) c.next_slot-slot-in-loop-slot.result (g.B.Eeprom.chip c.args.bench.now).image c.requires.over.stands c.next_slot-slot-in-loop-slot.ensures.others)
+          (left-behind g.R.Record.kind (λ slots. nearest_from key c.args.stamp None (filter wants (in_slots g.R.Record.kind slots)))
+          (λ rest. nearest_from key c.args.stamp (option_map (λ near. near.value) c.loop-slot.nearest) (filter wants rest)) (λ rest. nearest_from key c.args.stamp (option_map (λ near. near.value) c.match-branch-2.nearest) (filter wants rest)) slots c.loop-slot.slot c.in_ok-value.field-0 here step c.loop-slot.invariant.left);
+      read = reads-on g.R.Record.kind slots (c.loop-slot.slot + 1) c.next_slot-slot-in-loop-slot.result _ _ c.next_slot-slot-in-loop-slot.ensures.onward (reads-behind g.R.Record.kind slots c.loop-slot.slot _ _ _ c.loop-slot.invariant.read (rw c.loop-slot.invariant.same at c.in_ok-value.ensures.octets_read));
     }
 
 pub returns-clause-next : goal.returns-clause-next
@@ -65,5 +68,5 @@ returns-clause-next g c =
     let slots : Option Slots = slots_of c.args.store.now c.args.side (g.B.Eeprom.chip c.args.bench.now) in
     next-listed g.R.Record.kind c.args.stamp (g.W.Wanted.wants c.args.wanted.now) _ slots
     (left-empty g.R.Record.kind (λ slots. nearest_from g.R.Record.kind.key c.args.stamp None (filter (g.W.Wanted.wants c.args.wanted.now) (in_slots g.R.Record.kind slots)))
-    (λ rest. nearest_from g.R.Record.kind.key c.args.stamp (option_map (λ near. near.value) c.loop-slot.nearest) (filter (g.W.Wanted.wants c.args.wanted.now) rest)) slots c.slots_in_use-slot-end.result c.loop-slot.slot
+    (λ rest. nearest_from g.R.Record.kind.key c.args.stamp (option_map (λ near. near.value) c.loop-slot.nearest) (filter (g.W.Wanted.wants c.args.wanted.now) rest)) slots c.slots_in_use-end.result c.loop-slot.slot
     c.loop-slot-test.false c.loop-slot.invariant.empty c.loop-slot.invariant.left)

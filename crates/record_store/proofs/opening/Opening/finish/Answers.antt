@@ -5,7 +5,8 @@ use Rattle.eeprom.specs.StoreOf.{weight_of}
 use Rattle.record_store.specs.Opening.{HeldSoFar, StandsSoFar}
 use Rattle.record_store.proofs.Transacting.{touched-finished}
 use Rattle.record_store.proofs.InUse.{in_use-finished}
-use Rattle.record_store.proofs.OpeningSlots.{held_of, stands-finished, weight-finished}
+use Rattle.record_store.proofs.OpeningSlots.{held_of, sound-finished, stands-finished, weight-finished}
+use Rattle.record_store.proofs.RunsOfRows.{passed-finished, firsts-kept}
 use Rattle.record_store.proofs.Weighing.{weighed-finished}
 use Rattle.record_store.proofs.opening.Opening.finish.Goals as goal
 
@@ -16,8 +17,9 @@ invariant_of-result c =
     let whole = held_of mine.chains mine.row_limit mine.committed.items mine.claimed mine.weight mine.first_octets.items in
     record {
       weighed = weighed-finished whole mine.working.items c.self.invariant.2 all (ap (length {A = ℕ}) c.self.invariant.0 ∙ c.self.invariant.2.count);
-      in_use = in_use-finished whole mine.working.items c.slots_in_use-slots_in_use.result c.self.invariant.0 c.self.invariant.2.count (rw c.as_slice.ensures.value at c.slots_in_use-slots_in_use.ensures.most) (rw c.as_slice.ensures.value at c.slots_in_use-slots_in_use.ensures.empty);
-      transaction = touched-finished whole mine.working.items mine.touched (vec_capacity mine.entries) c.self.invariant.0 c.self.invariant.1;
+      in_use = in_use-finished whole mine.working.items c.slots_in_use-slots_in_use.result c.self.invariant.0 c.self.invariant.2.count (rw c.as_slice-firsts.ensures.value at c.slots_in_use-slots_in_use.ensures.most) (rw c.as_slice-firsts.ensures.value at c.slots_in_use-slots_in_use.ensures.empty);
+      passed = passed-finished whole mine.working.items c.take_in_all.new.runs c.self.invariant.0 (c.take_in_all.ensures.size ∙ c.self.invariant.1.searched) (rw (c.as_slice-firsts.ensures.value, c.as_slice.ensures.value) at c.take_in_all.ensures.rows);
+      transaction = touched-finished whole mine.working.items mine.touched (vec_capacity mine.entries) c.self.invariant.0 mine.row_runs c.self.invariant.1;
     }
 
 pub returns-clause-stands : goal.returns-clause-stands
@@ -32,3 +34,10 @@ returns-clause-weight c = λ image slots stands there.
     subst (λ (held : HeldSoFar). held.weight ≡ weight_of slots) c.self.view_is
     (weight-finished (held_of mine.chains mine.row_limit mine.committed.items mine.claimed mine.weight mine.first_octets.items) image slots c.self.invariant.2 (subst (λ (held : HeldSoFar). held.claimed ≡ held.chains.cells) (sym c.self.view_is) c.requires.all)
     (subst (λ (held : HeldSoFar). StandsSoFar held image) (sym c.self.view_is) stands) there)
+
+pub take_in_all-requires-clause-kept : goal.take_in_all-requires-clause-kept
+take_in_all-requires-clause-kept c =
+    let mine = c.self.inside in
+    let all : mine.claimed ≡ mine.chains.cells = subst (λ (held : HeldSoFar). held.claimed ≡ held.chains.cells) (sym c.self.view_is) c.requires.all in
+    let whole = held_of mine.chains mine.row_limit mine.committed.items mine.claimed mine.weight mine.first_octets.items in
+    rw (c.as_slice-firsts.ensures.value, c.as_slice.ensures.value) (firsts-kept whole mine.working.items (sound-finished whole mine.working.items c.self.invariant.2 all (ap (length {A = ℕ}) c.self.invariant.0 ∙ c.self.invariant.2.count)))

@@ -17,7 +17,7 @@ invariant_of-result g c =
     let filled : c.in_ok-first_octets.first_octets.items ≡ replicate (2 * header.cells) 0 = search rules in
     let copied : c.in_ok-working.working.items ≡ c.in_ok-committed.committed.items = search rules in (
       copied,
-      record { none = c.in_ok-touched.ensures ∙ ap none_touched (sym cells); room_is = omega (arith, cells, c.in_ok-entries.ensures.capacity) },
+      record { none = c.in_ok-touched.ensures ∙ ap none_touched (sym cells); room_is = omega (arith, cells, c.in_ok-entries.ensures.capacity); searched = c.in_ok-row_runs.ensures ∙ sym cells },
       sound-begun header.cells header.row_limit c.in_ok-committed.committed.items _ c.in_ok-chains.chains c.in_ok-chains.ensures range.few range.many range.rows c.in_ok-committed.ensures.count (ap (length {A = ℕ}) filled ∙ length-replicate {A = ℕ} (2 * header.cells) 0),
     )
 
@@ -71,6 +71,9 @@ returns-in_err-touched-clause-no_memory g c = λ _. (c.in_ok-header.header.cells
 
 pub returns-in_err-entries-clause-no_memory : goal.returns-in_err-entries-clause-no_memory
 returns-in_err-entries-clause-no_memory g c = λ _. (c.in_ok-header.header.cells, front g (goal.at.returns-in_err-entries-clause-no_memory g c).After-read_directory)
+
+pub returns-in_err-row_runs-clause-no_memory : goal.returns-in_err-row_runs-clause-no_memory
+returns-in_err-row_runs-clause-no_memory g c = λ _. (c.in_ok-header.header.cells, front g (goal.at.returns-in_err-row_runs-clause-no_memory g c).After-read_directory)
 
 pub returns-in_err-chains-clause-no_memory : goal.returns-in_err-chains-clause-no_memory
 returns-in_err-chains-clause-no_memory g c = λ _. (c.in_ok-header.header.cells, front g (goal.at.returns-in_err-chains-clause-no_memory g c).After-read_directory)

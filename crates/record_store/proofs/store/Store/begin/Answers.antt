@@ -8,7 +8,7 @@ use Rattle.record_store.proofs.Transacting.{begun-view, begun-kept, begun-stands
 use Rattle.record_store.proofs.store.Store.begin.Goals as goal
 
 pub invariant_of-self : goal.invariant_of-self
-invariant_of-self c = begun-kept _ _ _ _ _ _ c.self.invariant (ap (λ (held : Held). held.begun) c.self.view_is ∙ c.requires.idle)
+invariant_of-self c = begun-kept _ _ _ _ _ _ _ c.self.invariant (ap (λ (held : Held). held.begun) c.self.view_is ∙ c.requires.idle)
 
 pub returns-clause-begun : goal.returns-clause-begun
 returns-clause-begun c = begun-view _ c.args.self.now _ _ c.self.view_is c.self.invariant.weighed.sound c.self.invariant.transaction c.requires.idle

@@ -10,6 +10,7 @@ use Rattle.record_store.proofs.Commit.{Ready, ready-from, changed-few, commits-f
 use Rattle.record_store.proofs.Filling.{commit-sound, commit-view}
 use Rattle.record_store.proofs.InUse.{in_use-committed}
 use Rattle.record_store.proofs.Keeping.{behind-commit}
+use Rattle.record_store.proofs.RunsOfRows.{passed-committed}
 use Rattle.record_store.proofs.Transacting.{touched-sorted, touched-slots, working-others, committed-others, touched-room, touched-committed}
 use Rattle.record_store.proofs.Weighing.{weighed-committed}
 use Rattle.record_store.proofs.store.Store.commit.Goals.{After-sort, After-take_entries, After-commit}
@@ -51,6 +52,7 @@ invariant_of-self-2 g c =
     let same = c.copy_slots.ensures ∙ c.as_slice-working.ensures.value in
     record {
       in_use = in_use-committed whole c.free_replaced.new.cells _ c.self.inside.slots_in_use c.free_replaced.ensures.cells same c.self.invariant.in_use;
+      passed = passed-committed whole c.free_replaced.new.cells _ c.self.inside.row_runs c.free_replaced.ensures.cells same c.self.invariant.passed;
       weighed = weighed-committed whole c.free_replaced.new.cells _ c.self.inside.committed_weight c.self.inside.working_weight c.self.invariant.weighed begun c.free_replaced.ensures.links same
           (commit-sound whole c.free_replaced.new.cells _ c.as_slice-3.result.now c.as_slice-working.result.now c.self.invariant.weighed.sound begun c.as_slice-3.ensures.value c.as_slice-working.ensures.value
           c.free_replaced.ensures.cells c.free_replaced.ensures.links same c.free_replaced.ensures.freed c.free_replaced.ensures.others c.free_replaced.ensures.fewer c.free_replaced.ensures.count);
@@ -62,6 +64,7 @@ pub invariant_of-self : goal.invariant_of-self
 invariant_of-self g c = record {
   weighed = c.self.invariant.weighed;
   in_use = c.self.invariant.in_use;
+  passed = c.self.invariant.passed;
   transaction = touched-room _ c.sort.new.self (vec_capacity c.self.inside.entries) (vec_capacity c.take_entries.new.entries) c.take_entries.ensures.room (sorted g (goal.at.invariant_of-self g c).After-sort);
 }
 
