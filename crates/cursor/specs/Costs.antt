@@ -47,3 +47,8 @@ cost_between End reached costs = 0
 -- a row that is given was read
 abbrev pub least_read : StatusWord → Values → ℕ
 least_read word values = if word.word == done.word then row_size values else 0
+
+-- a row that is handed out was read
+abbrev pub size_handed : Option ℕ → Values → ℕ
+size_handed None values = 0
+size_handed (Some stamp) values = row_size values

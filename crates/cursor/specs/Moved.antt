@@ -1,5 +1,5 @@
 -- What the answers of a cursor's moves mean: the place, the word and the row as a move of the model.
-use Rattle.std.specs.Prelude.{◌≡◌, ℕ, ◌==◌, nat_le, nat_lt, Bool, true, not, ◌||◌, if◌then◌else◌, List, length, Option, Some, None, Result, Ok, Err}
+use Rattle.std.specs.Prelude.{◌≡◌, ℕ, ◌==◌, nat_le, nat_lt, Bool, true, not, ◌||◌, if◌then◌else◌, List, length, Option, Some, None, option_map, Result, Ok, Err}
 use Rattle.std.specs.List.{list_all}
 use Rattle.scql_base.specs.Words.{done, end_reached, record_not_found, wrong_le}
 use Rattle.scql_base.specs.declared.cursor.Cursor.{Cursor}
@@ -30,6 +30,10 @@ word_at End = end_reached
 -- the values that are handed out, where there are any
 abbrev pub handed : Bool → Values → Option Values
 handed there values = if there then Some values else None
+
+-- the row that is handed out with its stamp, where there is one
+abbrev pub row_handed : Option ℕ → Values → Option StampedRow
+row_handed stamp values = option_map (λ (stamp : ℕ). record { stamp = stamp; values = values }) stamp
 
 -- a word that isn't 9000 or 6282 refuses a fetch
 abbrev pub refuses : StatusWord → Bool

@@ -7,9 +7,9 @@ ghost use Rattle.scql_base.specs.Row.{row_size};
 ghost use Rattle.scql_base.specs.declared.cursor.Place.{Place};
 ghost use Rattle.scql_model.specs.Moves as moves;
 ghost use Rattle.scql_model.specs.Objects.{StampedRow};
-ghost use Rattle.cursor.specs.Costs.{Cost, RisesBetween, cost_behind, cost_of};
+ghost use Rattle.cursor.specs.Costs.{Cost, RisesBetween, cost_behind, cost_of, size_handed};
 ghost use Rattle.cursor.specs.Feed.{Stays};
-ghost use Rattle.cursor.specs.Moved.{handed};
+ghost use Rattle.cursor.specs.Moved.{handed, row_handed};
 
 use eeprom::EepromFault;
 use scql_base::Row;
@@ -53,6 +53,15 @@ pub trait RowFeed {
         ensures there { IfOk result (λ there. (rows : List StampedRow) → tells self.old rows → handed there out.new ≡ option_map (λ row. row.values) (moves.row_at stamp rows)) }
         ensures read { IfOk result (λ there. IfSome (costs self.old)
             (λ costs. Becomes (RisesBetween (if there then row_size out.new else 0) (cost_of stamp costs)) (octets_read self.old) (octets_read self.new))) }
+        ensures stays { Stays tells costs kept can_read self.old self.new }
+        ensures frame { Reads each_error chip faults self.old self.new result };
+
+    /// Hands out the row of the least stamp above this one, and answers its stamp, if there is one. The rows up to it are read once.
+    fn next_row(&mut self, stamp: u32, out: &mut Row) -> Result<Option<u32>, EepromFault>
+        requires { can_read self.old }
+        ensures next { IfOk result (λ next. (rows : List StampedRow) → tells self.old rows → row_handed next out.new ≡ moves.row_behind (Place.At stamp) rows) }
+        ensures read { IfOk result (λ next. IfSome (costs self.old)
+            (λ costs. Becomes (RisesBetween (size_handed next out.new) (cost_behind stamp next costs)) (octets_read self.old) (octets_read self.new))) }
         ensures stays { Stays tells costs kept can_read self.old self.new }
         ensures frame { Reads each_error chip faults self.old self.new result };
 }

@@ -1,5 +1,5 @@
 // The moves that hand out a row.
-ghost use Rattle.std.specs.Prelude.{◌≡◌, ◌*◌, List, IfOk, IfSome, IsTrue, OnErr};
+ghost use Rattle.std.specs.Prelude.{◌≡◌, ◌≤◌, List, IfOk, IfSome, IsTrue, OnErr};
 ghost use Rattle.eeprom.specs.Chip.{Becomes};
 ghost use Rattle.eeprom.specs.Fault.{each_error};
 ghost use Rattle.eeprom.specs.Frame.{Reads};
@@ -8,12 +8,12 @@ ghost use Rattle.scql_base.specs.declared.cursor.Cursor.{Cursor};
 ghost use Rattle.scql_model.specs.Moves.{gave, gave_next, row_behind};
 ghost use Rattle.scql_model.specs.Objects.{StampedRow};
 ghost use Rattle.scql_model.specs.ReadBound.{place_reached};
-ghost use Rattle.cursor.specs.Costs.{RisesBetween, cost_at, cost_between, least_read};
+ghost use Rattle.cursor.specs.Costs.{RisesBetween, cost_at, cost_between, least_read, size_handed};
 ghost use Rattle.cursor.specs.Feed.{Stays};
 ghost use Rattle.cursor.specs.Moved as moved;
 
 use crate::RowFeed;
-use crate::moving::place_behind;
+use crate::moving::place_of;
 use eeprom::EepromFault;
 use scql_base::{Place, Row, StatusWord};
 
@@ -56,17 +56,47 @@ pub fn fetch_step<F: RowFeed>(
     ensures refused { IfOk result (λ word. IsTrue (moved.refuses word) → place.new ≡ place.old) }
     ensures fault { OnErr result (place.new ≡ place.old) }
     ensures read { IfOk result (λ word. (rows : List StampedRow) → F.tells feed.old rows → IfSome (F.costs feed.old)
-        (λ costs. Becomes (RisesBetween (least_read word out.new) (2 * cost_between place.old (place_reached (row_behind place.old rows)) costs))
+        (λ costs. Becomes (RisesBetween (least_read word out.new) (cost_between place.old (place_reached (row_behind place.old rows)) costs))
         (F.octets_read feed.old) (F.octets_read feed.new))) }
     ensures stays { Stays F.tells F.costs F.kept F.can_read feed.old feed.new }
     ensures frame { Reads each_error F.chip F.faults feed.old feed.new result }
 {
-    let reached = place_behind(feed, *place)?;
-    let word = fetch(feed, &reached, le, out)?;
+    let next = next_handed(feed, *place, out)?;
+    let word = next_word(next, out, le);
     if !refuses(word) {
-        *place = reached;
+        *place = place_of(next);
     }
     Ok(word)
+}
+
+// Hands out the row behind a place, and answers its stamp, if there is one. Where a cursor isn't opened there is none.
+fn next_handed<F: RowFeed>(
+    feed: &mut F,
+    place: Place,
+    out: &mut Row,
+) -> Result<Option<u32>, EepromFault>
+    requires { F.can_read feed.old }
+    ensures next { IfOk result (λ next. (rows : List StampedRow) → F.tells feed.old rows → moved.row_handed next out.new ≡ row_behind place rows) }
+    ensures read { IfOk result (λ next. IfSome (F.costs feed.old)
+        (λ costs. Becomes (RisesBetween (size_handed next out.new) (cost_between place (moved.place_at next) costs)) (F.octets_read feed.old) (F.octets_read feed.new))) }
+    ensures stays { Stays F.tells F.costs F.kept F.can_read feed.old feed.new }
+    ensures frame { Reads each_error F.chip F.faults feed.old feed.new result }
+{
+    match place {
+        Place::At { stamp } => feed.next_row(stamp, out),
+        Place::NotOpen | Place::End => Ok(None),
+    }
+}
+
+// The word for the next row, if there is one.
+fn next_word(next: Option<u32>, row: &Row, le: u16) -> StatusWord
+    ensures given { (c : Cursor) → moved.fetched (moved.place_at next) c le result row.now ≡ gave_next c le (moved.row_handed next row.now) }
+    ensures least { least_read result row.now ≤ size_handed next row.now }
+{
+    match next {
+        Some(_) => word_of(true, row, le),
+        None => StatusWord::END_REACHED,
+    }
 }
 
 // The word for a row that is there or isn't: one that is longer than Le is refused, but where Le is 256.

@@ -45,8 +45,8 @@ pub fn step<F: RowFeed>(feed: &mut F, place: &mut Place) -> Result<StatusWord, E
     Ok(word_at(*place))
 }
 
-/// The place of the next row, or the end where there is none. Where a cursor isn't opened there is none.
-pub(crate) fn place_behind<F: RowFeed>(feed: &mut F, place: Place) -> Result<Place, EepromFault>
+// The place of the next row, or the end where there is none. Where a cursor isn't opened there is none.
+fn place_behind<F: RowFeed>(feed: &mut F, place: Place) -> Result<Place, EepromFault>
     requires { F.can_read feed.old }
     ensures reached { IfOk result (λ reached. (rows : List StampedRow) → F.tells feed.old rows → reached ≡ place_reached (row_behind place rows)) }
     ensures read { IfOk result (λ reached. IfSome (F.costs feed.old)
@@ -63,7 +63,8 @@ pub(crate) fn place_behind<F: RowFeed>(feed: &mut F, place: Place) -> Result<Pla
     }
 }
 
-fn place_of(stamp: Option<u32>) -> Place
+/// The place of the row of a stamp, and the end where there is none.
+pub(crate) fn place_of(stamp: Option<u32>) -> Place
     ensures { result ≡ moved.place_at stamp }
 {
     match stamp {

@@ -47,6 +47,16 @@ impl<'a, B: Eeprom> RowFeed for Single<'a, B> {
         *out = row_of(octets[0]);
         Ok(true)
     }
+
+    fn next_row(&mut self, stamp: u32, out: &mut Row) -> Result<Option<u32>, EepromFault> {
+        if stamp >= 7 {
+            return Ok(None);
+        }
+        let mut octets = [0; 2];
+        self.bench.read(0, &mut octets)?;
+        *out = row_of(octets[0]);
+        Ok(Some(7))
+    }
 }
 
 fn row_of(octet: u8) -> Row

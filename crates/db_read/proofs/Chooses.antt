@@ -70,6 +70,11 @@ row-limits x fits =
     let parts = and_parts (is_count_of_columns (length x.row) && list_all is_narrow x.row) (nat_le (row_size x.row) 1020) row in
     ((and_parts (is_count_of_columns (length x.row)) (list_all is_narrow x.row) parts.0).1, leb-true (row_size x.row) 1020 parts.1)
 
+-- no conditions are bound as none
+pub binds-none : (columns : Columns) (bound : List Placed) (conditions : List Condition) → bound ≡ [] → length conditions ≤ 0 → Binds bound columns conditions
+binds-none columns bound [] none few = λ values. rw none refl
+binds-none columns bound (condition ∷ conditions) none few = absurd (omega (arith, few))
+
 module _ (store : Held) (side : Side) (chip : Chip) (db : Database) (actor : Actor) (c : Cursor) (o : Object) (held : IsHeld store side chip db) (cursor : IsCursorOf db c)
     (selects : selectable db actor (seen_stamped db actor c.object) ≡ Ok o) where
   pub at-object : object_stamped db.objects c.object ≡ Some o

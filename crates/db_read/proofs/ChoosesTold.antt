@@ -55,7 +55,7 @@ unfolding contents_of
 dictionary-contents db stamp o subject is kind = rw (is, kind) refl
 
 -- the rows of a dictionary under columns and conditions
-told-narrowed : (told : Told) (all wanted : Columns) (conditions : List Condition) (rows : List StampedRow) → ArePlaces told.places.items all wanted → Binds told.conditions all conditions
+told-narrowed : (told : Told) (all wanted : Columns) (conditions : List Condition) (rows : List StampedRow) → ArePlaces told.places.items all wanted → Binds told.conditions.now all conditions
     → narrowed wanted conditions (record { columns = all; rows = rows }) ≡ chosen_told told rows
 told-narrowed told all wanted conditions [] places binds = refl
 told-narrowed told all wanted conditions (r ∷ rows) places binds =
@@ -123,7 +123,7 @@ module _ (store : Held) (side : Side) (chip : Chip) (db : Database) (actor : Act
   pub named-told : (all : Columns) → all ≡ columns_of o.kind → are_named_among all c.columns c.conditions ≡ true
   named-told all is = subst (λ (x : Columns). are_named_among x c.columns c.conditions ≡ true) (sym is) named
 
-  module _ (told : Told) (dictionary : told.dictionary.now ≡ o) (places : ArePlaces told.places.items (columns_of o.kind) c.columns) (binds : Binds told.conditions (columns_of o.kind) c.conditions)
+  module _ (told : Told) (dictionary : told.dictionary.now ≡ o) (places : ArePlaces told.places.items (columns_of o.kind) c.columns) (binds : Binds told.conditions.now (columns_of o.kind) c.conditions)
       (few : length c.columns ≤ 15) (subject : Subject) (kind : o.kind ≡ Dictionary subject) where
     columns : columns_of o.kind ≡ dictionary_columns subject
     columns = ap columns_of kind

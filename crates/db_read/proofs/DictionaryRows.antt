@@ -27,9 +27,9 @@ use Rattle.privilege_table.proofs.Seen.{find-both}
 use Rattle.record_table.specs.Making.{IsHeld}
 use Rattle.search_cond.specs.Bound.{passes}
 use Rattle.dictionaries.specs.Told.{IsNext, row_stamp}
-use Rattle.cursor.specs.Moved.{AreStamped}
+use Rattle.cursor.specs.Moved.{AreStamped, row_handed}
 use Rattle.db_read.specs.Chosen.{values_at}
-use Rattle.db_read.specs.Told.{TellsRows, as_shown, chosen_told, meets}
+use Rattle.db_read.specs.Told.{TellsRows, as_shown, chosen_told, meets, shown_told}
 use Rattle.db_read.specs.declared.telling.Told.{Told}
 use Rattle.db_read.proofs.Sighted.{one-rising}
 
@@ -79,6 +79,15 @@ next-skipped p k (x ∷ rows) r rises found other =
           rw (f, le-ltb r.stamp x.stamp (omega (arith, later, early))) (next-skipped p k rows r rises.1 (rw f at found) other))
     ]
 
+-- what is shown of a row has its stamp
+pub stamp-shown : (told : Told) (next : Option ℕ) (values : Values) (found : Option StampedRow) → shown_told told next values ≡ found → next ≡ option_map (λ (row : StampedRow). row.stamp) found
+stamp-shown told None values found is = ap (option_map (λ (row : StampedRow). row.stamp)) is
+stamp-shown told (Some stamp) values found is = ap (option_map (λ (row : StampedRow). row.stamp)) is
+
+-- and is handed out so
+pub handed-shown : (told : Told) (next : ℕ) (values cut : Values) (found : Option StampedRow) → shown_told told (Some next) values ≡ found → cut ≡ values_at told.places.items values → row_handed (Some next) cut ≡ found
+handed-shown told next values cut found is same = ap (row_handed (Some next)) same ∙ is
+
 -- the chosen rows behind a stamp
 behind-chosen : (told : Told) (k : ℕ) (rows : List StampedRow) → row_behind (At k) (chosen_told told rows) ≡ option_map (as_shown told) (find (wanted (meets told) k) rows)
 behind-chosen told k rows = find-map_filter (λ (x : StampedRow). nat_lt k x.stamp) (as_shown told) (meets told) rows
@@ -93,7 +102,7 @@ abbrev pub IsLeft : Told → Held → Side → Chip → ℕ → ℕ → Type 0
 IsLeft told store side chip stamp passed = (rows : List StampedRow) → TellsRows told store side chip rows → row_behind (At stamp) rows ≡ row_behind (At passed) rows
 
 module _ (told : Told) (store : Held) (side : Side) (chip : Chip) where
-  pub left-next : (stamp passed next : ℕ) (values : Values) → IsLeft told store side chip stamp passed → NextIs told store side chip passed (Some next) values → passes values told.conditions ≡ false
+  pub left-next : (stamp passed next : ℕ) (values : Values) → IsLeft told store side chip stamp passed → NextIs told store side chip passed (Some next) values → passes values told.conditions.now ≡ false
       → IsLeft told store side chip stamp next
   left-next stamp passed next values left is other = λ rows t.
       let all = rows_told t.db told.dictionary.now.owner t.subject in
@@ -102,24 +111,24 @@ module _ (told : Told) (store : Held) (side : Side) (chip : Chip) where
       left rows t ∙ subst (λ (x : List StampedRow). row_behind (At passed) x ≡ row_behind (At next) x) (sym t.are)
       (behind-chosen told passed all ∙ (ap (option_map (as_shown told)) skipped ∙ sym (behind-chosen told next all)))
 
-  pub left-found : (stamp passed next : ℕ) (values : Values) → IsLeft told store side chip stamp passed → NextIs told store side chip passed (Some next) values → passes values told.conditions ≡ true
-      → (rows : List StampedRow) → TellsRows told store side chip rows → Some next ≡ option_map (λ row. row.stamp) (row_behind (At stamp) rows)
+  pub left-found : (stamp passed next : ℕ) (values : Values) → IsLeft told store side chip stamp passed → NextIs told store side chip passed (Some next) values → passes values told.conditions.now ≡ true
+      → (rows : List StampedRow) → TellsRows told store side chip rows → shown_told told (Some next) values ≡ row_behind (At stamp) rows
   left-found stamp passed next values left is own rows t =
       let all = rows_told t.db told.dictionary.now.owner t.subject in
       let r : StampedRow = record { stamp = next; values = values } in
       let found = next-found (meets told) passed all r (is t.db t.subject t.held t.kind) own in
       let behind : row_behind (At passed) rows ≡ Some (as_shown told r) =
       subst (λ (x : List StampedRow). row_behind (At passed) x ≡ Some (as_shown told r)) (sym t.are) (behind-chosen told passed all ∙ ap (option_map (as_shown told)) found) in
-      sym (ap (option_map (λ (row : StampedRow). row.stamp)) (left rows t ∙ behind))
+      sym (left rows t ∙ behind)
 
   pub left-none : (stamp passed : ℕ) (values : Values) → IsLeft told store side chip stamp passed → NextIs told store side chip passed None values
-      → (rows : List StampedRow) → TellsRows told store side chip rows → None ≡ option_map (λ row. row.stamp) (row_behind (At stamp) rows)
+      → (rows : List StampedRow) → TellsRows told store side chip rows → None ≡ row_behind (At stamp) rows
   left-none stamp passed values left is rows t =
       let all = rows_told t.db told.dictionary.now.owner t.subject in
       let none = next-none (meets told) passed all (is t.db t.subject t.held t.kind) in
       let behind : row_behind (At passed) rows ≡ None =
       subst (λ (x : List StampedRow). row_behind (At passed) x ≡ None) (sym t.are) (behind-chosen told passed all ∙ ap (option_map (as_shown told)) none) in
-      sym (ap (option_map (λ (row : StampedRow). row.stamp)) (left rows t ∙ behind))
+      sym (left rows t ∙ behind)
 
   -- what comes next is later
   pub left-early : (passed next : ℕ) (values : Values) (P : List StampedRow → Type 0) → NextIs told store side chip passed (Some next) values → next ≤ passed
@@ -210,17 +219,23 @@ module _ (told : Told) (store : Held) (side : Side) (chip : Chip) where
       → (rows : List StampedRow) → TellsRows told store side chip rows → None ≡ option_map (λ row. row.values) (row_at stamp rows)
   there-other stamp before next values one is other rows t = (let there = there-next stamp before (Some next) values one is rows t in rw (ne_eqb next stamp other) at there)
 
-  pub there-hidden : (stamp before next : ℕ) (values : Values) → before + 1 ≡ stamp → NextIs told store side chip before (Some next) values → next ≡ stamp → passes values told.conditions ≡ false
+  pub there-hidden : (stamp before next : ℕ) (values : Values) → before + 1 ≡ stamp → NextIs told store side chip before (Some next) values → next ≡ stamp → passes values told.conditions.now ≡ false
       → (rows : List StampedRow) → TellsRows told store side chip rows → None ≡ option_map (λ row. row.values) (row_at stamp rows)
   there-hidden stamp before next values one is same hidden rows t = (let there = there-next stamp before (Some next) values one is rows t in rw (eq-eqb next stamp same, hidden) at there)
 
-  pub there-shown : (stamp before next : ℕ) (values cut : Values) → before + 1 ≡ stamp → NextIs told store side chip before (Some next) values → next ≡ stamp → passes values told.conditions ≡ true → IsRow values
+  -- a row that comes next is as wide as its dictionary, so it can be cut
+  pub next-cuts : (before next : ℕ) (values : Values) → NextIs told store side chip before (Some next) values → IsRow values
+      → (rows : List StampedRow) → TellsRows told store side chip rows → are_a_row (values_at told.places.items values) ≡ true
+  next-cuts before next values is row rows t =
+      let r : StampedRow = record { stamp = next; values = values } in
+      let all = rows_told t.db told.dictionary.now.owner t.subject in
+      let wide = eqb-true (length values) (length (dictionary_columns t.subject)) (holds-found (is_wide t.subject) (is_after row_stamp before) all r (told-wide t.db told.dictionary.now.owner t.subject) (is t.db t.subject t.held t.kind)) in
+      t.cuts values row wide
+
+  pub there-shown : (stamp before next : ℕ) (values cut : Values) → before + 1 ≡ stamp → NextIs told store side chip before (Some next) values → next ≡ stamp → passes values told.conditions.now ≡ true → IsRow values
       → (are_a_row (values_at told.places.items values) ≡ true → cut ≡ values_at told.places.items values)
       → (rows : List StampedRow) → TellsRows told store side chip rows → Some cut ≡ option_map (λ row. row.values) (row_at stamp rows)
   there-shown stamp before next values cut one is same shown row cuts rows t =
       let there = there-next stamp before (Some next) values one is rows t in
       let here = rw (eq-eqb next stamp same, shown) at there in
-      let r : StampedRow = record { stamp = next; values = values } in
-      let all = rows_told t.db told.dictionary.now.owner t.subject in
-      let wide = eqb-true (length values) (length (dictionary_columns t.subject)) (holds-found (is_wide t.subject) (is_after row_stamp before) all r (told-wide t.db told.dictionary.now.owner t.subject) (is t.db t.subject t.held t.kind)) in
-      ap Some (cuts (t.cuts values row wide)) ∙ here
+      ap Some (cuts (next-cuts before next values is row rows t)) ∙ here

@@ -26,12 +26,17 @@ use Rattle.row_table.proofs.FoundRows.{Finds, finds-told, none-found}
 use Rattle.scql_model.proofs.Depths.{some-map}
 use Rattle.scql_model.proofs.LongerLists.{find-passes}
 use Rattle.cursor.specs.Costs.{Cost, RisesBetween, cost_of, cost_where}
-use Rattle.db_read.specs.Costs.{cost_in, cost_reached, least_of, row_costs}
+use Rattle.db_read.specs.Costs.{cost_in, cost_reached, least_of, row_costs, row_read}
 
 -- a row has no more octets than its record
 least-spelled : (r : Option RowRecord) (octets : List ℕ) → IfSome r (λ x. (row_kind.form.fits x ≡ true) × (octets ≡ row_kind.form.spell x)) → least_of r ≤ length octets
 least-spelled None octets spelled = omega arith
 least-spelled (Some r) octets spelled = rw spelled.1 (omega (arith, row_size-spelled r.row))
+
+-- what is said of a row that was read into a place
+pub said-read : (read : Option (Unit {0})) (there : Bool) (row : RowRecord) (P : RowRecord → Type 0) → there ≡ is_some read → IfSome read (λ _. P row) → IfSome (row_read there row) P
+said-read None there row P is said = rw is tt
+said-read (Some u) there row P is said = rw is said
 
 -- what is told of the slots of a side, by what the record of one of them is
 at-record : (contents : List ℕ → Option Slots) (image : List ℕ) (slot : ℕ) (P : Option (List ℕ) → Type 0) → P (option_and_then (λ (slots : Slots). get_or slots slot None) (contents image)) → IfSome (contents image) (λ slots. P (get_or slots slot None))
@@ -88,14 +93,14 @@ behind-missing table stamp first slot (Some slots) o P is finds at =
 
 -- the row that is reached is one of the table, and costs what the table's costs say
 pub row-reached : (table stamp slot : ℕ) (slots : Option Slots) (r : RowRecord) (a b : Option ℕ) → IfSome slots (λ slots. Some r ≡ at_slot row_kind slot slots) → IfSome slots (λ slots. Some r ≡ find (is_row_after table stamp) (listed row_kind slots))
-    → IfSome slots (λ slots. Becomes (RisesBetween (least_of (Some r)) (cell_size * kind_cells row_kind (get_or slots slot None))) a b) → IfSome slots (λ slots. Becomes (RisesBetween 0 (cost_reached table slots (Some r))) a b)
+    → IfSome slots (λ slots. Becomes (RisesBetween (least_of (Some r)) (cell_size * kind_cells row_kind (get_or slots slot None))) a b) → IfSome slots (λ slots. Becomes (RisesBetween (least_of (Some r)) (cost_reached table slots (Some r))) a b)
 row-reached table stamp slot None r a b at found reads = tt
 row-reached table stamp slot (Some slots) r a b at found reads = λ after told.
     let h = reads after told in
     let passes = find-passes (is_row_after table stamp) (listed row_kind slots) r (sym found) in
     let same = eqb-true r.table table (and_parts (r.table == table) (nat_lt stamp r.stamp) passes).0 in
     let cost = cost-found table slots slot r (sym at) same in
-    (h.0, h.1, (omega (arith, h.2.0), omega (arith, h.2.1, cost)))
+    (h.0, h.1, (h.2.0, omega (arith, h.2.1, cost)))
 
 -- and it has a greater stamp
 pub row-later : (table stamp : ℕ) (slots : Option Slots) (r : RowRecord) (P : Slots → Type 0) → IfSome slots (λ slots. Some r ≡ find (is_row_after table stamp) (listed row_kind slots)) → r.stamp ≤ stamp → IfSome slots P
@@ -190,3 +195,38 @@ pub finds-behind : (index : Index) (store : Held) (chip : Chip) (side : Side) (t
     → Indexes index store chip → IfSome (slots_of store side chip) (Finds o (is_row_after table stamp))
 finds-behind index store chip side table stamp o value stands =
     finds-told index store chip side (is_later_in table stamp) (is_row_after table stamp) (λ slot row. refl) (λ (place : RowPlace). (place.stamp, place.slot)) (λ place. refl) o value stands
+
+-- the place that is found behind a stamp has the stamp of the row that is found there
+placed-stamp : (table stamp : ℕ) (slots : Slots) (place : RowPlace) (r : RowRecord) → find (is_later_in table stamp) (row_places slots) ≡ Some place → find (is_row_after table stamp) (listed row_kind slots) ≡ Some r → r.stamp ≡ place.stamp
+placed-stamp table stamp slots place r is found =
+    eqb-true r.stamp place.stamp (and_parts (is_row_after table stamp r) (r.stamp == place.stamp) (find-passes (λ (x : RowRecord). is_row_after table stamp x && x.stamp == place.stamp) (listed row_kind slots) r (sym at_stamp ∙ (at_place ∙ found)))).1
+  where
+    at_place : at_slot row_kind place.slot slots ≡ find (is_row_after table stamp) (listed row_kind slots)
+    at_place = ap (option_and_then (λ (p : RowPlace). at_slot row_kind (place_slot p) slots)) (sym is) ∙ found_row slots (is_later_in table stamp) (is_row_after table stamp) (λ slot row. refl)
+
+    at_stamp : at_slot row_kind place.slot slots ≡ find (λ (x : RowRecord). is_row_after table stamp x && x.stamp == place.stamp) (listed row_kind slots)
+    at_stamp =
+        ap (option_and_then (λ (p : RowPlace). at_slot row_kind (place_slot p) slots)) (sym (find-more (is_later_in table stamp) (λ (p : RowPlace). p.stamp == place.stamp) (row_places slots) place is (eq-eqb place.stamp place.stamp refl)))
+        ∙ found_row slots (λ (p : RowPlace). is_later_in table stamp p && p.stamp == place.stamp) (λ (x : RowRecord). is_row_after table stamp x && x.stamp == place.stamp) (λ slot row. refl)
+
+placed-stamps : (table stamp : ℕ) (slots : Slots) (o : Option RowPlace) (r : Option RowRecord) → find (is_later_in table stamp) (row_places slots) ≡ o → find (is_row_after table stamp) (listed row_kind slots) ≡ r
+    → option_map place_stamp o ≡ option_map (λ (x : RowRecord). x.stamp) r
+placed-stamps table stamp slots None None is found = refl
+placed-stamps table stamp slots None (Some r) is found = absurd (false≢true (ap is_some (sym is) ∙ (found_both slots (is_later_in table stamp) (is_row_after table stamp) (λ slot row. refl) ∙ ap is_some found)))
+placed-stamps table stamp slots (Some place) None is found = absurd (false≢true (sym (ap is_some (sym is) ∙ (found_both slots (is_later_in table stamp) (is_row_after table stamp) (λ slot row. refl) ∙ ap is_some found))))
+placed-stamps table stamp slots (Some place) (Some r) is found = ap Some (sym (placed-stamp table stamp slots place r is found))
+
+-- the stamp that the index has is that of the row that a search finds
+pub stamps-behind : (index : Index) (store : Held) (chip : Chip) (side : Side) (table stamp : ℕ) → Indexes index store chip
+    → IfSome (slots_of store side chip) (λ slots. option_map place_stamp (find (is_later_in table stamp) (side_places index side)) ≡ option_map (λ (x : RowRecord). x.stamp) (find (is_row_after table stamp) (listed row_kind slots)))
+stamps-behind index store chip side table stamp stands = told (slots_of store side chip) (rows-told index store chip side stands)
+  where
+    told : (slots : Option Slots) → IfSome slots (HasRows index.cells (side_places index side))
+        → IfSome slots (λ slots. option_map place_stamp (find (is_later_in table stamp) (side_places index side)) ≡ option_map (λ (x : RowRecord). x.stamp) (find (is_row_after table stamp) (listed row_kind slots)))
+    told None has_rows = tt
+    told (Some slots) has_rows = placed-stamps table stamp slots (find (is_later_in table stamp) (side_places index side)) _ (ap (find (is_later_in table stamp)) (sym has_rows.are)) refl
+
+-- the first of what the index answers
+pub first-answered : (places : Option RowPlace) (o : Option (ℕ × ℕ)) → o ≡ option_map (λ (place : RowPlace). (place.stamp, place.slot)) places → option_map (λ (answer : ℕ × ℕ). answer.0) o ≡ option_map place_stamp places
+first-answered None o is = ap (option_map (λ (answer : ℕ × ℕ). answer.0)) is
+first-answered (Some place) o is = ap (option_map (λ (answer : ℕ × ℕ). answer.0)) is

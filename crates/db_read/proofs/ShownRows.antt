@@ -1,5 +1,5 @@
 -- The chosen row of a stamp, and how it is shown.
-use Rattle.std.proofs.Common.{◌≡◌, ℕ, ◌≤◌, ◌==◌, nat_le, Bool, true, ◌&&◌, List, [], ◌∷◌, Option, Some, None, option_map, refl, sym, ap, subst, ◌∙◌, inl, inr, arith}
+use Rattle.std.proofs.Common.{◌≡◌, ℕ, ◌≤◌, ◌==◌, nat_le, nat_lt, Bool, true, ◌&&◌, List, [], ◌∷◌, Option, Some, None, option_map, refl, sym, ap, subst, ◌∙◌, inl, inr, arith}
 use Rattle.std.specs.Prelude.{IfSome}
 use Rattle.std.specs.List.{filter, find, list_all}
 use Rattle.std.proofs.lemmas.Bool.{and_parts, and_from, cases_Bool, leb-true}
@@ -9,21 +9,24 @@ use Rattle.eeprom.specs.Chip.{Becomes}
 use Rattle.eeprom.specs.Slots.{has}
 use Rattle.eeprom.specs.StoreOf.{Slots}
 use Rattle.scql_base.specs.Row.{are_a_row, row_size}
+use Rattle.scql_base.specs.declared.cursor.Place.TheVariants.{At}
 use Rattle.scql_base.specs.declared.records.RowRecord.{RowRecord}
 use Rattle.scql_model.specs.Matching.{Values}
-use Rattle.scql_model.specs.Moves.{row_at}
+use Rattle.scql_model.specs.Moves.{row_at, row_behind}
 use Rattle.scql_model.specs.Objects.{StampedRow}
 use Rattle.scql_model.proofs.FoundAgain.{find-map_filter}
+use Rattle.scql_model.proofs.LongerLists.{find-passes}
 use Rattle.catalog_codec.specs.Catalog.{row_kind}
 use Rattle.record_table.specs.Listed.{listed}
 use Rattle.privilege_table.proofs.Seen.{find-both}
-use Rattle.cursor.specs.Costs.{RisesBetween, cost_of}
-use Rattle.db_read.specs.Chosen.{are_rising, can_cut, can_show, costs_shown, is_chosen, is_shown, rows_shown, shown_row, values_at}
-use Rattle.db_read.specs.Costs.{least_of, row_costs}
+use Rattle.cursor.specs.Costs.{RisesBetween, cost_behind, cost_of, size_handed}
+use Rattle.cursor.specs.Moved.{row_handed}
+use Rattle.db_read.specs.Chosen.{IsNextShown, are_rising, can_cut, can_show, costs_shown, is_chosen, is_shown, rows_shown, shown_row, values_at}
+use Rattle.db_read.specs.Costs.{cost_passed, least_of, row_costs}
 use Rattle.db_read.specs.declared.choosing.Chosen.{Chosen}
 use Rattle.db_read.proofs.RowReads.{of_table}
 use Rattle.db_read.proofs.Sighted.{one-rising}
-use Rattle.db_read.proofs.Skipping.{costs-told, rises-are_rising, shown-told}
+use Rattle.db_read.proofs.Skipping.{is_wanted, costs-told, rises-are_rising, shown-told}
 
 filter-twice : {X : Type 0} (p q : X → Bool) (o : Option X) → option_filter (λ x. p x && q x) o ≡ option_filter q (option_filter p o)
 filter-twice p q None = refl
@@ -121,3 +124,49 @@ pub reads-none : (chosen : Chosen) (stamp : ℕ) (slots : Option Slots) (found :
 reads-none chosen stamp None found a b reads = tt
 reads-none chosen stamp (Some slots) found a b reads =
     costs-told chosen (Some slots) (λ costs. Becomes (RisesBetween 0 (cost_of stamp costs)) a b) (λ can after told. let h = reads after told in (h.0, h.1, (omega (arith, h.2.0), h.2.1)))
+
+-- the next of the rows that are shown
+pub next-row : (chosen : Chosen) (stamp : ℕ) (slots : Option Slots) (next : Option RowRecord) → IfSome slots (IsNextShown chosen stamp next)
+    → IfSome (rows_shown chosen slots) (λ rows. option_map (shown_row chosen) next ≡ row_behind (At stamp) rows)
+next-row chosen stamp None next said = tt
+next-row chosen stamp (Some slots) next said =
+    shown-told chosen (Some slots) (λ rows. option_map (shown_row chosen) next ≡ row_behind (At stamp) rows) (λ can.
+    let rows : List RowRecord = listed row_kind slots in
+    let rises = rises-are_rising rows (and_parts (are_rising rows) (list_all (can_cut chosen) (filter (is_chosen chosen) rows)) can).0 in
+    ap (option_map (shown_row chosen)) (said rises) ∙ sym (find-map_filter (λ (x : StampedRow). nat_lt stamp x.stamp) (shown_row chosen) (is_chosen chosen) rows))
+
+-- it can be shown, where all that are chosen can be
+can-show-next : (chosen : Chosen) (stamp : ℕ) (slots : Slots) (r : RowRecord) → can_show chosen (listed row_kind slots) ≡ true → IsNextShown chosen stamp (Some r) slots → can_cut chosen r ≡ true
+can-show-next chosen stamp slots r can next =
+    let rows : List RowRecord = listed row_kind slots in
+    let parts = and_parts (are_rising rows) (list_all (can_cut chosen) (filter (is_chosen chosen) rows)) can in
+    let found = sym (next (rises-are_rising rows parts.0)) in
+    let own = (and_parts (nat_lt stamp r.stamp) (is_chosen chosen r) (find-passes (is_wanted chosen stamp) rows r found)).1 in
+    found-passes (can_cut chosen) (is_chosen chosen) (is_wanted chosen stamp) rows r parts.1 found own
+
+-- and is handed out so
+pub next-cut : (chosen : Chosen) (stamp : ℕ) (slots : Option Slots) (r : RowRecord) (cut : Values) → IfSome slots (IsNextShown chosen stamp (Some r))
+    → (are_a_row (values_at chosen.places.items r.row) ≡ true → cut ≡ values_at chosen.places.items r.row) → IfSome (rows_shown chosen slots) (λ rows. row_handed (Some r.stamp) cut ≡ row_behind (At stamp) rows)
+next-cut chosen stamp None r cut next is = tt
+next-cut chosen stamp (Some slots) r cut next is =
+    cut-as (rows_shown chosen (Some slots)) (next-row chosen stamp (Some slots) (Some r) next)
+    (shown-told chosen (Some slots) (λ _. cut ≡ values_at chosen.places.items r.row) (λ can.
+    is (and_parts (are_a_row (values_at chosen.places.items r.row)) (nat_le (row_size (values_at chosen.places.items r.row)) (row_size r.row)) (can-show-next chosen stamp slots r can next)).0))
+  where
+    cut-as : (o : Option (List StampedRow)) → IfSome o (λ rows. Some (shown_row chosen r) ≡ row_behind (At stamp) rows) → IfSome o (λ _. cut ≡ values_at chosen.places.items r.row)
+        → IfSome o (λ rows. row_handed (Some r.stamp) cut ≡ row_behind (At stamp) rows)
+    cut-as None next same = tt
+    cut-as (Some rows) next same = ap (row_handed (Some r.stamp)) same ∙ next
+
+pub next-cut-reads : (chosen : Chosen) (stamp : ℕ) (slots : Option Slots) (r : RowRecord) (cut : Values) (a b : Option ℕ) → IfSome slots (IsNextShown chosen stamp (Some r))
+    → (are_a_row (values_at chosen.places.items r.row) ≡ true → cut ≡ values_at chosen.places.items r.row)
+    → IfSome slots (λ slots. Becomes (RisesBetween (least_of (Some r)) (cost_passed chosen.table stamp slots (Some r))) a b)
+    → IfSome (costs_shown chosen slots) (λ costs. Becomes (RisesBetween (size_handed (Some r.stamp) cut) (cost_behind stamp (Some r.stamp) costs)) a b)
+next-cut-reads chosen stamp None r cut a b next is reads = tt
+next-cut-reads chosen stamp (Some slots) r cut a b next is reads =
+    costs-told chosen (Some slots) (λ costs. Becomes (RisesBetween (row_size cut) (cost_behind stamp (Some r.stamp) costs)) a b) (λ can after told.
+    let h = reads after told in
+    let fits = and_parts (are_a_row (values_at chosen.places.items r.row)) (nat_le (row_size (values_at chosen.places.items r.row)) (row_size r.row)) (can-show-next chosen stamp slots r can next) in
+    let narrow = leb-true (row_size (values_at chosen.places.items r.row)) (row_size r.row) fits.1 in
+    let least : row_size cut ≤ row_size r.row = rw (is fits.0) narrow in
+    (h.0, h.1, (omega (arith, h.2.0, least), h.2.1)))

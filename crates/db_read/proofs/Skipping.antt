@@ -10,6 +10,7 @@ use Rattle.eeprom.specs.Slots.{Rises}
 use Rattle.eeprom.specs.StoreOf.{Slots}
 use Rattle.scql_base.specs.declared.cursor.Place.TheVariants.{At}
 use Rattle.scql_base.specs.declared.records.RowRecord.{RowRecord}
+use Rattle.scql_model.specs.Matching.{Values}
 use Rattle.scql_model.specs.Moves.{row_behind}
 use Rattle.scql_model.specs.Objects.{StampedRow}
 use Rattle.scql_model.proofs.FoundAgain.{find-map_filter}
@@ -17,8 +18,8 @@ use Rattle.catalog_codec.specs.Catalog.{row_kind}
 use Rattle.record_table.specs.Listed.{listed}
 use Rattle.row_table.specs.Found.{is_row_after}
 use Rattle.cursor.specs.Costs.{Cost, RisesBetween, cost_behind, cost_of}
-use Rattle.db_read.specs.Chosen.{are_rising, can_cut, can_show, chosen_rows, costs_shown, is_chosen, is_shown, rows_shown, shown_row}
-use Rattle.db_read.specs.Costs.{cost_reached, row_costs}
+use Rattle.db_read.specs.Chosen.{IsNextShown, are_rising, can_cut, can_show, chosen_rows, costs_shown, is_chosen, is_shown, rows_shown, shown_row}
+use Rattle.db_read.specs.Costs.{cost_passed, cost_reached, row_costs}
 use Rattle.db_read.specs.declared.choosing.Chosen.{Chosen}
 
 key_of : RowRecord → ℕ
@@ -132,7 +133,7 @@ stamp-shown chosen None = refl
 stamp-shown chosen (Some r) = refl
 
 -- the next of the rows that are shown
-pub next-shown : (chosen : Chosen) (stamp : ℕ) (slots : Option Slots) (next : Option RowRecord) → IfSome slots (λ slots. Rises row_kind.key (listed row_kind slots) → next ≡ find (is_wanted chosen stamp) (listed row_kind slots))
+pub next-shown : (chosen : Chosen) (stamp : ℕ) (slots : Option Slots) (next : Option RowRecord) → IfSome slots (IsNextShown chosen stamp next)
     → IfSome (rows_shown chosen slots) (λ rows. option_map (λ (r : RowRecord). r.stamp) next ≡ option_map (λ row. row.stamp) (row_behind (At stamp) rows))
 next-shown chosen stamp None next said = tt
 next-shown chosen stamp (Some slots) next said =
@@ -141,6 +142,26 @@ next-shown chosen stamp (Some slots) next said =
     ap (option_map (λ (r : RowRecord). r.stamp)) (said rises)
     ∙ (sym (stamp-shown chosen (find (is_wanted chosen stamp) (listed row_kind slots)))
     ∙ sym (ap (option_map (λ (row : StampedRow). row.stamp)) (find-map_filter (λ (x : StampedRow). nat_lt stamp x.stamp) (shown_row chosen) (is_chosen chosen) (listed row_kind slots)))))
+
+-- where all rows are chosen, the next of the table is the next of those that are shown
+all-next : (chosen : Chosen) (stamp : ℕ) (rows : List RowRecord) (next : Option RowRecord) → find (is_row_after chosen.table stamp) rows ≡ next → ((values : Values) → is_shown chosen values ≡ true)
+    → next ≡ find (is_wanted chosen stamp) rows
+all-next chosen stamp rows None is all = sym (next-none chosen stamp rows is)
+all-next chosen stamp rows (Some r) is all = sym (next-found chosen stamp rows r is (all r.row))
+
+pub next-of_all : (chosen : Chosen) (stamp : ℕ) (slots : Option Slots) (next : Option ℕ) → ((values : Values) → is_shown chosen values ≡ true)
+    → IfSome slots (λ slots. next ≡ option_map (λ (r : RowRecord). r.stamp) (find (is_row_after chosen.table stamp) (listed row_kind slots)))
+    → IfSome (rows_shown chosen slots) (λ rows. next ≡ option_map (λ row. row.stamp) (row_behind (At stamp) rows))
+next-of_all chosen stamp None next all is = tt
+next-of_all chosen stamp (Some slots) next all is =
+    let found : Option RowRecord = find (is_row_after chosen.table stamp) (listed row_kind slots) in
+    subst (λ (n : Option ℕ). IfSome (rows_shown chosen (Some slots)) (λ rows. n ≡ option_map (λ row. row.stamp) (row_behind (At stamp) rows))) (sym is)
+    (next-shown chosen stamp (Some slots) found (λ rises. all-next chosen stamp (listed row_kind slots) found refl all))
+
+-- nothing was read
+pub reads-nothing : (costs : Option (List Cost)) (most : List Cost → ℕ) (a : Option ℕ) → IfSome costs (λ list. Becomes (RisesBetween 0 (most list)) a a)
+reads-nothing None most a = tt
+reads-nothing (Some list) most a = λ after told. (after, told, (omega (arith), omega (arith)))
 
 -- What is still to be found behind the rows that were passed.
 abbrev pub IsLeft : Chosen → ℕ → ℕ → Slots → Type 0
@@ -156,22 +177,14 @@ left-next chosen stamp passed None r left found hidden = tt
 left-next chosen stamp passed (Some slots) r left found hidden = λ rises. left rises ∙ next-skipped chosen passed (listed row_kind slots) r rises (sym found) hidden
 
 pub left-found : (chosen : Chosen) (stamp passed : ℕ) (slots : Option Slots) (r : RowRecord) → IfSome slots (IsLeft chosen stamp passed) → IfSome slots (λ slots. Some r ≡ find (is_row_after chosen.table passed) (listed row_kind slots))
-    → is_shown chosen r.row ≡ true → IfSome (rows_shown chosen slots) (λ rows. Some r.stamp ≡ option_map (λ row. row.stamp) (row_behind (At stamp) rows))
-left-found chosen stamp passed slots r left found shown = next-shown chosen stamp slots (Some r) (there slots left found)
-  where
-    there : (slots : Option Slots) → IfSome slots (IsLeft chosen stamp passed) → IfSome slots (λ slots. Some r ≡ find (is_row_after chosen.table passed) (listed row_kind slots))
-        → IfSome slots (λ slots. Rises row_kind.key (listed row_kind slots) → Some r ≡ find (is_wanted chosen stamp) (listed row_kind slots))
-    there None left found = tt
-    there (Some slots) left found = λ rises. sym (left rises ∙ next-found chosen passed (listed row_kind slots) r (sym found) shown)
+    → is_shown chosen r.row ≡ true → IfSome slots (IsNextShown chosen stamp (Some r))
+left-found chosen stamp passed None r left found shown = tt
+left-found chosen stamp passed (Some slots) r left found shown = λ rises. sym (left rises ∙ next-found chosen passed (listed row_kind slots) r (sym found) shown)
 
 pub left-none : (chosen : Chosen) (stamp passed : ℕ) (slots : Option Slots) → IfSome slots (IsLeft chosen stamp passed) → IfSome slots (λ slots. None ≡ find (is_row_after chosen.table passed) (listed row_kind slots))
-    → IfSome (rows_shown chosen slots) (λ rows. None ≡ option_map (λ row. row.stamp) (row_behind (At stamp) rows))
-left-none chosen stamp passed slots left none = next-shown chosen stamp slots None (there slots left none)
-  where
-    there : (slots : Option Slots) → IfSome slots (IsLeft chosen stamp passed) → IfSome slots (λ slots. None ≡ find (is_row_after chosen.table passed) (listed row_kind slots))
-        → IfSome slots (λ slots. Rises row_kind.key (listed row_kind slots) → None ≡ find (is_wanted chosen stamp) (listed row_kind slots))
-    there None left none = tt
-    there (Some slots) left none = λ rises. sym (left rises ∙ next-none chosen passed (listed row_kind slots) (sym none))
+    → IfSome slots (IsNextShown chosen stamp None)
+left-none chosen stamp passed None left none = tt
+left-none chosen stamp passed (Some slots) left none = λ rises. sym (left rises ∙ next-none chosen passed (listed row_kind slots) (sym none))
 
 -- What was passed and one row more cost what the rows up to that one do.
 cost-one : (stamp passed next other octets : ℕ) → stamp ≤ passed → passed < next
@@ -223,14 +236,19 @@ pub reads-before : (chosen : Chosen) (stamp : ℕ) (slots : Option Slots) (a : O
 reads-before chosen stamp None a = tt
 reads-before chosen stamp (Some slots) a = λ after told. (after, told, (omega arith, omega arith))
 
-pub reads-next : (chosen : Chosen) (stamp passed : ℕ) (slots : Option Slots) (r : RowRecord) (a b c : Option ℕ) → stamp ≤ passed → passed < r.stamp → IfSome slots (λ slots. ReadsBehind chosen stamp (Some passed) slots a b)
-    → IfSome slots (λ slots. Becomes (RisesBetween 0 (cost_reached chosen.table slots (Some r))) b c) → IfSome slots (λ slots. ReadsBehind chosen stamp (Some r.stamp) slots a c)
-reads-next chosen stamp passed None r a b c low high before here = tt
-reads-next chosen stamp passed (Some slots) r a b c low high before here = λ after told.
+pub reads-next : (chosen : Chosen) (stamp passed : ℕ) (slots : Option Slots) (r : RowRecord) (least : ℕ) (a b c : Option ℕ) → stamp ≤ passed → passed < r.stamp → IfSome slots (λ slots. ReadsBehind chosen stamp (Some passed) slots a b)
+    → IfSome slots (λ slots. Becomes (RisesBetween least (cost_reached chosen.table slots (Some r))) b c) → IfSome slots (λ slots. Becomes (RisesBetween least (cost_passed chosen.table stamp slots (Some r))) a c)
+reads-next chosen stamp passed None r least a b c low high before here = tt
+reads-next chosen stamp passed (Some slots) r least a b c low high before here = λ after told.
     let h = here after told in
     let s = before h.0 h.1 in
     let step = cost-step stamp passed r.stamp (row_costs chosen.table slots) low high in
     (s.0, s.1, (omega (arith, h.2.0, s.2.0), omega (arith, h.2.1, s.2.1, step)))
+
+pub reads-passed : (chosen : Chosen) (stamp : ℕ) (slots : Option Slots) (r : RowRecord) (least : ℕ) (a b : Option ℕ) → IfSome slots (λ slots. Becomes (RisesBetween least (cost_passed chosen.table stamp slots (Some r))) a b)
+    → IfSome slots (λ slots. ReadsBehind chosen stamp (Some r.stamp) slots a b)
+reads-passed chosen stamp None r least a b read = tt
+reads-passed chosen stamp (Some slots) r least a b read = λ after told. (let h = read after told in (h.0, h.1, (omega (arith, h.2.0), h.2.1)))
 
 pub reads-end : (chosen : Chosen) (stamp passed : ℕ) (slots : Option Slots) (a b c : Option ℕ) → IfSome slots (λ slots. ReadsBehind chosen stamp (Some passed) slots a b)
     → IfSome slots (λ slots. Becomes (RisesBetween 0 (cost_reached chosen.table slots None)) b c) → IfSome slots (λ slots. ReadsBehind chosen stamp None slots a c)
@@ -242,7 +260,10 @@ reads-end chosen stamp passed (Some slots) a b c before here = λ after told.
     (s.0, s.1, (omega (arith, h.2.0, s.2.0), omega (arith, h.2.1, s.2.1, all)))
 
 -- as the costs of a feed say
-pub costs-behind : (chosen : Chosen) (stamp : ℕ) (last : Option ℕ) (slots : Option Slots) (a b : Option ℕ) → IfSome slots (λ slots. ReadsBehind chosen stamp last slots a b)
-    → IfSome (costs_shown chosen slots) (λ costs. Becomes (RisesBetween 0 (cost_behind stamp last costs)) a b)
-costs-behind chosen stamp last None a b reads = tt
-costs-behind chosen stamp last (Some slots) a b reads = costs-told chosen (Some slots) (λ costs. Becomes (RisesBetween 0 (cost_behind stamp last costs)) a b) (λ can. reads)
+pub costs-behind : (chosen : Chosen) (stamp least : ℕ) (last : Option RowRecord) (slots : Option Slots) (a b : Option ℕ) → IfSome slots (λ slots. Becomes (RisesBetween least (cost_passed chosen.table stamp slots last)) a b)
+    → IfSome (costs_shown chosen slots) (λ costs. Becomes (RisesBetween 0 (cost_behind stamp (option_map (λ (r : RowRecord). r.stamp) last) costs)) a b)
+costs-behind chosen stamp least last None a b reads = tt
+costs-behind chosen stamp least last (Some slots) a b reads =
+    costs-told chosen (Some slots) (λ costs. Becomes (RisesBetween 0 (cost_behind stamp (option_map (λ (r : RowRecord). r.stamp) last) costs)) a b) (λ can after told.
+    let h = reads after told in
+    (h.0, h.1, (omega (arith, h.2.0), h.2.1)))

@@ -1,6 +1,7 @@
 -- Which rows of a table a cursor chooses, and what it shows of them.
-use Rattle.std.specs.Prelude.{ℕ, ◌==◌, nat_le, nat_lt, Bool, true, ◌&&◌, if◌then◌else◌, List, [], ◌∷◌, map, filter, Option, Some, None, option_and_then, slice_index_or}
-use Rattle.std.specs.List.{list_all}
+use Rattle.std.specs.Prelude.{◌≡◌, ℕ, ◌==◌, nat_le, nat_lt, Bool, true, ◌&&◌, if◌then◌else◌, List, [], ◌∷◌, map, filter, Option, Some, None, option_and_then, slice_index_or}
+use Rattle.std.specs.List.{find, list_all}
+use Rattle.eeprom.specs.Slots.{Rises}
 use Rattle.eeprom.specs.StoreOf.{Slots}
 use Rattle.scql_base.specs.Row.{are_a_row, row_size}
 use Rattle.scql_base.specs.declared.records.RowRecord.{RowRecord}
@@ -55,3 +56,7 @@ rows_shown chosen slots = where_shown (λ chosen slots. chosen_rows chosen (list
 -- what reading the rows of the table may cost
 abbrev pub costs_shown : Chosen → Option Slots → Option (List Cost)
 costs_shown chosen slots = where_shown (λ chosen slots. row_costs chosen.table slots) chosen slots
+
+-- the row is the first of the chosen ones behind a stamp, where the stamps of all rise
+abbrev pub IsNextShown : Chosen → ℕ → Option RowRecord → Slots → Type 0
+IsNextShown chosen stamp next slots = Rises row_kind.key (listed row_kind slots) → next ≡ find (λ (r : RowRecord). nat_lt stamp r.stamp && is_chosen chosen r) (listed row_kind slots)

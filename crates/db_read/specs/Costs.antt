@@ -1,5 +1,5 @@
 -- What reading the rows of a table may cost.
-use Rattle.std.specs.Prelude.{ℕ, ◌==◌, ◌*◌, ◌+◌, if◌then◌else◌, List, Option, Some, None, option_and_then}
+use Rattle.std.specs.Prelude.{ℕ, ◌==◌, ◌*◌, ◌+◌, Bool, if◌then◌else◌, List, Option, Some, None, option_and_then, option_map}
 use Rattle.std.specs.List.{filter_map}
 use Rattle.eeprom.specs.Slots.{in_slot}
 use Rattle.eeprom.specs.StoreOf.{Slots, cell_size}
@@ -9,7 +9,7 @@ use Rattle.scql_model.specs.Objects.{deepest}
 use Rattle.catalog_codec.specs.Catalog.{grant_kind, object_kind, row_kind}
 use Rattle.catalog_codec.specs.Kinds.{read_as}
 use Rattle.record_table.specs.Listed.{cells_marked, kind_cells}
-use Rattle.cursor.specs.Costs.{Cost, cost_of}
+use Rattle.cursor.specs.Costs.{Cost, cost_behind, cost_of}
 
 -- the cells of a slot that has a row of the table
 abbrev pub cost_in : ℕ → Option (List ℕ) → Option Cost
@@ -24,6 +24,10 @@ abbrev pub cost_reached : ℕ → Slots → Option RowRecord → ℕ
 cost_reached table slots None = 0
 cost_reached table slots (Some r) = cost_of r.stamp (row_costs table slots)
 
+-- what reading the rows behind a stamp may cost, up to one that was reached or to the end
+abbrev pub cost_passed : ℕ → ℕ → Slots → Option RowRecord → ℕ
+cost_passed table stamp slots reached = cost_behind stamp (option_map (λ (r : RowRecord). r.stamp) reached) (row_costs table slots)
+
 -- what the searches of a reading operation for its object may cost: one for the object, one for the grants on it, and one for each view down to the table
 abbrev pub catalogue_cost : Slots → ℕ
 catalogue_cost slots = (deepest + 1) * (cell_size * cells_marked object_kind slots) + cell_size * cells_marked grant_kind slots
@@ -32,3 +36,7 @@ catalogue_cost slots = (deepest + 1) * (cell_size * cells_marked object_kind slo
 abbrev pub least_of : Option RowRecord → ℕ
 least_of None = 0
 least_of (Some r) = row_size r.row
+
+-- a row that was read into a place, where there was one
+abbrev pub row_read : Bool → RowRecord → Option RowRecord
+row_read there row = if there then Some row else None

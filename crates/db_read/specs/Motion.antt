@@ -1,5 +1,5 @@
 -- How a cursor moves over its rows, what comes of it, and what it reads.
-use Rattle.std.specs.Prelude.{◌≡◌, ℕ, ◌*◌, Bool, true, IsTrue, List, Some, Result}
+use Rattle.std.specs.Prelude.{◌≡◌, ℕ, Bool, true, IsTrue, List, Some, Result}
 use Rattle.scql_base.specs.declared.cursor.Cursor.{Cursor}
 use Rattle.scql_base.specs.declared.cursor.Place.{Place}
 use Rattle.scql_base.specs.declared.cursor.Place.TheVariants.{At}
@@ -50,7 +50,7 @@ abbrev pub cost_by : Motion → Place → Place → List StampedRow → List Cos
 cost_by Open from to rows costs = cost_between (At 0) to costs
 cost_by Next from to rows costs = cost_between from to costs
 cost_by (Fetch le) from to rows costs = cost_at from costs
-cost_by (FetchNext le) from to rows costs = 2 * cost_between from (place_reached (row_behind from rows)) costs
+cost_by (FetchNext le) from to rows costs = cost_between from (place_reached (row_behind from rows)) costs
 
 -- a row that is given was read
 abbrev pub least_by : Motion → StatusWord → Values → ℕ

@@ -1,5 +1,5 @@
 -- Which rows of a dictionary a cursor chooses, and which rows are told of whatever it chooses.
-use Rattle.std.specs.Prelude.{◌≡◌, Bool, true, List, length, map, filter, Option, Some, None}
+use Rattle.std.specs.Prelude.{◌≡◌, ℕ, Bool, true, List, length, map, filter, Option, Some, None, option_map}
 use Rattle.eeprom.specs.Chip.{Chip}
 use Rattle.eeprom.specs.Slots.{Rises}
 use Rattle.eeprom.specs.StoreOf.{Slots}
@@ -16,7 +16,7 @@ use Rattle.record_table.specs.Listed.{slots_of}
 use Rattle.record_table.specs.Making.{IsHeld}
 use Rattle.search_cond.specs.Bound.{passes}
 use Rattle.cursor.specs.Costs.{Cost}
-use Rattle.cursor.specs.Moved.{AreStamped}
+use Rattle.cursor.specs.Moved.{AreStamped, row_handed}
 use Rattle.db_read.specs.Chosen.{costs_shown, rows_shown, values_at}
 use Rattle.db_read.specs.declared.choosing.Choice.{Choice}
 use Rattle.db_read.specs.declared.choosing.Choice.TheVariants.{OfTable, OfDictionary}
@@ -24,13 +24,17 @@ use Rattle.db_read.specs.declared.telling.Told.{Told}
 
 -- of some rows those that meet the cursor's conditions, as they are shown
 abbrev pub meets : Told → StampedRow → Bool
-meets told r = passes r.values told.conditions
+meets told r = passes r.values told.conditions.now
 
 abbrev pub as_shown : Told → StampedRow → StampedRow
 as_shown told r = record r { values = values_at told.places.items r.values }
 
 abbrev pub chosen_told : Told → List StampedRow → List StampedRow
 chosen_told told rows = map (as_shown told) (filter (meets told) rows)
+
+-- what is shown of a row that was read, where there is one
+abbrev pub shown_told : Told → Option ℕ → Values → Option StampedRow
+shown_told told stamp values = option_map (as_shown told) (row_handed stamp values)
 
 -- the rows that are told are in order, and each that is as wide as the dictionary can be shown
 pub record TellsRows (told : Told) (store : Held) (side : Side) (chip : Chip) (rows : List StampedRow) : Type 0 where

@@ -1,17 +1,18 @@
 // What a cursor chooses of its object.
-ghost use Rattle.std.specs.Prelude.{◌≡◌, ◌≤◌, IfSome, IsSome, length, true};
+ghost use Rattle.std.specs.Prelude.{◌≡◌, ◌≤◌, IfSome, IsSome, IsTrue, [], length, true};
 ghost use Rattle.scql_base.specs.declared.name_list.TheConstants.NameList.{MOST};
 ghost use Rattle.std.specs.List.{list_all};
 ghost use Rattle.search_cond.specs.Bound.{Binds, passes};
 ghost use Rattle.scql_base.specs.Row.{are_a_row};
-ghost use Rattle.scql_model.specs.Database.{are_named_among};
+ghost use Rattle.scql_model.specs.Database.{are_among, are_named_among};
+ghost use Rattle.scql_model.specs.Matching.{Values};
 ghost use Rattle.views.specs.Resolved.{ArePlaces};
 ghost use Rattle.db_read.specs.Chosen as specs;
 ghost use Rattle.db_read.specs.Chosen.{values_at};
 
 use crate::telling::Told;
 use scql_base::{Conditions, NameList, Row};
-use search_cond::{Bound, bind_into};
+use search_cond::{Bound, Placed, bind_into, meets_each};
 use views::{Places, places_of};
 
 /// The rows that a cursor chooses, by where they come from.
@@ -31,17 +32,24 @@ pub(crate) struct Chosen<'a> {
     /// The places of the cursor's columns among the table's.
     pub(crate) places: Places,
     /// The cursor's conditions.
-    pub(crate) conditions: &'a Bound,
+    pub(crate) conditions: &'a [Placed],
     /// The conditions of the views between.
     pub(crate) filters: &'a [Bound],
 }
 
 impl<'a> Chosen<'a> {
+    /// Whether each row of the table is among those chosen, since there are no conditions.
+    pub(crate) fn shows_all(&self) -> bool
+        ensures { IsTrue result → (values : Values) → specs.is_shown self.now values ≡ true }
+    {
+        self.conditions.is_empty() && self.filters.is_empty()
+    }
+
     /// Whether a row of the table is among those chosen.
     pub(crate) fn shows(&self, row: &Row) -> bool
         ensures { result ≡ specs.is_shown self.now row.now }
     {
-        self.conditions.matches(row) && passes_each(self.filters, row)
+        meets_each(row, self.conditions) && passes_each(self.filters, row)
     }
 }
 
@@ -51,16 +59,50 @@ fn passes_each(filters: &[Bound], row: &Row) -> bool
     filters.iter().all(|filter| filter.matches(row))
 }
 
-/// The values at places of a row. What isn't a row is cut short.
-pub(crate) fn cut(places: &Places, row: &Row) -> Row
-    ensures { are_a_row (values_at places.now.items row.now) ≡ true → result ≡ values_at places.now.items row.now }
+/// Becomes the values at places of a row. What isn't a row is cut short.
+pub(crate) fn cut_into(places: &Places, row: &Row, out: &mut Row)
+    ensures { are_a_row (values_at places.now.items row.now) ≡ true → out.new ≡ values_at places.now.items row.now }
 {
-    let mut cut = Row::new();
+    if are_all(places.as_slice(), row.len()) {
+        take_over(row, out);
+    } else {
+        cut_each(places, row, out);
+    }
+}
+
+// Whether these are the places of so many values, in their order.
+fn are_all(places: &[u8], count: usize) -> bool
+    ensures { IsTrue result → (values : Values) → length values ≡ count → values_at places.now values ≡ values }
+{
+    let mut next = 0;
+    for place in places {
+        if usize::from(*place) != next {
+            return false;
+        }
+        next += 1;
+    }
+    next == count
+}
+
+// Becomes the same row, whose values are taken over as one run.
+fn take_over(row: &Row, out: &mut Row)
+    ensures { out.new ≡ row.now }
+{
+    prove!(row.len() <= Row::MOST);
+    let taken = out.read_into(row.octets()).is_some();
+    prove!(taken);
+}
+
+// Becomes the values at places of a row, one by one.
+fn cut_each(places: &Places, row: &Row, out: &mut Row)
+    ensures { are_a_row (values_at places.now.items row.now) ≡ true → out.new ≡ values_at places.now.items row.now }
+{
+    let emptied = out.read_into(&[]).is_some();
+    prove!(emptied);
     for place in places.as_slice() {
         let value = row.get(usize::from(*place)).unwrap_or(&[]);
-        let _ = cut.push(value);
+        let _ = out.push(value);
     }
-    cut
 }
 
 /// What columns and conditions choose of a table that is seen through views. None where one of them isn't on the table's columns.
@@ -83,7 +125,24 @@ pub(crate) fn choose<'a>(
     Some(Chosen {
         table,
         places,
-        conditions: bound,
+        conditions: bound.as_slice(),
         filters,
+    })
+}
+
+/// What columns choose of a table without conditions: all its rows. None where one of them isn't on the table's columns.
+pub(crate) fn choose_all<'a>(table: u32, all: &NameList, columns: &NameList) -> Option<Chosen<'a>>
+    ensures chosen { IfSome result (λ chosen. (chosen.table ≡ table) × (chosen.filters.now ≡ [])
+        × ArePlaces chosen.places.items all.now columns.now × (chosen.conditions.now ≡ [])) }
+    ensures few { IfSome result (λ _. length columns.now ≤ MOST) }
+    ensures there { are_among columns.now all.now ≡ true → IsSome result }
+{
+    prove!(columns.len() <= NameList::MOST);
+    let places = places_of(all, columns)?;
+    Some(Chosen {
+        table,
+        places,
+        conditions: &[],
+        filters: &[],
     })
 }

@@ -1,7 +1,7 @@
 // The rows that a cursor chooses, as a feed.
 use crate::choosing::Choice;
-use crate::rows::{chosen_row, next_chosen};
-use crate::telling::{next_told, told_row};
+use crate::rows::{chosen_row, next_chosen, next_chosen_row};
+use crate::telling::{next_told, next_told_row, told_row};
 use cursor::RowFeed;
 use eeprom::{Eeprom, EepromFault};
 use record_store::{Side, Store};
@@ -59,6 +59,17 @@ impl<'a, B: Eeprom> RowFeed for ChosenRows<'a, B> {
             ),
             Choice::OfDictionary(told) => {
                 told_row(self.store, self.bench, self.side, told, stamp, out)
+            }
+        }
+    }
+
+    fn next_row(&mut self, stamp: u32, out: &mut Row) -> Result<Option<u32>, EepromFault> {
+        match self.choice {
+            Choice::OfTable(chosen) => next_chosen_row(
+                self.store, self.bench, self.side, chosen, stamp, out, self.index,
+            ),
+            Choice::OfDictionary(told) => {
+                next_told_row(self.store, self.bench, self.side, told, stamp, out)
             }
         }
     }

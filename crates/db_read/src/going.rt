@@ -26,7 +26,7 @@ ghost use Rattle.db_read.specs.Answered.{selectable};
 ghost use Rattle.db_read.specs.Motion.{Goes, Stays, cost_by, least_by};
 ghost use Rattle.db_read.specs.Told.{Tells, costs_of};
 
-use crate::choosing::{Choice, choose};
+use crate::choosing::{Choice, choose, choose_all};
 use crate::feed::ChosenRows;
 use crate::motion::Motion;
 use crate::telling::tell;
@@ -37,7 +37,7 @@ use record_table::{Stop, refused};
 use row_index::RowIndex;
 use scql_base::{Cursor, NameList, Object, ObjectKind, Place, Row, StatusWord};
 use search_cond::Bound;
-use views::resolve;
+use views::{Resolved, resolve_into};
 
 /// A cursor on this object goes over the rows that it chooses. What only a view needs room for is in a function of its own, so
 /// that the others don't pay for it.
@@ -102,6 +102,43 @@ fn go_on_table<B: Eeprom>(
     ensures stays { IfOk result (Stays motion place.old place.new) }
     ensures frame { Reads is_stop_fault B.chip B.faults bench.old bench.new result }
 {
+    if cursor.conditions.len() > 0 {
+        return go_on_bound(
+            store, bench, side, object, columns, cursor, motion, place, out, index,
+        );
+    }
+    let Some(chosen) = choose_all(object.stamp, columns, &cursor.columns) else {
+        return refused(StatusWord::NOT_FOUND);
+    };
+    let choice = Choice::OfTable(chosen);
+    Ok(go(store, bench, side, &choice, motion, place, out, index)?)
+}
+
+// Goes over the rows of a table that meet conditions, for which there is room here.
+#[inline(never)]
+fn go_on_bound<B: Eeprom>(
+    store: &Store,
+    bench: &mut B,
+    side: Side,
+    object: &Object,
+    columns: &NameList,
+    cursor: &Cursor,
+    motion: Motion,
+    place: &mut Place,
+    out: &mut Row,
+    index: &RowIndex,
+) -> Result<StatusWord, Stop>
+    requires over { IsOver store.now (B.chip bench.old) }
+    requires index { Indexes index.now store.now (B.chip bench.old) }
+    requires table { object.now.kind ≡ Table columns.now }
+    ensures advances { (db : Database) (actor : Actor) → IsHeld store.now side (B.chip bench.old) db → IsCursorOf db cursor.now → selectable db actor (seen_stamped db actor cursor.now.object) ≡ Ok object.now
+        → IfOk result (λ word. IfSome (slots_of store.now side (B.chip bench.old))
+        (λ slots. Advances db actor cursor.now motion place.old place.new word out.new slots (B.octets_read bench.old) (B.octets_read bench.new))) }
+    ensures fault { (db : Database) (actor : Actor) → IsHeld store.now side (B.chip bench.old) db → IsCursorOf db cursor.now → selectable db actor (seen_stamped db actor cursor.now.object) ≡ Ok object.now
+        → IfErr result (λ stop. stop ≡ Fault) }
+    ensures stays { IfOk result (Stays motion place.old place.new) }
+    ensures frame { Reads is_stop_fault B.chip B.faults bench.old bench.new result }
+{
     let mut bound = Bound::default();
     let Some(chosen) = choose(
         object.stamp,
@@ -139,7 +176,8 @@ fn go_on_view<B: Eeprom>(
     ensures stays { IfOk result (Stays motion place.old place.new) }
     ensures frame { Reads is_stop_fault B.chip B.faults bench.old bench.new result }
 {
-    let resolved = resolve(store, bench, side, object)?;
+    let mut resolved = Resolved::default();
+    resolve_into(store, bench, side, object, &mut resolved)?;
     let mut bound = Bound::default();
     let Some(chosen) = choose(
         resolved.table,
@@ -177,7 +215,8 @@ fn go_on_dictionary<B: Eeprom>(
     ensures stays { IfOk result (Stays motion place.old place.new) }
     ensures frame { Reads is_stop_fault B.chip B.faults bench.old bench.new result }
 {
-    let Some(told) = tell(object, &cursor.columns, &cursor.conditions) else {
+    let mut bound = Bound::default();
+    let Some(told) = tell(object, &cursor.columns, &cursor.conditions, &mut bound) else {
         return refused(StatusWord::NOT_FOUND);
     };
     let choice = Choice::OfDictionary(told);
@@ -314,7 +353,7 @@ fn give_next<B: Eeprom>(
     ensures refused { IfOk result (λ word. IsTrue (refuses word) → place.new ≡ place.old) }
     ensures read { IfOk result (λ word. (rows : List StampedRow) → Tells choice.now store.now side (B.chip bench.old) rows
         → IfSome (costs_of choice.now (slots_of store.now side (B.chip bench.old)))
-        (λ costs. Becomes (RisesBetween (least_read word out.new) (2 * cost_between place.old (place_reached (row_behind place.old rows)) costs)) (B.octets_read bench.old) (B.octets_read bench.new))) }
+        (λ costs. Becomes (RisesBetween (least_read word out.new) (cost_between place.old (place_reached (row_behind place.old rows)) costs)) (B.octets_read bench.old) (B.octets_read bench.new))) }
     ensures frame { Reads each_error B.chip B.faults bench.old bench.new result }
 {
     let mut feed = ChosenRows {

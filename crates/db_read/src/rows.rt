@@ -1,5 +1,5 @@
 // The rows of a table that a cursor chooses, found by the index and read one at a time.
-ghost use Rattle.std.specs.Prelude.{◌≡◌, ◌<◌, ◌==◌, ◌*◌, ℕ, List, None, IfOk, IfSome, if◌then◌else◌, option_copied, option_map, slice_index_or};
+ghost use Rattle.std.specs.Prelude.{◌≡◌, ◌<◌, ◌==◌, ◌*◌, ℕ, List, None, IfOk, IfSome, IsTrue, if◌then◌else◌, option_map, slice_index_or};
 ghost use Rattle.std.specs.List.{find};
 ghost use Rattle.std.proofs.lemmas.Map.Entries.{option_filter};
 ghost use Rattle.eeprom.specs.Chip.{Becomes};
@@ -13,21 +13,23 @@ ghost use Rattle.scql_base.specs.declared.cursor.Place.{Place};
 ghost use Rattle.scql_model.specs.Moves as moves;
 ghost use Rattle.catalog_codec.specs.Catalog.{row_kind};
 ghost use Rattle.record_table.specs.Listed.{at_slot, has_kind_mark, kind_cells, listed, slots_of};
-ghost use Rattle.row_index.specs.Index.{Indexes};
+ghost use Rattle.row_index.specs.Index.{Indexes, side_places};
+ghost use Rattle.row_index.specs.Places.{is_later_in, place_stamp};
 ghost use Rattle.row_table.specs.Found.{is_row_after};
-ghost use Rattle.cursor.specs.Costs.{RisesBetween, cost_behind, cost_of};
-ghost use Rattle.cursor.specs.Moved.{handed};
-ghost use Rattle.db_read.specs.Chosen.{costs_shown, rows_shown};
-ghost use Rattle.db_read.specs.Costs.{cost_reached, least_of, row_costs};
+ghost use Rattle.cursor.specs.Costs.{RisesBetween, cost_behind, cost_of, size_handed};
+ghost use Rattle.cursor.specs.Moved.{handed, row_handed};
+ghost use Rattle.db_read.specs.Chosen.{IsNextShown, costs_shown, rows_shown};
+ghost use Rattle.db_read.specs.Costs.{cost_passed, cost_reached, least_of, row_costs, row_read};
 
-use crate::choosing::{Chosen, cut};
+use crate::choosing::{Chosen, cut_into};
 use catalog_codec::Record;
 use eeprom::{Eeprom, EepromFault};
 use record_store::{RecordOctets, Side, Store};
+use row_codec::decode_into;
 use row_index::RowIndex;
 use scql_base::{Row, RowRecord};
 
-/// The stamp of the next chosen row behind a stamp. The rows between are read.
+/// The stamp of the next chosen row behind a stamp. Where all rows are chosen the index tells it, and no row is read.
 pub(crate) fn next_chosen<B: Eeprom>(
     store: &Store,
     bench: &mut B,
@@ -44,16 +46,38 @@ pub(crate) fn next_chosen<B: Eeprom>(
         (λ costs. Becomes (RisesBetween 0 (cost_behind stamp next costs)) (B.octets_read bench.old) (B.octets_read bench.new))) }
     ensures frame { Reads each_error B.chip B.faults bench.old bench.new result }
 {
-    let mut passed = stamp;
-    let mut place = None;
-    while let Some(row) = row_behind(store, bench, side, chosen.table, passed, index, &mut place)? {
-        let reached = row.stamp();
-        if chosen.shows(&row.row) {
-            return Ok(Some(reached));
-        }
-        passed = reached;
+    if chosen.shows_all() {
+        Ok(stamp_behind(side, chosen.table, stamp, index))
+    } else {
+        next_read(store, bench, side, chosen, stamp, index)
     }
-    Ok(None)
+}
+
+/// Hands out what is shown of the next chosen row behind a stamp, and answers its stamp. It and the rows between are read once.
+pub(crate) fn next_chosen_row<B: Eeprom>(
+    store: &Store,
+    bench: &mut B,
+    side: Side,
+    chosen: &Chosen<'_>,
+    stamp: u32,
+    out: &mut Row,
+    index: &RowIndex,
+) -> Result<Option<u32>, EepromFault>
+    requires over { IsOver store.now (B.chip bench.old) }
+    requires index { Indexes index.now store.now (B.chip bench.old) }
+    ensures next { IfOk result (λ next. IfSome (rows_shown chosen.now (slots_of store.now side (B.chip bench.old)))
+        (λ rows. row_handed next out.new ≡ moves.row_behind (Place.At stamp) rows)) }
+    ensures octets_read { IfOk result (λ next. IfSome (costs_shown chosen.now (slots_of store.now side (B.chip bench.old)))
+        (λ costs. Becomes (RisesBetween (size_handed next out.new) (cost_behind stamp next costs)) (B.octets_read bench.old) (B.octets_read bench.new))) }
+    ensures frame { Reads each_error B.chip B.faults bench.old bench.new result }
+{
+    let mut row = no_row();
+    if shown_behind(store, bench, side, chosen, stamp, index, &mut row)? {
+        cut_into(&chosen.places, &row.row, out);
+        Ok(Some(row.stamp))
+    } else {
+        Ok(None)
+    }
 }
 
 /// Hands out what is shown of the row of a stamp, and answers whether it is chosen.
@@ -74,104 +98,167 @@ pub(crate) fn chosen_row<B: Eeprom>(
         (λ costs. Becomes (RisesBetween (if there then row_size out.new else 0) (cost_of stamp costs)) (B.octets_read bench.old) (B.octets_read bench.new))) }
     ensures frame { Reads each_error B.chip B.faults bench.old bench.new result }
 {
-    let mut place = None;
-    let Some(record) = row_of_table(store, bench, side, chosen.table, stamp, index, &mut place)?
-    else {
+    let mut record = no_row();
+    if !row_of_table(store, bench, side, chosen.table, stamp, index, &mut record)? {
         return Ok(false);
-    };
+    }
     if !chosen.shows(&record.row) {
         return Ok(false);
     }
-    *out = cut(&chosen.places, &record.row);
+    cut_into(&chosen.places, &record.row, out);
     Ok(true)
 }
 
-// The row of a table behind a stamp, read into a place.
-fn row_behind<'a, B: Eeprom>(
+// The stamp of the row of a table behind a stamp, as the index has it.
+fn stamp_behind(side: Side, table: u32, stamp: u32, index: &RowIndex) -> Option<u32>
+    ensures { result ≡ option_map place_stamp (find (is_later_in table stamp) (side_places index.now side)) }
+{
+    let (next, _) = index.next_after(side, table, stamp)?;
+    Some(next)
+}
+
+// The stamp of the next chosen row behind a stamp, which is read, as the rows between are.
+fn next_read<B: Eeprom>(
+    store: &Store,
+    bench: &mut B,
+    side: Side,
+    chosen: &Chosen<'_>,
+    stamp: u32,
+    index: &RowIndex,
+) -> Result<Option<u32>, EepromFault>
+    requires over { IsOver store.now (B.chip bench.old) }
+    requires index { Indexes index.now store.now (B.chip bench.old) }
+    ensures next { IfOk result (λ next. IfSome (rows_shown chosen.now (slots_of store.now side (B.chip bench.old)))
+        (λ rows. next ≡ option_map (λ row. row.stamp) (moves.row_behind (Place.At stamp) rows))) }
+    ensures octets_read { IfOk result (λ next. IfSome (costs_shown chosen.now (slots_of store.now side (B.chip bench.old)))
+        (λ costs. Becomes (RisesBetween 0 (cost_behind stamp next costs)) (B.octets_read bench.old) (B.octets_read bench.new))) }
+    ensures frame { Reads each_error B.chip B.faults bench.old bench.new result }
+{
+    let mut row = no_row();
+    if shown_behind(store, bench, side, chosen, stamp, index, &mut row)? {
+        Ok(Some(row.stamp))
+    } else {
+        Ok(None)
+    }
+}
+
+// Reads the next chosen row behind a stamp into a place, and answers whether there is one. The rows between are read there too.
+fn shown_behind<B: Eeprom>(
+    store: &Store,
+    bench: &mut B,
+    side: Side,
+    chosen: &Chosen<'_>,
+    stamp: u32,
+    index: &RowIndex,
+    row: &mut RowRecord,
+) -> Result<bool, EepromFault>
+    requires over { IsOver store.now (B.chip bench.old) }
+    requires index { Indexes index.now store.now (B.chip bench.old) }
+    ensures next { IfOk result (λ there. IfSome (slots_of store.now side (B.chip bench.old)) (IsNextShown chosen.now stamp (row_read there row.new))) }
+    ensures octets_read { IfOk result (λ there. IfSome (slots_of store.now side (B.chip bench.old))
+        (λ slots. Becomes (RisesBetween (least_of (row_read there row.new)) (cost_passed chosen.now.table stamp slots (row_read there row.new))) (B.octets_read bench.old) (B.octets_read bench.new))) }
+    ensures frame { Reads each_error B.chip B.faults bench.old bench.new result }
+{
+    let mut passed = stamp;
+    while row_behind(store, bench, side, chosen.table, passed, index, row)? {
+        if chosen.shows(&row.row) {
+            return Ok(true);
+        }
+        passed = row.stamp();
+    }
+    Ok(false)
+}
+
+// Reads the row of a table behind a stamp into a place, and answers whether there is one.
+fn row_behind<B: Eeprom>(
     store: &Store,
     bench: &mut B,
     side: Side,
     table: u32,
     stamp: u32,
     index: &RowIndex,
-    place: &'a mut Option<RowRecord>,
-) -> Result<Option<&'a RowRecord>, EepromFault>
+    row: &mut RowRecord,
+) -> Result<bool, EepromFault>
     requires over { IsOver store.now (B.chip bench.old) }
     requires index { Indexes index.now store.now (B.chip bench.old) }
-    ensures behind { IfOk result (λ next. IfSome next (λ row. stamp < row.now.stamp)) }
-    ensures next { IfOk result (λ next. IfSome (slots_of store.now side (B.chip bench.old)) (λ slots. option_copied next ≡ find (is_row_after table stamp) (listed row_kind slots))) }
-    ensures octets_read { IfOk result (λ next. IfSome (slots_of store.now side (B.chip bench.old))
-        (λ slots. Becomes (RisesBetween 0 (cost_reached table slots (option_copied next))) (B.octets_read bench.old) (B.octets_read bench.new))) }
+    ensures behind { IfOk result (λ there. IsTrue there → stamp < row.new.stamp) }
+    ensures next { IfOk result (λ there. IfSome (slots_of store.now side (B.chip bench.old)) (λ slots. row_read there row.new ≡ find (is_row_after table stamp) (listed row_kind slots))) }
+    ensures octets_read { IfOk result (λ there. IfSome (slots_of store.now side (B.chip bench.old))
+        (λ slots. Becomes (RisesBetween (least_of (row_read there row.new)) (cost_reached table slots (row_read there row.new))) (B.octets_read bench.old) (B.octets_read bench.new))) }
     ensures frame { Reads each_error B.chip B.faults bench.old bench.new result }
 {
     let Some((_, slot)) = index.next_after(side, table, stamp) else {
-        return Ok(None);
+        return Ok(false);
     };
-    row_in(store, bench, side, slot, place)?;
-    let Some(row) = place else {
-        return Ok(None);
-    };
+    if !row_in(store, bench, side, slot, row)? {
+        return Ok(false);
+    }
     // No stamp is passed twice, whatever an image tells that isn't a valid one.
     if row.stamp <= stamp {
-        return Ok(None);
+        return Ok(false);
     }
-    Ok(Some(row))
+    Ok(true)
 }
 
-// The row of a stamp, if it is one of the table, read into a place. A row of another table isn't read.
-fn row_of_table<'a, B: Eeprom>(
+// Reads the row of a stamp into a place, and answers whether there is one of the table. A row of another table isn't read.
+fn row_of_table<B: Eeprom>(
     store: &Store,
     bench: &mut B,
     side: Side,
     table: u32,
     stamp: u32,
     index: &RowIndex,
-    place: &'a mut Option<RowRecord>,
-) -> Result<Option<&'a RowRecord>, EepromFault>
+    row: &mut RowRecord,
+) -> Result<bool, EepromFault>
     requires over { IsOver store.now (B.chip bench.old) }
     requires index { Indexes index.now store.now (B.chip bench.old) }
-    ensures found { IfOk result (λ found. IfSome (slots_of store.now side (B.chip bench.old))
-        (λ slots. option_copied found ≡ option_filter (λ row. row.table == table) (find (has row_kind.key stamp) (listed row_kind slots)))) }
-    ensures octets_read { IfOk result (λ found. IfSome (slots_of store.now side (B.chip bench.old))
-        (λ slots. Becomes (RisesBetween (least_of (option_copied found)) (cost_of stamp (row_costs table slots))) (B.octets_read bench.old) (B.octets_read bench.new))) }
+    ensures found { IfOk result (λ there. IfSome (slots_of store.now side (B.chip bench.old))
+        (λ slots. row_read there row.new ≡ option_filter (λ row. row.table == table) (find (has row_kind.key stamp) (listed row_kind slots)))) }
+    ensures octets_read { IfOk result (λ there. IfSome (slots_of store.now side (B.chip bench.old))
+        (λ slots. Becomes (RisesBetween (least_of (row_read there row.new)) (cost_of stamp (row_costs table slots))) (B.octets_read bench.old) (B.octets_read bench.new))) }
     ensures frame { Reads each_error B.chip B.faults bench.old bench.new result }
 {
     let Some((of, slot)) = index.find(side, stamp) else {
-        return Ok(None);
+        return Ok(false);
     };
     if of != table {
-        return Ok(None);
+        return Ok(false);
     }
-    row_in(store, bench, side, slot, place)?;
-    Ok(place.as_ref())
+    row_in(store, bench, side, slot, row)
 }
 
-// Reads the row of a slot into a place, which is empty if the slot has none.
+// Reads the row of a slot into a place, and answers whether the slot has one.
 fn row_in<B: Eeprom>(
     store: &Store,
     bench: &mut B,
     side: Side,
     slot: u16,
-    place: &mut Option<RowRecord>,
-) -> Result<(), EepromFault>
+    row: &mut RowRecord,
+) -> Result<bool, EepromFault>
     requires over { IsOver store.now (B.chip bench.old) }
     requires slot { slot < store.now.chains.cells }
-    ensures value { IfOk result (λ _. IfSome (slots_of store.now side (B.chip bench.old)) (λ slots. place.new ≡ at_slot row_kind slot slots)) }
-    ensures octets_read { IfOk result (λ _. IfSome (slots_of store.now side (B.chip bench.old))
-        (λ slots. Becomes (RisesBetween (least_of place.new) (cell_size * kind_cells row_kind (slice_index_or slots slot None))) (B.octets_read bench.old) (B.octets_read bench.new))) }
+    ensures value { IfOk result (λ there. IfSome (slots_of store.now side (B.chip bench.old)) (λ slots. row_read there row.new ≡ at_slot row_kind slot slots)) }
+    ensures octets_read { IfOk result (λ there. IfSome (slots_of store.now side (B.chip bench.old))
+        (λ slots. Becomes (RisesBetween (least_of (row_read there row.new)) (cell_size * kind_cells row_kind (slice_index_or slots slot None))) (B.octets_read bench.old) (B.octets_read bench.new))) }
     ensures frame { Reads each_error B.chip B.faults bench.old bench.new result }
 {
     if !is_row(store, side, slot) {
-        *place = None;
-        return Ok(());
+        return Ok(false);
     }
     let mut octets = RecordOctets::new();
     if !store.get(bench, side, slot, &mut octets)? {
-        *place = None;
-        return Ok(());
+        return Ok(false);
     }
-    *place = RowRecord::decode(octets.as_slice());
-    Ok(())
+    Ok(decode_into(octets.as_slice(), row).is_some())
+}
+
+// A place for a row that is read.
+fn no_row() -> RowRecord {
+    RowRecord {
+        stamp: 0,
+        table: 0,
+        row: Row::new(),
+    }
 }
 
 // Whether the first octet of a slot's record is that of a row.

@@ -5,4 +5,4 @@ mod parts;
 mod row;
 
 pub use parts::{number_and_rest, put, put_number};
-pub use row::{decode, encode};
+pub use row::{decode, decode_into, encode};

@@ -29,25 +29,42 @@ pub fn decode(octets: &[u8]) -> Option<RowRecord>
     ensures only { (row : RowRecord) → row_record.fits row ≡ true → octets.now ≡ row_record.spell row → result ≡ Some row }
     ensures exact { result ≡ rows.row_in octets.now }
 {
-    row_in(octets)
+    let mut row = RowRecord {
+        stamp: 0,
+        table: 0,
+        row: Row::new(),
+    };
+    decode_into(octets, &mut row)?;
+    Some(row)
 }
 
-fn row_in(octets: &[u8]) -> Option<RowRecord>
-    ensures { result ≡ rows.row_in octets.now }
+/// Becomes the row whose record these octets are, as `decode` gives it. Where they are none it may be any row.
+pub fn decode_into(octets: &[u8], row: &mut RowRecord) -> Option<()>
+    ensures found { IfSome result (λ _. (row_record.fits row.new ≡ true) × (octets.now ≡ row_record.spell row.new)) }
+    ensures only { (of : RowRecord) → row_record.fits of ≡ true → octets.now ≡ row_record.spell of → option_map (λ _. row.new) result ≡ Some of }
+    ensures exact { option_map (λ _. row.new) result ≡ rows.row_in octets.now }
+{
+    read_into(octets, row)
+}
+
+fn read_into(octets: &[u8], row: &mut RowRecord) -> Option<()>
+    ensures { option_map (λ _. row.new) result ≡ rows.row_in octets.now }
 {
     let [MARK, octets @ ..] = octets else {
         return None;
     };
     let (stamp, rest) = number_and_rest(octets)?;
     let (table, rest) = number_and_rest(rest)?;
-    let row = row_to_the_end(rest)?;
-    Some(RowRecord { stamp, table, row })
+    values_into(rest, &mut row.row)?;
+    row.stamp = stamp;
+    row.table = table;
+    Some(())
 }
 
-// The row that octets spell to their end, which has at least one value.
-fn row_to_the_end(octets: &[u8]) -> Option<Row>
-    ensures { option_map (λ row. (row, [])) result ≡ values_to_the_end.read octets.now }
+// The values that octets spell to their end, of which there is at least one.
+fn values_into(octets: &[u8], row: &mut Row) -> Option<()>
+    ensures { option_map (λ _. (row.new, [])) result ≡ values_to_the_end.read octets.now }
 {
-    let row = Row::read(octets)?;
-    if row.len() == 0 { None } else { Some(row) }
+    row.read_into(octets)?;
+    if row.len() == 0 { None } else { Some(()) }
 }

@@ -26,14 +26,18 @@ impl Model for Bound {
 }
 
 impl Bound {
+    /// The conditions.
+    pub fn as_slice(&self) -> &[Placed]
+        ensures { result.now ≡ self.now }
+    {
+        self.held.as_slice()
+    }
+
     /// Whether a row meets all conditions.
     pub fn matches(&self, row: &Row) -> bool
         ensures { result ≡ passes row.now self.now }
     {
-        self.held
-            .as_slice()
-            .iter()
-            .all(|condition| holds_at(row, condition))
+        meets_each(row, self.held.as_slice())
     }
 }
 
@@ -46,6 +50,13 @@ impl Default for Bound {
             held: ArrayVec::new_in(Blank),
         }
     }
+}
+
+/// Whether a row meets each of some conditions.
+pub fn meets_each(row: &Row, conditions: &[Placed]) -> bool
+    ensures { result ≡ passes row.now conditions.now }
+{
+    conditions.iter().all(|condition| holds_at(row, condition))
 }
 
 /// Binds conditions to columns, or answers the first column that isn't among these.

@@ -5,5 +5,5 @@ mod bound;
 mod comparing;
 mod placed;
 
-pub use bound::{Bound, bind, bind_into};
+pub use bound::{Bound, bind, bind_into, meets_each};
 pub use placed::Placed;

@@ -1,8 +1,13 @@
 -- A row costs its cells at most, and its octets at least.
-use Rattle.db_read.proofs.RowReads.{reads-row}
+use Rattle.std.proofs.Common.{◌≡◌, true}
+use Rattle.scql_base.specs.declared.records.RowRecord.{RowRecord}
+use Rattle.catalog_codec.specs.Catalog.{row_kind}
+use Rattle.db_read.specs.Costs.{row_read}
+use Rattle.db_read.proofs.RowReads.{reads-row, said-read}
 use Rattle.db_read.proofs.rows.row_in.Goals as goal
 
 pub returns-clause-octets_read : goal.returns-clause-octets_read
 returns-clause-octets_read g c =
-    reads-row c.args.store.now c.args.side c.args.slot (g.B.Eeprom.chip c.args.bench.now).image c.is_row.result c.get.new.out.items c.decode.result _ _ c.requires.over.stands c.is_row.ensures c.if-not-is_row.false
-    (rw c.if-not-branch.false at c.in_ok-get.ensures.found) (rw c.if-not-branch.false at c.in_ok-get.ensures.octets_read) (rw c.as_slice.ensures.value at c.decode.ensures.found)
+    let spelled = said-read c.decode_into.result c.is_some.result c.decode_into.new.row (λ (x : RowRecord). (row_kind.form.fits x ≡ true) × (c.get.new.out.items ≡ row_kind.form.spell x)) c.is_some.ensures (rw c.as_slice.ensures.value at c.decode_into.ensures.found) in
+    reads-row c.args.store.now c.args.side c.args.slot (g.B.Eeprom.chip c.args.bench.now).image c.is_row.result c.get.new.out.items (row_read c.is_some.result c.decode_into.new.row) _ _ c.requires.over.stands c.is_row.ensures c.if-not-is_row.false
+    (rw c.if-not-branch.false at c.in_ok-get.ensures.found) (rw c.if-not-branch.false at c.in_ok-get.ensures.octets_read) spelled

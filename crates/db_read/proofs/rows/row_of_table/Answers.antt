@@ -1,5 +1,7 @@
 -- The index answers the slot of the row, if there is one, and its table.
+use Rattle.std.proofs.lemmas.Result.{IfOk-weaker}
 use Rattle.record_table.specs.Listed.{slots_of}
+use Rattle.db_read.specs.Costs.{row_read}
 use Rattle.db_read.proofs.RowReads.{indexed-found, indexed-none, indexed-other, indexed-reads, indexed-told}
 use Rattle.db_read.proofs.rows.row_of_table.Goals as goal
 
@@ -14,12 +16,10 @@ returns-then-of-table-clause-found g c =
 
 pub returns-clause-found : goal.returns-clause-found
 returns-clause-found g c =
-    rw c.as_ref.ensures.value (indexed-found c.args.stamp c.in-Some.of c.in-Some.slot c.args.table (slots_of c.args.store.now c.args.side (g.B.Eeprom.chip c.args.bench.now)) c.row_in.new.place
-    (indexed-told c.args.index.now c.args.store.now (g.B.Eeprom.chip c.args.bench.now) c.args.side c.args.stamp c.in-Some.of c.in-Some.slot c.find.result c.find.ensures.value c.requires.index c.in-Some.is) c.if-of-table.false
-    c.in_ok-row_in.ensures.value)
+    IfOk-weaker c.row_in.result _ _ (λ there value. indexed-found c.args.stamp c.in-Some.of c.in-Some.slot c.args.table (slots_of c.args.store.now c.args.side (g.B.Eeprom.chip c.args.bench.now)) (row_read there c.row_in.new.row)
+    (indexed-told c.args.index.now c.args.store.now (g.B.Eeprom.chip c.args.bench.now) c.args.side c.args.stamp c.in-Some.of c.in-Some.slot c.find.result c.find.ensures.value c.requires.index c.in-Some.is) c.if-of-table.false value) c.row_in.ensures.value
 
 pub returns-clause-octets_read : goal.returns-clause-octets_read
 returns-clause-octets_read g c =
-    rw c.as_ref.ensures.value (indexed-reads c.args.stamp c.in-Some.of c.in-Some.slot c.args.table (slots_of c.args.store.now c.args.side (g.B.Eeprom.chip c.args.bench.now)) c.row_in.new.place _ _
-    (indexed-told c.args.index.now c.args.store.now (g.B.Eeprom.chip c.args.bench.now) c.args.side c.args.stamp c.in-Some.of c.in-Some.slot c.find.result c.find.ensures.value c.requires.index c.in-Some.is) c.if-of-table.false
-    c.in_ok-row_in.ensures.octets_read)
+    IfOk-weaker c.row_in.result _ _ (λ there reads. indexed-reads c.args.stamp c.in-Some.of c.in-Some.slot c.args.table (slots_of c.args.store.now c.args.side (g.B.Eeprom.chip c.args.bench.now)) (row_read there c.row_in.new.row) _ _
+    (indexed-told c.args.index.now c.args.store.now (g.B.Eeprom.chip c.args.bench.now) c.args.side c.args.stamp c.in-Some.of c.in-Some.slot c.find.result c.find.ensures.value c.requires.index c.in-Some.is) c.if-of-table.false reads) c.row_in.ensures.octets_read

@@ -1,26 +1,7 @@
--- A row that is chosen is the next; one that isn't is passed.
-use Rattle.std.proofs.Common.{sym, ◌∙◌}
-use Rattle.db_read.proofs.DictionaryRows.{left-early, left-found, left-next, left-none}
+-- What is shown of the row that was found has its stamp.
+use Rattle.std.proofs.lemmas.Result.{IfOk-weaker}
+use Rattle.db_read.proofs.DictionaryRows.{stamp-shown}
 use Rattle.db_read.proofs.telling.next_told.Goals as goal
 
-pub returns-then-next-passed-clause-next : goal.returns-then-next-passed-clause-next
-returns-then-next-passed-clause-next g c =
-    left-early c.args.told.now c.args.store.now c.args.side (g.B.Eeprom.chip c.args.bench.now) c.loop-next.passed c.in-Some.next c.next_after.new.out _ (rw (c.loop-next.invariant.same, c.in-Some.is) at c.in_ok-next.ensures.next) c.if-next-passed.true
-
-pub returns-then-matches-clause-next : goal.returns-then-matches-clause-next
-returns-then-matches-clause-next g c =
-    left-found c.args.told.now c.args.store.now c.args.side (g.B.Eeprom.chip c.args.bench.now) c.args.stamp c.loop-next.passed c.in-Some.next c.next_after.new.out c.loop-next.invariant.left
-    (rw (c.loop-next.invariant.same, c.in-Some.is) at c.in_ok-next.ensures.next) (sym c.matches.ensures ∙ c.if-matches.true)
-
-pub loop-next-preserved : goal.loop-next-preserved
-loop-next-preserved g c = record {
-  same = c.in_ok-next.ensures.frame.same ∙ c.loop-next.invariant.same;
-  faults = c.in_ok-next.ensures.frame.counts.1 ∙ c.loop-next.invariant.faults;
-  left = left-next c.args.told.now c.args.store.now c.args.side (g.B.Eeprom.chip c.args.bench.now) c.args.stamp c.loop-next.passed c.in-Some.next c.next_after.new.out c.loop-next.invariant.left
-      (rw (c.loop-next.invariant.same, c.in-Some.is) at c.in_ok-next.ensures.next) (sym c.matches.ensures ∙ c.if-matches.false);
-}
-
 pub returns-clause-next : goal.returns-clause-next
-returns-clause-next g c =
-    left-none c.args.told.now c.args.store.now c.args.side (g.B.Eeprom.chip c.args.bench.now) c.args.stamp c.loop-next.passed c.next_after.new.out c.loop-next.invariant.left
-    (rw (c.loop-next.invariant.same, c.in_default.is) at c.in_ok-next.ensures.next)
+returns-clause-next g c = IfOk-weaker c.told_behind.result _ _ (λ next shown rows told. stamp-shown c.args.told.now next c.told_behind.new.row _ (shown rows told)) c.told_behind.ensures.next

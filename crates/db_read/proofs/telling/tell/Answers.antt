@@ -10,5 +10,5 @@ pub returns-in_err-ok-clause-there : goal.returns-in_err-ok-clause-there
 returns-in_err-ok-clause-there c = λ named.
     let all = c.columns_of-all.result in
     let own = rw (sym c.columns_of-all.ensures) at named in
-    let unknown = err-none _ c.bind.result c.ok.result c.ok.ensures.value c.in_err-ok.was c.bind.ensures.unknown in
+    let unknown = err-none _ c.bind_into.result c.ok.result c.ok.ensures.value c.in_err-ok.was c.bind_into.ensures.unknown in
     absurd (false≢true (sym (AreKnown-unknown all c.args.conditions.now unknown.0 unknown.1) ∙ (and_parts (are_among c.args.columns.now all) (AreKnown all c.args.conditions.now) own).1))

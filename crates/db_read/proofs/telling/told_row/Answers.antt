@@ -21,5 +21,5 @@ returns-then-not-matches-clause-there g c =
 
 pub returns-clause-there : goal.returns-clause-there
 returns-clause-there g c =
-    there-shown c.args.told.now c.args.store.now c.args.side (g.B.Eeprom.chip c.args.bench.now) c.args.stamp (c.args.stamp - 1) c.in-Some.next c.next_after.new.out c.cut.result (omega arith) (rw c.in-Some.is at c.in_ok-next.ensures.next)
-    c.if-next-stamp.false (sym c.matches.ensures ∙ c.if-not-matches.false) c.len.ensures.row c.cut.ensures
+    there-shown c.args.told.now c.args.store.now c.args.side (g.B.Eeprom.chip c.args.bench.now) c.args.stamp (c.args.stamp - 1) c.in-Some.next c.next_after.new.out c.cut_into.new.out (omega arith) (rw c.in-Some.is at c.in_ok-next.ensures.next)
+    c.if-next-stamp.false (sym c.matches.ensures ∙ c.if-not-matches.false) c.len.ensures.row c.cut_into.ensures

@@ -3,7 +3,7 @@ use Rattle.std.proofs.Common.{◌≡◌, ◌-◌, ◌≤◌, Some}
 use Rattle.std.specs.Prelude.{IfSome}
 use Rattle.record_table.specs.Listed.{slots_of}
 use Rattle.db_read.proofs.Skipping.{IsLeft, ReadsBehind}
-use Rattle.db_read.proofs.rows.next_chosen.Given as goal
+use Rattle.db_read.proofs.rows.shown_behind.Given as goal
 
 abbrev pub invariant-loop-row : goal.invariant-loop-row
 invariant-loop-row g l = record {

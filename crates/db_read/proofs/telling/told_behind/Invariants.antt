@@ -1,7 +1,7 @@
 -- What is wanted stands behind the rows that were passed.
 use Rattle.std.proofs.Common.{◌≡◌, ◌-◌}
 use Rattle.db_read.proofs.DictionaryRows.{IsLeft}
-use Rattle.db_read.proofs.telling.next_told.Given as goal
+use Rattle.db_read.proofs.telling.told_behind.Given as goal
 
 abbrev pub invariant-loop-next : goal.invariant-loop-next
 invariant-loop-next g l = record {
