@@ -17,6 +17,7 @@ use Rattle.scql_base.specs.declared.cursor.Cursor.{Cursor}
 use Rattle.scql_base.specs.declared.cursor.Place.{Place}
 use Rattle.scql_base.specs.declared.cursor.Place.TheVariants.{NotOpen, At, End}
 use Rattle.scql_base.specs.declared.records.Object.{Object}
+use Rattle.scql_base.specs.declared.records.ObjectKind.TheVariants.{Table}
 use Rattle.scql_base.specs.declared.records.RowRecord.{RowRecord}
 use Rattle.scql_model.specs.Contents.{contents_of, cut_to, of_table}
 use Rattle.scql_model.specs.Cursors.{IsCursorOf}
@@ -38,10 +39,10 @@ use Rattle.row_index.proofs.Scans.{find-agree, find-map}
 use Rattle.row_index.proofs.Tables.{find-filter}
 use Rattle.search_cond.specs.Bound.{Binds, passes}
 use Rattle.search_cond.specs.declared.placed.Placed.{Placed}
-use Rattle.views.specs.Resolved.{AreBound, AreKnown, Resolves, StandsFor}
+use Rattle.views.specs.Resolved.{AreBound, AreKnown, Resolves}
 use Rattle.views.specs.declared.resolving.Resolved.{Resolved}
 use Rattle.views.proofs.KnownNames.{IsKnown, IsKnown-resolved_of, among-within, names-valid}
-use Rattle.db_write.specs.Reached.{is_reached, stamp_at, without_conditions}
+use Rattle.db_write.specs.Reached.{RestsOn, is_reached, stamp_at, without_conditions}
 
 swap : (a b c : Bool) → (a && (b && c)) ≡ (c && (a && b))
 swap true true true = refl
@@ -97,25 +98,16 @@ each-filter values [] all (cs ∷ lists) are = absurd are
 each-filter values (b ∷ filters) all [] are = absurd are
 each-filter values (b ∷ filters) all (cs ∷ lists) are = rw (are.0 values, each-filter values filters all lists are.1) refl
 
-same-test : (answer : Resolved) (r : model.Resolved) (bound : List Placed) (conditions : List Condition) (s : RowRecord) → StandsFor answer r → Binds bound answer.all conditions
-    → is_reached answer bound s ≡ (s.table == r.table && (matches r.all conditions s.row && passes_filters r s.row))
-same-test answer r bound conditions s stands binds =
-    let own : passes s.row bound ≡ matches r.all conditions s.row = binds s.row ∙ ap (λ (all : Columns). matches all conditions s.row) stands.all in
-    rw (stands.table, own, each-filter s.row answer.filters.items r.all r.filters stands.filters) refl
+same-test : (table : ℕ) (columns : Columns) (filters : List (List Placed)) (r : model.Resolved) (bound : List Placed) (conditions : List Condition) (s : RowRecord) → table ≡ r.table → columns ≡ r.all → AreBound filters r.all r.filters → Binds bound columns conditions
+    → is_reached table filters bound s ≡ (s.table == r.table && (matches r.all conditions s.row && passes_filters r s.row))
+same-test table columns filters r bound conditions s same all are binds =
+    let own : passes s.row bound ≡ matches r.all conditions s.row = binds s.row ∙ ap (λ (all : Columns). matches all conditions s.row) all in
+    rw (same, own, each-filter s.row filters r.all r.filters are) refl
 
 at-place : (place : Place) (stamp : ℕ) → stamp_at place ≡ Some stamp → place ≡ At stamp
 at-place NotOpen stamp is = absurd (none-some stamp is)
 at-place (At other) stamp is = ap At (same_Some other stamp is)
 at-place End stamp is = absurd (none-some stamp is)
-
--- a cursor that stands at no row reaches none
-pub reaches-none : (db : Database) (c : Cursor) → None ≡ stamp_at c.place → None ≡ record_at_cursor db c
-reaches-none db c is = go c.place is
-  where
-    go : (place : Place) → None ≡ stamp_at place → None ≡ option_and_then (λ (r : StampedRow). find (λ (s : RowRecord). s.stamp == r.stamp) db.rows) (row_at_place (contents_of db c.object) c place)
-    go NotOpen is = refl
-    go (At stamp) is = absurd (none-some stamp is)
-    go End is = refl
 
 -- the columns and the conditions of a cursor are among those that are shown of its object
 named-shown : (db : Database) (c : Cursor) (r : model.Resolved) → IsCursorOf db c → IsKnown db.objects c.object r → are_named_among r.columns c.columns c.conditions ≡ true
@@ -124,22 +116,23 @@ named-shown db c r of known =
     subst (λ (columns : Columns). are_named_among columns c.columns c.conditions ≡ true) known.columns named
 
 -- so its conditions can be bound
-pub conditions-known : (db : Database) (c : Cursor) (answer : Resolved) → IsValid db → IsCursorOf db c → Resolves db.objects c.object answer → AreKnown answer.all c.conditions ≡ true
-conditions-known db c answer valid of resolves =
-    let r = resolves.is in
-    let known = IsKnown-resolved_of db c.object r valid resolves.resolved in
+pub conditions-known : (db : Database) (c : Cursor) (table : ℕ) (columns : Columns) (filters : List (List Placed)) → IsValid db → IsCursorOf db c → RestsOn db.objects c.object table columns filters → AreKnown columns c.conditions ≡ true
+conditions-known db c table columns filters valid of rests =
+    let r = rests.is in
+    let known = IsKnown-resolved_of db c.object r valid rests.resolved in
     let parts = and_parts (are_among c.columns r.columns) (AreKnown r.columns c.conditions) (named-shown db c r of known) in
-    subst (λ (all : Columns). AreKnown all c.conditions ≡ true) (sym resolves.stands.all) (among-within (map (λ (x : Condition). x.column) c.conditions) r.columns r.all known.within parts.1)
+    subst (λ (all : Columns). AreKnown all c.conditions ≡ true) (sym rests.all) (among-within (map (λ (x : Condition). x.column) c.conditions) r.columns r.all known.within parts.1)
 
 -- The row that a cursor reaches.
-pub reaches : (db : Database) (c : Cursor) (answer : Resolved) (bound : List Placed) (stamp : ℕ) → IsValid db → IsCursorOf db c → Resolves db.objects c.object answer → Binds bound answer.all c.conditions → stamp_at c.place ≡ Some stamp
-    → option_filter (is_reached answer bound) (find (has row_kind.key stamp) db.rows) ≡ record_at_cursor db c
-reaches db c answer bound stamp valid of resolves binds at =
-    let r = resolves.is in
-    let known = IsKnown-resolved_of db c.object r valid resolves.resolved in
-    let through = IsSeenThrough-resolved_of db c.object r (names-valid db valid) resolves.resolved in
+pub reaches : (db : Database) (c : Cursor) (table : ℕ) (columns : Columns) (filters : List (List Placed)) (bound : List Placed) (stamp : ℕ) → IsValid db → IsCursorOf db c → RestsOn db.objects c.object table columns filters → Binds bound columns c.conditions
+    → stamp_at c.place ≡ Some stamp → option_filter (is_reached table filters bound) (find (has row_kind.key stamp) db.rows) ≡ record_at_cursor db c
+reaches db c table columns filters bound stamp valid of rests binds at =
+    let r = rests.is in
+    let known = IsKnown-resolved_of db c.object r valid rests.resolved in
+    let through = IsSeenThrough-resolved_of db c.object r (names-valid db valid) rests.resolved in
     let again : StampedRow → Option RowRecord = (λ x. find (λ (s : RowRecord). s.stamp == x.stamp) db.rows) in
-    agree (is_reached answer bound) (λ s. s.table == r.table && (matches r.all c.conditions s.row && passes_filters r s.row)) (find (has row_kind.key stamp) db.rows) (λ s. same-test answer r bound c.conditions s resolves.stands binds)
+    agree (is_reached table filters bound) (λ s. s.table == r.table && (matches r.all c.conditions s.row && passes_filters r s.row)) (find (has row_kind.key stamp) db.rows)
+    (λ s. same-test table columns filters r bound c.conditions s rests.on rests.all rests.bound binds)
     ∙ sym (found-cut db.rows stamp r.table (λ values. matches r.all c.conditions values && passes_filters r values) (cut_to r.all c.columns) valid.rows.rises)
     ∙ sym (ap (λ place. option_and_then again (row_at_place (contents_of db c.object) c place)) (at-place c.place stamp at)
     ∙ ap (λ rows. option_and_then again (row_at stamp rows)) (through.rows c.columns c.conditions (named-shown db c r of known)))
@@ -154,6 +147,13 @@ pub row-held : (store : Held) (chip : Chip) (db : Database) (stamp : ℕ) (found
 row-held store chip db stamp found held said =
     let here : found ≡ find (has row_kind.key stamp) (listed row_kind held.slots) = subst (λ (o : Option Slots). IfSome o (λ slots. found ≡ find (has row_kind.key stamp) (listed row_kind slots))) held.told said in
     here ∙ ap (find (has row_kind.key stamp)) held.holds.rows
+
+-- so what is found of a stamp, where it is reached, is the row that a cursor reaches
+pub reaches-held : (store : Held) (chip : Chip) (db : Database) (c : Cursor) (table : ℕ) (columns : Columns) (filters : List (List Placed)) (bound : List Placed) (stamp : ℕ) (found : Option RowRecord) → IsHeld store Working chip db → IsCursorOf db c
+    → RestsOn db.objects c.object table columns filters → Binds bound columns c.conditions → stamp_at c.place ≡ Some stamp → IfSome (slots_of store Working chip) (λ slots. found ≡ find (has row_kind.key stamp) (listed row_kind slots))
+    → option_filter (is_reached table filters bound) found ≡ record_at_cursor db c
+reaches-held store chip db c table columns filters bound stamp found held of rests binds at said =
+    ap (option_filter (is_reached table filters bound)) (row-held store chip db stamp found held said) ∙ reaches db c table columns filters bound stamp held.valid of rests binds at
 
 -- what is found is left where it passes
 pub left-none : {X : Type 0} (p : X → Bool) (o : Option X) (x : X) → Some x ≡ o → p x ≡ false → None ≡ option_filter p o
@@ -173,20 +173,42 @@ IsCursorOf-without_conditions db c = record { different = refl; named = any (obj
     any (Some o) = refl
 
 -- what a cursor reaches, it reaches without its conditions too
-pub reaches-any : (db : Database) (c : Cursor) (answer : Resolved) (bound : List Placed) (stamp : ℕ) (r : RowRecord) → IsValid db → Resolves db.objects c.object answer → stamp_at c.place ≡ Some stamp → Some r ≡ find (has row_kind.key stamp) db.rows
-    → is_reached answer bound r ≡ true → Some r ≡ record_at_cursor db (without_conditions c)
-reaches-any db c answer bound stamp r valid resolves at found is =
-    let own = and_parts (r.table == answer.table) (passes r.row bound && list_all (passes r.row) answer.filters.items) is in
-    let all = and_parts (passes r.row bound) (list_all (passes r.row) answer.filters.items) own.1 in
-    let any : is_reached answer [] r ≡ true = and_from (r.table == answer.table) (list_all (passes r.row) answer.filters.items) own.0 all.1 in
-    left-some (is_reached answer []) (find (has row_kind.key stamp) db.rows) r found any
-    ∙ reaches db (without_conditions c) answer [] stamp valid (IsCursorOf-without_conditions db c) resolves (λ values. refl) at
+pub reaches-any : (db : Database) (c : Cursor) (table : ℕ) (columns : Columns) (filters : List (List Placed)) (bound : List Placed) (stamp : ℕ) (r : RowRecord) → IsValid db → RestsOn db.objects c.object table columns filters → stamp_at c.place ≡ Some stamp
+    → Some r ≡ find (has row_kind.key stamp) db.rows → is_reached table filters bound r ≡ true → Some r ≡ record_at_cursor db (without_conditions c)
+reaches-any db c table columns filters bound stamp r valid rests at found is =
+    let own = and_parts (r.table == table) (passes r.row bound && list_all (passes r.row) filters) is in
+    let all = and_parts (passes r.row bound) (list_all (passes r.row) filters) own.1 in
+    let any : is_reached table filters [] r ≡ true = and_from (r.table == table) (list_all (passes r.row) filters) own.0 all.1 in
+    left-some (is_reached table filters []) (find (has row_kind.key stamp) db.rows) r found any
+    ∙ reaches db (without_conditions c) table columns filters [] stamp valid (IsCursorOf-without_conditions db c) rests (λ values. refl) at
 
--- and it is a row of the table that is resolved
-pub columns-reached : (db : Database) (c : Cursor) (answer : Resolved) (bound : List Placed) (r : RowRecord) → IsValid db → Resolves db.objects c.object answer → is_reached answer bound r ≡ true → columns_of_row db r ≡ answer.all
-columns-reached db c answer bound r valid resolves is =
-    let known = IsKnown-resolved_of db c.object resolves.is valid resolves.resolved in
-    let own = and_parts (r.table == answer.table) (passes r.row bound && list_all (passes r.row) answer.filters.items) is in
-    let table : r.table ≡ resolves.is.table = eqb-true r.table answer.table own.0 ∙ resolves.stands.table in
+-- and it is a row of the table on which the object rests
+pub columns-reached : (db : Database) (c : Cursor) (table : ℕ) (columns : Columns) (filters : List (List Placed)) (bound : List Placed) (r : RowRecord) → IsValid db → RestsOn db.objects c.object table columns filters → is_reached table filters bound r ≡ true
+    → columns_of_row db r ≡ columns
+columns-reached db c table columns filters bound r valid rests is =
+    let known = IsKnown-resolved_of db c.object rests.is valid rests.resolved in
+    let own = and_parts (r.table == table) (passes r.row bound && list_all (passes r.row) filters) is in
+    let same : r.table ≡ rests.is.table = eqb-true r.table table own.0 ∙ rests.on in
     let of : Option Object → Columns = (λ found. option_map_or (λ (o : Object). columns_of o.kind) found []) in
-    ap (λ (stamp : ℕ). of (object_stamped db.objects stamp)) table ∙ (ap of known.found_table ∙ (known.all ∙ sym resolves.stands.all))
+    ap (λ (stamp : ℕ). of (object_stamped db.objects stamp)) same ∙ (ap of known.found_table ∙ (known.all ∙ sym rests.all))
+
+-- a table rests on itself
+pub RestsOn-table : (objects : List Object) (stamp : ℕ) (o : Object) (columns : Columns) → object_stamped objects stamp ≡ Some o → o.kind ≡ Table columns → RestsOn objects stamp o.stamp columns []
+unfolding model.resolved_of
+RestsOn-table objects stamp o columns at kind = record {
+  is = record { table = o.stamp; all = columns; columns = columns; filters = [] };
+  resolved = rw (at, kind) refl;
+  on = refl;
+  all = refl;
+  bound = tt;
+}
+
+-- and a view on the table to which it is resolved
+pub RestsOn-resolved : (objects : List Object) (stamp : ℕ) (o : Object) (answer : Resolved) → object_stamped objects stamp ≡ Some o → Resolves objects o.stamp answer → RestsOn objects stamp answer.table answer.all answer.filters.items
+RestsOn-resolved objects stamp o answer at resolves = record {
+  is = resolves.is;
+  resolved = ap (model.resolved_of objects) (sym (stamp-found objects stamp o at)) ∙ resolves.resolved;
+  on = resolves.stands.table;
+  all = resolves.stands.all;
+  bound = resolves.stands.filters;
+}

@@ -4,16 +4,19 @@ use Rattle.std.specs.List.{list_all}
 use Rattle.scql_base.specs.declared.cursor.Cursor.{Cursor}
 use Rattle.scql_base.specs.declared.cursor.Place.{Place}
 use Rattle.scql_base.specs.declared.cursor.Place.TheVariants.{At}
+use Rattle.scql_base.specs.declared.records.Object.{Object}
 use Rattle.scql_base.specs.declared.records.RowRecord.{RowRecord}
 use Rattle.scql_base.specs.declared.words.StatusWord.{StatusWord}
 use Rattle.scql_model.specs.Database.{Database}
 use Rattle.scql_model.specs.Edits.{Edit}
+use Rattle.scql_model.specs.Matching.{Columns}
+use Rattle.scql_model.specs.Resolving.{Resolved, resolved_of}
 use Rattle.scql_model.specs.Writing.{columns_of_row, record_at_cursor}
 use Rattle.record_table.specs.declared.stop.Stop.{Stop}
 use Rattle.record_table.specs.declared.stop.Stop.TheVariants.{Refused, Fault}
 use Rattle.search_cond.specs.Bound.{passes}
 use Rattle.search_cond.specs.declared.placed.Placed.{Placed}
-use Rattle.views.specs.declared.resolving.Resolved.{Resolved}
+use Rattle.views.specs.Resolved.{AreBound}
 use Rattle.db_write.specs.declared.reaching.Reached.{Reached}
 
 -- a stop is the refusal of an outcome, or the EEPROM's fault
@@ -31,9 +34,17 @@ abbrev pub stamp_at : Place → Option ℕ
 stamp_at (At stamp) = Some stamp
 stamp_at place = None
 
--- a row is one of the table that is resolved, and meets the conditions
-abbrev pub is_reached : Resolved → List Placed → RowRecord → Bool
-is_reached resolved conditions r = r.table == resolved.table && (passes r.row conditions && list_all (passes r.row) resolved.filters.items)
+-- a row is one of a table, meets conditions and passes each filter
+abbrev pub is_reached : ℕ → List (List Placed) → List Placed → RowRecord → Bool
+is_reached table filters conditions r = r.table == table && (passes r.row conditions && list_all (passes r.row) filters)
+
+-- the object of a stamp rests on a table that has these columns, to which the conditions of each view between are bound
+pub record RestsOn (objects : List Object) (stamp : ℕ) (table : ℕ) (columns : Columns) (filters : List (List Placed)) : Type 0 where
+  pub is : Resolved
+  pub resolved : resolved_of objects stamp ≡ Some is
+  pub on : table ≡ is.table
+  pub all : columns ≡ is.all
+  pub bound : AreBound filters is.all is.filters
 
 -- the cursor without conditions, which reaches every row of its object
 abbrev pub without_conditions : Cursor → Cursor

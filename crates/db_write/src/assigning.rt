@@ -7,31 +7,32 @@ ghost use Rattle.db_write.specs.Assigned.{value_given, within_limit};
 
 use scql_base::{Name, NameList, PackedChanges, Params, Row};
 
-/// A row of these columns after changes, where it is within a limit of octets.
+/// Puts a row of these columns after changes into a place, where it is within a limit of octets.
 pub(crate) fn row_after(
     columns: &NameList,
     changes: &PackedChanges,
     row: &Row,
     limit: u16,
-) -> Option<Row>
+    after: &mut Row,
+) -> Option<()>
     requires limit { limit ≤ LARGEST }
-    ensures after { length columns.now ≡ length row.now → result ≡ within_limit limit (all_assigned changes.now columns.now row.now) }
+    ensures after { length columns.now ≡ length row.now → option_map (λ _. after.new) result ≡ within_limit limit (all_assigned changes.now columns.now row.now) }
 {
-    let after = assigned(columns, changes, row)?;
+    assigned(columns, changes, row, after)?;
     if after.size() <= usize::from(limit) {
-        Some(after)
+        Some(())
     } else {
         None
     }
 }
 
 // The row after changes, where its values are a row.
-fn assigned(columns: &NameList, changes: &PackedChanges, row: &Row) -> Option<Row>
+fn assigned(columns: &NameList, changes: &PackedChanges, row: &Row, after: &mut Row) -> Option<()>
     ensures after { length columns.now ≡ length row.now
-        → MatchOption result (LARGEST < row_size (all_assigned changes.now columns.now row.now)) (λ after. after ≡ all_assigned changes.now columns.now row.now) }
+        → MatchOption result (LARGEST < row_size (all_assigned changes.now columns.now row.now)) (λ _. after.new ≡ all_assigned changes.now columns.now row.now) }
 {
     prove!(row.len() <= Row::MOST);
-    let mut after = Row::new();
+    *after = Row::new();
     let mut rest = row.octets();
     for column in columns.as_slice() {
         let (value, behind) = Params::first_in(rest)?;
@@ -40,7 +41,7 @@ fn assigned(columns: &NameList, changes: &PackedChanges, row: &Row) -> Option<Ro
         };
         rest = behind;
     }
-    Some(after)
+    Some(())
 }
 
 // The value that changes give a column, where they give it one.

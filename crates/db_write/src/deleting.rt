@@ -49,8 +49,10 @@ pub fn delete<B: Eeprom>(
     let Some(cursor) = opened(cursor) else {
         return refused(StatusWord::CONDITIONS_NOT_SATISFIED);
     };
-    let object = find_written(store, bench, actor, cursor, Privilege::Delete)?;
-    let Some(reached) = find_row(store, bench, cursor, &object, index)? else {
+    let mut place = None;
+    let object = find_written(store, bench, actor, cursor, Privilege::Delete, &mut place)?;
+    let mut row = None;
+    let Some(reached) = find_row(store, bench, cursor, object, index, &mut row)? else {
         return refused(StatusWord::RECORD_NOT_FOUND);
     };
     remove(store, reached.slot);

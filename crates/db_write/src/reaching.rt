@@ -17,18 +17,18 @@ ghost use Rattle.record_table.specs.Listed.{at_slot, slots_of};
 ghost use Rattle.record_table.specs.Making.{IsHeld, is_stop_fault};
 ghost use Rattle.row_index.specs.Index.{Indexes};
 ghost use Rattle.search_cond.specs.Bound.{passes};
-ghost use Rattle.db_write.specs.Reached.{IsRowOfObject, IsStopOf, is_reached};
+ghost use Rattle.db_write.specs.Reached.{IsRowOfObject, IsStopOf, RestsOn, is_reached};
 ghost use Rattle.db_write.specs.Reached as reached;
 
 use eeprom::{Eeprom, EepromFault};
-use object_table::find_stamp;
+use object_table::find_stamp_into;
 use privilege_table::{Privilege, appears, holds};
 use record_store::{Side, Store};
 use record_table::{Stop, refused};
 use row_index::RowIndex;
 use scql_base::{Actor, Cursor, NameList, Object, ObjectKind, Place, Row, RowRecord, StatusWord};
-use search_cond::{Bound, bind};
-use views::{Resolved, resolve};
+use search_cond::{Bound, bind_into};
+use views::{Resolved, resolve_into};
 
 /// The row of a table that a cursor reaches, its slot, and all columns of the table.
 #[derive(Drop)]
@@ -59,32 +59,33 @@ fn is_opened(place: Place) -> bool
     }
 }
 
-/// The table or view whose rows the actor may change through a cursor, or the first refusal.
-pub(crate) fn find_written<B: Eeprom>(
+/// The table or view whose rows the actor may change through a cursor, or the first refusal. It is read into a place of the caller's.
+pub(crate) fn find_written<'a, B: Eeprom>(
     store: &Store,
     bench: &mut B,
     actor: Actor,
     cursor: &Cursor,
     privilege: Privilege,
-) -> Result<Object, Stop>
+    place: &'a mut Option<Object>,
+) -> Result<&'a Object, Stop>
     requires over { IsOver store.now (B.chip bench.old) }
-    ensures written { (db : Database) → IsHeld store.now Working (B.chip bench.old) db → IfOk result (λ object. written_through db actor (privilege_bit privilege) cursor.now ≡ Ok object) }
+    ensures written { (db : Database) → IsHeld store.now Working (B.chip bench.old) db → IfOk result (λ object. written_through db actor (privilege_bit privilege) cursor.now ≡ Ok object.now) }
     ensures there { (db : Database) → IsHeld store.now Working (B.chip bench.old) db
-        → IfOk result (λ object. (object_stamped db.objects cursor.now.object ≡ Some object) × (defining.is_table_or_view object.kind ≡ true)) }
+        → IfOk result (λ object. (object_stamped db.objects cursor.now.object ≡ Some object.now) × (defining.is_table_or_view object.now.kind ≡ true)) }
     ensures refused { (db : Database) → IsHeld store.now Working (B.chip bench.old) db → IfErr result (IsStopOf (written_through db actor (privilege_bit privilege) cursor.now)) }
     ensures frame { Reads is_stop_fault B.chip B.faults bench.old bench.new result }
 {
-    let Some(found) = find_stamp(store, bench, Side::Working, cursor.object)? else {
+    find_stamp_into(store, bench, Side::Working, cursor.object, place)?;
+    let Some(object) = place else {
         return refused(StatusWord::NOT_FOUND);
     };
-    let object = found.value;
-    if !appears(store, bench, Side::Working, actor, &object)? {
+    if !appears(store, bench, Side::Working, actor, object)? {
         return refused(StatusWord::NOT_FOUND);
     }
     if !is_table_or_view(&object.kind) {
         return refused(StatusWord::CONDITIONS_NOT_SATISFIED);
     }
-    if !holds(store, bench, Side::Working, actor, &object, privilege)? {
+    if !holds(store, bench, Side::Working, actor, object, privilege)? {
         return refused(StatusWord::SECURITY_NOT_SATISFIED);
     }
     Ok(object)
@@ -99,43 +100,117 @@ fn is_table_or_view(kind: &ObjectKind) -> bool
     }
 }
 
-/// The row at which a cursor on this object stands, where it is among the cursor's rows.
-pub(crate) fn find_row<B: Eeprom>(
+/// The row at which a cursor on this object stands, where it is among the cursor's rows. It is read into a place of the caller's. What only a view needs room for is in a
+/// function of its own, so that a table doesn't pay for it.
+pub(crate) fn find_row<'a, B: Eeprom>(
     store: &Store,
     bench: &mut B,
     cursor: &Cursor,
     object: &Object,
     index: &RowIndex,
-) -> Result<Option<Reached>, EepromFault>
+    place: &'a mut Option<Reached>,
+) -> Result<Option<&'a Reached>, EepromFault>
     requires over { IsOver store.now (B.chip bench.old) }
     requires index { Indexes index.now store.now (B.chip bench.old) }
-    ensures there { IfOk result (λ reached. IfSome reached (λ reached. reached.slot < store.now.chains.cells)) }
-    ensures at { IfOk result (λ reached. IfSome reached (λ reached. IfSome (slots_of store.now Working (B.chip bench.old)) (λ slots. Some reached.row ≡ at_slot row_kind reached.slot slots))) }
+    ensures there { IfOk result (λ reached. IfSome reached (λ reached. reached.now.slot < store.now.chains.cells)) }
+    ensures at { IfOk result (λ reached. IfSome reached (λ reached. IfSome (slots_of store.now Working (B.chip bench.old)) (λ slots. Some reached.now.row ≡ at_slot row_kind reached.now.slot slots))) }
     ensures row { (db : Database) → IsHeld store.now Working (B.chip bench.old) db → IsCursorOf db cursor.now → object_stamped db.objects cursor.now.object ≡ Some object.now
-        → defining.is_table_or_view object.now.kind ≡ true → IfOk result (λ reached. option_map (λ reached. reached.row) reached ≡ record_at_cursor db cursor.now) }
+        → defining.is_table_or_view object.now.kind ≡ true → IfOk result (λ reached. option_map (λ reached. reached.now.row) reached ≡ record_at_cursor db cursor.now) }
     ensures of_object { (db : Database) → IsHeld store.now Working (B.chip bench.old) db → object_stamped db.objects cursor.now.object ≡ Some object.now
-        → defining.is_table_or_view object.now.kind ≡ true → IfOk result (λ reached. IfSome reached (IsRowOfObject db cursor.now)) }
+        → defining.is_table_or_view object.now.kind ≡ true → IfOk result (λ reached. IfSome reached (λ reached. IsRowOfObject db cursor.now reached.now)) }
+    ensures frame { Reads each_error B.chip B.faults bench.old bench.new result }
+{
+    match &object.kind {
+        ObjectKind::Table { columns } => {
+            find_in_table(
+                store,
+                bench,
+                cursor,
+                object.stamp,
+                columns,
+                &[],
+                index,
+                place,
+            )
+        }
+        ObjectKind::View { .. } => find_under_view(store, bench, cursor, object, index, place),
+        ObjectKind::Dictionary { .. } => Ok(None),
+    }
+}
+
+// The row at which a cursor on a view stands.
+fn find_under_view<'a, B: Eeprom>(
+    store: &Store,
+    bench: &mut B,
+    cursor: &Cursor,
+    object: &Object,
+    index: &RowIndex,
+    place: &'a mut Option<Reached>,
+) -> Result<Option<&'a Reached>, EepromFault>
+    requires over { IsOver store.now (B.chip bench.old) }
+    requires index { Indexes index.now store.now (B.chip bench.old) }
+    ensures there { IfOk result (λ reached. IfSome reached (λ reached. reached.now.slot < store.now.chains.cells)) }
+    ensures at { IfOk result (λ reached. IfSome reached (λ reached. IfSome (slots_of store.now Working (B.chip bench.old)) (λ slots. Some reached.now.row ≡ at_slot row_kind reached.now.slot slots))) }
+    ensures row { (db : Database) → IsHeld store.now Working (B.chip bench.old) db → IsCursorOf db cursor.now → object_stamped db.objects cursor.now.object ≡ Some object.now
+        → defining.is_table_or_view object.now.kind ≡ true → IfOk result (λ reached. option_map (λ reached. reached.now.row) reached ≡ record_at_cursor db cursor.now) }
+    ensures of_object { (db : Database) → IsHeld store.now Working (B.chip bench.old) db → object_stamped db.objects cursor.now.object ≡ Some object.now
+        → defining.is_table_or_view object.now.kind ≡ true → IfOk result (λ reached. IfSome reached (λ reached. IsRowOfObject db cursor.now reached.now)) }
+    ensures frame { Reads each_error B.chip B.faults bench.old bench.new result }
+{
+    let mut resolved = Resolved::default();
+    resolve_into(store, bench, Side::Working, object, &mut resolved)?;
+    find_in_table(
+        store,
+        bench,
+        cursor,
+        resolved.table,
+        &resolved.all,
+        resolved.filters.as_slice(),
+        index,
+        place,
+    )
+}
+
+// The row at which a cursor stands in the table under its object, which these columns and filters describe.
+fn find_in_table<'a, B: Eeprom>(
+    store: &Store,
+    bench: &mut B,
+    cursor: &Cursor,
+    table: u32,
+    columns: &NameList,
+    filters: &[Bound],
+    index: &RowIndex,
+    place: &'a mut Option<Reached>,
+) -> Result<Option<&'a Reached>, EepromFault>
+    requires over { IsOver store.now (B.chip bench.old) }
+    requires index { Indexes index.now store.now (B.chip bench.old) }
+    ensures there { IfOk result (λ reached. IfSome reached (λ reached. reached.now.slot < store.now.chains.cells)) }
+    ensures at { IfOk result (λ reached. IfSome reached (λ reached. IfSome (slots_of store.now Working (B.chip bench.old)) (λ slots. Some reached.now.row ≡ at_slot row_kind reached.now.slot slots))) }
+    ensures row { (db : Database) → IsHeld store.now Working (B.chip bench.old) db → IsCursorOf db cursor.now → RestsOn db.objects cursor.now.object table columns.now filters.now
+        → IfOk result (λ reached. option_map (λ reached. reached.now.row) reached ≡ record_at_cursor db cursor.now) }
+    ensures of_object { (db : Database) → IsHeld store.now Working (B.chip bench.old) db → RestsOn db.objects cursor.now.object table columns.now filters.now
+        → IfOk result (λ reached. IfSome reached (λ reached. IsRowOfObject db cursor.now reached.now)) }
     ensures frame { Reads each_error B.chip B.faults bench.old bench.new result }
 {
     let Some(stamp) = stamp_at(cursor.place) else {
         return Ok(None);
     };
-    let resolved = resolve(store, bench, Side::Working, object)?;
+    let mut conditions = Bound::default();
     // A cursor's conditions are on columns of its object.
-    let Some(conditions) = bind(&resolved.all, &cursor.conditions).ok() else {
+    let Ok(()) = bind_into(columns, &cursor.conditions, &mut conditions) else {
         return Ok(None);
     };
     let Some(found) = row_table::find_stamp(store, bench, Side::Working, stamp, index)? else {
         return Ok(None);
     };
-    if !is_row_reached(&resolved, &conditions, &found.value) {
+    if !is_row_reached(table, filters, &conditions, &found.value) {
         return Ok(None);
     }
-    Ok(Some(Reached {
+    Ok(Some(place.insert(Reached {
         slot: found.slot,
         row: found.value,
-        columns: resolved.all,
-    }))
+        columns: columns.copy(),
+    })))
 }
 
 // The stamp of the row at which a cursor stands.
@@ -149,12 +224,10 @@ fn stamp_at(place: Place) -> Option<u32>
 }
 
 // Whether a row is one of the table, and meets the cursor's conditions and those of each view.
-fn is_row_reached(resolved: &Resolved, conditions: &Bound, row: &RowRecord) -> bool
-    ensures { result ≡ is_reached resolved.now conditions.now row.now }
+fn is_row_reached(table: u32, filters: &[Bound], conditions: &Bound, row: &RowRecord) -> bool
+    ensures { result ≡ is_reached table filters.now conditions.now row.now }
 {
-    row.table == resolved.table
-        && conditions.matches(&row.row)
-        && passes_each(resolved.filters.as_slice(), &row.row)
+    row.table == table && conditions.matches(&row.row) && passes_each(filters, &row.row)
 }
 
 fn passes_each(filters: &[Bound], row: &Row) -> bool

@@ -1,5 +1,5 @@
 // UPDATE.
-ghost use Rattle.std.specs.Prelude.{◌≡◌, ◌<◌, [], ◌∷◌, Option, IfOk, IfSome, IsTrue, IsErrOf, drop, map, true};
+ghost use Rattle.std.specs.Prelude.{◌≡◌, ◌<◌, ◌≤◌, [], ◌∷◌, Option, IfOk, IfSome, IsTrue, IsErrOf, drop, length, map, option_map, true};
 ghost use Rattle.std.specs.List.{list_any};
 ghost use Rattle.std.specs.Str.{bytes_eq};
 ghost use Rattle.eeprom.specs.Chip.{Keeps};
@@ -9,6 +9,7 @@ ghost use Rattle.eeprom.specs.StoreOf.{store_of, image_size};
 ghost use Rattle.record_store.specs.Held.{IsOver};
 ghost use Rattle.record_store.specs.declared.side.Side.TheVariants.{Working};
 ghost use Rattle.scql_base.specs.Row.{IsRow};
+ghost use Rattle.scql_base.specs.declared.row.TheConstants.Row.{LARGEST};
 ghost use Rattle.scql_base.specs.declared.cursor.Cursor as model;
 ghost use Rattle.scql_base.specs.declared.operation.Operation.TheVariants as operation;
 ghost use Rattle.scql_model.specs.Cursors.{IsCursorOf};
@@ -18,20 +19,21 @@ ghost use Rattle.scql_model.specs.Edits.{changing};
 ghost use Rattle.scql_model.specs.Objects.{columns_of};
 ghost use Rattle.scql_model.specs.Records.{of_row};
 ghost use Rattle.scql_model.specs.WellFormed.{HasForm};
-ghost use Rattle.scql_model.specs.Writing.{Assignment, row_updated};
+ghost use Rattle.scql_model.specs.Writing.{Assignment, all_assigned, row_updated};
 ghost use Rattle.catalog_codec.specs.Catalog.{row_kind};
 ghost use Rattle.catalog_codec.specs.Kinds.{FitsChain};
 ghost use Rattle.record_table.specs.Listed.{slots_of};
 ghost use Rattle.record_table.specs.Making.{Ends, GoesOn, IsHeld, is_stop_fault};
 ghost use Rattle.row_index.specs.Index.{Indexes};
 ghost use Rattle.row_table.specs.Found.{HasRowLike};
+ghost use Rattle.db_write.specs.Assigned.{within_limit};
 ghost use Rattle.db_write.specs.Reached.{Answers};
 
 use crate::assigning::row_after;
 use crate::reaching::{find_row, find_written, opened};
 use eeprom::Eeprom;
 use privilege_table::Privilege;
-use record_store::{Found, Store};
+use record_store::Store;
 use record_table::{Stop, change, refused};
 use row_index::RowIndex;
 use scql_base::{Actor, Cursor, NameList, ObjectKind, PackedChanges, Row, RowRecord, StatusWord};
@@ -61,12 +63,17 @@ pub fn update<B: Eeprom>(
         → ¬ IsErrOf result Stop.Fault → Indexes index.new store.new (B.chip bench.new) }
     ensures index_same { index.new ≡ index.old }
 {
-    let updated = find_updated(store, bench, actor, cursor, changes, index)?;
-    change(store, bench, updated.slot, &updated.value)?;
+    let mut updated = RowRecord {
+        stamp: 0,
+        table: 0,
+        row: Row::new(),
+    };
+    let slot = find_updated(store, bench, actor, cursor, changes, index, &mut updated)?;
+    change(store, bench, slot, &updated)?;
     Ok(())
 }
 
-// The row at which a cursor stands as it is after the changes, and its slot, or the first refusal.
+// The slot of the row at which a cursor stands, or the first refusal. The row as it is after the changes is put into a place.
 fn find_updated<B: Eeprom>(
     store: &Store,
     bench: &mut B,
@@ -74,39 +81,35 @@ fn find_updated<B: Eeprom>(
     cursor: &Option<Cursor>,
     changes: &PackedChanges,
     index: &RowIndex,
-) -> Result<Found<RowRecord>, Stop>
+    updated: &mut RowRecord,
+) -> Result<u16, Stop>
     requires over { IsOver store.now (B.chip bench.old) }
     requires index { Indexes index.now store.now (B.chip bench.old) }
-    ensures there { IfOk result (λ updated. updated.slot < store.now.chains.cells) }
-    ensures like { IfOk result (λ updated. IfSome (slots_of store.now Working (B.chip bench.old)) (HasRowLike updated.value updated.slot)) }
-    ensures short { IfOk result (λ updated. FitsChain row_kind updated.value) }
-    ensures fits { (db : Database) → IsHeld store.now Working (B.chip bench.old) db → IfOk result (λ updated. row_kind.form.fits updated.value ≡ true) }
+    ensures there { IfOk result (λ slot. slot < store.now.chains.cells) }
+    ensures like { IfOk result (λ slot. IfSome (slots_of store.now Working (B.chip bench.old)) (HasRowLike updated.new slot)) }
+    ensures short { IfOk result (λ _. FitsChain row_kind updated.new) }
+    ensures fits { (db : Database) → IsHeld store.now Working (B.chip bench.old) db → IfOk result (λ _. row_kind.form.fits updated.new ≡ true) }
     ensures updated { (db : Database) → IsHeld store.now Working (B.chip bench.old) db → IfSome cursor.now (IsCursorOf db)
-        → Answers (λ updated. changing (of_row updated.value) ∷ []) (row_updated db actor cursor.now changes.now) result }
+        → Answers (λ _. changing (of_row updated.new) ∷ []) (row_updated db actor cursor.now changes.now) result }
     ensures through { (db : Database) → IsHeld store.now Working (B.chip bench.old) db
-        → (through : Option model.Cursor) × Answers (λ updated. changing (of_row updated.value) ∷ []) (row_updated db actor through changes.now) result }
+        → (through : Option model.Cursor) × Answers (λ _. changing (of_row updated.new) ∷ []) (row_updated db actor through changes.now) result }
     ensures frame { Reads is_stop_fault B.chip B.faults bench.old bench.new result }
 {
     let Some(cursor) = opened(cursor) else {
         return refused(StatusWord::CONDITIONS_NOT_SATISFIED);
     };
-    let object = find_written(store, bench, actor, cursor, Privilege::Update)?;
+    let mut place = None;
+    let object = find_written(store, bench, actor, cursor, Privilege::Update, &mut place)?;
     if !are_columns(&object.kind, changes) {
         return refused(StatusWord::NOT_FOUND);
     }
-    let Some(reached) = find_row(store, bench, cursor, &object, index)? else {
+    let mut row = None;
+    let Some(reached) = find_row(store, bench, cursor, object, index, &mut row)? else {
         return refused(StatusWord::RECORD_NOT_FOUND);
     };
-    match row_after(
-        &reached.columns,
-        changes,
-        &reached.row.row,
-        store.row_limit(),
-    ) {
-        Some(row) => Ok(Found {
-            slot: reached.slot,
-            value: with_row(&reached.row, row),
-        }),
+    let limit = store.row_limit();
+    match record_after(&reached.columns, changes, &reached.row, limit, updated) {
+        Some(()) => Ok(reached.slot),
         None => refused(StatusWord::WRONG_DATA),
     }
 }
@@ -145,16 +148,23 @@ fn is_column(columns: &NameList, name: &[u8]) -> bool
         .any(|column| name == column.octets())
 }
 
-// A row of a table with other values, whose record a store can have.
-fn with_row(was: &RowRecord, row: Row) -> RowRecord
-    ensures record { result ≡ record { stamp = was.now.stamp; table = was.now.table; row = row } }
-    ensures is_row { IsRow result.row }
-    ensures short { FitsChain row_kind result }
+// Puts a row of a table with its values after changes into a place, where they are within a limit of octets: a store can have its record.
+fn record_after(
+    columns: &NameList,
+    changes: &PackedChanges,
+    was: &RowRecord,
+    limit: u16,
+    updated: &mut RowRecord,
+) -> Option<()>
+    requires limit { limit ≤ LARGEST }
+    ensures after { length columns.now ≡ length was.now.row → option_map (λ _. updated.new.row) result ≡ within_limit limit (all_assigned changes.now columns.now was.now.row) }
+    ensures record { IfSome result (λ _. updated.new ≡ record { stamp = was.now.stamp; table = was.now.table; row = updated.new.row }) }
+    ensures is_row { IfSome result (λ _. IsRow updated.new.row) }
+    ensures short { IfSome result (λ _. FitsChain row_kind updated.new) }
 {
-    prove!(row.len() <= Row::MOST);
-    RowRecord {
-        stamp: was.stamp,
-        table: was.table,
-        row,
-    }
+    updated.stamp = was.stamp;
+    updated.table = was.table;
+    row_after(columns, changes, &was.row, limit, &mut updated.row)?;
+    prove!(updated.row.len() <= Row::MOST);
+    Some(())
 }

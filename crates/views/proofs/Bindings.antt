@@ -1,29 +1,17 @@
--- Lists of conditions are bound one after another; what can't be bound names a column that isn't there.
-use Rattle.std.proofs.Common.{◌≡◌, ℕ, false, not, List, [], ◌∷◌, ◌++◌, map, Option, Some, None, Ok, Err, Result, refl, sym, ◌∙◌, subst, inl, inr}
-use Rattle.std.specs.Prelude.{IfOk, IfErr}
+-- What can't be bound names a column that isn't there.
+use Rattle.std.proofs.Common.{◌≡◌, ℕ, false, not, List, [], ◌∷◌, map, Option, Some, None, Ok, Err, Result, refl, sym, ◌∙◌, inl, inr}
+use Rattle.std.specs.Prelude.{IfErr}
 use Rattle.std.specs.Result.{result_ok}
 use Rattle.std.specs.List.{find, list_all, list_any}
 use Rattle.std.specs.Str.{bytes_eq}
 use Rattle.std.proofs.lemmas.Bool.{cases_Bool}
-use Rattle.std.proofs.lemmas.Option.{none-some, same_Some}
+use Rattle.std.proofs.lemmas.Option.{none-some}
 use Rattle.scql_base.specs.declared.condition.Condition.{Condition}
 use Rattle.scql_model.specs.Matching.{Columns}
-use Rattle.search_cond.specs.Bound.{Binds, first_unknown}
-use Rattle.search_cond.specs.declared.placed.Placed.{Placed}
-use Rattle.views.specs.Resolved.{AreBound, AreKnown}
+use Rattle.search_cond.specs.Bound.{first_unknown}
+use Rattle.views.specs.Resolved.{AreKnown}
 
-pub AreBound-push : (filters : List (List Placed)) (all : Columns) (lists : List (List Condition)) (bound : List Placed) (conditions : List Condition) → AreBound filters all lists → Binds bound all conditions
-    → AreBound (filters ++ bound ∷ []) all (lists ++ conditions ∷ [])
-AreBound-push [] all [] bound conditions are binds = (binds, tt)
-AreBound-push [] all (cs ∷ lists) bound conditions are binds = absurd are
-AreBound-push (b ∷ filters) all [] bound conditions are binds = absurd are
-AreBound-push (b ∷ filters) all (cs ∷ lists) bound conditions are binds = (are.0, AreBound-push filters all lists bound conditions are.1 binds)
-
--- the value of a result that has one, and its error where it has none
-pub ok-some : {T E : Type 0} (P : T → Type 0) (r : Result T E) (o : Option T) (x : T) → o ≡ result_ok r → o ≡ Some x → IfOk r P → P x
-ok-some P (Ok y) o x is some said = subst P (same_Some y x (sym is ∙ some)) said
-ok-some P (Err e) o x is some said = absurd (none-some x (sym is ∙ some))
-
+-- the error of a result that has no value
 pub err-none : {T E : Type 0} (P : E → Type 0) (r : Result T E) (o : Option T) → o ≡ result_ok r → o ≡ None → IfErr r P → (e : E) × P e
 err-none P (Ok y) o is none said = absurd (none-some y (sym none ∙ is))
 err-none P (Err e) o is none said = (e, said)

@@ -146,3 +146,9 @@ resolved-valid db o valid at is =
     let depth = depth-founded db.objects o o.kind refl at founded is in
     let r = some-map (λ (r : Resolved). length r.filters) (resolved_of db.objects o.stamp) depth.0 (depth_of-resolved_of db.objects o.stamp ∙ depth.1) in
     (r.0, r.1)
+
+-- what an object is resolved to shows the object's columns
+pub columns-resolved : (db : Database) (o : Object) (r : Resolved) → IsValid db → object_stamped db.objects o.stamp ≡ Some o → resolved_of db.objects o.stamp ≡ Some r → r.columns ≡ columns_of o.kind
+columns-resolved db o r valid at is =
+    let known = IsKnown-resolved_of db o.stamp r valid is in
+    sym known.columns ∙ ap (λ (x : Object). columns_of x.kind) (same_Some known.object o (sym known.found ∙ at))

@@ -1,5 +1,4 @@
 pub mod Bindings
 pub mod KnownNames
-pub mod Passing
-pub mod Searching
+pub mod Reached
 pub mod Stamped

@@ -24,6 +24,12 @@ AreBound filters all conditions = AllZip (λ (bound : List Placed) (conditions :
 abbrev pub AreKnown : Columns → List Condition → Bool
 AreKnown all conditions = are_among (map (λ (c : Condition). c.column) conditions) all
 
+-- the table of what is resolved is reached: it is the same with all its columns, to which each view's conditions are bound
+pub record Reaches (answer : Resolved) (r : model.Resolved) : Type 0 where
+  pub table : answer.table ≡ r.table
+  pub all : answer.all ≡ r.all
+  pub filters : AreBound answer.filters.items r.all r.filters
+
 -- what is answered stands for a table or a view that is resolved: the table is the same with all its columns, the same columns are shown, each from its place,
 -- and each view's conditions are bound to the table's columns
 pub record StandsFor (answer : Resolved) (r : model.Resolved) : Type 0 where

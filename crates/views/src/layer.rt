@@ -1,175 +1,96 @@
 // From view to base, down to a table.
-ghost use Rattle.std.specs.Prelude.{◌≡◌, ◌≤◌, ◌<◌, ◌+◌, ◌*◌, suc, ℕ, List, Some, IfOk, IfSome, length, option_map};
+ghost use Rattle.std.specs.Prelude.{◌≡◌, ◌≤◌, ◌<◌, ◌+◌, ◌*◌, ◌∷◌, [], suc, true, Some, IfOk, IfSome, length};
+ghost use Rattle.std.specs.List.{list_all};
 ghost use Rattle.eeprom.specs.Chip.{Becomes, RisesAtMost};
 ghost use Rattle.eeprom.specs.Fault.{each_error};
 ghost use Rattle.eeprom.specs.Frame.{Reads};
 ghost use Rattle.eeprom.specs.StoreOf.{cell_size};
 ghost use Rattle.record_store.specs.Held.{IsOver};
-ghost use Rattle.scql_base.specs.declared.records.Object.{Object};
-ghost use Rattle.scql_model.specs.Database.{Database, object_stamped};
-ghost use Rattle.scql_model.specs.Matching.{Columns};
-ghost use Rattle.scql_model.specs.Objects.{columns_of, deepest};
-ghost use Rattle.scql_model.specs.Resolving.{resolved_below, resolved_of};
+ghost use Rattle.scql_model.specs.Database.{Database};
+ghost use Rattle.scql_model.specs.Resolving as model;
+ghost use Rattle.scql_model.specs.Resolving.{resolved_below};
 ghost use Rattle.catalog_codec.specs.Catalog.{object_kind};
 ghost use Rattle.record_table.specs.Listed.{cells_marked, slots_of};
 ghost use Rattle.record_table.specs.Reading.{NeverFalls};
 ghost use Rattle.record_table.specs.Making.{IsHeld};
-ghost use Rattle.views.specs.Layers as specs;
-ghost use Rattle.views.specs.Layers.{layer_found, resolved_as, resolved_under};
+ghost use Rattle.views.specs.Resolved.{AreKnown, Reaches};
 
 use crate::DEEPEST;
-use arrayvec::ArrayVec;
+use crate::resolving::Resolved;
 use eeprom::{Eeprom, EepromFault};
-use object_table::find_stamp;
+use object_table::find_stamp_into;
 use record_store::{Side, Store};
-use scql_base::{Conditions, NameList, Object, ObjectKind};
-use std::marker::Model;
+use scql_base::{Conditions, NameList, ObjectKind};
+use search_cond::bind;
 
-/// The conditions of views over one another, the outermost first.
-pub(crate) type Passed = ArrayVec<Filter, { DEEPEST }>;
-
-/// The table under views, and the conditions of these.
-#[derive(Drop)]
-pub(crate) struct Base {
-    pub(crate) table: u32,
-    pub(crate) columns: NameList,
-    pub(crate) passed: Passed,
-}
-
-// What is reached on the way down.
-#[derive(Drop)]
-enum Layer {
-    Table { stamp: u32, columns: NameList },
-    View { base: u32, conditions: Conditions },
-    // A dictionary, or nothing.
-    Other,
-}
-
-/// The conditions of one view.
-#[derive(Drop)]
-pub(crate) struct Filter {
-    pub(crate) conditions: Conditions,
-}
-
-impl Model for Filter {
-    ghost use Rattle.std.specs.Prelude.{List};
-    ghost use Rattle.scql_base.specs.declared.condition.Condition.{Condition};
-
-    ghost Value = { List Condition };
-
-    ghost view = { λ filter. filter.conditions };
-}
-
-impl Default for Filter {
-    fn default() -> Filter {
-        Filter {
-            conditions: Conditions::new(),
-        }
-    }
-}
-
-/// The table under an object, where there is one under at most four views.
+/// Finds the table on which the base of a view rests, where there is one under at most so many views more. Each object is read
+/// into one place, and each view's conditions are bound on the way back.
 pub(crate) fn descend<B: Eeprom>(
     store: &Store,
     bench: &mut B,
     side: Side,
-    object: &Object,
-) -> Result<Option<Base>, EepromFault>
+    base: u32,
+    most: usize,
+    resolved: &mut Resolved,
+) -> Result<bool, EepromFault>
     requires over { IsOver store.now (B.chip bench.old) }
-    ensures base { (db : Database) → IsHeld store.now side (B.chip bench.old) db → object_stamped db.objects object.now.stamp ≡ Some object.now
-        → IfOk result (λ base. option_map (resolved_as (columns_of object.now.kind)) base ≡ resolved_of db.objects object.now.stamp) }
-    ensures few { IfOk result (λ base. IfSome base (λ base. length base.passed.items ≤ DEEPEST)) }
+    requires few { most < DEEPEST }
+    ensures reached { (db : Database) (r : model.Resolved) → IsHeld store.now side (B.chip bench.old) db → resolved_below (suc most) db.objects base ≡ Some r
+        → list_all (AreKnown r.all) r.filters ≡ true → IfOk result (λ there. (there ≡ true) × Reaches resolved.new r) }
+    ensures few { IfOk result (λ there. there ≡ true → length resolved.new.filters.items ≤ most) }
     ensures octets_read { IfOk result (λ _. IfSome (slots_of store.now side (B.chip bench.old))
-        (λ slots. Becomes (RisesAtMost (deepest * (cell_size * cells_marked object_kind slots))) (B.octets_read bench.old) (B.octets_read bench.new))) }
+        (λ slots. Becomes (RisesAtMost (suc most * (cell_size * cells_marked object_kind slots))) (B.octets_read bench.old) (B.octets_read bench.new))) }
     ensures rises { IfOk result (λ _. NeverFalls (slots_of store.now side (B.chip bench.old)) (B.octets_read bench.old) (B.octets_read bench.new)) }
     ensures frame { Reads each_error B.chip B.faults bench.old bench.new result }
 {
-    let mut passed = ArrayVec::new();
-    let mut layer = layer_of(object);
-    for _depth in 0..DEEPEST {
-        layer = pass(store, bench, side, layer, &mut passed)?;
-    }
-    Ok(base_of(layer, passed))
-}
-
-// The layer under a view. A table stays.
-fn pass<B: Eeprom>(
-    store: &Store,
-    bench: &mut B,
-    side: Side,
-    layer: Layer,
-    passed: &mut Passed,
-) -> Result<Layer, EepromFault>
-    requires over { IsOver store.now (B.chip bench.old) }
-    requires room { length passed.old.items < DEEPEST }
-    ensures passed { (db : Database) → IsHeld store.now side (B.chip bench.old) db → IfOk result (λ under. (columns : Columns) (n : ℕ)
-        → resolved_under columns passed.old.items (resolved_below (suc n) db.objects) layer ≡ resolved_under columns passed.new.items (resolved_below n db.objects) under) }
-    ensures one { length passed.new.items ≤ length passed.old.items + 1 }
-    ensures octets_read { IfOk result (λ _. IfSome (slots_of store.now side (B.chip bench.old))
-        (λ slots. Becomes (RisesAtMost (cell_size * cells_marked object_kind slots)) (B.octets_read bench.old) (B.octets_read bench.new))) }
-    ensures rises { IfOk result (λ _. NeverFalls (slots_of store.now side (B.chip bench.old)) (B.octets_read bench.old) (B.octets_read bench.new)) }
-    ensures frame { Reads each_error B.chip B.faults bench.old bench.new result }
-{
-    match layer {
-        Layer::View { base, conditions } => {
-            passed.push(Filter { conditions });
-            find_layer(store, bench, side, base)
-        }
-        other => Ok(other),
-    }
-}
-
-// The object of a stamp, if there is one.
-fn find_layer<B: Eeprom>(
-    store: &Store,
-    bench: &mut B,
-    side: Side,
-    stamp: u32,
-) -> Result<Layer, EepromFault>
-    requires over { IsOver store.now (B.chip bench.old) }
-    ensures found { (db : Database) → IsHeld store.now side (B.chip bench.old) db → IfOk result (λ layer. layer ≡ layer_found (object_stamped db.objects stamp)) }
-    ensures octets_read { IfOk result (λ _. IfSome (slots_of store.now side (B.chip bench.old))
-        (λ slots. Becomes (RisesAtMost (cell_size * cells_marked object_kind slots)) (B.octets_read bench.old) (B.octets_read bench.new))) }
-    ensures rises { IfOk result (λ _. NeverFalls (slots_of store.now side (B.chip bench.old)) (B.octets_read bench.old) (B.octets_read bench.new)) }
-    ensures frame { Reads each_error B.chip B.faults bench.old bench.new result }
-{
-    match find_stamp(store, bench, side, stamp)? {
-        Some(found) => Ok(layer_of(&found.value)),
-        None => Ok(Layer::Other),
-    }
-}
-
-fn layer_of(object: &Object) -> Layer
-    ensures { result ≡ specs.layer_of object.now }
-{
+    let mut place = None;
+    find_stamp_into(store, bench, side, base, &mut place)?;
+    let Some(object) = &place else {
+        return Ok(false);
+    };
     match &object.kind {
-        ObjectKind::Table { columns } => Layer::Table {
-            stamp: object.stamp,
-            columns: columns.copy(),
-        },
+        ObjectKind::Table { columns } => {
+            reach(object.stamp, columns, resolved);
+            Ok(true)
+        }
         ObjectKind::View {
             base,
             conditions,
             ..
-        } => Layer::View {
-            base: *base,
-            conditions: conditions.copy(),
-        },
-        ObjectKind::Dictionary { .. } => Layer::Other,
+        } => {
+            if most == 0 {
+                return Ok(false);
+            }
+            if !descend(store, bench, side, *base, most - 1, resolved)? {
+                return Ok(false);
+            }
+            Ok(pass(conditions, resolved))
+        }
+        ObjectKind::Dictionary { .. } => Ok(false),
     }
 }
 
-// The table that was reached, if it is one.
-fn base_of(layer: Layer, passed: Passed) -> Option<Base>
-    ensures base { (columns : Columns) (objects : List Object) → option_map (resolved_as columns) result ≡ resolved_under columns passed.items (resolved_below 0 objects) layer }
-    ensures same { IfSome result (λ base. base.passed ≡ passed) }
+/// A table is reached, under no view yet.
+pub(crate) fn reach(stamp: u32, columns: &NameList, resolved: &mut Resolved)
+    ensures table { resolved.new.table ≡ stamp }
+    ensures all { resolved.new.all ≡ columns.now }
+    ensures filters { resolved.new.filters.items ≡ [] }
 {
-    match layer {
-        Layer::Table { stamp, columns } => Some(Base {
-            table: stamp,
-            columns,
-            passed,
-        }),
-        Layer::View { .. } | Layer::Other => None,
-    }
+    resolved.table = stamp;
+    resolved.all = columns.copy();
+    resolved.filters.clear();
+}
+
+/// Binds the conditions of a view to the columns of the table that was reached, and answers whether all of them are on these.
+pub(crate) fn pass(conditions: &Conditions, resolved: &mut Resolved) -> bool
+    requires room { length resolved.old.filters.items < DEEPEST }
+    ensures passed { (r : model.Resolved) → Reaches resolved.old r → AreKnown r.all conditions.now ≡ true
+        → (result ≡ true) × Reaches resolved.new (record r { filters = conditions.now ∷ r.filters }) }
+    ensures one { length resolved.new.filters.items ≤ length resolved.old.filters.items + 1 }
+{
+    let Ok(filter) = bind(&resolved.all, conditions) else {
+        return false;
+    };
+    resolved.filters.insert(0, filter);
+    true
 }

@@ -4,4 +4,4 @@
 mod layer;
 mod resolving;
 
-pub use resolving::{DEEPEST, Places, Resolved, places_of, resolve};
+pub use resolving::{DEEPEST, Places, Resolved, places_of, resolve, resolve_into};

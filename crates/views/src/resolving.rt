@@ -11,19 +11,20 @@ ghost use Rattle.scql_base.specs.declared.name_list.TheConstants.NameList.{MOST}
 ghost use Rattle.scql_model.specs.Database.{Database, are_among, object_stamped};
 ghost use Rattle.scql_model.specs.Defining.{is_table_or_view};
 ghost use Rattle.scql_model.specs.Objects.{columns_of, deepest};
+ghost use Rattle.scql_model.specs.Resolving as model;
+ghost use Rattle.scql_model.specs.Resolving.{resolved_of};
 ghost use Rattle.catalog_codec.specs.Catalog.{object_kind};
 ghost use Rattle.record_table.specs.Listed.{cells_marked, slots_of};
 ghost use Rattle.record_table.specs.Reading.{NeverFalls};
 ghost use Rattle.record_table.specs.Making.{IsHeld};
-ghost use Rattle.views.specs.Layers.{resolved_as};
-ghost use Rattle.views.specs.Resolved.{AreBound, AreKnown, ArePlaces, Resolves, StandsFor};
+ghost use Rattle.views.specs.Resolved.{AreKnown, ArePlaces, Reaches, Resolves, StandsFor};
 
-use crate::layer::{Base, Filter, descend};
+use crate::layer::{descend, pass, reach};
 use arrayvec::ArrayVec;
 use eeprom::{Eeprom, EepromFault};
 use record_store::{Side, Store};
 use scql_base::{Name, NameList, Object, ObjectKind};
-use search_cond::{Bound, bind};
+use search_cond::Bound;
 
 /// How many views may stand over one another.
 pub const DEEPEST: usize = 4;
@@ -46,6 +47,30 @@ pub struct Resolved {
     pub filters: ArrayVec<Bound, { DEEPEST }>,
 }
 
+impl Resolved {
+    // Shows nothing.
+    fn clear(&mut self) {
+        self.table = 0;
+        self.all = NameList::new();
+        self.columns = NameList::new();
+        self.places.clear();
+        self.filters.clear();
+    }
+}
+
+impl Default for Resolved {
+    /// Nothing that is shown.
+    fn default() -> Resolved {
+        Resolved {
+            table: 0,
+            all: NameList::new(),
+            columns: NameList::new(),
+            places: ArrayVec::new(),
+            filters: ArrayVec::new(),
+        }
+    }
+}
+
 /// Finds the table on which a table or a view rests, and how its rows come from those of the table.
 pub fn resolve<B: Eeprom>(
     store: &Store,
@@ -61,42 +86,83 @@ pub fn resolve<B: Eeprom>(
     ensures rises { IfOk result (λ _. NeverFalls (slots_of store.now side (B.chip bench.old)) (B.octets_read bench.old) (B.octets_read bench.new)) }
     ensures frame { Reads each_error B.chip B.faults bench.old bench.new result }
 {
-    let Some(base) = descend(store, bench, side, object)? else {
-        return Ok(nothing());
-    };
-    match shown_of(base, &object.kind) {
-        Some(resolved) => Ok(resolved),
-        None => Ok(nothing()),
-    }
+    let mut resolved = Resolved::default();
+    resolve_into(store, bench, side, object, &mut resolved)?;
+    Ok(resolved)
 }
 
-// What an object shows of its base. None where a name isn't a column of the base, as none is in a valid database.
-fn shown_of(base: Base, kind: &ObjectKind) -> Option<Resolved>
-    ensures stands { IfSome result (λ resolved. StandsFor resolved (resolved_as (columns_of kind.now) base)) }
-    ensures there { is_table_or_view kind.now ≡ true → are_among (columns_of kind.now) base.columns ≡ true
-        → list_all (AreKnown base.columns) base.passed.items ≡ true → IsSome result }
+/// Finds the table on which a table or a view rests, and how its rows come from those of the table, in a place.
+pub fn resolve_into<B: Eeprom>(
+    store: &Store,
+    bench: &mut B,
+    side: Side,
+    object: &Object,
+    resolved: &mut Resolved,
+) -> Result<(), EepromFault>
+    requires over { IsOver store.now (B.chip bench.old) }
+    ensures resolved { (db : Database) → IsHeld store.now side (B.chip bench.old) db
+        → object_stamped db.objects object.now.stamp ≡ Some object.now → is_table_or_view object.now.kind ≡ true → IfOk result (λ _. Resolves db.objects object.now.stamp resolved.new) }
+    ensures octets_read { IfOk result (λ _. IfSome (slots_of store.now side (B.chip bench.old))
+        (λ slots. Becomes (RisesAtMost (deepest * (cell_size * cells_marked object_kind slots))) (B.octets_read bench.old) (B.octets_read bench.new))) }
+    ensures rises { IfOk result (λ _. NeverFalls (slots_of store.now side (B.chip bench.old)) (B.octets_read bench.old) (B.octets_read bench.new)) }
+    ensures frame { Reads each_error B.chip B.faults bench.old bench.new result }
 {
-    let columns = shown_columns(kind)?;
-    let places = places_of(&base.columns, &columns)?;
-    let filters = filters_of(&base.columns, base.passed.as_slice())?;
-    Some(Resolved {
-        table: base.table,
-        all: base.columns,
-        columns,
-        places,
-        filters,
-    })
+    if rest(store, bench, side, object, resolved)? && show(&object.kind, resolved) {
+        return Ok(());
+    }
+    resolved.clear();
+    Ok(())
 }
 
-// Nothing that is shown.
-fn nothing() -> Resolved {
-    Resolved {
-        table: 0,
-        all: NameList::new(),
-        columns: NameList::new(),
-        places: ArrayVec::new(),
-        filters: ArrayVec::new(),
+// Finds the table on which an object rests, under the conditions of the views between.
+fn rest<B: Eeprom>(
+    store: &Store,
+    bench: &mut B,
+    side: Side,
+    object: &Object,
+    resolved: &mut Resolved,
+) -> Result<bool, EepromFault>
+    requires over { IsOver store.now (B.chip bench.old) }
+    ensures reached { (db : Database) (r : model.Resolved) → IsHeld store.now side (B.chip bench.old) db → object_stamped db.objects object.now.stamp ≡ Some object.now → resolved_of db.objects object.now.stamp ≡ Some r
+        → list_all (AreKnown r.all) r.filters ≡ true → IfOk result (λ there. (there ≡ true) × Reaches resolved.new r) }
+    ensures octets_read { IfOk result (λ _. IfSome (slots_of store.now side (B.chip bench.old))
+        (λ slots. Becomes (RisesAtMost (deepest * (cell_size * cells_marked object_kind slots))) (B.octets_read bench.old) (B.octets_read bench.new))) }
+    ensures rises { IfOk result (λ _. NeverFalls (slots_of store.now side (B.chip bench.old)) (B.octets_read bench.old) (B.octets_read bench.new)) }
+    ensures frame { Reads each_error B.chip B.faults bench.old bench.new result }
+{
+    match &object.kind {
+        ObjectKind::Table { columns } => {
+            reach(object.stamp, columns, resolved);
+            Ok(true)
+        }
+        ObjectKind::View {
+            base,
+            conditions,
+            ..
+        } => {
+            if !descend(store, bench, side, *base, DEEPEST - 1, resolved)? {
+                return Ok(false);
+            }
+            Ok(pass(conditions, resolved))
+        }
+        ObjectKind::Dictionary { .. } => Ok(false),
     }
+}
+
+// What an object shows of the table that was reached. False where a name isn't a column of the table, as none is in a valid database.
+fn show(kind: &ObjectKind, resolved: &mut Resolved) -> bool
+    ensures stands { (r : model.Resolved) → Reaches resolved.old r → r.columns ≡ columns_of kind.now → result ≡ true → StandsFor resolved.new r }
+    ensures there { is_table_or_view kind.now ≡ true → are_among (columns_of kind.now) resolved.old.all ≡ true → result ≡ true }
+{
+    let Some(columns) = shown_columns(kind) else {
+        return false;
+    };
+    let Some(places) = places_of(&resolved.all, &columns) else {
+        return false;
+    };
+    resolved.columns = columns;
+    resolved.places = places;
+    true
 }
 
 // The columns that a table or a view has.
@@ -130,17 +196,4 @@ fn place_of(all: &NameList, column: &Name) -> Option<usize>
     all.as_slice()
         .iter()
         .position(|name| column.octets() == name.octets())
-}
-
-// The conditions of each view, bound to all columns of the table.
-fn filters_of(all: &NameList, passed: &[Filter]) -> Option<ArrayVec<Bound, { DEEPEST }>>
-    requires { length passed.now ≤ DEEPEST }
-    ensures filters { IfSome result (λ filters. AreBound filters.items all.now passed.now) }
-    ensures there { list_all (AreKnown all.now) passed.now ≡ true → IsSome result }
-{
-    let mut filters = ArrayVec::new();
-    for filter in passed {
-        filters.push(bind(all, &filter.conditions).ok()?);
-    }
-    Some(filters)
 }

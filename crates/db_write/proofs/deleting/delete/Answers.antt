@@ -47,7 +47,7 @@ returns-in_default-2-clause-ends g c = λ db held of.
     let own = subst (λ (o : Option Cursor). IfSome o (IsCursorOf db)) (opened-some c.args.cursor.now cursor c.in-Some.ensures) of in
     let none = rw c.in_default-2.is at (c.in_ok-reached.ensures.row db second own there.0 there.1) in
     rw c.refused-in_default-2.ensures
-    (deletes-none db c.args.actor c.args.cursor.now cursor c.in_ok-object.object c.in-Some.ensures written none, refl, c.in_ok-reached.ensures.frame.same ∙ c.in_ok-object.ensures.frame.same)
+    (deletes-none db c.args.actor c.args.cursor.now cursor c.in_ok-object.object.now c.in-Some.ensures written none, refl, c.in_ok-reached.ensures.frame.same ∙ c.in_ok-object.ensures.frame.same)
 
 -- no row is reached from the end
 pub returns-in_default-2-clause-through : goal.returns-in_default-2-clause-through
@@ -55,7 +55,7 @@ returns-in_default-2-clause-through g c = λ db held.
     let at_end : Cursor = record c.in-Some.cursor.now { place = End } in
     let written = c.in_ok-object.ensures.written db held in (
       Some at_end,
-      rw c.refused-in_default-2.ensures (deletes-none db c.args.actor (Some at_end) at_end c.in_ok-object.object refl written refl, refl, c.in_ok-reached.ensures.frame.same ∙ c.in_ok-object.ensures.frame.same),
+      rw c.refused-in_default-2.ensures (deletes-none db c.args.actor (Some at_end) at_end c.in_ok-object.object.now refl written refl, refl, c.in_ok-reached.ensures.frame.same ∙ c.in_ok-object.ensures.frame.same),
     )
 
 pub returns-clause-ends : goal.returns-clause-ends
@@ -67,12 +67,12 @@ returns-clause-ends g c = λ db held of.
     let written = c.in_ok-object.ensures.written db held in
     let there = c.in_ok-object.ensures.there db held in
     let own = subst (λ (o : Option Cursor). IfSome o (IsCursorOf db)) (opened-some c.args.cursor.now cursor c.in-Some.ensures) of in
-    let row = c.in-Some-2.reached.row in
+    let row = c.in-Some-2.reached.now.row in
     let reached = rw c.in-Some-2.is at (c.in_ok-reached.ensures.row db second own there.0 there.1) in
     let at = rw c.in-Some-2.is at c.in_ok-reached.ensures.at in
-    let before = subst (λ chip. IfSome (slots_of store Working chip) (λ slots. Some row ≡ at_slot row_kind c.in-Some-2.reached.slot slots)) first at in
-    Ends-deleted store c.remove.new.store (g.B.Eeprom.chip c.args.bench.now) (g.B.Eeprom.chip c.find_row.new.bench) db c.args.actor c.args.cursor.now c.in-Some-2.reached.slot row (c.in_ok-reached.ensures.frame.same ∙ first) held c.requires.over before
-    (deletes db c.args.actor c.args.cursor.now cursor c.in_ok-object.object row c.in-Some.ensures written reached) c.remove.ensures.removed c.remove.ensures.cells c.remove.ensures.rows c.remove.ensures.entries c.remove.ensures.only
+    let before = subst (λ chip. IfSome (slots_of store Working chip) (λ slots. Some row ≡ at_slot row_kind c.in-Some-2.reached.now.slot slots)) first at in
+    Ends-deleted store c.remove.new.store (g.B.Eeprom.chip c.args.bench.now) (g.B.Eeprom.chip c.find_row.new.bench) db c.args.actor c.args.cursor.now c.in-Some-2.reached.now.slot row (c.in_ok-reached.ensures.frame.same ∙ first) held c.requires.over before
+    (deletes db c.args.actor c.args.cursor.now cursor c.in_ok-object.object.now row c.in-Some.ensures written reached) c.remove.ensures.removed c.remove.ensures.cells c.remove.ensures.rows c.remove.ensures.entries c.remove.ensures.only
 
 pub returns-clause-through : goal.returns-clause-through
 returns-clause-through g c = λ db held.
@@ -82,13 +82,13 @@ returns-clause-through g c = λ db held.
     let second = subst (λ chip. IsHeld store Working chip db) (sym first) held in
     let written = c.in_ok-object.ensures.written db held in
     let there = c.in_ok-object.ensures.there db held in
-    let row = c.in-Some-2.reached.row in
+    let row = c.in-Some-2.reached.now.row in
     let of_object = rw c.in-Some-2.is at (c.in_ok-reached.ensures.of_object db second there.0 there.1) in
     let at = rw c.in-Some-2.is at c.in_ok-reached.ensures.at in
-    let before = subst (λ chip. IfSome (slots_of store Working chip) (λ slots. Some row ≡ at_slot row_kind c.in-Some-2.reached.slot slots)) first at in (
+    let before = subst (λ chip. IfSome (slots_of store Working chip) (λ slots. Some row ≡ at_slot row_kind c.in-Some-2.reached.now.slot slots)) first at in (
       Some any,
-      Ends-deleted store c.remove.new.store (g.B.Eeprom.chip c.args.bench.now) (g.B.Eeprom.chip c.find_row.new.bench) db c.args.actor (Some any) c.in-Some-2.reached.slot row (c.in_ok-reached.ensures.frame.same ∙ first) held c.requires.over before
-          (deletes db c.args.actor (Some any) any c.in_ok-object.object row (opened-without_conditions c.args.cursor.now c.in-Some.cursor.now c.in-Some.ensures) written of_object.row) c.remove.ensures.removed c.remove.ensures.cells c.remove.ensures.rows c.remove.ensures.entries c.remove.ensures.only,
+      Ends-deleted store c.remove.new.store (g.B.Eeprom.chip c.args.bench.now) (g.B.Eeprom.chip c.find_row.new.bench) db c.args.actor (Some any) c.in-Some-2.reached.now.slot row (c.in_ok-reached.ensures.frame.same ∙ first) held c.requires.over before
+          (deletes db c.args.actor (Some any) any c.in_ok-object.object.now row (opened-without_conditions c.args.cursor.now c.in-Some.cursor.now c.in-Some.ensures) written of_object.row) c.remove.ensures.removed c.remove.ensures.cells c.remove.ensures.rows c.remove.ensures.entries c.remove.ensures.only,
     )
 
 pub returns-clause-index : goal.returns-clause-index
@@ -98,5 +98,5 @@ returns-clause-index g c =
     let there = rw c.in-Some-2.is at c.in_ok-reached.ensures.there in
     let over = subst (λ chip. IsOver store chip) (sym still) c.requires.over in
     rw c.removed.ensures.removed
-    (Indexes-removed c.args.index.now store c.remove.new.store (g.B.Eeprom.chip c.find_row.new.bench) c.in-Some-2.reached.slot over.stands c.remove.ensures.cells there c.remove.ensures.removed
+    (Indexes-removed c.args.index.now store c.remove.new.store (g.B.Eeprom.chip c.find_row.new.bench) c.in-Some-2.reached.now.slot over.stands c.remove.ensures.cells there c.remove.ensures.removed
     (subst (λ chip. Indexes c.args.index.now store chip) (sym still) c.requires.index))

@@ -10,7 +10,7 @@ use Rattle.record_table.specs.Making.{IsHeld}
 use Rattle.db_write.specs.Reached.{without_conditions}
 use Rattle.db_write.proofs.RowDeleted.{opened-some, opened-without_conditions}
 use Rattle.db_write.proofs.RowUpdated.{Answers-stopped, IsUpdated, fits-kept, updates-closed, updates-kept, updates-none, updates-not_kept, updates-stopped, updates-unnamed}
-use Rattle.db_write.proofs.updating.find_updated.Goals.{After-row_after}
+use Rattle.db_write.proofs.updating.find_updated.Goals.{After-record_after}
 use Rattle.db_write.proofs.updating.find_updated.Goals as goal
 
 pub returns-in_default-clause-updated : goal.returns-in_default-clause-updated
@@ -36,7 +36,7 @@ returns-then-not-are_columns-clause-through g c = λ db held.
     let unnamed = sym (c.are_columns.ensures (c.in_ok-object.ensures.there db held).1) ∙ c.if-not-are_columns.true in (
       c.args.cursor.now,
       rw c.refused-then-not-are_columns.ensures
-          (updates-unnamed db c.args.actor c.args.cursor.now c.args.changes.now c.in-Some.cursor.now c.in_ok-object.object c.in-Some.ensures (c.in_ok-object.ensures.written db held) unnamed),
+          (updates-unnamed db c.args.actor c.args.cursor.now c.args.changes.now c.in-Some.cursor.now c.in_ok-object.object.now c.in-Some.ensures (c.in_ok-object.ensures.written db held) unnamed),
     )
 
 pub returns-then-not-are_columns-clause-updated : goal.returns-then-not-are_columns-clause-updated
@@ -52,7 +52,7 @@ returns-in_default-2-clause-updated g c = λ db held of.
     let named = sym (c.are_columns.ensures there.1) ∙ c.if-not-are_columns.false in
     let none = rw c.in_default-2.is at (c.in_ok-reached.ensures.row db second own there.0 there.1) in
     rw c.refused-in_default-2.ensures
-    (updates-none db c.args.actor c.args.cursor.now c.args.changes.now cursor c.in_ok-object.object c.in-Some.ensures (c.in_ok-object.ensures.written db held) named none)
+    (updates-none db c.args.actor c.args.cursor.now c.args.changes.now cursor c.in_ok-object.object.now c.in-Some.ensures (c.in_ok-object.ensures.written db held) named none)
 
 -- no row is reached from the end
 pub returns-in_default-2-clause-through : goal.returns-in_default-2-clause-through
@@ -60,12 +60,12 @@ returns-in_default-2-clause-through g c = λ db held.
     let at_end : Cursor = record c.in-Some.cursor.now { place = End } in
     let named = sym (c.are_columns.ensures (c.in_ok-object.ensures.there db held).1) ∙ c.if-not-are_columns.false in (
       Some at_end,
-      rw c.refused-in_default-2.ensures (updates-none db c.args.actor (Some at_end) c.args.changes.now at_end c.in_ok-object.object refl (c.in_ok-object.ensures.written db held) named refl),
+      rw c.refused-in_default-2.ensures (updates-none db c.args.actor (Some at_end) c.args.changes.now at_end c.in_ok-object.object.now refl (c.in_ok-object.ensures.written db held) named refl),
     )
 
 -- what was found through the cursor, where that is one of the database
-found : (g : _) (c : After-row_after g) (db : Database) → IsHeld c.args.store.now Working (g.B.Eeprom.chip c.args.bench.now) db → IfSome c.args.cursor.now (IsCursorOf db)
-    → IsUpdated db c.args.actor c.args.cursor.now c.args.changes.now c.in-Some.cursor.now c.in_ok-object.object c.in-Some-2.reached.row c.in-Some-2.reached.columns c.row_limit.result
+found : (g : _) (c : After-record_after g) (db : Database) → IsHeld c.args.store.now Working (g.B.Eeprom.chip c.args.bench.now) db → IfSome c.args.cursor.now (IsCursorOf db)
+    → IsUpdated db c.args.actor c.args.cursor.now c.args.changes.now c.in-Some.cursor.now c.in_ok-object.object.now c.in-Some-2.reached.now.row c.in-Some-2.reached.now.columns c.row_limit-limit.result
 found g c db held of =
     let cursor = c.in-Some.cursor.now in
     let second = subst (λ chip. IsHeld c.args.store.now Working chip db) (sym c.in_ok-object.ensures.frame.same) held in
@@ -78,12 +78,12 @@ found g c db held of =
       names = sym (c.are_columns.ensures there.1) ∙ c.if-not-are_columns.false;
       there = rw c.in-Some-2.is at (c.in_ok-reached.ensures.row db second own there.0 there.1);
       all = (rw c.in-Some-2.is at (c.in_ok-reached.ensures.of_object db second there.0 there.1)).columns;
-      most = c.row_limit.ensures.limit ∙ sym held.limit;
+      most = c.row_limit-limit.ensures.limit ∙ sym held.limit;
     }
 
 -- and in any case through that without its conditions
-found-so : (g : _) (c : After-row_after g) (db : Database) → IsHeld c.args.store.now Working (g.B.Eeprom.chip c.args.bench.now) db
-    → IsUpdated db c.args.actor (Some (without_conditions c.in-Some.cursor.now)) c.args.changes.now (without_conditions c.in-Some.cursor.now) c.in_ok-object.object c.in-Some-2.reached.row c.in-Some-2.reached.columns c.row_limit.result
+found-so : (g : _) (c : After-record_after g) (db : Database) → IsHeld c.args.store.now Working (g.B.Eeprom.chip c.args.bench.now) db
+    → IsUpdated db c.args.actor (Some (without_conditions c.in-Some.cursor.now)) c.args.changes.now (without_conditions c.in-Some.cursor.now) c.in_ok-object.object.now c.in-Some-2.reached.now.row c.in-Some-2.reached.now.columns c.row_limit-limit.result
 found-so g c db held =
     let second = subst (λ chip. IsHeld c.args.store.now Working chip db) (sym c.in_ok-object.ensures.frame.same) held in
     let there = c.in_ok-object.ensures.there db held in
@@ -95,33 +95,33 @@ found-so g c db held =
       names = sym (c.are_columns.ensures there.1) ∙ c.if-not-are_columns.false;
       there = of_object.row;
       all = of_object.columns;
-      most = c.row_limit.ensures.limit ∙ sym held.limit;
+      most = c.row_limit-limit.ensures.limit ∙ sym held.limit;
     }
 
 pub returns-in-None-clause-updated : goal.returns-in-None-clause-updated
 returns-in-None-clause-updated g c = λ db held of.
-    let is = found g (goal.at.returns-in-None-clause-updated g c).After-row_after db held of in
-    rw c.refused-in-None.ensures (updates-not_kept db _ _ _ _ _ _ c.in-Some-2.reached.columns c.row_limit.result is (rw c.in-None.is at c.row_after.ensures.after))
+    let is = found g (goal.at.returns-in-None-clause-updated g c).After-record_after db held of in
+    rw c.refused-in-None.ensures (updates-not_kept db _ _ _ _ _ _ c.in-Some-2.reached.now.columns c.row_limit-limit.result is (rw c.in-None.is at c.record_after.ensures.after))
 
 pub returns-in-None-clause-through : goal.returns-in-None-clause-through
 returns-in-None-clause-through g c = λ db held.
     let any = without_conditions c.in-Some.cursor.now in
-    let is = found-so g (goal.at.returns-in-None-clause-through g c).After-row_after db held in
-    (Some any, rw c.refused-in-None.ensures (updates-not_kept db _ (Some any) _ any _ _ c.in-Some-2.reached.columns c.row_limit.result is (rw c.in-None.is at c.row_after.ensures.after)))
+    let is = found-so g (goal.at.returns-in-None-clause-through g c).After-record_after db held in
+    (Some any, rw c.refused-in-None.ensures (updates-not_kept db _ (Some any) _ any _ _ c.in-Some-2.reached.now.columns c.row_limit-limit.result is (rw c.in-None.is at c.record_after.ensures.after)))
 
-pub returns-in-Some-row_after-clause-updated : goal.returns-in-Some-row_after-clause-updated
-returns-in-Some-row_after-clause-updated g c = λ db held of.
-    let is = found g (goal.at.returns-in-Some-row_after-clause-updated g c).After-row_after db held of in
-    updates-kept db _ _ _ _ _ _ c.in-Some-2.reached.columns c.row_limit.result c.in-Some-row_after.row c.with_row.result is (rw c.in-Some-row_after.is at c.row_after.ensures.after) c.with_row.ensures.record
+pub returns-in-Some-record_after-clause-updated : goal.returns-in-Some-record_after-clause-updated
+returns-in-Some-record_after-clause-updated g c = λ db held of.
+    let is = found g (goal.at.returns-in-Some-record_after-clause-updated g c).After-record_after db held of in
+    updates-kept db _ _ _ _ _ _ c.in-Some-2.reached.now.columns c.row_limit-limit.result c.record_after.new.updated.row c.record_after.new.updated is (rw c.in-Some-record_after.is at c.record_after.ensures.after) (rw c.in-Some-record_after.is at c.record_after.ensures.record)
 
-pub returns-in-Some-row_after-clause-through : goal.returns-in-Some-row_after-clause-through
-returns-in-Some-row_after-clause-through g c = λ db held.
+pub returns-in-Some-record_after-clause-through : goal.returns-in-Some-record_after-clause-through
+returns-in-Some-record_after-clause-through g c = λ db held.
     let any = without_conditions c.in-Some.cursor.now in
-    let is = found-so g (goal.at.returns-in-Some-row_after-clause-through g c).After-row_after db held in
-    (Some any, updates-kept db _ (Some any) _ any _ _ c.in-Some-2.reached.columns c.row_limit.result c.in-Some-row_after.row c.with_row.result is (rw c.in-Some-row_after.is at c.row_after.ensures.after) c.with_row.ensures.record)
+    let is = found-so g (goal.at.returns-in-Some-record_after-clause-through g c).After-record_after db held in
+    (Some any, updates-kept db _ (Some any) _ any _ _ c.in-Some-2.reached.now.columns c.row_limit-limit.result c.record_after.new.updated.row c.record_after.new.updated is (rw c.in-Some-record_after.is at c.record_after.ensures.after) (rw c.in-Some-record_after.is at c.record_after.ensures.record))
 
-pub returns-in-Some-row_after-clause-fits : goal.returns-in-Some-row_after-clause-fits
-returns-in-Some-row_after-clause-fits g c = λ db held.
+pub returns-in-Some-record_after-clause-fits : goal.returns-in-Some-record_after-clause-fits
+returns-in-Some-record_after-clause-fits g c = λ db held.
     let any = without_conditions c.in-Some.cursor.now in
-    let is = found-so g (goal.at.returns-in-Some-row_after-clause-fits g c).After-row_after db held in
-    fits-kept db _ (Some any) _ any _ _ c.in-Some-2.reached.columns c.row_limit.result c.in-Some-row_after.row c.with_row.result is (rw c.in-Some-row_after.is at c.row_after.ensures.after) c.with_row.ensures.record c.with_row.ensures.is_row
+    let is = found-so g (goal.at.returns-in-Some-record_after-clause-fits g c).After-record_after db held in
+    fits-kept db _ (Some any) _ any _ _ c.in-Some-2.reached.now.columns c.row_limit-limit.result c.record_after.new.updated.row c.record_after.new.updated is (rw c.in-Some-record_after.is at c.record_after.ensures.after) (rw c.in-Some-record_after.is at c.record_after.ensures.record) (rw c.in-Some-record_after.is at c.record_after.ensures.is_row)

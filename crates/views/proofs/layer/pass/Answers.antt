@@ -1,13 +1,13 @@
--- A view's conditions are taken along, and its base is reached.
-use Rattle.std.proofs.Common.{◌≡◌}
-use Rattle.std.proofs.lemmas.Result.{IfOk-weaker}
-use Rattle.scql_model.specs.Database.{object_stamped}
-use Rattle.views.specs.Layers.{layer_found}
-use Rattle.views.proofs.Passing.{passed-view}
+-- Conditions that can't be bound aren't known.
+use Rattle.std.proofs.Common.{◌≡◌, true, sym, subst, ◌∙◌}
+use Rattle.std.proofs.lemmas.Bool.{false≢true}
+use Rattle.scql_model.specs.Matching.{Columns}
+use Rattle.views.specs.Resolved.{AreKnown}
+use Rattle.views.proofs.Bindings.{AreKnown-unknown}
 use Rattle.views.proofs.layer.pass.Goals as goal
 
-pub returns-in-View-clause-passed : goal.returns-in-View-clause-passed
-returns-in-View-clause-passed g c = λ db held.
-    IfOk-weaker c.find_layer.result (λ layer. layer ≡ layer_found (object_stamped db.objects c.in-View.base)) _
-    (λ under found columns n. passed-view db.objects columns c.args.passed.now.items c.push.new.self.items c.in-View.base n c.in-View.conditions c.args.layer under c.in-View.is c.push.ensures.items found)
-    (c.find_layer.ensures.found db held)
+pub returns-in_default-clause-passed : goal.returns-in_default-clause-passed
+returns-in_default-clause-passed c = λ r here known.
+    let conditions = c.args.conditions.now in
+    let unknown = AreKnown-unknown c.args.resolved.now.all conditions c.in_default.field-0 c.in_default.ensures.unknown in
+    absurd (false≢true (sym unknown ∙ subst (λ (all : Columns). AreKnown all conditions ≡ true) (sym here.all) known))
