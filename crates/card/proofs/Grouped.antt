@@ -1,7 +1,8 @@
 -- The rules of records one by one are those of each kind.
-use Rattle.std.proofs.Common.{◌≡◌, ℕ, Bool, true, false, ◌&&◌, List, [], ◌∷◌, filter, refl, ap, ◌∙◌}
+use Rattle.std.proofs.Common.{◌≡◌, ℕ, Bool, true, false, ◌&&◌, List, [], ◌∷◌, filter, refl, sym, ap, ◌∙◌}
 use Rattle.std.specs.Prelude.{nat_le}
 use Rattle.std.specs.List.{list_all}
+use Rattle.std.proofs.lemmas.Bool.{false≢true}
 use Rattle.scql_base.specs.declared.records.User.{User}
 use Rattle.scql_base.specs.declared.records.Object.{Object}
 use Rattle.scql_base.specs.declared.records.Grant.{Grant}
@@ -98,3 +99,21 @@ grouped next records =
     ap (λ (b : Bool). nat_le 2 next && owner && b && (is_never_shared UserName records && is_never_shared ObjectName records && is_never_shared GrantPair records)) (all-kinds next us os records)
     ∙ regrouped (nat_le 2 next) owner (right_users next us records) (is_never_shared UserName records) (right_objects next us os records) (is_never_shared ObjectName records)
     (right_grants next us os records) (is_never_shared GrantPair records) (right_rows next os records)
+
+-- Where a test fails they aren't.
+none-before : (a o e s : Bool) → (a && o) ≡ false → (a && o && e && s) ≡ false
+none-before false o e s fails = refl
+none-before true false e s fails = refl
+none-before true true e s fails = absurd (false≢true (sym fails))
+
+none-then : (a o e s : Bool) → e ≡ false → (a && o && e && s) ≡ false
+none-then false o e s fails = refl
+none-then true false e s fails = refl
+none-then true true e s fails = rw fails refl
+
+module _ (next : ℕ) (records : List KeptRecord) where
+  pub no-owner : (nat_le 2 next && is_owner_alone (filter is_db_o (users_in records))) ≡ false → is_valid_database next (users_in records) (objects_in records) (grants_in records) (rows_in records) ≡ false
+  no-owner fails = sym (grouped next records) ∙ none-before (nat_le 2 next) (is_owner_alone (filter is_db_o (users_in records))) _ _ fails
+
+  pub not-each : list_all (is_right_record next (users_in records) (objects_in records)) records ≡ false → is_valid_database next (users_in records) (objects_in records) (grants_in records) (rows_in records) ≡ false
+  not-each fails = sym (grouped next records) ∙ none-then (nat_le 2 next) (is_owner_alone (filter is_db_o (users_in records))) _ _ fails

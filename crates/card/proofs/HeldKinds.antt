@@ -101,14 +101,14 @@ admitted-parts db admitted =
 abbrev pub parts : ℕ → Option User → Option Object → Option Grant → Option RowRecord → Option KeptRecord
 parts slot u o g r = option_or (option_map kept_as.User u) (option_or (option_map kept_as.Object o) (option_or (option_map kept_as.Grant g) (option_map (kept_as.Row slot) r)))
 
-user-parts : (slot : ℕ) (u : Option User) (o : Option Object) (g : Option Grant) (r : Option RowRecord) → option_and_then as_user (parts slot u o g r) ≡ u
+pub user-parts : (slot : ℕ) (u : Option User) (o : Option Object) (g : Option Grant) (r : Option RowRecord) → option_and_then as_user (parts slot u o g r) ≡ u
 user-parts slot (Some u) o g r = refl
 user-parts slot None (Some o) g r = refl
 user-parts slot None None (Some g) r = refl
 user-parts slot None None None (Some r) = refl
 user-parts slot None None None None = refl
 
-object-parts : (slot : ℕ) (u : Option User) (o : Option Object) (g : Option Grant) (r : Option RowRecord) → given u + (given o + (given g + given r)) ≤ 1 → option_and_then as_object (parts slot u o g r) ≡ o
+pub object-parts : (slot : ℕ) (u : Option User) (o : Option Object) (g : Option Grant) (r : Option RowRecord) → given u + (given o + (given g + given r)) ≤ 1 → option_and_then as_object (parts slot u o g r) ≡ o
 object-parts slot (Some u) (Some o) g r one = absurd (omega (arith, one))
 object-parts slot (Some u) None g r one = refl
 object-parts slot None (Some o) g r one = refl
@@ -116,7 +116,7 @@ object-parts slot None None (Some g) r one = refl
 object-parts slot None None None (Some r) one = refl
 object-parts slot None None None None one = refl
 
-grant-parts : (slot : ℕ) (u : Option User) (o : Option Object) (g : Option Grant) (r : Option RowRecord) → given u + (given o + (given g + given r)) ≤ 1 → option_and_then as_grant (parts slot u o g r) ≡ g
+pub grant-parts : (slot : ℕ) (u : Option User) (o : Option Object) (g : Option Grant) (r : Option RowRecord) → given u + (given o + (given g + given r)) ≤ 1 → option_and_then as_grant (parts slot u o g r) ≡ g
 grant-parts slot (Some u) o (Some g) r one = absurd (omega (arith, one))
 grant-parts slot (Some u) o None r one = refl
 grant-parts slot None (Some o) (Some g) r one = absurd (omega (arith, one))

@@ -34,6 +34,7 @@ mod Sides
 mod SlotCount
 mod SortedTest
 mod Sorting
+mod SpelledKinds
 pub mod Stamped
 pub mod Starting
 mod TakenForms

@@ -41,7 +41,7 @@ use Rattle.scql_model.proofs.KindsApart.{given}
 use Rattle.card.proofs.ListsInOrder.{all-filter_map, filter_map-cons_option, filter_map-in_order}
 
 -- what is gathered of a slot's row stands where the slot's row does
-place-parts : (slot : ℕ) (u : Option User) (o : Option Object) (g : Option Grant) (r : Option RowRecord) → given u + (given o + (given g + given r)) ≤ 1 → option_and_then as_place (parts slot u o g r) ≡ option_map (place_of slot) r
+pub place-parts : (slot : ℕ) (u : Option User) (o : Option Object) (g : Option Grant) (r : Option RowRecord) → given u + (given o + (given g + given r)) ≤ 1 → option_and_then as_place (parts slot u o g r) ≡ option_map (place_of slot) r
 place-parts slot (Some u) o g (Some r) one = absurd (omega (arith, one))
 place-parts slot (Some u) o g None one = refl
 place-parts slot None (Some o) g (Some r) one = absurd (omega (arith, one))

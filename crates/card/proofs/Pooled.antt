@@ -16,7 +16,7 @@ use Rattle.card.specs.declared.kept_record.KeptRecord.{KeptRecord}
 use Rattle.card.specs.declared.kept_record.KeptRecord.TheVariants as kept_as
 use Rattle.card.specs.declared.kept_records.RecordPlace.{RecordPlace}
 use Rattle.card.specs.KeptRecords.{stamp_of}
-use Rattle.card.specs.Opening.{record_in}
+use Rattle.card.specs.Opening.{record_in, record_of}
 use Rattle.card.specs.Pool.{IsPlaceIn, Pool, pool_of, record_at}
 use Rattle.card.proofs.Sorting.{rises-apart, AreApart-permuted}
 use Rattle.card.proofs.Tested.{count-map}
@@ -25,8 +25,8 @@ abbrev pub place_stamp : RecordPlace → ℕ
 place_stamp place = place.stamp
 
 -- the record in a place where each place has one
-abbrev entry_at : List ℕ → RecordPlace → KeptRecord
-entry_at octets place = unwrap_or (record_at octets place) (kept_as.User owner)
+abbrev pub entry_at : List ℕ → RecordPlace → KeptRecord
+entry_at octets place = record_of place.slot (slice_range octets place.start (place.start + place.length))
 
 pub found : (octets : List ℕ) (place : RecordPlace) → IsPlaceIn octets place → record_at octets place ≡ Some (entry_at octets place)
 found octets place is = go (record_at octets place) is.stamped
@@ -35,7 +35,7 @@ found octets place is = go (record_at octets place) is.stamped
     go None none = absurd (none-some place.stamp none)
     go (Some r) stamped = refl
 
-entry-stamp : (octets : List ℕ) (place : RecordPlace) → IsPlaceIn octets place → stamp_of (entry_at octets place) ≡ place.stamp
+pub entry-stamp : (octets : List ℕ) (place : RecordPlace) → IsPlaceIn octets place → stamp_of (entry_at octets place) ≡ place.stamp
 entry-stamp octets place is = same_Some (stamp_of (entry_at octets place)) place.stamp (sym (ap (option_map stamp_of) (found octets place is)) ∙ is.stamped)
 
 entries : (octets : List ℕ) (places : List RecordPlace) → AllByRecursion (IsPlaceIn octets) places → filter_map (record_at octets) places ≡ map (entry_at octets) places

@@ -1,5 +1,5 @@
 -- What the slots of a card hold, as far as they were read.
-use Rattle.std.specs.Prelude.{◌≡◌, ℕ, suc, ◌+◌, ◌*◌, ◌&&◌, Bool, true, List, [], ◌∷◌, Option, Some, None, option_map}
+use Rattle.std.specs.Prelude.{◌≡◌, ℕ, suc, ◌+◌, ◌*◌, ◌&&◌, Bool, true, List, [], ◌∷◌, Option, Some, None, option_map, unwrap_or}
 use Rattle.std.specs.Option.{option_or, option_map_or}
 use Rattle.std.specs.List.{cons_option}
 use Rattle.eeprom.specs.Chip.{RisesBy}
@@ -9,7 +9,7 @@ use Rattle.record_store.specs.Opening.{front_octets}
 use Rattle.scql_base.specs.declared.records.Object.{Object}
 use Rattle.scql_base.specs.declared.records.RowRecord.{RowRecord}
 use Rattle.scql_model.specs.Records.{counter_record, user_record, grant_record, row_record, object_fits, counter_in, user_in, object_in, grant_in, row_in}
-use Rattle.scql_model.specs.Rules.{is_short, is_within_limit}
+use Rattle.scql_model.specs.Rules.{is_short, is_within_limit, owner}
 use Rattle.scql_model.specs.Database.{Database, weight}
 use Rattle.scql_model.specs.Opens.{is_spelled}
 use Rattle.card.specs.declared.kept_record.KeptRecord.{KeptRecord}
@@ -42,6 +42,10 @@ abbrev pub record_in : ℕ → List ℕ → Option KeptRecord
 record_in slot octets =
     option_or (option_map kept_as.User (user_in octets)) (option_or (option_map kept_as.Object (object_in octets))
     (option_or (option_map kept_as.Grant (grant_in octets)) (option_map (kept_as.Row slot) (row_in octets))))
+
+-- the same where there is one
+abbrev pub record_of : ℕ → List ℕ → KeptRecord
+record_of slot octets = unwrap_or (record_in slot octets) (kept_as.User owner)
 
 -- the records in slots but for the counter; the first slot has this number
 abbrev pub gathered : ℕ → Slots → List KeptRecord

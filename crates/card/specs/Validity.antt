@@ -1,5 +1,5 @@
 -- What is left to ask of the records of a database, where each is within its limits and their stamps rise.
-use Rattle.std.specs.Prelude.{◌≡◌, ℕ, ◌≤◌, ◌==◌, nat_le, nat_lt, not, ◌&&◌, ◌||◌, Bool, true, false, List, [], ◌∷◌, length, map, filter}
+use Rattle.std.specs.Prelude.{◌≡◌, ℕ, ◌≤◌, ◌==◌, nat_le, nat_lt, not, ◌&&◌, ◌||◌, Bool, true, false, List, [], ◌∷◌, Some, length, map, filter}
 use Rattle.std.specs.List.{list_all}
 use Rattle.std.specs.Str.{bytes_eq}
 use Rattle.eeprom.specs.StoreOf.{fewest_cells, most_cells}
@@ -11,9 +11,11 @@ use Rattle.scql_base.specs.declared.records.Object.{Object}
 use Rattle.scql_base.specs.declared.records.RowRecord.{RowRecord}
 use Rattle.scql_model.specs.Records.{counter_record, user_record, object_fits, grant_record, row_record}
 use Rattle.scql_model.specs.Database.{Database, weight}
+use Rattle.scql_model.specs.Objects.{object_stamped}
 use Rattle.scql_model.specs.Rules.{owner_name, public_name, is_db_o, is_made_by_maker, has_maker, has_all_tries, are_different, is_founded, is_short, has_object_and_grantee, are_apart_by, is_of_pair, has_table, is_within_limit}
 use Rattle.card.specs.declared.kept_record.KeptRecord.{KeptRecord}
 use Rattle.card.specs.declared.kept_record.KeptRecord.TheVariants as kept_as
+use Rattle.card.specs.KeptRecords.{stamp_of}
 
 -- a stamp was given out before the next one
 abbrev pub is_stamp_before : ℕ → ℕ → Bool
@@ -26,6 +28,10 @@ is_right_user users u = not (bytes_eq public_name u.name) && has_maker users u &
 -- who owns an object may, and what it rests on is there
 abbrev pub is_right_object : List User → List Object → Object → Bool
 is_right_object users objects o = is_made_by_maker users o.owner && is_founded objects o
+
+-- an object is the one of its stamp
+abbrev pub IsOfItsStamp : List Object → Object → Type 0
+IsOfItsStamp objects o = object_stamped objects o.stamp ≡ Some o
 
 -- whether a user is OWNER as a card is made with it
 abbrev pub is_owner : User → Bool
@@ -62,12 +68,16 @@ is_valid_database next users objects grants rows =
     nat_le 2 next && are_valid_users next users && are_valid_objects next users objects && are_valid_grants next users objects grants
     && are_valid_rows next objects rows
 
--- the stamp of a record of any kind was given out, and it meets the rules of its kind
+-- a record meets the rules of its kind
+abbrev pub meets_rules : List User → List Object → KeptRecord → Bool
+meets_rules users objects (kept_as.User u) = is_right_user users u
+meets_rules users objects (kept_as.Object o) = is_right_object users objects o
+meets_rules users objects (kept_as.Grant g) = has_object_and_grantee users objects g
+meets_rules users objects (kept_as.Row slot r) = has_table objects r
+
+-- its stamp was given out, and it meets them
 abbrev pub is_right_record : ℕ → List User → List Object → KeptRecord → Bool
-is_right_record next users objects (kept_as.User u) = is_stamp_before next u.stamp && is_right_user users u
-is_right_record next users objects (kept_as.Object o) = is_stamp_before next o.stamp && is_right_object users objects o
-is_right_record next users objects (kept_as.Grant g) = is_stamp_before next g.stamp && has_object_and_grantee users objects g
-is_right_record next users objects (kept_as.Row slot r) = is_stamp_before next r.stamp && has_table objects r
+is_right_record next users objects r = is_stamp_before next (stamp_of r) && meets_rules users objects r
 
 -- What is tested where each record is read: it is within its limits, and all records have room.
 pub record HasFittingRecords (db : Database) : Type 0 where

@@ -3,10 +3,11 @@ ghost use Rattle.std.specs.Prelude.{◌≡◌, ◌<◌, ◌≤◌, ◌^◌, true
 ghost use Rattle.scql_base.specs.Name.{IsName};
 ghost use Rattle.scql_base.specs.declared.name.TheConstants.Name.{LONGEST};
 ghost use Rattle.card.specs.Apart as apart;
+ghost use Rattle.card.specs.declared.apart.Label.TheVariants.{ObjectName};
 
-use crate::kept_record::KeptRecord;
 use crate::kept_records::KeptRecords;
-use scql_base::Name;
+use crate::spelled_record::SpelledRecord;
+use scql_base::{Name, Object};
 
 /// What no two records share: a user's name, an object's, or a grant's object and grantee.
 #[derive(Clone, Copy)]
@@ -24,8 +25,9 @@ impl Label {
         ensures room { vec_capacity numbers.old ≤ vec_capacity numbers.new }
     {
         numbers.clear();
+        let mut place = None;
         for index in 0..records.len() {
-            if let Some(number) = self.number(records.at(index)) {
+            if let Some(number) = self.number(&records.at(index), &mut place) {
                 let pushed = numbers.push(number).is_ok();
                 prove!(pushed);
             }
@@ -33,19 +35,31 @@ impl Label {
         are_different(numbers)
     }
 
-    // The number of what a record has of this.
-    fn number(self, entry: KeptRecord) -> Option<u64>
-        ensures number { result ≡ apart.number_by self entry }
-        ensures numbered { apart.is_numbered self entry ≡ true }
+    // The number of what a record has of this. An object is read into a place.
+    fn number(self, entry: &SpelledRecord<'_>, place: &mut Option<Object>) -> Option<u64>
+        ensures number { result ≡ apart.number_by self entry.now }
+        ensures numbered { apart.is_numbered self entry.now ≡ true }
     {
         match self {
-            Label::UserName => Some(name_number(&entry.into_user()?.name)),
-            Label::ObjectName => Some(name_number(&entry.into_object()?.name)),
+            Label::UserName => Some(name_number(&entry.user()?.name)),
+            Label::ObjectName => object_number(entry, place),
             Label::GrantPair => {
-                let grant = entry.into_grant()?;
+                let grant = entry.grant()?;
                 Some(pair_number(grant.object, grant.grantee))
             }
         }
+    }
+}
+
+// The number of an object's name. The object is read into a place.
+fn object_number(entry: &SpelledRecord<'_>, place: &mut Option<Object>) -> Option<u64>
+    ensures number { result ≡ apart.number_by ObjectName entry.now }
+    ensures numbered { apart.is_numbered ObjectName entry.now ≡ true }
+{
+    entry.object_into(place);
+    match place {
+        Some(object) => Some(name_number(&object.name)),
+        None => None,
     }
 }
 

@@ -10,6 +10,7 @@ ghost use Rattle.card.specs.Pool.{IsPlaceIn, record_at};
 ghost use Rattle.card.specs.declared.kept_record.KeptRecord as kept;
 
 use crate::kept_record::KeptRecord;
+use crate::spelled_record::SpelledRecord;
 use std::alloc::{AllocError, Global};
 use std::marker::Model;
 
@@ -102,15 +103,15 @@ impl KeptRecords {
     }
 
     /// The record at an index.
-    pub(crate) fn at(&self, index: usize) -> KeptRecord
+    pub(crate) fn at(&self, index: usize) -> SpelledRecord<'_>
         requires { index < length self.now.items }
         ensures { result ≡ get_or self.now.items index result }
     {
-        read_at(self.octets.as_slice(), &self.places[index])
+        spelled_at(self.octets.as_slice(), &self.places[index])
     }
 
     /// The record of a stamp, where the stamps rise.
-    pub(crate) fn find(&self, stamp: u32) -> Option<KeptRecord>
+    pub(crate) fn find(&self, stamp: u32) -> Option<SpelledRecord<'_>>
         requires rises { Rises stamp_of self.now.items }
         ensures { result ≡ find (λ (r : kept.KeptRecord). stamp_of r == stamp) self.now.items }
     {
@@ -118,20 +119,22 @@ impl KeptRecords {
             .places
             .binary_search_by_key(&stamp, |place| place.stamp)
         {
-            Ok(index) => Some(read_at(self.octets.as_slice(), &self.places[index])),
+            Ok(index) => Some(spelled_at(self.octets.as_slice(), &self.places[index])),
             Err(_) => None,
         }
     }
 }
 
 // The record in a place.
-fn read_at(octets: &[u8], place: &RecordPlace) -> KeptRecord
+fn spelled_at<'a>(octets: &'a [u8], place: &RecordPlace) -> SpelledRecord<'a>
     requires { IsPlaceIn octets.now place.now }
     ensures { Some result ≡ record_at octets.now place.now }
 {
     let start = place.start as usize;
     let end = start + usize::from(place.length);
-    let found = KeptRecord::read(&octets[start..end], place.slot);
-    let Some(entry) = found else { unreachable!() };
-    entry
+    SpelledRecord {
+        octets: &octets[start..end],
+        stamp: place.stamp,
+        slot: place.slot,
+    }
 }

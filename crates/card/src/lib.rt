@@ -14,6 +14,7 @@ mod outcome;
 mod reading;
 mod session;
 mod slot_record;
+mod spelled_record;
 mod validity;
 
 pub use card::Card;

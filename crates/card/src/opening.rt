@@ -120,7 +120,7 @@ impl Room {
             numbers: _,
         } = self;
         for nth in 0..records.len() {
-            if let Some(place) = records.at(nth).as_place() {
+            if let Some(place) = records.at(nth).place() {
                 places.push_reserved(place);
             }
         }

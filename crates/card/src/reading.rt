@@ -80,16 +80,15 @@ pub(crate) fn read<B: Eeprom>(
     ensures frame { Reads each_error B.chip B.faults bench.old bench.new result }
 {
     let le = command.le.unwrap_or(Command::LARGEST_LE);
+    let mut row = Row::new();
     match &command.operation {
         Operation::GetResponse => give_rest(store, bench, side, session, actor, le, reply),
         Operation::Fetch => {
-            let mut row = Row::new();
             let cursor = &mut session.cursor;
             let word = fetch_row(store, bench, side, actor, cursor, le, &mut row, index)?;
             Ok(give(word, &row, le, &mut session.pending, reply))
         }
         Operation::FetchNext => {
-            let mut row = Row::new();
             let cursor = &mut session.cursor;
             let word = fetch_next_row(store, bench, side, actor, cursor, le, &mut row, index)?;
             Ok(give(word, &row, le, &mut session.pending, reply))

@@ -1,6 +1,6 @@
 // The record in a slot, as a card is opened.
-ghost use Rattle.std.specs.Prelude.{◌≡◌, None, Some, true, false, IfSome};
-ghost use Rattle.scql_model.specs.Records.{counter_in};
+ghost use Rattle.std.specs.Prelude.{◌≡◌, ℕ, None, Some, true, false, IfSome};
+ghost use Rattle.scql_model.specs.Records.{counter_in, row_in};
 ghost use Rattle.card.specs.Opening.{is_admitted, counter_of, other_of, record_in};
 
 use crate::kept_record::KeptRecord;
@@ -37,6 +37,22 @@ fn read_other(octets: &[u8], slot: u16, row_limit: u16) -> Option<KeptRecord>
     ensures entry { IfSome result (λ entry. record_in slot octets.now ≡ Some entry) }
     ensures refused { result ≡ None → is_admitted row_limit (Some octets.now) ≡ false }
 {
+    match RowRecord::decode(octets) {
+        Some(row) if row.row.size() > row_limit as usize => None,
+        Some(row) => Some(KeptRecord::Row { slot, row }),
+        None => read_no_row(octets),
+    }
+}
+
+// The same of what is no row. It isn't inlined, so that a row doesn't pay for its places.
+#[inline(never)]
+fn read_no_row(octets: &[u8]) -> Option<KeptRecord>
+    requires other { counter_in octets.now ≡ None }
+    requires no_row { row_in octets.now ≡ None }
+    ensures admitted { IfSome result (λ entry. (limit : ℕ) → is_admitted limit (Some octets.now) ≡ true) }
+    ensures entry { IfSome result (λ entry. (slot : ℕ) → record_in slot octets.now ≡ Some entry) }
+    ensures refused { result ≡ None → (limit : ℕ) → is_admitted limit (Some octets.now) ≡ false }
+{
     if let Some(user) = User::decode(octets) {
         return Some(KeptRecord::User(user));
     }
@@ -46,12 +62,6 @@ fn read_other(octets: &[u8], slot: u16, row_limit: u16) -> Option<KeptRecord>
         }
         return Some(KeptRecord::Object(object));
     }
-    if let Some(grant) = Grant::decode(octets) {
-        return Some(KeptRecord::Grant(grant));
-    }
-    let row = RowRecord::decode(octets)?;
-    if row.row.size() > row_limit as usize {
-        return None;
-    }
-    Some(KeptRecord::Row { slot, row })
+    let grant = Grant::decode(octets)?;
+    Some(KeptRecord::Grant(grant))
 }

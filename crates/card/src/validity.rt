@@ -1,5 +1,5 @@
 // The rules of a valid database, tested on its records.
-ghost use Rattle.std.specs.Prelude.{◌≡◌, ◌≤◌, ◌==◌, ◌&&◌, is_some, filter, length, vec_capacity};
+ghost use Rattle.std.specs.Prelude.{◌≡◌, ◌≤◌, ◌==◌, ◌&&◌, IfSome, None, is_some, filter, length, vec_capacity};
 ghost use Rattle.std.specs.List.{list_all, list_any};
 ghost use Rattle.eeprom.specs.Slots.{Rises};
 ghost use Rattle.scql_base.specs.declared.records.User as base;
@@ -9,12 +9,12 @@ ghost use Rattle.scql_model.specs.Rules as rules;
 ghost use Rattle.card.specs.Apart as apart;
 ghost use Rattle.card.specs.Validity as validity;
 ghost use Rattle.card.specs.declared.apart.Label.TheVariants.{UserName, ObjectName, GrantPair};
-ghost use Rattle.card.specs.KeptRecords.{stamp_of, users_in, objects_in, grants_in, rows_in};
+ghost use Rattle.card.specs.KeptRecords.{as_row, stamp_of, users_in, objects_in, grants_in, rows_in};
 
 use crate::apart::Label;
 use crate::founded::is_founded;
-use crate::kept_record::KeptRecord;
 use crate::kept_records::KeptRecords;
+use crate::spelled_record::SpelledRecord;
 use scql_base::{Grant, Name, Object, ObjectKind, Profile, RowRecord, User};
 
 /// Whether records are those of a valid database, where each is within its limits. They stand in rising order of their stamps,
@@ -47,7 +47,7 @@ fn has_owner_alone(records: &KeptRecords) -> bool
 {
     let mut found = false;
     for index in 0..records.len() {
-        if let Some(user) = records.at(index).into_user() {
+        if let Some(user) = records.at(index).user() {
             if is_db_o(&user) {
                 if found || !is_owner(&user) {
                     return false;
@@ -86,28 +86,53 @@ fn is_each_right(next: u32, records: &KeptRecords) -> bool
     requires rises { Rises stamp_of records.now.items }
     ensures { result ≡ list_all (validity.is_right_record next (users_in records.now.items) (objects_in records.now.items)) records.now.items }
 {
+    let mut table = None;
     for index in 0..records.len() {
-        if !is_right(next, records, &records.at(index)) {
+        if !is_right(next, records, &records.at(index), &mut table) {
             return false;
         }
     }
     true
 }
 
-// Whether the stamp of a record was given out, and the rules of its kind hold.
-fn is_right(next: u32, records: &KeptRecords, entry: &KeptRecord) -> bool
+// Whether the stamp of a record was given out, and the rules of its kind hold. The table of the last row is kept in a place, for the next one.
+fn is_right(
+    next: u32,
+    records: &KeptRecords,
+    entry: &SpelledRecord<'_>,
+    table: &mut Option<Object>,
+) -> bool
     requires rises { Rises stamp_of records.now.items }
-    ensures { result ≡ validity.is_right_record next (users_in records.now.items) (objects_in records.now.items) entry.now }
+    requires kept { IfSome table.old (validity.IsOfItsStamp (objects_in records.now.items)) }
+    ensures kept { IfSome table.new (validity.IsOfItsStamp (objects_in records.now.items)) }
+    ensures right { result ≡ validity.is_right_record next (users_in records.now.items) (objects_in records.now.items) entry.now }
 {
     let stamp = entry.stamp();
     stamp >= 1
         && stamp < next
-        && match entry {
-            KeptRecord::User(user) => is_right_user(records, user),
-            KeptRecord::Object(object) => is_right_object(records, object),
-            KeptRecord::Grant(grant) => is_right_grant(records, grant),
-            KeptRecord::Row { slot: _, row } => is_right_row(records, row),
+        && match entry.row() {
+            Some(row) => is_right_row(records, &row, table),
+            None => is_right_other(records, entry),
         }
+}
+
+// Whether the rules of its kind hold of what is no row. It isn't inlined, so that a row doesn't pay for its places.
+#[inline(never)]
+fn is_right_other(records: &KeptRecords, entry: &SpelledRecord<'_>) -> bool
+    requires rises { Rises stamp_of records.now.items }
+    requires other { as_row entry.now ≡ None }
+    ensures { result ≡ validity.meets_rules (users_in records.now.items) (objects_in records.now.items) entry.now }
+{
+    if let Some(user) = entry.user() {
+        return is_right_user(records, &user);
+    }
+    if let Some(grant) = entry.grant() {
+        return is_right_grant(records, &grant);
+    }
+    let mut place = None;
+    entry.object_into(&mut place);
+    let Some(object) = &place else { unreachable!() };
+    is_right_object(records, object)
 }
 
 // Whether a user's name, owner and tries are right.
@@ -175,14 +200,29 @@ fn is_right_grant(records: &KeptRecords, grant: &Grant) -> bool
         && (grant.grantee == 0 || is_user_there(records, grant.grantee))
 }
 
-// Whether a row's table is there, older than the row, and has a column for each value.
-fn is_right_row(records: &KeptRecords, row: &RowRecord) -> bool
+// Whether a row's table is there, older than the row, and has a column for each value. It is kept in a place, for the next row.
+fn is_right_row(records: &KeptRecords, row: &RowRecord, table: &mut Option<Object>) -> bool
     requires rises { Rises stamp_of records.now.items }
-    ensures { result ≡ rules.has_table (objects_in records.now.items) row.now }
+    requires kept { IfSome table.old (validity.IsOfItsStamp (objects_in records.now.items)) }
+    ensures kept { IfSome table.new (validity.IsOfItsStamp (objects_in records.now.items)) }
+    ensures right { result ≡ rules.has_table (objects_in records.now.items) row.now }
 {
-    match find_object(records, row.table) {
-        Some(object) => fits_table(row, &object),
+    find_again(records, row.table, table);
+    match table {
+        Some(object) => fits_table(row, object),
         None => false,
+    }
+}
+
+// Finds the object of a stamp, unless the one that was found last is it.
+fn find_again(records: &KeptRecords, stamp: u32, place: &mut Option<Object>)
+    requires rises { Rises stamp_of records.now.items }
+    requires kept { IfSome place.old (validity.IsOfItsStamp (objects_in records.now.items)) }
+    ensures { place.new ≡ objects.object_stamped (objects_in records.now.items) stamp }
+{
+    match place {
+        Some(object) if object.stamp == stamp => {}
+        _ => find_object_into(records, stamp, place),
     }
 }
 
@@ -211,7 +251,9 @@ fn is_object_there(records: &KeptRecords, stamp: u32) -> bool
     requires rises { Rises stamp_of records.now.items }
     ensures { result ≡ list_any (λ (o : declared.Object). o.stamp == stamp) (objects_in records.now.items) }
 {
-    find_object(records, stamp).is_some()
+    let mut place = None;
+    find_object_into(records, stamp, &mut place);
+    place.is_some()
 }
 
 // The user of a stamp.
@@ -219,7 +261,7 @@ fn find_user(records: &KeptRecords, stamp: u32) -> Option<User>
     requires rises { Rises stamp_of records.now.items }
     ensures { result ≡ rules.user_stamped (users_in records.now.items) stamp }
 {
-    records.find(stamp)?.into_user()
+    records.find(stamp)?.user()
 }
 
 /// The object of a stamp.
@@ -227,5 +269,18 @@ pub(crate) fn find_object(records: &KeptRecords, stamp: u32) -> Option<Object>
     requires rises { Rises stamp_of records.now.items }
     ensures { result ≡ objects.object_stamped (objects_in records.now.items) stamp }
 {
-    records.find(stamp)?.into_object()
+    let mut place = None;
+    find_object_into(records, stamp, &mut place);
+    place
+}
+
+/// Reads the object of a stamp into a place, where there is one. Otherwise the place is empty.
+fn find_object_into(records: &KeptRecords, stamp: u32, place: &mut Option<Object>)
+    requires rises { Rises stamp_of records.now.items }
+    ensures { place.new ≡ objects.object_stamped (objects_in records.now.items) stamp }
+{
+    match records.find(stamp) {
+        Some(found) => found.object_into(place),
+        None => *place = None,
+    }
 }

@@ -30,7 +30,7 @@ loop-index-preserved c =
     let rest = users_in (drop (place + 1) records) in
     let lt : place < length records = omega (arith, c.loop-index-test.true, c.len-index-end.ensures) in
     let found = c.loop-index.found in
-    elim c.match-into_user.branch [
+    elim c.match-user.branch [
       | in-Some+then-is_db_o+else-found+else-not-is_owner w ↦ (let user = w.in-Some.user in
           let next = kind-next as_user records place c.at.result (Some user) lt c.at.ensures (sym w.in-Some.ensures) in record {
             left = c.loop-index.invariant.left ∙ ap (is_owner_left found) next

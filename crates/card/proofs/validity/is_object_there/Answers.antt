@@ -6,4 +6,4 @@ use Rattle.card.proofs.OfKinds.{is_there}
 use Rattle.card.proofs.validity.is_object_there.Goals as goal
 
 pub returns : goal.returns
-returns c = is_there (λ (o : Object). o.stamp == c.args.stamp) (objects_in c.args.records.now.items) c.find_object.result c.is_some.result c.find_object.ensures c.is_some.ensures
+returns c = is_there (λ (o : Object). o.stamp == c.args.stamp) (objects_in c.args.records.now.items) c.find_object_into.new.place c.is_some.result c.find_object_into.ensures c.is_some.ensures

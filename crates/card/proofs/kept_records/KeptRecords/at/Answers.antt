@@ -9,8 +9,8 @@ index-requires c =
     let many = length-pool c.self.inside.octets.items c.self.inside.places.items _ c.args.self.now c.self.view_is c.self.invariant.all in
     omega (arith, many, c.requires, c.self.inside.places.ok.0)
 
-pub read_at-requires : goal.read_at-requires
-read_at-requires c =
+pub spelled_at-requires : goal.spelled_at-requires
+spelled_at-requires c =
     let many = length-pool c.self.inside.octets.items c.self.inside.places.items _ c.args.self.now c.self.view_is c.self.invariant.all in
     rw c.as_slice.ensures.value (place-at c.self.inside.octets.items c.self.inside.places.items c.args.index c.index.result.now c.self.invariant.all (omega (arith, many, c.requires)) c.index.ensures)
 
@@ -19,5 +19,5 @@ returns c =
     let octets = c.self.inside.octets.items in
     let places = c.self.inside.places.items in
     let many = length-pool octets places _ c.args.self.now c.self.view_is c.self.invariant.all in
-    entry-at octets places c.args.index c.index.result.now c.read_at.result c.self.invariant.all (omega (arith, many, c.requires)) c.index.ensures (c.read_at.ensures ∙ ap (λ o. record_at o c.index.result.now) c.as_slice.ensures.value)
-    ∙ ap (λ rs. get_or rs c.args.index c.read_at.result) (items-seen octets places _ c.args.self.now c.self.view_is)
+    entry-at octets places c.args.index c.index.result.now c.spelled_at.result c.self.invariant.all (omega (arith, many, c.requires)) c.index.ensures (c.spelled_at.ensures ∙ ap (λ o. record_at o c.index.result.now) c.as_slice.ensures.value)
+    ∙ ap (λ rs. get_or rs c.args.index c.spelled_at.result) (items-seen octets places _ c.args.self.now c.self.view_is)

@@ -11,8 +11,8 @@ use Rattle.card.proofs.Pooled.{find-entries, items-seen, place-at, place_stamp, 
 use Rattle.card.proofs.Stamped.{searched-Ok, searched-Err}
 use Rattle.card.proofs.kept_records.KeptRecords.find.Goals as goal
 
-pub read_at-requires : goal.read_at-requires
-read_at-requires c =
+pub spelled_at-requires : goal.spelled_at-requires
+spelled_at-requires c =
     rw c.as_slice.ensures.value (place-at c.self.inside.octets.items c.self.inside.places.items c.in-Ok.index c.index.result.now c.self.invariant.all (rw c.deref.ensures.value at c.in-Ok.ensures.bound) c.index.ensures)
 
 pub returns-in-Ok : goal.returns-in-Ok
@@ -23,7 +23,7 @@ returns-in-Ok c =
     let is = rw c.deref.ensures.value at (c.in-Ok.ensures.position place_stamp (answers_always _ (λ a r. r ≡ place_stamp a.0.now) _ (λ f a r f' k. search rules))) in
     let rises = rise-places octets places c.self.invariant.all (subst (Rises stamp_of) (sym seen) c.requires.rises) in
     let there = searched-Ok place_stamp places c.args.stamp c.in-Ok.index c.index.result.now rises (rw c.deref.ensures.value at c.in-Ok.ensures.bound) is c.index.ensures in
-    c.read_at.ensures ∙ ap (λ o. record_at o c.index.result.now) c.as_slice.ensures.value ∙ ap (option_and_then (record_at octets)) there ∙ sym (find-entries octets places c.args.stamp c.self.invariant.all)
+    c.spelled_at.ensures ∙ ap (λ o. record_at o c.index.result.now) c.as_slice.ensures.value ∙ ap (option_and_then (record_at octets)) there ∙ sym (find-entries octets places c.args.stamp c.self.invariant.all)
     ∙ ap (find (λ (r : KeptRecord). stamp_of r == c.args.stamp)) seen
 
 pub returns-in-Err : goal.returns-in-Err
