@@ -8,8 +8,8 @@ use Rattle.scql_base.specs.declared.operation.Command.{Command}
 use Rattle.scql_base.specs.declared.operation.Line.{Line}
 use Rattle.scql_base.specs.declared.operation.OperationKind.{OperationKind}
 use Rattle.scql_model.specs.Operations.{operations, comes_in_parts, kind_of}
-use Rattle.scql_model.specs.Spelling.{field_of, fits, line_for, part_by, part_octets}
-use Rattle.apdu.specs.Writing.{with_more}
+use Rattle.scql_model.specs.Spelling.{field_of, fits, line_for, part_by, part_count, part_octets}
+use Rattle.apdu.specs.Writing.{size_in_parts, with_more}
 use Rattle.apdu.proofs.FieldsWritten.{with_some}
 
 -- at most 255 octets are taken, and no more than there are
@@ -64,3 +64,25 @@ unfolding part_octets
 part-not_found c place asked octets same at none =
     let found : line_for operations (kind_of c.operation) ≡ None = ap (line_for operations) (sym same) ∙ sym at in
     rw found none
+
+-- a size that is there is that of the data field, and a command whose size isn't comes in one part
+size-some : (comes : Bool) (size n : ℕ) → Some size ≡ (if comes then Some n else None) → size ≡ n
+size-some true size n is = same_Some size n is
+size-some false size n is = absurd cc
+
+pub size-there : (c : Command) (size : ℕ) → Some size ≡ size_in_parts c.operation → size ≡ length (field_of c.operation)
+size-there c size is = size-some (comes_in_parts (kind_of c.operation)) size (length (field_of c.operation)) is
+
+fits-some : (comes : Bool) (size n : ℕ) → Some size ≡ (if comes then Some n else None) → nat_le size 1275 ≡ nat_le n (if comes then 1275 else 255)
+fits-some true size n is = ap (λ (k : ℕ). nat_le k 1275) (same_Some size n is)
+fits-some false size n is = absurd cc
+
+pub size-fits : (c : Command) (size : ℕ) → Some size ≡ size_in_parts c.operation → nat_le size 1275 ≡ fits c
+size-fits c size is = fits-some (comes_in_parts (kind_of c.operation)) size (length (field_of c.operation)) is
+
+pub one-part : (c : Command) → fits c ≡ true → None ≡ size_in_parts c.operation → 1 ≡ part_count c
+one-part c fit none = go (comes_in_parts (kind_of c.operation)) fit none
+  where
+    go : (comes : Bool) → nat_le (length (field_of c.operation)) (if comes then 1275 else 255) ≡ true → None ≡ (if comes then Some (length (field_of c.operation)) else None) → 1 ≡ part_count c
+    go true is none = absurd cc
+    go false is none = let few : length (field_of c.operation) ≤ 255 = leb-true (length (field_of c.operation)) 255 is in omega (arith, few)

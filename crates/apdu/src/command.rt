@@ -5,8 +5,9 @@ ghost use Rattle.scql_model.specs.Form as form;
 ghost use Rattle.scql_model.specs.Operations as table;
 ghost use Rattle.scql_model.specs.Spelling as spelling;
 ghost use Rattle.scql_model.specs.WellFormed.{IsWellFormed};
+ghost use Rattle.apdu.specs.Writing.{size_in_parts};
 
-use crate::field::field_of;
+use crate::field::{Field, has_field};
 use crate::parts::longest_field;
 use crate::reading::Apdu;
 use crate::table::line_for;
@@ -80,7 +81,10 @@ impl CommandApdu for Command {
         requires { spelling.fits self.now ≡ true }
         ensures { result ≡ spelling.part_count self.now }
     {
-        parts_for(field_of(&self.operation).written().len())
+        match size_in_parts(&self.operation) {
+            Some(size) => parts_for(size),
+            None => 1,
+        }
     }
 
     fn write(&self, out: &mut CommandOctets)
@@ -118,21 +122,70 @@ impl CommandApdu for Command {
 pub fn field_fits(operation: &Operation) -> bool
     ensures { (command : Command) → command.operation ≡ operation.now → result ≡ spelling.fits command }
 {
-    match field_of(operation).octets() {
+    match size_in_parts(operation) {
+        Some(size) => size <= Command::LONGEST_IN_PARTS,
+        None => written_fits(operation),
+    }
+}
+
+// How many octets the data field of an operation has, where it may come in parts.
+fn size_in_parts(operation: &Operation) -> Option<usize>
+    ensures { result ≡ size_in_parts operation.now }
+{
+    match operation {
+        Operation::Insert { table, row } => Some(1 + table.octets().len() + row.octets().len()),
+        Operation::Update { changes } => Some(changes.octets().len()),
+        _ => None,
+    }
+}
+
+// Whether the data field of an operation fits, as it is put together.
+#[inline(never)]
+fn written_fits(operation: &Operation) -> bool
+    ensures { (command : Command) → command.operation ≡ operation.now → result ≡ spelling.fits command }
+{
+    let mut field = Field::new();
+    field.put_operation(operation);
+    match field.octets() {
         Some(field) => field.len() <= longest_field(kind_of(operation)),
         None => false,
     }
 }
 
-// Writes the part of a command at a place. An operation that stands in no line of the table is written as no octets.
+// Writes the part of a command at a place.
 fn write_at(command: &Command, part: u8, out: &mut CommandOctets)
     requires fits { spelling.fits command.now ≡ true }
     requires there { part < spelling.part_count command.now }
     ensures { out.new.items ≡ spelling.part_octets command.now part }
 {
-    let field = field_of(&command.operation);
+    if has_field(&command.operation) {
+        write_field_at(command, part, out);
+    } else {
+        put_field(command, &[], part, out);
+    }
+}
+
+// Puts the data field together, in a place that is cleared for such commands alone, and writes its part.
+#[inline(never)]
+fn write_field_at(command: &Command, part: u8, out: &mut CommandOctets)
+    requires fits { spelling.fits command.now ≡ true }
+    requires there { part < spelling.part_count command.now }
+    ensures { out.new.items ≡ spelling.part_octets command.now part }
+{
+    let mut field = Field::new();
+    field.put_operation(&command.operation);
+    put_field(command, field.written(), part, out);
+}
+
+// Writes the part at a place, by the data field. An operation that stands in no line of the table is written as no octets.
+fn put_field(command: &Command, field: &[u8], part: u8, out: &mut CommandOctets)
+    requires field { field.now ≡ spelling.field_of command.now.operation }
+    requires fits { spelling.fits command.now ≡ true }
+    requires there { part < spelling.part_count command.now }
+    ensures { out.new.items ≡ spelling.part_octets command.now part }
+{
     match line_for(kind_of(&command.operation)) {
-        Some(line) => put_part(command, &line, field.written(), part, out),
+        Some(line) => put_part(command, &line, field, part, out),
         None => out.clear(),
     }
 }

@@ -1,5 +1,5 @@
 // The data field of a command that is written (ISO/IEC 7816-7): the parameters of its operation, one behind the other.
-ghost use Rattle.std.specs.Prelude.{◌≡◌, ◌<◌, ◌∷◌, [], IsSome, Some, length, map, option_map};
+ghost use Rattle.std.specs.Prelude.{◌≡◌, ◌<◌, ◌∷◌, [], IsSome, Some, false, length, map, option_map};
 ghost use Rattle.std.specs.List.{flat_map};
 ghost use Rattle.scql_base.specs.Strings.{spelled};
 ghost use Rattle.scql_base.specs.declared.operation.Operation.TheVariants as operation;
@@ -31,7 +31,7 @@ impl Model for Field {
 #[tactic(auto, using(crate::proofs::FieldsWritten::with_both, crate::proofs::FieldsWritten::with_some, crate::proofs::FieldsWritten::with_no_room, crate::proofs::FieldsWritten::with_none))]
 impl Field {
     // No octets yet.
-    fn new() -> Field
+    pub(crate) fn new() -> Field
         ensures { result ≡ Some [] }
     {
         Field {
@@ -177,7 +177,7 @@ impl Field {
     }
 
     // The data field of an operation. Those that aren't named have none.
-    fn put_operation(&mut self, operation: &Operation)
+    pub(crate) fn put_operation(&mut self, operation: &Operation)
         ensures { self.new ≡ with_more (spelling.field_of operation.now) self.old }
     {
         match operation {
@@ -221,11 +221,22 @@ impl Field {
     }
 }
 
-// The data field of an operation.
-pub(crate) fn field_of(operation: &Operation) -> Field
-    ensures { result ≡ with_more (spelling.field_of operation.now) (Some []) }
+// Whether an operation has a data field to be written.
+pub(crate) fn has_field(operation: &Operation) -> bool
+    ensures { result ≡ false → spelling.field_of operation.now ≡ [] }
 {
-    let mut field = Field::new();
-    field.put_operation(operation);
-    field
+    !matches!(
+        operation,
+        Operation::OpenCursor
+            | Operation::Next
+            | Operation::Fetch
+            | Operation::FetchNext
+            | Operation::Delete
+            | Operation::Begin
+            | Operation::Commit
+            | Operation::Rollback
+            | Operation::OpenChannel { .. }
+            | Operation::CloseChannel { .. }
+            | Operation::GetResponse
+    )
 }

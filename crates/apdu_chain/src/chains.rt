@@ -78,7 +78,10 @@ impl Chains {
         requires { channel < 4 }
         ensures { self.new ≡ slice_set self.old channel None }
     {
-        self.chains[usize::from(channel)] = None;
+        let chain = &mut self.chains[usize::from(channel)];
+        if chain.is_some() {
+            *chain = None;
+        }
     }
 
     /// Drops the parts of all channels' commands.

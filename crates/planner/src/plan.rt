@@ -1,13 +1,14 @@
 // Which command comes next.
-ghost use Rattle.std.specs.Prelude.{◌≡◌, ◌≤◌, ◌++◌, OnOk, IfErr, Ok, Err, unwrap_or, nat_le, nat_lt, length, option_copied, if◌then◌else◌};
+ghost use Rattle.std.specs.Prelude.{◌≡◌, ◌≤◌, ◌++◌, OnOk, IfErr, Ok, Err, unwrap_or, nat_le, nat_lt, length, option_copied, true, if◌then◌else◌};
 ghost use Rattle.scql_base.specs.declared.row.TheConstants.Row.{LARGEST};
-ghost use Rattle.scql_base.specs.declared.operation.Operation.TheVariants.{DeclareCursor};
+ghost use Rattle.scql_base.specs.declared.operation.Operation.TheVariants.{DeclareCursor, FetchNext};
 ghost use Rattle.script.specs.Commands as commands;
 ghost use Rattle.script.specs.Commands.{CanAlwaysBeSent, CanBeSent, IsSendable};
 ghost use Rattle.script.specs.Line.{statement_of};
 ghost use Rattle.scql_base.specs.declared.operation.TheConstants.Command.{LAST_CHANNEL};
 ghost use Rattle.scql_model.specs.Lines.{longest_line};
 ghost use Rattle.planner.specs.declared.stage.Stage.TheVariants as Stage;
+ghost use Rattle.planner.specs.declared.step.Step.TheVariants as Step;
 ghost use Rattle.script.specs.declared.statement.Statement.TheVariants.{Blank, Reset};
 ghost use Rattle.planner.specs.Planned as planned;
 ghost use Rattle.planner.specs.Planned.{IfSent, Turn};
@@ -34,6 +35,8 @@ pub struct Plan {
     rows: u32,
     responses: u8,
     row: ArrayVec<u8, { Row::LARGEST }>,
+    // Where the octets are read as a row.
+    values: Row,
 }
 
 impl Model for Plan {
@@ -71,6 +74,7 @@ impl Plan {
             rows: 0,
             responses: 0,
             row: ArrayVec::new(),
+            values: Row::new(),
         }
     }
 
@@ -112,10 +116,20 @@ impl Plan {
         ensures next { planned.next_of (option_copied last.entry) self.old ≡ record { plan = self.new; step = result } }
         ensures sendable { IfSent result IsSendable }
     {
+        let mut step = Step::ResetCard;
+        self.next_into(last, &mut step);
+        step
+    }
+
+    /// The next step, as `next` gives it, in the place of another one.
+    pub fn next_into(&mut self, last: Option<&Reply>, step: &mut Step)
+        ensures next { planned.next_of (option_copied last.entry) self.old ≡ record { plan = self.new; step = step.new } }
+        ensures sendable { IfSent step.new IsSendable }
+    {
         let _ = &self.statement;
         match last {
-            Some(reply) => self.go_on(reply.word, reply.body.as_slice()),
-            None => self.go_on(StatusWord::MEMORY_FAILURE, &[]),
+            Some(reply) => self.go_on(reply.word, reply.body.as_slice(), step),
+            None => self.go_on(StatusWord::MEMORY_FAILURE, &[], step),
         }
     }
 
@@ -126,96 +140,96 @@ impl Plan {
         self.row.as_slice()
     }
 
-    fn go_on(&mut self, word: StatusWord, body: &[u8]) -> Step
-        ensures { planned.goes_on self.old.stage word body.now self.old ≡ record { plan = self.new; step = result } }
+    fn go_on(&mut self, word: StatusWord, body: &[u8], step: &mut Step)
+        ensures { planned.goes_on self.old.stage word body.now self.old ≡ record { plan = self.new; step = step.new } }
     {
         match self.stage {
-            Stage::Start => self.begin(),
-            Stage::Alone => self.end(closing_of(word)),
-            Stage::RollingBack { word } => self.end(Closing::Refused { word }),
-            Stage::Ended { closing } => Step::Done { closing },
-            stage if is_refusal(word) => self.refuse(stage, word),
-            stage => self.accept(stage, word, body),
+            Stage::Start => self.begin(step),
+            Stage::Alone => self.end(closing_of(word), step),
+            Stage::RollingBack { word } => self.end(Closing::Refused { word }, step),
+            Stage::Ended { closing } => put_end(closing, step),
+            stage if is_refusal(word) => self.refuse(stage, word, step),
+            stage => self.accept(stage, word, body, step),
         }
     }
 
     // Goes on after an answer that is no refusal.
-    fn accept(&mut self, stage: Stage, word: StatusWord, body: &[u8]) -> Step
-        ensures { planned.accepts stage word body.now self.old ≡ record { plan = self.new; step = result } }
+    fn accept(&mut self, stage: Stage, word: StatusWord, body: &[u8], step: &mut Step)
+        ensures { planned.accepts stage word body.now self.old ≡ record { plan = self.new; step = step.new } }
     {
         match stage {
-            Stage::Beginning => self.declare(),
-            Stage::Declaring => self.ask(Stage::Opening, Operation::OpenCursor),
-            Stage::Opening | Stage::Moving | Stage::Fetching if is_end(word) => self.finish(),
-            Stage::Opening | Stage::Moving => self.reach(),
-            Stage::Fetching => self.take(word, body),
-            Stage::Changing => self.ask(Stage::Moving, Operation::Next),
-            _ => self.end(Closing::Rows { number: self.rows }),
+            Stage::Beginning => self.declare(step),
+            Stage::Declaring => self.ask(Stage::Opening, Operation::OpenCursor, step),
+            Stage::Opening | Stage::Moving | Stage::Fetching if is_end(word) => self.finish(step),
+            Stage::Opening | Stage::Moving => self.reach(step),
+            Stage::Fetching => self.take(word, body, step),
+            Stage::Changing => self.ask(Stage::Moving, Operation::Next, step),
+            _ => self.end(Closing::Rows { number: self.rows }, step),
         }
     }
 
     // The first step. A statement of one command, or of none, isn't kept.
-    fn begin(&mut self) -> Step
-        ensures { planned.begins self.old.statement self.old ≡ record { plan = self.new; step = result } }
+    fn begin(&mut self, step: &mut Step)
+        ensures { planned.begins self.old.statement self.old ≡ record { plan = self.new; step = step.new } }
     {
         if !self.kept {
-            return self.end(Closing::Nothing);
+            return self.end(Closing::Nothing, step);
         }
         match &mut self.statement {
-            Statement::Blank => self.end(Closing::Nothing),
+            Statement::Blank => self.end(Closing::Nothing, step),
             Statement::Single { operation } => {
                 let operation = mem::replace(operation, Operation::Next);
                 self.kept = false;
-                self.ask(Stage::Alone, operation)
+                self.ask(Stage::Alone, operation, step)
             }
             Statement::OpenNumber { number } => {
                 let number = *number;
-                self.ask_on_first(Operation::OpenChannel { number })
+                self.ask_on_first(Operation::OpenChannel { number }, step)
             }
             Statement::CloseNumber { number } => {
                 let number = *number;
-                self.ask_on_first(Operation::CloseChannel { number })
+                self.ask_on_first(Operation::CloseChannel { number }, step)
             }
             Statement::UseNumber { .. } => {
                 self.kept = false;
-                self.end(Closing::Fine)
+                self.end(Closing::Fine, step)
             }
-            Statement::Reset => self.reset_card(),
-            _ => self.begin_with(),
+            Statement::Reset => self.reset_card(step),
+            _ => self.begin_with(step),
         }
     }
 
     // Asks for an operation on channel 0, which is always open.
-    fn ask_on_first(&mut self, operation: Operation) -> Step
-        ensures { planned.sends Stage.Alone (commands.asking 0 operation) (planned.empty self.old) ≡ record { plan = self.new; step = result } }
+    fn ask_on_first(&mut self, operation: Operation, step: &mut Step)
+        ensures { planned.sends Stage.Alone (commands.asking 0 operation) (planned.empty self.old) ≡ record { plan = self.new; step = step.new } }
     {
         self.kept = false;
-        self.send(Stage::Alone, asking(0, operation))
+        self.send(Stage::Alone, asking(0, operation), step);
     }
 
-    fn reset_card(&mut self) -> Step
-        ensures { planned.begins Reset self.old ≡ record { plan = self.new; step = result } }
+    fn reset_card(&mut self, step: &mut Step)
+        ensures { planned.begins Reset self.old ≡ record { plan = self.new; step = step.new } }
     {
         self.kept = false;
         self.stage = Stage::Ended {
             closing: Closing::Fine,
         };
-        Step::ResetCard
+        *step = Step::ResetCard;
     }
 
-    fn begin_with(&mut self) -> Step
-        ensures { planned.begins_with self.old ≡ record { plan = self.new; step = result } }
+    fn begin_with(&mut self, step: &mut Step)
+        ensures { planned.begins_with self.old ≡ record { plan = self.new; step = step.new } }
     {
         if self.own {
-            self.ask(Stage::Beginning, Operation::Begin)
+            self.ask(Stage::Beginning, Operation::Begin, step)
         } else {
-            self.declare()
+            self.declare(step)
         }
     }
 
     // Declares a cursor over the rows that are read or changed.
-    fn declare(&mut self) -> Step
-        ensures { planned.declares self.old ≡ record { plan = self.new; step = result } }
+    fn declare(&mut self, step: &mut Step)
+        ensures { planned.declares self.old ≡ record { plan = self.new; step = step.new } }
     {
         let operation = match self.statement() {
             Some(
@@ -233,41 +247,41 @@ impl Plan {
                 }
                 | Statement::DeleteRows { object, conditions },
             ) => { cursor_over(object, &NameList::new(), conditions) }
-            _ => return self.end(Closing::Nothing),
+            _ => return self.end(Closing::Nothing, step),
         };
-        self.ask(Stage::Declaring, operation)
+        self.ask(Stage::Declaring, operation, step);
     }
 
     // A row was reached: it is fetched, or changed.
-    fn reach(&mut self) -> Step
-        ensures { planned.reaches self.old.statement self.old ≡ record { plan = self.new; step = result } }
+    fn reach(&mut self, step: &mut Step)
+        ensures { planned.reaches self.old.statement self.old ≡ record { plan = self.new; step = step.new } }
     {
         match self.statement() {
             Some(Statement::UpdateRows { changes, .. }) => {
                 let Some(changes) = PackedChanges::of(changes) else {
                     unreachable!();
                 };
-                self.change(Operation::Update { changes })
+                self.change(Operation::Update { changes }, step)
             }
-            Some(Statement::DeleteRows { .. }) => self.change(Operation::Delete),
-            _ => self.want(Stage::Fetching, Operation::Fetch),
+            Some(Statement::DeleteRows { .. }) => self.change(Operation::Delete, step),
+            _ => self.want(Stage::Fetching, Operation::Fetch, step),
         }
     }
 
-    fn change(&mut self, operation: Operation) -> Step
-        ensures { planned.changes_row operation self.old ≡ record { plan = self.new; step = result } }
+    fn change(&mut self, operation: Operation, step: &mut Step)
+        ensures { planned.changes_row operation self.old ≡ record { plan = self.new; step = step.new } }
     {
         if self.rows < Plan::MOST_ROWS {
             self.rows += 1;
-            self.ask(Stage::Changing, operation)
+            self.ask(Stage::Changing, operation, step)
         } else {
-            self.finish()
+            self.finish(step)
         }
     }
 
     // Octets of a row came.
-    fn take(&mut self, word: StatusWord, body: &[u8]) -> Step
-        ensures { planned.takes word body.now self.old ≡ record { plan = self.new; step = result } }
+    fn take(&mut self, word: StatusWord, body: &[u8], step: &mut Step)
+        ensures { planned.takes word body.now self.old ≡ record { plan = self.new; step = step.new } }
     {
         let before = if self.responses == 0 {
             0
@@ -275,90 +289,88 @@ impl Plan {
             self.row.len()
         };
         if before + body.len() > Row::LARGEST {
-            return self.finish();
+            return self.finish(step);
         }
         self.row.truncate(before);
         let fits = self.row.try_extend_from_slice(body).is_ok();
         prove!(fits);
         if has_more(word) {
-            self.ask_for_rest()
+            self.ask_for_rest(step)
         } else {
-            self.end_row()
+            self.end_row(step)
         }
     }
 
-    fn ask_for_rest(&mut self) -> Step
-        ensures { planned.asks_for_rest self.old ≡ record { plan = self.new; step = result } }
+    fn ask_for_rest(&mut self, step: &mut Step)
+        ensures { planned.asks_for_rest self.old ≡ record { plan = self.new; step = step.new } }
     {
         if self.responses < Plan::MOST_RESPONSES {
             self.responses += 1;
-            self.want(Stage::Fetching, Operation::GetResponse)
+            self.want(Stage::Fetching, Operation::GetResponse, step)
         } else {
-            self.finish()
+            self.finish(step)
         }
     }
 
     // All octets of a row are there: it is given, and the next one fetched.
-    fn end_row(&mut self) -> Step
-        ensures { planned.ends_row self.old ≡ record { plan = self.new; step = result } }
+    fn end_row(&mut self, step: &mut Step)
+        ensures { planned.ends_row self.old ≡ record { plan = self.new; step = step.new } }
     {
-        if !is_row(self.row.as_slice()) || self.rows >= Plan::MOST_ROWS {
-            return self.finish();
+        if !is_row(self.row.as_slice(), &mut self.values) || self.rows >= Plan::MOST_ROWS {
+            return self.finish(step);
         }
         self.stage = Stage::Fetching;
         self.rows += 1;
         self.responses = 0;
-        Step::Row {
-            command: wanting(self.channel, Operation::FetchNext),
-        }
+        put_row(self.channel, step);
     }
 
     // All rows were given or changed.
-    fn finish(&mut self) -> Step
-        ensures { planned.finishes self.old ≡ record { plan = self.new; step = result } }
+    fn finish(&mut self, step: &mut Step)
+        ensures { planned.finishes self.old ≡ record { plan = self.new; step = step.new } }
     {
         if self.own {
-            self.ask(Stage::Committing, Operation::Commit)
+            self.ask(Stage::Committing, Operation::Commit, step)
         } else {
-            self.end(Closing::Rows { number: self.rows })
+            self.end(Closing::Rows { number: self.rows }, step)
         }
     }
 
     // A refusal ends the plan, which first rolls back a transaction of its own that was begun.
-    fn refuse(&mut self, stage: Stage, word: StatusWord) -> Step
-        ensures { planned.refuses stage word self.old ≡ record { plan = self.new; step = result } }
+    fn refuse(&mut self, stage: Stage, word: StatusWord, step: &mut Step)
+        ensures { planned.refuses stage word self.old ≡ record { plan = self.new; step = step.new } }
     {
         if self.own && stage != Stage::Beginning {
-            self.ask(Stage::RollingBack { word }, Operation::Rollback)
+            self.ask(Stage::RollingBack { word }, Operation::Rollback, step)
         } else {
-            self.end(Closing::Refused { word })
+            self.end(Closing::Refused { word }, step)
         }
     }
 
-    fn ask(&mut self, stage: Stage, operation: Operation) -> Step
-        ensures { planned.asks stage operation self.old ≡ record { plan = self.new; step = result } }
+    fn ask(&mut self, stage: Stage, operation: Operation, step: &mut Step)
+        ensures { planned.asks stage operation self.old ≡ record { plan = self.new; step = step.new } }
     {
-        self.send(stage, asking(self.channel, operation))
+        self.send(stage, asking(self.channel, operation), step);
     }
 
-    fn want(&mut self, stage: Stage, operation: Operation) -> Step
-        ensures { planned.wants stage operation self.old ≡ record { plan = self.new; step = result } }
+    fn want(&mut self, stage: Stage, operation: Operation, step: &mut Step)
+        ensures { planned.wants stage operation self.old ≡ record { plan = self.new; step = step.new } }
     {
-        self.send(stage, wanting(self.channel, operation))
+        self.send(stage, wanting(self.channel, operation), step);
     }
 
-    fn send(&mut self, stage: Stage, command: Command) -> Step
-        ensures { planned.sends stage command self.old ≡ record { plan = self.new; step = result } }
+    fn send(&mut self, stage: Stage, command: Command, step: &mut Step)
+        ensures { planned.sends stage command self.old ≡ record { plan = self.new; step = step.new } }
     {
         self.stage = stage;
-        Step::Send { command }
+        *step = Step::Send { command };
     }
 
-    fn end(&mut self, closing: Closing) -> Step
-        ensures { planned.ends closing self.old ≡ record { plan = self.new; step = result } }
+    fn end(&mut self, closing: Closing, step: &mut Step)
+        ensures { planned.ends closing self.old ≡ record { plan = self.new; step = step.new } }
     {
         self.stage = Stage::Ended { closing };
-        Step::Done { closing }
+        put_end(closing, step);
     }
 }
 
@@ -378,6 +390,44 @@ fn asking(channel: u8, operation: Operation) -> Command
         channel,
         operation,
         le: None,
+    }
+}
+
+fn put_end(closing: Closing, step: &mut Step)
+    ensures { step.new ≡ Step.Done closing }
+{
+    *step = Step::Done { closing };
+}
+
+// Makes the step that gives a row and fetches the next one. Behind another row it stands there already.
+fn put_row(channel: u8, step: &mut Step)
+    ensures { step.new ≡ Step.Row (commands.wanting channel FetchNext) }
+{
+    if !is_row_step(channel, step) {
+        put_first_row(channel, step);
+    }
+}
+
+fn put_first_row(channel: u8, step: &mut Step)
+    ensures { step.new ≡ Step.Row (commands.wanting channel FetchNext) }
+{
+    *step = Step::Row {
+        command: wanting(channel, Operation::FetchNext),
+    };
+}
+
+fn is_row_step(channel: u8, step: &Step) -> bool
+    ensures { result ≡ true → step.now ≡ Step.Row (commands.wanting channel FetchNext) }
+{
+    match step {
+        Step::Row {
+            command: Command {
+                channel: asked,
+                operation: Operation::FetchNext,
+                le: Some(Command::LARGEST_LE),
+            },
+        } => *asked == channel,
+        _ => false,
     }
 }
 
@@ -403,11 +453,8 @@ fn cursor_over(object: &Name, columns: &NameList, conditions: &Conditions) -> Op
 }
 
 // Whether octets are a row of at least one value.
-fn is_row(octets: &[u8]) -> bool
+fn is_row(octets: &[u8], values: &mut Row) -> bool
     ensures { result ≡ planned.is_row octets.now }
 {
-    match Row::read(octets) {
-        Some(row) => row.len() > 0,
-        None => false,
-    }
+    values.read_into(octets).is_some() && values.len() > 0
 }

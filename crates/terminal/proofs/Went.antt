@@ -23,11 +23,11 @@ use Rattle.planner.proofs.Settled.{settled, more-is}
 use Rattle.planner.proofs.StatementsLawful.{after-append, last-answer}
 use Rattle.planner.proofs.Turning.{next_of-below}
 use Rattle.planner.specs.Text.{closing_text}
-use Rattle.std.specs.Prelude.{Result, Ok, Err, IfOk, IfErr, OnErr}
+use Rattle.std.specs.Prelude.{Result, Err, IfErr}
 use Rattle.terminal.specs.declared.failure.Failure.{Failure}
 use Rattle.terminal.specs.declared.failure.Failure.TheVariants.{Card, Outlet}
 use Rattle.terminal.specs.Going.{printed_row, rows_text, ran_text, FailsSo, whole_run, run_from, behind, after_all, Prints, IsWithin, IsInRun, Goes, IsMute, IsCut, IsOver, to_go}
-use Rattle.terminal.specs.Stays.{Stays, Mutes, IsStart, Works, Causes}
+use Rattle.terminal.specs.Stays.{Stays, IsStart, Works, Causes}
 use Rattle.eeprom.specs.Fault.{Rose}
 use Rattle.terminal.proofs.Sent.{among-before, among-next}
 
@@ -191,20 +191,13 @@ nothing-goes is_at given mark m p step now at = record {
 }
 
 -- Outcomes.
-pub if-ok : {A E : Type 0} (P Q : A → Type 0) (r : Result A E) → ((x : A) → P x → Q x) → IfOk r P → IfOk r Q
-if-ok P Q (Ok x) each is = each x is
-if-ok P Q (Err error) each is = tt
+pub returned-err : {A : Type 0} (P : Failure → Type 0) (r : Result A Failure) (failure : Failure) → r ≡ Err failure → P failure → IfErr r P
+returned-err P r failure is holds = subst (λ r. IfErr r P) (sym is) holds
 
-pub if-err : {A E : Type 0} (P Q : E → Type 0) (r : Result A E) → ((error : E) → P error → Q error) → IfErr r P → IfErr r Q
-if-err P Q (Ok x) each is = tt
-if-err P Q (Err error) each is = each error is
-
-pub failed-row : {L : Type 0} (is_at : L → Machine → Type 0) (given : L → Option (List ℕ)) (is_live : L → Bool) (faults : L → ℕ) (m : Machine) (p : Planned) (c : Command) (r : Result Step Failure) (old mid new : L)
-    → Prints (printed_row p.row) (given old) (given mid) → IfErr r (λ failure. (failure ≡ Card) × Mutes is_live faults mid new) → OnErr r (given new ≡ given mid)
-    → IfErr r (λ failure. FailsSo is_at given m (IsReadingAt p (Row c)) (run_from m p (Row c)) failure old new)
-failed-row is_at given is_live faults m p c (Ok next) old mid new printed mute same = tt
-failed-row is_at given is_live faults m p c (Err failure) old mid new printed mute same =
-    subst (λ (f : Failure). FailsSo is_at given m (IsReadingAt p (Row c)) (run_from m p (Row c)) f old new) (sym mute.0) (row-mute given m p c old mid new printed same)
+pub mute-row : {L : Type 0} (is_at : L → Machine → Type 0) (given : L → Option (List ℕ)) (m : Machine) (p : Planned) (c : Command) (failure : Failure) (old mid new : L)
+    → Prints (printed_row p.row) (given old) (given mid) → failure ≡ Card → given new ≡ given mid → FailsSo is_at given m (IsReadingAt p (Row c)) (run_from m p (Row c)) failure old new
+mute-row is_at given m p c failure old mid new printed is same =
+    subst (λ (f : Failure). FailsSo is_at given m (IsReadingAt p (Row c)) (run_from m p (Row c)) f old new) (sym is) (row-mute given m p c old mid new printed same)
 
 pub cut-row : {L : Type 0} (is_at : L → Machine → Type 0) (given : L → Option (List ℕ)) (m : Machine) (p : Planned) (c : Command) (failure : Failure) (old new : L) → failure ≡ Outlet → IsStart (printed_row p.row) (given old) (given new) → is_at new m
     → FailsSo is_at given m (IsReadingAt p (Row c)) (run_from m p (Row c)) failure old new

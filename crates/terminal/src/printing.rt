@@ -19,12 +19,12 @@ pub(crate) const LONGEST_ROW: usize = 2086;
 pub(crate) const LONGEST_CLOSING: usize = 50;
 
 /// Makes the text of a row of an answer, on a line of its own.
-pub(crate) fn put_row_text(octets: &[u8], text: &mut ArrayVec<u8, LONGEST_ROW>)
+pub(crate) fn put_row_text(octets: &[u8], row: &mut Row, text: &mut ArrayVec<u8, LONGEST_ROW>)
     ensures { text.new.items ≡ printed_row octets.now }
 {
     text.clear();
-    if let Some(row) = Row::read(octets) {
-        put_row(text, &row);
+    if row.read_into(octets).is_some() {
+        put_row(text, row);
     }
 }
 

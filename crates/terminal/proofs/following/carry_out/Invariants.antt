@@ -7,16 +7,16 @@ use Rattle.terminal.specs.Going.{Goes, IsInRun, run_of, to_go}
 use Rattle.terminal.specs.Stays.{Works}
 use Rattle.terminal.proofs.following.carry_out.Given as goal
 
-abbrev pub invariant-loop-step : goal.invariant-loop-step
-invariant-loop-step g l = record {
+abbrev pub invariant-loop-room : goal.invariant-loop-room
+invariant-loop-room g l = record {
   goes : (m : Machine) → g.L.CardLink.is_at l.fn.desk m
-      → Goes g.L.CardLink.is_at g.L.Outlet.given g.L.CardLink.mark m (next_of None l.fn.plan).plan (next_of None l.fn.plan).step l.fn.desk l.desk l.plan l.step;
+      → Goes g.L.CardLink.is_at g.L.Outlet.given g.L.CardLink.mark m (next_of None l.fn.plan).plan (next_of None l.fn.plan).step l.fn.desk l.desk l.plan l.room.step;
   moments : (m : Machine) → g.L.CardLink.is_at l.fn.desk m → LeavesOpen (IsInRun (g.L.CardLink.mark l.fn.desk) m (run_of m l.fn.plan)) (g.L.CardLink.chip l.fn.desk) (g.L.CardLink.chip l.desk);
   works : Works g.L.CardLink.is_live g.L.CardLink.faults g.L.Outlet.sink_faults l.fn.desk l.desk;
   live : IsTrue (g.L.CardLink.is_live l.desk);
   goes_on : g.L.CardLink.goes_on l.fn.desk l.desk;
-  sendable : IfSent l.step IsSendable;
+  sendable : IfSent l.room.step IsSendable;
 }
 
-abbrev pub decreases-loop-step : goal.decreases-loop-step
-decreases-loop-step g l = to_go l.plan l.step
+abbrev pub decreases-loop-room : goal.decreases-loop-room
+decreases-loop-room g l = to_go l.plan l.room.step
