@@ -15,13 +15,26 @@ use scql_base::{
 };
 
 // Reads the operation that a data field asks for into a place, where a row has at most so many octets. What the place has where none
-// is read is left open.
+// is read is left open. A place that asks for the next row already is left as it is, since a scan asks for nothing else.
 pub(crate) fn read_operation(
     kind: OperationKind,
     limit: u16,
     octets: &[u8],
     place: &mut Operation,
 ) -> Option<()>
+    requires limit { limit ≤ LARGEST }
+    requires short { length octets.now ≤ LONGEST_IN_PARTS }
+    ensures { option_map (λ _. place.new) result ≡ parameters.operation_in (table.has_secrets table.built_operations) kind limit octets.now }
+{
+    match (kind, &*place) {
+        (OperationKind::FetchNext, Operation::FetchNext) => Some(()),
+        _ => read_another(kind, limit, octets, place),
+    }
+}
+
+// Reads an operation over what the place has. It isn't inlined, so that a scan needs no room for what the other operations are read into.
+#[inline(never)]
+fn read_another(kind: OperationKind, limit: u16, octets: &[u8], place: &mut Operation) -> Option<()>
     requires limit { limit ≤ LARGEST }
     requires short { length octets.now ≤ LONGEST_IN_PARTS }
     ensures { option_map (λ _. place.new) result ≡ parameters.operation_in (table.has_secrets table.built_operations) kind limit octets.now }
@@ -44,7 +57,7 @@ pub(crate) fn read_operation(
         OperationKind::OpenCursor => put(Operation::OpenCursor, place),
         OperationKind::Next => put(Operation::Next, place),
         OperationKind::Fetch => put(Operation::Fetch, place),
-        OperationKind::FetchNext => put_fetch_next(place),
+        OperationKind::FetchNext => put(Operation::FetchNext, place),
         OperationKind::Delete => put(Operation::Delete, place),
         OperationKind::Begin => put(Operation::Begin, place),
         OperationKind::Commit => put(Operation::Commit, place),
@@ -53,16 +66,6 @@ pub(crate) fn read_operation(
         OperationKind::CloseChannel { number } => put(Operation::CloseChannel { number }, place),
         OperationKind::GetResponse => put(Operation::GetResponse, place),
     }
-}
-
-// A place that asks for the next row already is left as it is, since a scan asks for nothing else.
-fn put_fetch_next(place: &mut Operation) -> Option<()>
-    ensures { option_map (λ _. place.new) result ≡ Some operation.FetchNext }
-{
-    if matches!(place, Operation::FetchNext) {
-        return Some(());
-    }
-    put(Operation::FetchNext, place)
 }
 
 // Puts an operation into a place.

@@ -1,5 +1,5 @@
 // The table of operations: which INS, P1 and P2 ask for which (ISO/IEC 7816-7 for those of SCQL, ISO/IEC 7816-4 for the others).
-ghost use Rattle.std.specs.Prelude.{◌≡◌, ◌==◌, ◌&&◌};
+ghost use Rattle.std.specs.Prelude.{◌≡◌, ◌==◌, ◌&&◌, slice_get};
 ghost use Rattle.std.specs.List.{find, list_any};
 ghost use Rattle.scql_model.specs.Operations as table;
 ghost use Rattle.scql_model.specs.Spelling as spelling;
@@ -54,6 +54,9 @@ static OPERATIONS: [Line; 31] = [
     operation!(built 0xC0 0x00 0x00 GetResponse, LeAlone),
 ];
 
+// So many places are told apart by the last four bits of P2.
+const PLACES: u8 = 16;
+
 // The table, line beside line.
 fn operations() -> &'static [Line]
     ensures { result.now ≡ table.operations }
@@ -74,20 +77,37 @@ fn is_among(lines: &[Line], ins: u8) -> bool
     lines.iter().any(|line| line.is_built && line.ins == ins)
 }
 
-// The line of the operation that is built for INS, P1 and P2.
+// The line of the operation that is built for INS, P1 and P2. The operations on the database stand first, each at the place that its
+// P2 ends with, so that one line is looked at before all are.
 pub(crate) fn line_of(ins: u8, p1: u8, p2: u8) -> Option<Line>
     ensures { result ≡ table.line_of table.built_operations ins p1 p2 }
 {
-    find_line(operations(), ins, p1, p2)
+    let lines = operations();
+    match line_at(lines, usize::from(p2 % PLACES)) {
+        Some(line) if is_for(&line, ins, p1, p2) => Some(line),
+        _ => find_line(lines, ins, p1, p2),
+    }
 }
 
+fn line_at(lines: &[Line], place: usize) -> Option<Line>
+    ensures { result ≡ slice_get lines.now place }
+{
+    lines.get(place).copied()
+}
+
+// A line is of an operation that is built, and for INS, P1 and P2.
+fn is_for(line: &Line, ins: u8, p1: u8, p2: u8) -> bool
+    ensures { result ≡ (line.now.is_built && line.now.ins == ins && line.now.p1 == p1 && line.now.p2 == p2) }
+{
+    line.is_built && line.ins == ins && line.p1 == p1 && line.p2 == p2
+}
+
+// It isn't inlined, since what a scan asks for stands where it is looked for first.
+#[inline(never)]
 fn find_line(lines: &[Line], ins: u8, p1: u8, p2: u8) -> Option<Line>
     ensures { result ≡ find (λ line. line.is_built && line.ins == ins && line.p1 == p1 && line.p2 == p2) lines.now }
 {
-    lines.iter().copied().find(|line| line.is_built
-        && line.ins == ins
-        && line.p1 == p1
-        && line.p2 == p2)
+    lines.iter().copied().find(|line| is_for(line, ins, p1, p2))
 }
 
 // The line of an operation, whether it is built or not.

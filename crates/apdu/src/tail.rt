@@ -90,10 +90,9 @@ fn is_taken(takes: Takes, is_part: bool, tail: &Tail<'_>) -> bool
 {
     let has_body = tail.body.is_some();
     let has_le = tail.le.is_some();
-    let is_case = match takes {
-        Takes::Nothing => !has_body,
-        Takes::DataField => has_body,
-        Takes::LeAlone => !has_body && has_le,
-    };
-    is_case && (!is_part || has_body && !has_le)
+    match takes {
+        Takes::Nothing => !is_part && !has_body,
+        Takes::DataField => has_body && !(is_part && has_le),
+        Takes::LeAlone => !is_part && !has_body && has_le,
+    }
 }

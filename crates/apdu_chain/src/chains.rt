@@ -31,12 +31,12 @@ impl Model for Chains {
     ghost invariant = { λ c. length c.chains ≡ 4 };
 }
 
-/// What octets are, with the parts before them: refused, a part that is kept, or what makes a command whole.
+/// What octets are, with the parts before them: what makes a command whole, what is refused, or a part that is kept.
 #[derive(Drop)]
 pub enum Taken {
+    Whole,
     Refused { word: StatusWord },
     Kept,
-    Whole,
 }
 
 impl Chains {
@@ -69,7 +69,7 @@ impl Chains {
                 self.forget(channel);
                 Taken::Refused { word }
             }
-            Ok(apdu) => self.taken(&apdu, limit, command),
+            Ok(apdu) => self.taken(apdu, limit, command),
         }
     }
 
@@ -91,12 +91,12 @@ impl Chains {
         *self = Chains::new();
     }
 
-    fn taken(&mut self, apdu: &Apdu<'_>, limit: u16, command: &mut Command) -> Taken
-        requires channel { apdu.now.channel < 4 }
-        requires short { length apdu.now.body.now ≤ 255 }
-        ensures taken { result ≡ taken_of (on_channel self.old apdu.now (min limit LARGEST)) }
-        ensures whole { result ≡ Taken.Whole → on_channel self.old apdu.now (min limit LARGEST) ≡ form.a_command command.new }
-        ensures chains { self.new ≡ chains_after self.old (on_channel self.old apdu.now (min limit LARGEST)) }
+    fn taken(&mut self, apdu: Apdu<'_>, limit: u16, command: &mut Command) -> Taken
+        requires channel { apdu.channel < 4 }
+        requires short { length apdu.body.now ≤ 255 }
+        ensures taken { result ≡ taken_of (on_channel self.old apdu.entry (min limit LARGEST)) }
+        ensures whole { result ≡ Taken.Whole → on_channel self.old apdu.entry (min limit LARGEST) ≡ form.a_command command.new }
+        ensures chains { self.new ≡ chains_after self.old (on_channel self.old apdu.entry (min limit LARGEST)) }
     {
         if apdu.is_part {
             self.keep(apdu)
@@ -105,14 +105,16 @@ impl Chains {
         }
     }
 
-    // A part goes on with the chain of its channel, or begins a new one.
-    fn keep(&mut self, apdu: &Apdu<'_>) -> Taken
-        requires part { apdu.now.is_part ≡ true }
-        requires channel { apdu.now.channel < 4 }
-        requires short { length apdu.now.body.now ≤ 255 }
-        ensures taken { (limit : ℕ) → result ≡ taken_of (on_channel self.old apdu.now limit) }
+    // A part goes on with the chain of its channel, or begins a new one. It isn't inlined, so that a command that comes whole has no
+    // place for a chain.
+    #[inline(never)]
+    fn keep(&mut self, apdu: Apdu<'_>) -> Taken
+        requires part { apdu.is_part ≡ true }
+        requires channel { apdu.channel < 4 }
+        requires short { length apdu.body.now ≤ 255 }
+        ensures taken { (limit : ℕ) → result ≡ taken_of (on_channel self.old apdu.entry limit) }
         ensures part { result ≢ Taken.Whole }
-        ensures chains { (limit : ℕ) → self.new ≡ chains_after self.old (on_channel self.old apdu.now limit) }
+        ensures chains { (limit : ℕ) → self.new ≡ chains_after self.old (on_channel self.old apdu.entry limit) }
     {
         let begun = self.end(apdu.channel, apdu.kind);
         if !comes_in_parts(apdu.kind) {
@@ -132,13 +134,13 @@ impl Chains {
     }
 
     // What isn't a part makes a command whole, with the parts before it.
-    fn complete(&mut self, apdu: &Apdu<'_>, limit: u16, command: &mut Command) -> Taken
-        requires whole { apdu.now.is_part ≡ false }
-        requires channel { apdu.now.channel < 4 }
-        requires short { length apdu.now.body.now ≤ 255 }
-        ensures taken { result ≡ taken_of (on_channel self.old apdu.now (min limit LARGEST)) }
-        ensures whole { result ≡ Taken.Whole → on_channel self.old apdu.now (min limit LARGEST) ≡ form.a_command command.new }
-        ensures chains { self.new ≡ chains_after self.old (on_channel self.old apdu.now (min limit LARGEST)) }
+    fn complete(&mut self, apdu: Apdu<'_>, limit: u16, command: &mut Command) -> Taken
+        requires whole { apdu.is_part ≡ false }
+        requires channel { apdu.channel < 4 }
+        requires short { length apdu.body.now ≤ 255 }
+        ensures taken { result ≡ taken_of (on_channel self.old apdu.entry (min limit LARGEST)) }
+        ensures whole { result ≡ Taken.Whole → on_channel self.old apdu.entry (min limit LARGEST) ≡ form.a_command command.new }
+        ensures chains { self.new ≡ chains_after self.old (on_channel self.old apdu.entry (min limit LARGEST)) }
     {
         match self.read(apdu, limit, command) {
             Ok(()) => Taken::Whole,
@@ -147,16 +149,17 @@ impl Chains {
     }
 
     // Reads the command of the parts before an APDU and its own data field into a place. The chain of its channel ends.
-    fn read(&mut self, apdu: &Apdu<'_>, limit: u16, command: &mut Command) -> Result<(), StatusWord>
-        requires channel { apdu.now.channel < 4 }
-        requires short { length apdu.now.body.now ≤ 255 }
-        ensures command { seen (λ _. command.new) result ≡ command_of apdu.now (min limit LARGEST) (concat (parts_of apdu.now.kind (chain_on self.old apdu.now.channel)) ++ apdu.now.body.now) }
-        ensures ended { self.new ≡ slice_set self.old apdu.now.channel None }
+    fn read(&mut self, apdu: Apdu<'_>, limit: u16, command: &mut Command) -> Result<(), StatusWord>
+        requires channel { apdu.channel < 4 }
+        requires short { length apdu.body.now ≤ 255 }
+        ensures command { seen (λ _. command.new) result ≡ command_of apdu.entry (min limit LARGEST) (concat (parts_of apdu.entry.kind (chain_on self.old apdu.entry.channel)) ++ apdu.entry.body.now) }
+        ensures ended { self.new ≡ slice_set self.old apdu.entry.channel None }
     {
         match &self.chains[usize::from(apdu.channel)] {
             Some(chain) if chain.goes_on_with(apdu.kind) => {
+                let own = apdu.channel;
                 let read = read_joined(chain, apdu, limit, command);
-                self.forget(apdu.channel);
+                self.forget(own);
                 read
             }
             _ => {
@@ -184,12 +187,12 @@ impl Chains {
 #[inline(never)]
 fn read_joined(
     chain: &Chain,
-    apdu: &Apdu<'_>,
+    apdu: Apdu<'_>,
     limit: u16,
     command: &mut Command,
 ) -> Result<(), StatusWord>
-    requires { length apdu.now.body.now ≤ 255 }
-    ensures { seen (λ _. command.new) result ≡ command_of apdu.now (min limit LARGEST) (concat chain.now.parts ++ apdu.now.body.now) }
+    requires { length apdu.body.now ≤ 255 }
+    ensures { seen (λ _. command.new) result ≡ command_of apdu.entry (min limit LARGEST) (concat chain.now.parts ++ apdu.entry.body.now) }
 {
     let octets = chain.joined(apdu.body);
     apdu.read_into(octets.as_slice(), limit, command)

@@ -44,11 +44,12 @@ impl Pending {
         ensures reply { reply.new ≡ (cut row.now le).reply }
         ensures rest { self.new ≡ (cut row.now le).rest }
     {
-        self.octets.clear();
-        let fits = self.octets.try_extend_from_slice(row).is_ok();
-        prove!(fits);
-        self.given = 0;
-        self.give(le, reply);
+        if row.len() <= usize::from(le) {
+            self.forget();
+            put(row, StatusWord::DONE, reply);
+        } else {
+            self.start_in_parts(row, le, reply);
+        }
     }
 
     /// Gives as much of what is pending as Le allows, 1 to 256 octets. What follows is pending.
@@ -77,6 +78,21 @@ impl Pending {
         self.given = 0;
     }
 
+    // Gives as much of a row as Le allows, where it is longer. The row is kept as a whole, which one that goes in one answer isn't.
+    #[inline(never)]
+    fn start_in_parts(&mut self, row: &[u8], le: u16, reply: &mut Reply)
+        requires row { length row.now ≤ LARGEST }
+        requires most { le ≤ 256 }
+        ensures reply { reply.new ≡ (cut row.now le).reply }
+        ensures rest { self.new ≡ (cut row.now le).rest }
+    {
+        self.octets.clear();
+        let fits = self.octets.try_extend_from_slice(row).is_ok();
+        prove!(fits);
+        self.given = 0;
+        self.give(le, reply);
+    }
+
     fn give(&mut self, le: u16, reply: &mut Reply)
         requires most { le ≤ 256 }
         ensures reply { reply.new ≡ (cut self.old le).reply }
@@ -85,12 +101,20 @@ impl Pending {
         let left = &self.octets.as_slice()[self.given..];
         let count = left.len().min(usize::from(le));
         let (now, rest) = left.split_at(count);
-        reply.body.clear();
-        let fits = reply.body.try_extend_from_slice(now).is_ok();
-        prove!(fits);
-        reply.word = word_for(rest);
+        put(now, word_for(rest), reply);
         self.given += count;
     }
+}
+
+// Answers octets and a word.
+fn put(octets: &[u8], word: StatusWord, reply: &mut Reply)
+    requires { length octets.now ≤ 256 }
+    ensures { reply.new ≡ record { body = octets.now; word = word } }
+{
+    reply.body.clear();
+    let fits = reply.body.try_extend_from_slice(octets).is_ok();
+    prove!(fits);
+    reply.word = word;
 }
 
 // Done where nothing is left, or else how much is.
