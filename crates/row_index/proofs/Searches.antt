@@ -3,7 +3,7 @@ use Rattle.std.proofs.Common.{◌≡◌, ℕ, zero, suc, ◌<◌, ◌≤◌, Boo
 use Rattle.std.specs.List.{find, insert, slice_get, count_by, AllByRecursion}
 use Rattle.std.specs.Prelude.{Result, IsOk, is_ok}
 use Rattle.std.specs.List.Sorted.{IsPartitionPoint, IsNonDecreasingBy}
-use Rattle.std.proofs.lemmas.Bool.{cases_Bool, ltb-true, ltb-false, leb-true, leb-false, lt-ltb, le-ltb, lt-leb, ne_eqb}
+use Rattle.std.proofs.lemmas.Bool.{cases_Bool, ltb-true, ltb-false, leb-true, leb-false, lt-ltb, le-ltb, lt-leb, le-leb, ne_eqb}
 use Rattle.std.proofs.lemmas.Option.{slice_get_read, slice_get_past}
 use Rattle.eeprom.specs.Slots.{Rises, has, is_after, put_in_order}
 use Rattle.eeprom.proofs.InOrder.{counts, counts_not}
@@ -43,6 +43,19 @@ none_below key k m (x ∷ xs) le all = counts_not (λ y. ltb (key y) k) x xs (le
 pub none_up_to : {X : Type 0} (key : X → ℕ) (k m : ℕ) (xs : List X) → k ≤ m → AllByRecursion (λ y. m < key y) xs → count_by (λ y. leb (key y) k) xs ≡ 0
 none_up_to key k m [] le all = refl
 none_up_to key k m (x ∷ xs) le all = counts_not (λ y. leb (key y) k) x xs (lt-leb (key x) k (omega (arith, all.0))) ∙ none_up_to key k m xs le all.1
+
+-- so many keys are up to one as stand up to it
+pub count_by-here : {X : Type 0} (key : X → ℕ) (k : ℕ) (xs : List X) (i : ℕ) (d : X) → Rises key xs → i < length xs → key (get_or xs i d) ≡ k → suc i ≡ count_by (λ y. leb (key y) k) xs
+count_by-here key k [] i d rises within same = absurd (omega arith)
+count_by-here key k (x ∷ xs) zero d rises within same =
+    let none = none_up_to key k (key x) xs (omega (arith, same)) rises.0 in
+    let one = counts (λ y. leb (key y) k) x xs (le-leb (key x) k (omega (arith, same))) in
+    omega arith
+count_by-here key k (x ∷ xs) (suc i) d rises within same =
+    let less = all-at (λ y. key x < key y) xs i d (omega arith) rises.0 in
+    let rest = count_by-here key k xs i d rises.1 (omega arith) same in
+    let one = counts (λ y. leb (key y) k) x xs (le-leb (key x) k (omega (arith, same, less))) in
+    omega arith
 
 -- no key behind a greater one is found
 not_found : {X : Type 0} (key : X → ℕ) (k m : ℕ) (xs : List X) → k ≤ m → AllByRecursion (λ y. m < key y) xs → find (has key k) xs ≡ None

@@ -6,7 +6,7 @@ use Rattle.std.proofs.lemmas.List.Sums.{count_by-le-length}
 use Rattle.eeprom.specs.Slots.{Rises, AreApart, has, is_after, in_order, put_in_order}
 use Rattle.eeprom.proofs.InOrder.{counts, counts_not, count_by-cons, filter-in_order, in_order-rising, Rises-in_order}
 use Rattle.row_index.proofs.Searches.{find-after, none_below, none_up_to}
-use Rattle.row_index.specs.Places.{place_stamp, key_of, key_in_table, is_in_table, is_later_in}
+use Rattle.row_index.specs.Places.{place_stamp, key_of, key_in_table, if_in_table, is_in_table, is_later_in}
 use Rattle.row_index.specs.declared.place.RowPlace.{RowPlace}
 use Rattle.row_index.specs.declared.order.Order.TheVariants.{ByTable}
 
@@ -110,11 +110,6 @@ find-by_tables table stamp xs rises fits =
     ∙ ap (find (λ place. ltb stamp place.stamp)) (sym (same_table table xs rises fits))
     ∙ sym (find-filter (is_in_table table) (λ place. ltb stamp place.stamp) (in_order table_key xs))
 
--- the place, if it is of a row of a table
-abbrev pub of_table : ℕ → Option RowPlace → Option RowPlace
-of_table table None = None
-of_table table (Some place) = cond (is_in_table table place) (Some place) None
-
 -- behind a place of a later table there is none of the table
 none_later : (table stamp m : ℕ) (xs : List RowPlace) → suc table * 4294967296 ≤ m → Fits xs → AllByRecursion (λ y. m < table_key y) xs → find (is_later_in table stamp) xs ≡ None
 none_later table stamp m [] later fits above = refl
@@ -122,7 +117,7 @@ none_later table stamp m (x ∷ xs) later fits above =
     rw (and_left (is_in_table table x) (ltb stamp x.stamp) (ne_eqb x.table table (λ same. omega (arith, same, later, above.0, fits.0)))) (none_later table stamp m xs later fits.1 above.1)
 
 -- the next row of a table is the first behind its key, or the table has none behind it
-pub find-later_in : (table stamp : ℕ) (xs : List RowPlace) → Rises table_key xs → Fits xs → find (is_later_in table stamp) xs ≡ of_table table (find (is_after table_key (key_in_table table stamp)) xs)
+pub find-later_in : (table stamp : ℕ) (xs : List RowPlace) → Rises table_key xs → Fits xs → find (is_later_in table stamp) xs ≡ if_in_table table (find (is_after table_key (key_in_table table stamp)) xs)
 find-later_in table stamp [] rises fits = refl
 find-later_in table stamp (x ∷ xs) rises fits =
     elim (cases_Bool (ltb (key_in_table table stamp) (table_key x))) [
@@ -153,14 +148,14 @@ Rises-tables xs rises fits = Rises-in_order table_key xs (AreApart-tables xs ris
 
 -- the next row of a table, by where it stands among the places by tables
 pub later-by_tables : (table stamp : ℕ) (xs ys : List RowPlace) (i : ℕ) (o : Option RowPlace) → Rises place_stamp xs → Fits xs → ys ≡ in_order table_key xs
-    → i ≡ count_by (λ y. leb (table_key y) (key_in_table table stamp)) ys → slice_get ys i ≡ o → find (is_later_in table stamp) xs ≡ of_table table o
+    → i ≡ count_by (λ y. leb (table_key y) (key_in_table table stamp)) ys → slice_get ys i ≡ o → find (is_later_in table stamp) xs ≡ if_in_table table o
 later-by_tables table stamp xs ys i o rises fits tables count got =
     let up : Rises table_key ys = rw tables (Rises-tables xs rises fits) in
     let small : Fits ys = rw tables (all-in_order table_key (λ place. place_stamp place < 4294967296) xs fits) in
     find-by_tables table stamp xs rises fits
     ∙ ap (find (is_later_in table stamp)) (sym tables)
     ∙ find-later_in table stamp ys up small
-    ∙ ap (of_table table) (find-after table_key (key_in_table table stamp) ys up ∙ ap (slice_get ys) (sym count) ∙ got)
+    ∙ ap (if_in_table table) (find-after table_key (key_in_table table stamp) ys up ∙ ap (slice_get ys) (sym count) ∙ got)
 
 -- of a test that passes where another does, so many pass at least
 count_by-mono : {X : Type 0} (p q : X → Bool) (xs : List X) → ((x : X) → p x ≡ true → q x ≡ true) → count_by p xs ≤ count_by q xs

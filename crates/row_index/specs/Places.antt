@@ -1,5 +1,5 @@
 -- Where the rows of a store stand.
-use Rattle.std.specs.Prelude.{◌≡◌, ℕ, suc, ◌+◌, ◌*◌, ◌==◌, ◌&&◌, nat_lt, Bool, List, [], ◌∷◌, Option, option_map}
+use Rattle.std.specs.Prelude.{◌≡◌, ℕ, suc, ◌+◌, ◌*◌, ◌==◌, ◌&&◌, nat_lt, Bool, List, [], ◌∷◌, Option, Some, None, if◌then◌else◌, option_map}
 use Rattle.std.specs.List.{filter_map, count_by}
 use Rattle.eeprom.specs.Slots.{has, in_order, in_slot, put_in_order, without}
 use Rattle.eeprom.specs.StoreOf.{Slots}
@@ -32,6 +32,11 @@ is_in_table table place = place.table == table
 -- whether it is the place of a row of a table with a stamp above another
 abbrev pub is_later_in : ℕ → ℕ → RowPlace → Bool
 is_later_in table stamp place = place.table == table && nat_lt stamp place.stamp
+
+-- the place, if it is that of a row of a table
+abbrev pub if_in_table : ℕ → Option RowPlace → Option RowPlace
+if_in_table table None = None
+if_in_table table (Some place) = if is_in_table table place then Some place else None
 
 -- slots with their numbers, from one on
 abbrev pub numbered : ℕ → Slots → List (ℕ × Option (List ℕ))

@@ -85,6 +85,23 @@ impl RowIndex {
         Some((place.stamp, place.slot))
     }
 
+    /// The stamp and the slot of the row of a table that has the least greater stamp, as `next_after` tells it. Where the row of the stamp
+    /// stands at the place `near` of the order by tables, it isn't searched for; from any other place the answer is the same. The place of
+    /// the row that is told is put there, so that a scan that keeps it goes on without a search.
+    pub fn next_after_near(
+        &self,
+        side: Side,
+        table: u32,
+        stamp: u32,
+        near: &mut usize,
+    ) -> Option<(u32, u16)>
+        ensures value { result ≡ option_map (λ place. (place.stamp, place.slot)) (find (is_later_in table stamp) (side_places self.now side)) }
+        ensures there { IfSome result (λ next. next.1 < self.now.cells) }
+    {
+        let place = self.side(side).next_after_near(table, stamp, near)?;
+        Some((place.stamp, place.slot))
+    }
+
     /// The places of the rows of a table, in rising order of their stamps.
     pub fn rows_of(&self, side: Side, table: u32) -> &[RowPlace]
         ensures rows { result.now ≡ filter (is_in_table table) (side_places self.now side) }

@@ -52,6 +52,17 @@ pub(crate) fn count_up_to(places: &[RowPlace], order: Order, key: u64) -> usize
     places.partition_point(|place| order.key(place) <= key)
 }
 
+// How many keys are at most a number. Where the key at the place `near` is the number, nothing is searched for.
+pub(crate) fn count_up_to_near(places: &[RowPlace], order: Order, key: u64, near: usize) -> usize
+    requires rises { Rises (key_of order) places.now }
+    ensures count { result ≡ count_by (λ place. nat_le (key_of order place) key) places.now }
+{
+    match places.get(near) {
+        Some(place) if order.key(place) == key => near + 1,
+        _ => count_up_to(places, order, key),
+    }
+}
+
 // Puts a place before the first of a greater key. There is room for it, so no memory is taken.
 pub(crate) fn put(places: &mut Vec<RowPlace>, order: Order, place: RowPlace)
     requires rises { Rises (key_of order) places.old.items }

@@ -1,14 +1,14 @@
 // The places of the rows of one side: in order of their stamps, and once more by tables; and which slots have them. All keep their memory.
 ghost use Rattle.std.specs.Prelude.{◌≡◌, ℕ, ◌<◌, ◌≤◌, [], Some, IfOk, count_by, if◌then◌else◌, length, nat_lt, not};
-ghost use Rattle.std.specs.List.{AllByRecursion, filter, find, list_all, list_any};
+ghost use Rattle.std.specs.List.{AllByRecursion, filter, find, list_all, list_any, slice_get};
 ghost use Rattle.eeprom.specs.Slots.{AreApart, Rises, has, put_in_order, without};
 ghost use Rattle.cell_store.specs.Marks.{is_marked};
 ghost use Rattle.row_index.specs.Index.{is_above};
 ghost use Rattle.row_index.specs.Ordered.{Ordered};
-ghost use Rattle.row_index.specs.Places.{IsOneMore, is_in_table, is_later_in, place_slot, place_stamp};
+ghost use Rattle.row_index.specs.Places.{IsOneMore, if_in_table, is_in_table, is_later_in, place_slot, place_stamp};
 
 use crate::RowPlace;
-use crate::order::{Order, count_below, count_up_to, key_in_table, put, refill};
+use crate::order::{Order, count_below, count_up_to, count_up_to_near, key_in_table, put, refill};
 use std::alloc::{AllocError, Global};
 use std::marker::Model;
 
@@ -77,12 +77,22 @@ impl OrderedPlaces {
         ensures { result ≡ find (is_later_in table stamp) self.now.places }
     {
         let places = self.by_table.as_slice();
-        let place = *places.get(count_up_to(places, Order::ByTable, key_in_table(table, stamp)))?;
-        if place.table == table {
-            Some(place)
-        } else {
-            None
-        }
+        let at = count_up_to(places, Order::ByTable, key_in_table(table, stamp));
+        place_in_table(places, at, table)
+    }
+
+    // The same, without a search where the one of the stamp stands at the place `near` by tables. The place of the one that is told is put there.
+    pub(crate) fn next_after_near(
+        &self,
+        table: u32,
+        stamp: u32,
+        near: &mut usize,
+    ) -> Option<RowPlace>
+        ensures { result ≡ find (is_later_in table stamp) self.now.places }
+    {
+        let places = self.by_table.as_slice();
+        *near = count_up_to_near(places, Order::ByTable, key_in_table(table, stamp), *near);
+        place_in_table(places, *near, table)
     }
 
     // The places of the rows of a table.
@@ -178,6 +188,18 @@ impl OrderedPlaces {
         refill(&mut self.by_stamp, other.by_stamp.as_slice());
         refill(&mut self.by_table, other.by_table.as_slice());
         mark(&mut self.taken, self.by_stamp.as_slice(), true);
+    }
+}
+
+// What stands there, if it is the place of a row of a table.
+fn place_in_table(places: &[RowPlace], at: usize, table: u32) -> Option<RowPlace>
+    ensures { result ≡ if_in_table table (slice_get places.now at) }
+{
+    let place = *places.get(at)?;
+    if place.table == table {
+        Some(place)
+    } else {
+        None
     }
 }
 

@@ -84,6 +84,20 @@ fn an_index_follows_transactions(rt: HostRuntime) -> Result<(), Fail> {
 }
 
 #[test]
+fn the_place_of_the_next_row_is_kept(rt: HostRuntime) -> Result<(), Fail> {
+    let mut index = RowIndex::with_room(rt.alloc(), 16)?;
+    index.begin();
+    index.added(2, 6, 9);
+    index.added(2, 8, 4);
+    let mut near = usize::MAX;
+    assert!(rt; index.next_after_near(Side::Working, 2, 0, &mut near) == Some((6, 9)));
+    assert!(rt; near == 0);
+    assert!(rt; index.next_after_near(Side::Working, 2, 6, &mut near) == Some((8, 4)));
+    assert!(rt; near == 1);
+    Ok(())
+}
+
+#[test]
 fn a_table_is_removed(rt: HostRuntime) -> Result<(), Fail> {
     let mut index = RowIndex::with_room(rt.alloc(), 16)?;
     index.begin();
