@@ -1,21 +1,15 @@
 -- Hexadecimal texts, octet by octet.
-use Rattle.std.proofs.Common.{◌≡◌, ℕ, ◌/◌, ◌%◌, List, [], ◌∷◌, ◌++◌, refl, sym, ap, ◌∙◌}
+use Rattle.std.proofs.Common.{◌≡◌, ℕ, ◌/◌, ◌%◌, List, [], ◌∷◌, ◌++◌, map, refl, sym, ap, ◌∙◌}
 use Rattle.std.specs.Prelude.{slice_index}
-use Rattle.hex.specs.Hex.{encode_upper, encode_with, upper_digits}
-use Rattle.scql_base.specs.declared.words.StatusWord.{StatusWord}
-use Rattle.scql_model.specs.Lines.{reply_text}
+use Rattle.std.specs.Char.{to_ascii_uppercase}
+use Rattle.hex.specs.Hex.{encode_lower, encode_upper, encode_with, lower_digits}
+use Rattle.terminal.proofs.UpperCase.{upper_of_lower}
 
-encode-append : (first rest : List ℕ) → encode_upper (first ++ rest) ≡ encode_upper first ++ encode_upper rest
+encode-append : (first rest : List ℕ) → encode_lower (first ++ rest) ≡ encode_lower first ++ encode_lower rest
 unfolding encode_with
 encode-append [] rest = refl
-encode-append (octet ∷ first) rest = ap (λ (text : List ℕ). slice_index upper_digits (octet / 16) ∷ slice_index upper_digits (octet % 16) ∷ text) (encode-append first rest)
+encode-append (octet ∷ first) rest = ap (λ (text : List ℕ). slice_index lower_digits (octet / 16) ∷ slice_index lower_digits (octet % 16) ∷ text) (encode-append first rest)
 
--- a reply's text is that of its body, that of its word, and a line feed
-pub reply-written : (body none first second octets all : List ℕ) (word : StatusWord) → none ≡ [] → first ≡ none ++ encode_upper body → octets ≡ (word.word / 256) ∷ (word.word % 256) ∷ []
-    → second ≡ first ++ encode_upper octets → all ≡ second ++ 10 ∷ [] → all ≡ reply_text (record { body = body; word = word })
-reply-written body none first second octets all word none_is first_is octets_are second_is all_is =
-    all_is
-    ∙ ap (λ (text : List ℕ). text ++ 10 ∷ [])
-    (second_is ∙ (ap (λ (octets : List ℕ). first ++ encode_upper octets) octets_are
-    ∙ (ap (λ (front : List ℕ). front ++ encode_upper ((word.word / 256) ∷ (word.word % 256) ∷ [])) (first_is ∙ ap (λ (front : List ℕ). front ++ encode_upper body) none_is)
-    ∙ sym (encode-append body ((word.word / 256) ∷ (word.word % 256) ∷ [])))))
+-- the digits of a body and of a word, in upper case, are those of the one behind the other
+pub both-upper : (body word : List ℕ) → map to_ascii_uppercase (encode_lower body ++ encode_lower word) ≡ encode_upper (body ++ word)
+both-upper body word = ap (map to_ascii_uppercase) (sym (encode-append body word)) ∙ upper_of_lower (body ++ word)

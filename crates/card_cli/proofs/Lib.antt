@@ -8,6 +8,7 @@ mod Finishing
 mod HexadecimalTexts
 mod InsertedRows
 mod Keeping
+mod LineEnds
 mod LoadedCards
 mod LoadedLines
 mod LongerRows

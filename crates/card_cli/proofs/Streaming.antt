@@ -8,13 +8,13 @@ use Rattle.scql_model.specs.Lines.{Language, is_line_feed, lines, without_open_e
 use Rattle.card_cli.specs.Line.{longer_by, is_empty_line}
 use Rattle.card_cli.specs.Running.{Running, from_state, begun_effect, after_begun, octet_text, after_octet, text_of, after, end_text, after_end}
 
-longer_by-taken_line : (line : List ℕ) (octet : ℕ) → longer_by octet (taken_line line) ≡ taken_line (line ++ octet ∷ [])
+pub longer_by-taken_line : (line : List ℕ) (octet : ℕ) → longer_by octet (taken_line line) ≡ taken_line (line ++ octet ∷ [])
 longer_by-taken_line line octet =
     let longer : length (line ++ octet ∷ []) ≡ length line + 1 = length-append line (octet ∷ []) in
     grind (arith, nat_tests)
 
 -- a line that has begun and has no octet is empty
-is_empty_line-taken_line : (line : List ℕ) → is_empty_line (taken_line line) ≡ eqb (length line) 0
+pub is_empty_line-taken_line : (line : List ℕ) → is_empty_line (taken_line line) ≡ eqb (length line) 0
 is_empty_line-taken_line line = grind (arith, nat_tests)
 
 -- a line before the first piece

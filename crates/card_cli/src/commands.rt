@@ -1,13 +1,12 @@
 // Lines of commands in hexadecimal, and a card that answers them.
-ghost use Rattle.std.specs.Prelude.{◌≡◌, ◌+◌, ◌*◌, ◌<◌, ◌≤◌, ◌++◌, [], true, length, OnOk, IfErr};
-ghost use Rattle.hex.specs.Hex.{encode_upper};
+ghost use Rattle.std.specs.Prelude.{◌≡◌, ◌+◌, ◌*◌, ◌<◌, ◌≤◌, [], true, length, take, OnOk, IfErr};
+ghost use Rattle.hex.specs.Hex.{encode_lower, encode_upper};
 ghost use Rattle.scql_model.specs.Machine.{Machine};
 ghost use Rattle.scql_model.specs.Step.{step};
 ghost use Rattle.scql_model.specs.Lines as model;
 ghost use Rattle.scql_model.specs.Lines.{command_lines};
 ghost use Rattle.card.specs.Behind.{KeepsBehind};
 ghost use Rattle.card.specs.Card.{IsReady, IsAt};
-ghost use Rattle.card_cli.specs.Line.{line_octets};
 ghost use Rattle.card_cli.specs.RunState.{Prints, Faults, Causes};
 ghost use Rattle.card_cli.specs.CutOff.{FailsIn};
 ghost use Rattle.card_cli.specs.Moments.{IsInStopped, IsAnswered, IfGiven};
@@ -16,7 +15,7 @@ ghost use Rattle.card_cli.specs.Ends.{AllFaults, EndsBy, ends_input, longest_inp
 ghost use Rattle.card_cli.specs.Extent.{RunsInput};
 
 use crate::input::answer_input;
-use crate::line::{LONGEST_COMMAND, Line, LineContent};
+use crate::line::{LONGEST_COMMAND, LineContent, read_line};
 use crate::output::give;
 use crate::responder::Responder;
 use crate::status::Status;
@@ -29,6 +28,9 @@ use scql_base::StatusWord;
 
 /// The longest answer: 256 data octets and a status word in hexadecimal, and a line feed.
 const LONGEST_ANSWER: usize = 517;
+
+/// How many digits a status word has.
+const WORD_DIGITS: usize = 4;
 
 /// A card over its bench, which is asked by commands.
 #[derive(Drop)]
@@ -58,7 +60,7 @@ impl Places {
 #[derive(Drop)]
 pub(crate) struct ReplyPlace {
     reply: Reply,
-    text: ArrayVec<u8, LONGEST_ANSWER>,
+    text: [u8; LONGEST_ANSWER],
 }
 
 impl ReplyPlace {
@@ -68,7 +70,7 @@ impl ReplyPlace {
                 body: ArrayVec::new(),
                 word: StatusWord::DONE,
             },
-            text: ArrayVec::new(),
+            text: [0; LONGEST_ANSWER],
         }
     }
 
@@ -76,8 +78,8 @@ impl ReplyPlace {
     fn text(&mut self) -> &[u8]
         ensures { result.now ≡ model.reply_text self.old.reply }
     {
-        write_reply(&mut self.text, &self.reply);
-        self.text.as_slice()
+        let size = write_reply(&mut self.text, &self.reply);
+        &self.text[..size]
     }
 }
 
@@ -114,7 +116,7 @@ impl<'a, B: Bench> Responder for CommandCard<'a, B> {
         false
     }
 
-    fn answer_line(&mut self, line: &Line) -> Result<(), FailedDevice> {
+    fn answer_line(&mut self, line: &[u8]) -> Result<(), FailedDevice> {
         answer_line(self.card, self.bench, line, &mut self.places)
     }
 
@@ -154,29 +156,29 @@ pub(crate) fn answer_commands<S: Source, B: Bench>(
 fn answer_line<B: Bench>(
     card: &mut Card,
     bench: &mut B,
-    line: &Line,
+    line: &[u8],
     places: &mut Places,
 ) -> Result<(), FailedDevice>
     requires ready { IsReady card.old (B.chip bench.old) }
     ensures at { (m : Machine) → IsAt card.old (B.chip bench.old) m
-        → OnOk result (IsAt card.new (B.chip bench.new) (model.content_effect m (model.content_of (line_octets line.now))).next) }
+        → OnOk result (IsAt card.new (B.chip bench.new) (model.content_effect m (model.content_of (model.taken_line line.now))).next) }
     ensures text { (m : Machine) → IsAt card.old (B.chip bench.old) m
-        → OnOk result (Prints (model.content_effect m (model.content_of (line_octets line.now))).text (B.chip bench.old).still.given (B.chip bench.new).still.given) }
+        → OnOk result (Prints (model.content_effect m (model.content_of (model.taken_line line.now))).text (B.chip bench.old).still.given (B.chip bench.new).still.given) }
     ensures fails { (m : Machine) → IsAt card.old (B.chip bench.old) m
-        → IfErr result (λ stop. FailsIn stop command_lines [] m (model.content_effect m (model.content_of (line_octets line.now))) (B.chip bench.old).still.given (B.chip bench.new)) }
+        → IfErr result (λ stop. FailsIn stop command_lines [] m (model.content_effect m (model.content_of (model.taken_line line.now))) (B.chip bench.old).still.given (B.chip bench.new)) }
     // At each moment a power loss leaves what the line commits, all of it once an octet of its text has gone out,
     ensures answered { (m : Machine) → IsAt card.old (B.chip bench.old) m
-        → OnOk result (IfGiven (B.chip bench.new) (IsAnswered command_lines m (model.content_effect m (model.content_of (line_octets line.now))) (B.chip bench.old) (B.chip bench.new))) }
+        → OnOk result (IfGiven (B.chip bench.new) (IsAnswered command_lines m (model.content_effect m (model.content_of (model.taken_line line.now))) (B.chip bench.old) (B.chip bench.new))) }
     // also where the outlet alone fails; where the EEPROM does it leaves the database before the line or one that it commits.
     ensures moments { (m : Machine) → IsAt card.old (B.chip bench.old) m
-        → IfErr result (λ stop. IfGiven (B.chip bench.new) (Throughout (B.chip bench.old) (B.chip bench.new) (IsInStopped stop command_lines m (model.content_effect m (model.content_of (line_octets line.now))) (B.chip bench.old).still.mark))) }
+        → IfErr result (λ stop. IfGiven (B.chip bench.new) (Throughout (B.chip bench.old) (B.chip bench.new) (IsInStopped stop command_lines m (model.content_effect m (model.content_of (model.taken_line line.now))) (B.chip bench.old).still.mark))) }
     ensures ready { OnOk result (IsReady card.new (B.chip bench.new)) }
     ensures causes { Causes (record { eeprom = B.faults bench.old; outlet = B.sink_faults bench.old }) (record { eeprom = B.faults bench.new; outlet = B.sink_faults bench.new }) result }
     // The card keeps its number of cells, and nothing is written behind its image.
     ensures cells { OnOk result (card.new.store.chains.cells ≡ card.old.store.chains.cells) }
     ensures behind { KeepsBehind (λ was. card.old.store.chains.cells) (B.chip bench.old) (B.chip bench.new) }
 {
-    match line.read(&mut places.command) {
+    match read_line(line, &mut places.command) {
         LineContent::Nothing => Ok(()),
         LineContent::TooLong => Ok(give(bench, b"line too long\n")?),
         LineContent::Reset => {
@@ -221,33 +223,32 @@ fn answer_command<B: Bench>(
     }
 }
 
-fn write_reply(text: &mut ArrayVec<u8, LONGEST_ANSWER>, reply: &Reply)
-    ensures { text.new.items ≡ model.reply_text reply.now }
+// Writes a reply to the front of a place, and tells how many octets it takes.
+fn write_reply(text: &mut [u8; LONGEST_ANSWER], reply: &Reply) -> usize
+    ensures text { take result text.new ≡ model.reply_text reply.now }
+    ensures within { result ≤ LONGEST_ANSWER }
 {
-    let word = reply.word.word;
-    text.clear();
-    put_hexadecimal(text, &reply.body);
-    put_hexadecimal(text, &word.to_be_bytes());
-    text.push(b'\n');
+    let end = 2 * reply.body.len() + WORD_DIGITS;
+    write_digits(&mut text[..end], reply);
+    text[end] = b'\n';
+    end + 1
 }
 
-// Puts octets in hexadecimal behind a text.
-fn put_hexadecimal(text: &mut ArrayVec<u8, LONGEST_ANSWER>, octets: &[u8])
-    requires { length text.old.items + 2 * length octets.now ≤ LONGEST_ANSWER }
-    ensures { text.new.items ≡ text.old.items ++ encode_upper octets.now }
+// Writes the body and the word in hexadecimal.
+fn write_digits(digits: &mut [u8], reply: &Reply)
+    requires { length digits.old ≡ 2 * length reply.now.body + WORD_DIGITS }
+    ensures { digits.new ≡ encode_upper (model.reply_octets reply.now) }
 {
-    let mut digits = [0; LONGEST_ANSWER];
-    let digits = &mut digits[..2 * octets.len()];
-    print_into(octets, digits);
-    let fits = text.try_extend_from_slice(digits).is_ok();
-    prove!(fits);
+    let (body, word) = digits.split_at_mut(2 * reply.body.len());
+    print_into(&reply.body, body);
+    print_into(&reply.word.word.to_be_bytes(), word);
+    digits.make_ascii_uppercase();
 }
 
 fn print_into(octets: &[u8], digits: &mut [u8])
     requires { length digits.old ≡ 2 * length octets.now }
-    ensures { digits.new ≡ encode_upper octets.now }
+    ensures { digits.new ≡ encode_lower octets.now }
 {
     let fits = hex::encode_to_slice(octets, digits).is_ok();
     prove!(fits);
-    digits.make_ascii_uppercase();
 }

@@ -90,5 +90,5 @@ fn answer_last<R: Responder>(responder: &mut R, line: &Line) -> Result<(), Faile
     if line.is_empty() {
         return Ok(());
     }
-    responder.answer_line(line)
+    responder.answer_line(line.octets())
 }

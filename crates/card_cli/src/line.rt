@@ -1,8 +1,9 @@
 // A line of commands: as it comes in, and what it is.
-ghost use Rattle.std.specs.Prelude.{◌≡◌, ◌≤◌, Some, [], length};
+ghost use Rattle.std.specs.Prelude.{◌≡◌, ◌≤◌, ◌++◌, Some, None, IfSome, [], length};
 ghost use Rattle.hex.specs.Hex.{decode_of};
 ghost use Rattle.scql_model.specs.Lines as model;
-ghost use Rattle.card_cli.specs.Line.{IsWithinPlace, is_empty_line, line_octets, longer_by, reading_view};
+ghost use Rattle.scql_model.specs.Lines.{longest_line, taken_line};
+ghost use Rattle.card_cli.specs.Line.{IsWithinPlace, is_empty_line, line_octets, reading_view};
 
 use arrayvec::ArrayVec;
 
@@ -12,13 +13,13 @@ pub(crate) const LONGEST: usize = 1000;
 /// How many octets a command has at most that is written in a line.
 pub(crate) const LONGEST_COMMAND: usize = LONGEST / 2;
 
+/// So many octets say that a line is too long.
+const TOO_LONG: usize = LONGEST + 1;
+
 /// A line as far as it has come in.
 #[derive(Drop)]
-pub(crate) enum Line {
-    /// Its octets so far.
-    Octets(ArrayVec<u8, LONGEST>),
-    /// It is longer than a line may be.
-    TooLong,
+pub(crate) struct Line {
+    octets: ArrayVec<u8, TOO_LONG>,
 }
 
 /// What a whole line is.
@@ -38,59 +39,74 @@ impl Line {
     pub fn new() -> Line
         ensures { line_octets result ≡ Some [] }
     {
-        Line::Octets(ArrayVec::new())
+        Line {
+            octets: ArrayVec::new(),
+        }
     }
 
     pub fn is_empty(&self) -> bool
         ensures { result ≡ is_empty_line (line_octets self.now) }
     {
-        match self {
-            Line::Octets(octets) => octets.is_empty(),
-            Line::TooLong => false,
-        }
+        self.octets.is_empty()
     }
 
-    pub fn push(&mut self, octet: u8)
-        ensures { line_octets self.new ≡ longer_by octet (line_octets self.old) }
+    /// Its octets, or the first ones of a line that is too long.
+    pub fn octets(&self) -> &[u8]
+        ensures { result.now ≡ self.now.octets.items }
     {
-        if let Line::Octets(octets) = self {
-            if octets.is_full() {
-                *self = Line::TooLong;
-            } else {
-                octets.push(octet);
-            }
-        }
+        &self.octets
+    }
+
+    /// Puts octets behind the line, as far as it has room.
+    pub fn extend(&mut self, octets: &[u8])
+        ensures { line_octets self.new ≡ taken_line (self.old.octets.items ++ octets.now) }
+    {
+        let room = self.octets.remaining_capacity();
+        let fits = self
+            .octets
+            .try_extend_from_slice(&octets[..octets.len().min(room)])
+            .is_ok();
+        prove!(fits);
     }
 
     /// Begins a new line.
     pub fn clear(&mut self)
         ensures { line_octets self.new ≡ Some [] }
     {
-        match self {
-            Line::Octets(octets) => octets.clear(),
-            Line::TooLong => *self = Line::new(),
-        }
-    }
-
-    /// Reads the line. A command's octets are put into its place.
-    pub fn read(&self, command: &mut [u8; LONGEST_COMMAND]) -> LineContent
-        ensures content { reading_view command.new result ≡ model.content_of (line_octets self.now) }
-        ensures within { IsWithinPlace result }
-    {
-        match self {
-            Line::TooLong => LineContent::TooLong,
-            Line::Octets(octets) => read_octets(octets, command),
-        }
+        self.octets.clear();
     }
 }
 
-// Most lines have no blanks. They are taken out where the line isn't hexadecimal as it is.
+/// A line as it is taken: its octets, or none where there are more than a line may have.
+pub(crate) fn taken(line: &[u8]) -> Option<&[u8]>
+    ensures some { IfSome result (λ octets. taken_line line.now ≡ Some octets.now) }
+    ensures short { IfSome result (λ octets. length octets.now ≤ longest_line) }
+    ensures none { result ≡ None → taken_line line.now ≡ None }
+{
+    (line.len() <= LONGEST).then_some(line)
+}
+
+/// Reads a whole line. A command's octets are put into its place.
+pub(crate) fn read_line(line: &[u8], command: &mut [u8; LONGEST_COMMAND]) -> LineContent
+    ensures content { reading_view command.new result ≡ model.content_of (taken_line line.now) }
+    ensures within { IsWithinPlace result }
+{
+    match taken(line) {
+        None => LineContent::TooLong,
+        Some(octets) => read_octets(octets, command),
+    }
+}
+
+// Most lines are hexadecimal as they are. Of the others the blanks are taken out.
 fn read_octets(line: &[u8], command: &mut [u8; LONGEST_COMMAND]) -> LineContent
     requires { length line.now ≤ LONGEST }
     ensures content { reading_view command.new result ≡ model.content_without_blanks (model.without_blanks line.now) }
     ensures within { IsWithinPlace result }
 {
-    match read_digits(line, command) {
+    if line.is_empty() {
+        return LineContent::Nothing;
+    }
+    match read_command(line, command) {
         LineContent::NotHexadecimal => read_with_blanks(line, command),
         content => content,
     }

@@ -2,13 +2,11 @@
 ghost use Rattle.std.specs.Prelude.{◌≡◌, ℕ, Bool, OnOk, IfErr};
 ghost use Rattle.eeprom.specs.Chip.{Chip};
 ghost use Rattle.scql_model.specs.Heard.{IsLawful};
-ghost use Rattle.scql_model.specs.Lines.{Language};
+ghost use Rattle.scql_model.specs.Lines.{Language, taken_line};
 ghost use Rattle.card.specs.Behind.{KeepsBehind};
 ghost use Rattle.card_cli.specs.Answering.{Answered, Failed};
-ghost use Rattle.card_cli.specs.Line.{line_octets};
 ghost use Rattle.card_cli.specs.RunState.{Faults, Causes, IsOver};
 
-use crate::line::Line;
 use crate::stop::FailedDevice;
 
 /// A card with the outlet of its answers, asked in a language of lines.
@@ -46,12 +44,12 @@ pub(crate) trait Responder {
     ghost kept: { Self → Self.Kept };
 
     /// Answers a whole line.
-    fn answer_line(&mut self, line: &Line) -> Result<(), FailedDevice>
+    fn answer_line(&mut self, line: &[u8]) -> Result<(), FailedDevice>
         requires { is_ready self.old }
         ensures answered { (state : Self.State) → is_at self.old state
-            → OnOk result (Answered language state (language.effect state (line_octets line.now)) (is_at self.new) (chip self.old) (chip self.new)) }
+            → OnOk result (Answered language state (language.effect state (taken_line line.now)) (is_at self.new) (chip self.old) (chip self.new)) }
         ensures failed { (state : Self.State) → is_at self.old state
-            → IfErr result (λ stop. Failed stop language state (language.effect state (line_octets line.now)) (chip self.old) (chip self.new)) }
+            → IfErr result (λ stop. Failed stop language state (language.effect state (taken_line line.now)) (chip self.old) (chip self.new)) }
         ensures ready { OnOk result (is_ready self.new) }
         ensures causes { Causes (faults self.old) (faults self.new) result }
         // The card keeps its number of cells, and nothing is written behind its image.

@@ -2,13 +2,13 @@
 ghost use Rattle.std.specs.Prelude.{◌≡◌, ◌<◌, ◌≤◌, [], true, length, IsTrue, OnOk, IfOk, IfErr};
 ghost use Rattle.eeprom.specs.Chip.{Becomes};
 ghost use Rattle.scql_model.specs.Database.{Database};
+ghost use Rattle.scql_model.specs.Lines.{taken_line};
 ghost use Rattle.scql_model.specs.Machine.{start};
 ghost use Rattle.terminal.specs.Holding.{Sits};
 ghost use Rattle.card.specs.Behind.{KeepsBehind};
 ghost use Rattle.card.specs.Card.{IsReady, IsAt};
 ghost use Rattle.card.specs.LiveCard.{IsReadyAt};
 ghost use Rattle.card_cli.specs.Answering.{Answered, Failed};
-ghost use Rattle.card_cli.specs.Line.{line_octets};
 ghost use Rattle.card_cli.specs.Ends.{AllFaults, EndsBy, ends_input, longest_input, reads_all};
 ghost use Rattle.card_cli.specs.Extent.{RunsInput};
 ghost use Rattle.card_cli.specs.Run.{TellsRefusals};
@@ -16,7 +16,7 @@ ghost use Rattle.card_cli.specs.RunState.{Causes, Faults};
 ghost use Rattle.card_cli.specs.Statements.{Sitting, heard_as, is_refused, opened, term_lines, was_refused};
 
 use crate::input::answer_input;
-use crate::line::Line;
+use crate::line::taken;
 use crate::responder::Responder;
 use crate::status::Status;
 use crate::stop::FailedDevice;
@@ -62,7 +62,7 @@ impl<'a, B: Bench> Responder for StatementCard<'a, B> {
         self.refused
     }
 
-    fn answer_line(&mut self, line: &Line) -> Result<(), FailedDevice> {
+    fn answer_line(&mut self, line: &[u8]) -> Result<(), FailedDevice> {
         let refused = answer_line(&mut self.terminal, &mut self.card, line)?;
         self.refused |= refused;
         Ok(())
@@ -108,15 +108,15 @@ pub(crate) fn answer_statements<S: Source, B: Bench>(
 fn answer_line<B: Bench>(
     terminal: &mut Terminal,
     card: &mut LiveCard<'_, B>,
-    line: &Line,
+    line: &[u8],
 ) -> Result<bool, FailedDevice>
     requires live { IsTrue card.old.card.live }
     ensures answered { (sitting : Sitting) → Sits (λ l m. IsReadyAt l.card (B.chip l.bench) m) sitting.at terminal.old card.old
-        → OnOk result (Answered term_lines sitting (term_lines.effect sitting (line_octets line.now)) (λ next. Sits (λ l m. IsReadyAt l.card (B.chip l.bench) m) next.at terminal.new card.new) (B.chip card.old.bench) (B.chip card.new.bench)) }
+        → OnOk result (Answered term_lines sitting (term_lines.effect sitting (taken_line line.now)) (λ next. Sits (λ l m. IsReadyAt l.card (B.chip l.bench) m) next.at terminal.new card.new) (B.chip card.old.bench) (B.chip card.new.bench)) }
     ensures refused { (sitting : Sitting) → Sits (λ l m. IsReadyAt l.card (B.chip l.bench) m) sitting.at terminal.old card.old
-        → IfOk result (λ refused. refused ≡ is_refused sitting.at (line_octets line.now)) }
+        → IfOk result (λ refused. refused ≡ is_refused sitting.at (taken_line line.now)) }
     ensures failed { (sitting : Sitting) → Sits (λ l m. IsReadyAt l.card (B.chip l.bench) m) sitting.at terminal.old card.old
-        → IfErr result (λ stop. Failed stop term_lines sitting (term_lines.effect sitting (line_octets line.now)) (B.chip card.old.bench) (B.chip card.new.bench)) }
+        → IfErr result (λ stop. Failed stop term_lines sitting (term_lines.effect sitting (taken_line line.now)) (B.chip card.old.bench) (B.chip card.new.bench)) }
     ensures live { OnOk result (IsTrue card.new.card.live) }
     ensures causes { Causes (record { eeprom = B.faults card.old.bench; outlet = B.sink_faults card.old.bench }) (record { eeprom = B.faults card.new.bench; outlet = B.sink_faults card.new.bench }) result }
     // The card keeps its number of cells, and nothing is written behind its image.
@@ -124,9 +124,9 @@ fn answer_line<B: Bench>(
     ensures behind { KeepsBehind (λ was. card.old.card.store.chains.cells) (B.chip card.old.bench) (B.chip card.new.bench) }
     ensures kept { card.new.name ≡ card.old.name }
 {
-    match line {
-        Line::Octets(octets) => heard(terminal.line(card, octets)),
-        Line::TooLong => heard(terminal.refuse_long_line(card)),
+    match taken(line) {
+        Some(octets) => heard(terminal.line(card, octets)),
+        None => heard(terminal.refuse_long_line(card)),
     }
 }
 

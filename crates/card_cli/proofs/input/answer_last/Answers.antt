@@ -15,17 +15,17 @@ run g responder line = record { at = g.R.Responder.is_at responder; line = line;
 pub returns-clause-text : goal.returns-clause-text
 returns-clause-text g c = λ r running.
     last-text g.R.Responder.language c.answer_line.result (run g c.args.responder.now (line_octets c.args.line.now)) (run g c.answer_line.new.self (line_octets c.args.line.now)) r running
-    (sym c.is_empty.ensures ∙ c.if-is_empty.false) (c.answer_line.ensures.answered r.state running.at)
+    (sym c.is_empty.ensures ∙ c.if-is_empty.false) (rw c.octets.ensures at c.answer_line.ensures.answered r.state running.at)
 
 pub returns-clause-at : goal.returns-clause-at
 returns-clause-at g c = λ r running.
     last-at g.R.Responder.language c.answer_line.result (run g c.args.responder.now (line_octets c.args.line.now)) (run g c.answer_line.new.self (line_octets c.args.line.now)) r running
-    (sym c.is_empty.ensures ∙ c.if-is_empty.false) (c.answer_line.ensures.answered r.state running.at)
+    (sym c.is_empty.ensures ∙ c.if-is_empty.false) (rw c.octets.ensures at c.answer_line.ensures.answered r.state running.at)
 
 pub returns-clause-fails : goal.returns-clause-fails
 returns-clause-fails g c = λ r running.
     last-fails g.R.Responder.language c.answer_line.result (run g c.args.responder.now (line_octets c.args.line.now)) (g.R.Responder.chip c.answer_line.new.self) r running
-    (sym c.is_empty.ensures ∙ c.if-is_empty.false) (c.answer_line.ensures.failed r.state running.at)
+    (sym c.is_empty.ensures ∙ c.if-is_empty.false) (rw c.octets.ensures at c.answer_line.ensures.failed r.state running.at)
 
 pub returns-then-is_empty-clause-answered : goal.returns-then-is_empty-clause-answered
 returns-then-is_empty-clause-answered g c = λ r running told.
@@ -35,11 +35,11 @@ returns-then-is_empty-clause-answered g c = λ r running told.
 pub returns-clause-answered : goal.returns-clause-answered
 returns-clause-answered g c = λ r running.
     last-answered g.R.Responder.language c.answer_line.result (run g c.args.responder.now (line_octets c.args.line.now)) (run g c.answer_line.new.self (line_octets c.args.line.now)) r running
-    (sym c.is_empty.ensures ∙ c.if-is_empty.false) (c.answer_line.ensures.answered r.state running.at)
+    (sym c.is_empty.ensures ∙ c.if-is_empty.false) (rw c.octets.ensures at c.answer_line.ensures.answered r.state running.at)
 
 pub returns-clause-moments : goal.returns-clause-moments
 returns-clause-moments g c = λ r running.
-    last-moments g.R.Responder.language c.answer_line.result (run g c.args.responder.now (line_octets c.args.line.now)) (g.R.Responder.chip c.answer_line.new.self) r running (c.answer_line.ensures.failed r.state running.at)
+    last-moments g.R.Responder.language c.answer_line.result (run g c.args.responder.now (line_octets c.args.line.now)) (g.R.Responder.chip c.answer_line.new.self) r running (rw c.octets.ensures at c.answer_line.ensures.failed r.state running.at)
 
 pub returns-then-is_empty-clause-behind : goal.returns-then-is_empty-clause-behind
 returns-then-is_empty-clause-behind g c = behind-same (λ was. g.R.Responder.cells c.args.responder.now) (g.R.Responder.chip c.args.responder.now) (g.R.Responder.chip c.args.responder.now) refl

@@ -6,7 +6,7 @@ use Rattle.card_cli.proofs.line.read_octets.Goals as goal
 pub returns-in_default : goal.returns-in_default
 returns-in_default c = record {
   content =
-      c.read_digits.ensures.content
-      ∙ sym (same-content c.args.line.now (λ none. c.in_default.not-NotHexadecimal (read-so c.read_digits.new.command c.read_digits.result (c.read_digits.ensures.content ∙ none))));
-  within = c.read_digits.ensures.within;
+      c.read_command.ensures.content
+      ∙ sym (same-content c.args.line.now (sym c.is_empty.ensures ∙ c.if-is_empty.false) (λ none. c.in_default.not-NotHexadecimal (read-so c.read_command.new.command c.read_command.result (c.read_command.ensures.content ∙ none))));
+  within = c.read_command.ensures.within;
 }

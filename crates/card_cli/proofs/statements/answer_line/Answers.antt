@@ -26,83 +26,83 @@ told_by g l = g.B.Outlet.given l.bench
 told : (g : given.Over) → IsTold (at g) (told_by g) (mark g) (chip g)
 told g = record { still = λ l. (g.met.B.Bench.output l.bench).0; marks = λ l. refl; marked = λ l. g.met.B.Bench.mark l.bench; opens = λ l m at. opens-at l.card (g.B.Eeprom.chip l.bench) m at }
 
-pub returns-in-Octets-clause-answered : goal.returns-in-Octets-clause-answered
-returns-in-Octets-clause-answered g c = λ sitting sits.
-    rw (c.in-Octets.is, c.heard.ensures)
-    (heard-answered (at g) (told_by g) (mark g) (chip g) (told g) sitting (Some c.in-Octets.octets.items) (rows_in sitting.at (statement_of c.in-Octets.octets.items)) (refuses sitting.at (statement_of c.in-Octets.octets.items)) c.line.new.self c.line.result
+pub returns-in-Some-clause-answered : goal.returns-in-Some-clause-answered
+returns-in-Some-clause-answered g c = λ sitting sits.
+    rw (c.in-Some.ensures.some, c.heard.ensures)
+    (heard-answered (at g) (told_by g) (mark g) (chip g) (told g) sitting (Some c.in-Some.octets.now) (rows_in sitting.at (statement_of c.in-Some.octets.now)) (refuses sitting.at (statement_of c.in-Some.octets.now)) c.line.new.self c.line.result
     c.args.card.now c.line.new.link
-    (read-ends (at g) (told_by g) sitting.at c.args.terminal.now.channel c.in-Octets.octets.items c.line.new.self c.line.result c.args.card.now c.line.new.link (search rules) sits.channel (rw (c.deref.ensures.0) at c.line.ensures.ends sitting.at.machine sits.at sits.knows))
-    (read-moments sitting.at c.args.terminal.now.channel (mark g c.args.card.now) c.in-Octets.octets.items (chip g c.args.card.now) (chip g c.line.new.link) (search rules) sits.channel (rw (c.deref.ensures.0) at c.line.ensures.moments sitting.at.machine sits.at sits.knows))
+    (read-ends (at g) (told_by g) sitting.at c.args.terminal.now.channel c.in-Some.octets.now c.line.new.self c.line.result c.args.card.now c.line.new.link (search rules) sits.channel (c.line.ensures.ends sitting.at.machine sits.at sits.knows))
+    (read-moments sitting.at c.args.terminal.now.channel (mark g c.args.card.now) c.in-Some.octets.now (chip g c.args.card.now) (chip g c.line.new.link) (search rules) sits.channel (c.line.ensures.moments sitting.at.machine sits.at sits.knows))
     c.line.ensures.goes_on.lasts.marks)
 
-pub returns-in-Octets-clause-refused : goal.returns-in-Octets-clause-refused
-returns-in-Octets-clause-refused g c = λ sitting sits.
-    rw (c.in-Octets.is, c.heard.ensures)
-    (heard-refused (at g) (told_by g) sitting.at.machine _ _ (refuses sitting.at (statement_of c.in-Octets.octets.items)) c.line.new.self c.line.result c.args.card.now c.line.new.link
-    (read-ends (at g) (told_by g) sitting.at c.args.terminal.now.channel c.in-Octets.octets.items c.line.new.self c.line.result c.args.card.now c.line.new.link (search rules) sits.channel (rw (c.deref.ensures.0) at c.line.ensures.ends sitting.at.machine sits.at sits.knows)))
+pub returns-in-Some-clause-refused : goal.returns-in-Some-clause-refused
+returns-in-Some-clause-refused g c = λ sitting sits.
+    rw (c.in-Some.ensures.some, c.heard.ensures)
+    (heard-refused (at g) (told_by g) sitting.at.machine _ _ (refuses sitting.at (statement_of c.in-Some.octets.now)) c.line.new.self c.line.result c.args.card.now c.line.new.link
+    (read-ends (at g) (told_by g) sitting.at c.args.terminal.now.channel c.in-Some.octets.now c.line.new.self c.line.result c.args.card.now c.line.new.link (search rules) sits.channel (c.line.ensures.ends sitting.at.machine sits.at sits.knows)))
 
-pub returns-in-Octets-clause-failed : goal.returns-in-Octets-clause-failed
-returns-in-Octets-clause-failed g c = λ sitting sits.
-    rw (c.in-Octets.is, c.heard.ensures)
-    (heard-failed (at g) (told_by g) (mark g) (chip g) (told g) sitting (Some c.in-Octets.octets.items) (rows_in sitting.at (statement_of c.in-Octets.octets.items)) (refuses sitting.at (statement_of c.in-Octets.octets.items)) c.line.new.self c.line.result
+pub returns-in-Some-clause-failed : goal.returns-in-Some-clause-failed
+returns-in-Some-clause-failed g c = λ sitting sits.
+    rw (c.in-Some.ensures.some, c.heard.ensures)
+    (heard-failed (at g) (told_by g) (mark g) (chip g) (told g) sitting (Some c.in-Some.octets.now) (rows_in sitting.at (statement_of c.in-Some.octets.now)) (refuses sitting.at (statement_of c.in-Some.octets.now)) c.line.new.self c.line.result
     c.args.card.now c.line.new.link
-    (read-ends (at g) (told_by g) sitting.at c.args.terminal.now.channel c.in-Octets.octets.items c.line.new.self c.line.result c.args.card.now c.line.new.link (search rules) sits.channel (rw (c.deref.ensures.0) at c.line.ensures.ends sitting.at.machine sits.at sits.knows))
-    (faulty-read sitting.at (statement_of c.in-Octets.octets.items))
-    (read-moments sitting.at c.args.terminal.now.channel (mark g c.args.card.now) c.in-Octets.octets.items (chip g c.args.card.now) (chip g c.line.new.link) (search rules) sits.channel (rw (c.deref.ensures.0) at c.line.ensures.moments sitting.at.machine sits.at sits.knows))
+    (read-ends (at g) (told_by g) sitting.at c.args.terminal.now.channel c.in-Some.octets.now c.line.new.self c.line.result c.args.card.now c.line.new.link (search rules) sits.channel (c.line.ensures.ends sitting.at.machine sits.at sits.knows))
+    (faulty-read sitting.at (statement_of c.in-Some.octets.now))
+    (read-moments sitting.at c.args.terminal.now.channel (mark g c.args.card.now) c.in-Some.octets.now (chip g c.args.card.now) (chip g c.line.new.link) (search rules) sits.channel (c.line.ensures.moments sitting.at.machine sits.at sits.knows))
     c.line.ensures.goes_on.lasts.marks)
 
-pub returns-in-Octets-clause-live : goal.returns-in-Octets-clause-live
-returns-in-Octets-clause-live g c =
+pub returns-in-Some-clause-live : goal.returns-in-Some-clause-live
+returns-in-Some-clause-live g c =
     rw c.heard.ensures
     (heard-live (λ (l : OnBench g.row.B.Denot). l.card.live) (λ (l : OnBench g.row.B.Denot). g.B.Eeprom.faults l.bench) (λ (l : OnBench g.row.B.Denot). g.B.Outlet.sink_faults l.bench) c.line.result c.args.card.now c.line.new.link c.line.ensures.ends_by c.requires.live)
 
-pub returns-in-Octets-clause-causes : goal.returns-in-Octets-clause-causes
-returns-in-Octets-clause-causes g c =
+pub returns-in-Some-clause-causes : goal.returns-in-Some-clause-causes
+returns-in-Some-clause-causes g c =
     rw c.heard.ensures
     (heard-causes (λ (l : OnBench g.row.B.Denot). l.card.live) (λ (l : OnBench g.row.B.Denot). g.B.Eeprom.faults l.bench) (λ (l : OnBench g.row.B.Denot). g.B.Outlet.sink_faults l.bench) c.line.result c.args.card.now c.line.new.link c.line.ensures.ends_by)
 
-pub returns-in-Octets-clause-cells : goal.returns-in-Octets-clause-cells
-returns-in-Octets-clause-cells g c =
+pub returns-in-Some-clause-cells : goal.returns-in-Some-clause-cells
+returns-in-Some-clause-cells g c =
     rw c.heard.ensures
     (heard-while c.line.result
     (heard-live (λ (l : OnBench g.row.B.Denot). l.card.live) (λ (l : OnBench g.row.B.Denot). g.B.Eeprom.faults l.bench) (λ (l : OnBench g.row.B.Denot). g.B.Outlet.sink_faults l.bench) c.line.result c.args.card.now c.line.new.link c.line.ensures.ends_by c.requires.live)
     c.line.ensures.goes_on.lasts.cells)
 
-pub returns-in-TooLong-clause-answered : goal.returns-in-TooLong-clause-answered
-returns-in-TooLong-clause-answered g c = λ sitting sits.
-    rw (c.in-TooLong.is, c.heard-in-TooLong.ensures)
+pub returns-in-None-clause-answered : goal.returns-in-None-clause-answered
+returns-in-None-clause-answered g c = λ sitting sits.
+    rw (c.in-None.ensures.none refl, c.heard-in-None.ensures)
     (heard-answered (at g) (told_by g) (mark g) (chip g) (told g) sitting None [] true c.refuse_long_line.new.self c.refuse_long_line.result c.args.card.now c.refuse_long_line.new.link
     (long-ends (at g) (told_by g) sitting.at c.args.terminal.now.channel c.refuse_long_line.new.self c.refuse_long_line.result c.args.card.now c.refuse_long_line.new.link sits.channel (c.refuse_long_line.ensures.ends sitting.at.machine sits.at sits.knows))
     (c.refuse_long_line.ensures.moments sitting.at.machine sits.at) c.refuse_long_line.ensures.goes_on.lasts.marks)
 
-pub returns-in-TooLong-clause-refused : goal.returns-in-TooLong-clause-refused
-returns-in-TooLong-clause-refused g c = λ sitting sits.
-    rw (c.in-TooLong.is, c.heard-in-TooLong.ensures)
+pub returns-in-None-clause-refused : goal.returns-in-None-clause-refused
+returns-in-None-clause-refused g c = λ sitting sits.
+    rw (c.in-None.ensures.none refl, c.heard-in-None.ensures)
     (heard-refused (at g) (told_by g) sitting.at.machine _ [] true c.refuse_long_line.new.self c.refuse_long_line.result c.args.card.now c.refuse_long_line.new.link
     (long-ends (at g) (told_by g) sitting.at c.args.terminal.now.channel c.refuse_long_line.new.self c.refuse_long_line.result c.args.card.now c.refuse_long_line.new.link sits.channel (c.refuse_long_line.ensures.ends sitting.at.machine sits.at sits.knows)))
 
-pub returns-in-TooLong-clause-failed : goal.returns-in-TooLong-clause-failed
-returns-in-TooLong-clause-failed g c = λ sitting sits.
-    rw (c.in-TooLong.is, c.heard-in-TooLong.ensures)
+pub returns-in-None-clause-failed : goal.returns-in-None-clause-failed
+returns-in-None-clause-failed g c = λ sitting sits.
+    rw (c.in-None.ensures.none refl, c.heard-in-None.ensures)
     (heard-failed (at g) (told_by g) (mark g) (chip g) (told g) sitting None [] true c.refuse_long_line.new.self c.refuse_long_line.result c.args.card.now c.refuse_long_line.new.link
     (long-ends (at g) (told_by g) sitting.at c.args.terminal.now.channel c.refuse_long_line.new.self c.refuse_long_line.result c.args.card.now c.refuse_long_line.new.link sits.channel (c.refuse_long_line.ensures.ends sitting.at.machine sits.at sits.knows))
     refl (c.refuse_long_line.ensures.moments sitting.at.machine sits.at) c.refuse_long_line.ensures.goes_on.lasts.marks)
 
-pub returns-in-TooLong-clause-live : goal.returns-in-TooLong-clause-live
-returns-in-TooLong-clause-live g c =
-    rw c.heard-in-TooLong.ensures
+pub returns-in-None-clause-live : goal.returns-in-None-clause-live
+returns-in-None-clause-live g c =
+    rw c.heard-in-None.ensures
     (heard-live (λ (l : OnBench g.row.B.Denot). l.card.live) (λ (l : OnBench g.row.B.Denot). g.B.Eeprom.faults l.bench) (λ (l : OnBench g.row.B.Denot). g.B.Outlet.sink_faults l.bench) c.refuse_long_line.result c.args.card.now c.refuse_long_line.new.link
     c.refuse_long_line.ensures.ends_by c.requires.live)
 
-pub returns-in-TooLong-clause-causes : goal.returns-in-TooLong-clause-causes
-returns-in-TooLong-clause-causes g c =
-    rw c.heard-in-TooLong.ensures
+pub returns-in-None-clause-causes : goal.returns-in-None-clause-causes
+returns-in-None-clause-causes g c =
+    rw c.heard-in-None.ensures
     (heard-causes (λ (l : OnBench g.row.B.Denot). l.card.live) (λ (l : OnBench g.row.B.Denot). g.B.Eeprom.faults l.bench) (λ (l : OnBench g.row.B.Denot). g.B.Outlet.sink_faults l.bench) c.refuse_long_line.result c.args.card.now c.refuse_long_line.new.link
     c.refuse_long_line.ensures.ends_by)
 
-pub returns-in-TooLong-clause-cells : goal.returns-in-TooLong-clause-cells
-returns-in-TooLong-clause-cells g c =
-    rw c.heard-in-TooLong.ensures
+pub returns-in-None-clause-cells : goal.returns-in-None-clause-cells
+returns-in-None-clause-cells g c =
+    rw c.heard-in-None.ensures
     (heard-while c.refuse_long_line.result
     (heard-live (λ (l : OnBench g.row.B.Denot). l.card.live) (λ (l : OnBench g.row.B.Denot). g.B.Eeprom.faults l.bench) (λ (l : OnBench g.row.B.Denot). g.B.Outlet.sink_faults l.bench) c.refuse_long_line.result c.args.card.now c.refuse_long_line.new.link
     c.refuse_long_line.ensures.ends_by c.requires.live)
