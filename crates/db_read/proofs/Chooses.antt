@@ -114,14 +114,14 @@ module _ (store : Held) (side : Side) (chip : Chip) (db : Database) (actor : Act
         subst (λ (x : Columns). are_named_among x c.columns c.conditions ≡ true) (sym whole)
         (and_from (are_among c.columns seen.all) (AreKnown seen.all c.conditions) named-both.0 named-both.1)
 
-    module _ (chosen : Chosen) (of_model : chosen.table ≡ seen.table) (filters : AreBound chosen.filters.now seen.all seen.filters) (placed : ArePlaces chosen.places.items seen.all c.columns) (binds : Binds chosen.conditions.now seen.all c.conditions)
+    module _ (chosen : Chosen) (of_model : chosen.table ≡ seen.table) (filters : AreBound chosen.filters.now seen.all seen.filters) (placed : ArePlaces chosen.places.now.items seen.all c.columns) (binds : Binds chosen.conditions.now seen.all c.conditions)
         (few : length c.columns ≤ 15) where
       can-cut : (x : RowRecord) → row_record.fits x ≡ true → has_table db.objects x ≡ true → is_chosen chosen x ≡ true → can_cut chosen x ≡ true
       can-cut x fits has is =
           let own = eqb-true x.table chosen.table (and_parts (x.table == chosen.table) (is_shown chosen x.row) is).0 in
           let there = table-row db.objects x known.table has (ap (object_stamped db.objects) (own ∙ of_model) ∙ known.found_table) in
           let limits = row-limits x fits in
-          cut-fits chosen.places.items seen.all c.columns x.row placed few cursor.different named-both.0 (ap (length {A = List ℕ}) (sym known.all) ∙ there.0) limits.0 limits.1
+          cut-fits chosen.places.now.items seen.all c.columns x.row placed few cursor.different named-both.0 (ap (length {A = List ℕ}) (sym known.all) ∙ there.0) limits.0 limits.1
 
       stamped : (x : RowRecord) → row_record.fits x ≡ true → has_table db.objects x ≡ true → is_chosen chosen x ≡ true → nat_lt 0 x.stamp ≡ true
       stamped x fits has is =
@@ -162,7 +162,7 @@ module _ (store : Held) (side : Side) (chip : Chip) (db : Database) (actor : Act
       }
 
   -- what is chosen of a table
-  pub Chooses-table : (columns : Columns) (chosen : Chosen) → o.kind ≡ Table columns → chosen.table ≡ o.stamp → chosen.filters.now ≡ [] → ArePlaces chosen.places.items columns c.columns → Binds chosen.conditions.now columns c.conditions
+  pub Chooses-table : (columns : Columns) (chosen : Chosen) → o.kind ≡ Table columns → chosen.table ≡ o.stamp → chosen.filters.now ≡ [] → ArePlaces chosen.places.now.items columns c.columns → Binds chosen.conditions.now columns c.conditions
       → length c.columns ≤ 15 → Chooses db actor c (Tells (OfTable chosen) store side chip) (costs_of (OfTable chosen) (slots_of store side chip))
   unfolding model.resolved_of
   Chooses-table columns chosen kind table none places binds few =
@@ -171,8 +171,8 @@ module _ (store : Held) (side : Side) (chip : Chip) (db : Database) (actor : Act
       Chooses-chosen seen resolved chosen table (subst (λ (filters : List (List Placed)). AreBound filters columns []) (sym none) tt) places binds few
 
   -- what is chosen of the table under a view
-  pub Chooses-view : (answer : Resolved) (resolves : Resolves db.objects o.stamp answer) (chosen : Chosen) → chosen.table ≡ answer.table → chosen.filters.now ≡ answer.filters.items → ArePlaces chosen.places.items answer.all c.columns
+  pub Chooses-view : (answer : Resolved) (resolves : Resolves db.objects o.stamp answer) (chosen : Chosen) → chosen.table ≡ answer.table → chosen.filters.now ≡ answer.filters.items → ArePlaces chosen.places.now.items answer.all c.columns
       → Binds chosen.conditions.now answer.all c.conditions → length c.columns ≤ 15 → Chooses db actor c (Tells (OfTable chosen) store side chip) (costs_of (OfTable chosen) (slots_of store side chip))
   Chooses-view answer resolves chosen table filters places binds few =
       Chooses-chosen resolves.is resolves.resolved chosen (table ∙ resolves.stands.table) (subst (λ (x : List (List Placed)). AreBound x resolves.is.all resolves.is.filters) (sym filters) resolves.stands.filters)
-      (subst (λ (all : Columns). ArePlaces chosen.places.items all c.columns) resolves.stands.all places) (subst (λ (all : Columns). Binds chosen.conditions.now all c.conditions) resolves.stands.all binds) few
+      (subst (λ (all : Columns). ArePlaces chosen.places.now.items all c.columns) resolves.stands.all places) (subst (λ (all : Columns). Binds chosen.conditions.now all c.conditions) resolves.stands.all binds) few

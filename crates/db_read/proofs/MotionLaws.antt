@@ -94,6 +94,11 @@ refused-stays (FetchNext le) from to word values rows c goes stays refusing = st
 pub fault-said : (P : StatusWord → Type 0) (stop : Stop) (result : Result StatusWord EepromFault) → result ≡ stop_answer stop → stop ≡ Fault → IfOk result P
 fault-said P stop result is fault = subst (λ r. IfOk r P) (sym is) (subst (λ (s : Stop). IfOk (stop_answer s) P) (sym fault) tt)
 
+-- what an answer says for two reasons
+pub said-by : {P Q R : StatusWord → Type 0} (r : Result StatusWord EepromFault) → ((word : StatusWord) → P word → Q word → R word) → IfOk r P → IfOk r Q → IfOk r R
+said-by (Ok word) then' one other = then' word one other
+said-by (Err fault) then' one other = tt
+
 -- a motion that is refused gives no row
 refused-least : (motion : Motion) (word : StatusWord) (values : Values) → refuses word ≡ true → least_by motion word values ≡ 0
 refused-least Open word values is = refl
@@ -169,6 +174,15 @@ module _ (store : Held) (side : Side) (chip : Chip) (db : Database) (held : IsHe
           let greatest : after ≤ s.0 + (way_cost held.slots + 64 * row_cells db c.object (is_on_way motion from chooses.rows)) = omega (arith, h.2.1, s.2) in
           (s.0, s.1, (least, greatest));
     }
+
+  -- what a motion answers that moves over what is chosen
+  pub Advances-ok : (actor : Actor) (c : Cursor) (tells : List StampedRow → Type 0) (costs : Option (List Cost)) → Chooses db actor c tells costs → (motion : Motion) (from to : Place) (values : Values) (a b : Option ℕ) (r : Result StatusWord EepromFault)
+      → IfOk r (λ word. (rows : List StampedRow) → tells rows → AreStamped rows → (on : Cursor) → Goes motion from to word values rows on)
+      → IfOk r (λ word. (rows : List StampedRow) → tells rows → IfSome costs (λ list. Becomes (RisesBetween (least_by motion word values) (cost_by motion from to rows list)) a b))
+      → IfOk r (λ word. IfSome (slots_of store side chip) (λ slots. Advances db actor c motion from to word values slots a b))
+  Advances-ok actor c tells costs chooses motion from to values a b (Ok word) goes read =
+      of-slots (λ slots. Advances db actor c motion from to word values slots a b) (Advances-at-once actor c tells costs chooses motion from to word values a b goes read held.slots)
+  Advances-ok actor c tells costs chooses motion from to values a b (Err fault) goes read = tt
 
 -- the cells of the rows on the way are those of the command
 cells-by : (motion : Motion) (db : Database) (actor : Actor) (c : Cursor) (rows : List StampedRow) → rows_under db actor c ≡ Ok rows → cells_moved db actor c (command_of motion) ≡ row_cells db c.object (is_on_way motion c.place rows)

@@ -38,9 +38,9 @@ filter-twice p q (Some x) =
 
 -- what is shown of a row that may be there
 abbrev pub shown_values : Chosen → Option RowRecord → Option Values
-shown_values chosen o = option_map (λ (r : RowRecord). values_at chosen.places.items r.row) (option_filter (λ (r : RowRecord). is_shown chosen r.row) o)
+shown_values chosen o = option_map (λ (r : RowRecord). values_at chosen.places.now.items r.row) (option_filter (λ (r : RowRecord). is_shown chosen r.row) o)
 
-values-shown : (chosen : Chosen) (o : Option RowRecord) → option_map (λ (row : StampedRow). row.values) (option_map (shown_row chosen) o) ≡ option_map (λ (r : RowRecord). values_at chosen.places.items r.row) o
+values-shown : (chosen : Chosen) (o : Option RowRecord) → option_map (λ (row : StampedRow). row.values) (option_map (shown_row chosen) o) ≡ option_map (λ (r : RowRecord). values_at chosen.places.now.items r.row) o
 values-shown chosen None = refl
 values-shown chosen (Some r) = refl
 
@@ -54,7 +54,7 @@ row-there chosen stamp (Some slots) found said =
     let both = find-both (has row_kind.key stamp) (is_chosen chosen) rows (one-rising row_kind.key stamp rows rises) in
     let twice = filter-twice (λ (r : RowRecord). r.table == chosen.table) (λ (r : RowRecord). is_shown chosen r.row) (find (has row_kind.key stamp) rows) in
     ap (shown_values chosen) said
-    ∙ (ap (option_map (λ (r : RowRecord). values_at chosen.places.items r.row)) (sym twice ∙ sym both)
+    ∙ (ap (option_map (λ (r : RowRecord). values_at chosen.places.now.items r.row)) (sym twice ∙ sym both)
     ∙ (sym (values-shown chosen (find (λ (r : RowRecord). has row_kind.key stamp r && is_chosen chosen r) rows))
     ∙ sym (ap (option_map (λ (row : StampedRow). row.values)) (find-map_filter (λ (x : StampedRow). x.stamp == stamp) (shown_row chosen) (is_chosen chosen) rows)))))
 
@@ -89,32 +89,32 @@ can-show chosen stamp slots r can found shown =
 
 -- the row that is handed out
 pub row-cut : (chosen : Chosen) (stamp : ℕ) (slots : Option Slots) (r : RowRecord) (cut : Values) → IfSome slots (λ slots. Some r ≡ of_table chosen.table stamp slots) → is_shown chosen r.row ≡ true
-    → (are_a_row (values_at chosen.places.items r.row) ≡ true → cut ≡ values_at chosen.places.items r.row) → IfSome (rows_shown chosen slots) (λ rows. Some cut ≡ option_map (λ row. row.values) (row_at stamp rows))
+    → (are_a_row (values_at chosen.places.now.items r.row) ≡ true → cut ≡ values_at chosen.places.now.items r.row) → IfSome (rows_shown chosen slots) (λ rows. Some cut ≡ option_map (λ row. row.values) (row_at stamp rows))
 row-cut chosen stamp None r cut found shown is = tt
 row-cut chosen stamp (Some slots) r cut found shown is =
     shown-both (row-there chosen stamp (Some slots) (Some r) found)
-    (shown-told chosen (Some slots) (λ _. cut ≡ values_at chosen.places.items r.row) (λ can.
-    is (and_parts (are_a_row (values_at chosen.places.items r.row)) (nat_le (row_size (values_at chosen.places.items r.row)) (row_size r.row)) (can-show chosen stamp slots r can found shown)).0))
+    (shown-told chosen (Some slots) (λ _. cut ≡ values_at chosen.places.now.items r.row) (λ can.
+    is (and_parts (are_a_row (values_at chosen.places.now.items r.row)) (nat_le (row_size (values_at chosen.places.now.items r.row)) (row_size r.row)) (can-show chosen stamp slots r can found shown)).0))
   where
-    shown-both : IfSome (rows_shown chosen (Some slots)) (λ rows. shown_values chosen (Some r) ≡ option_map (λ row. row.values) (row_at stamp rows)) → IfSome (rows_shown chosen (Some slots)) (λ _. cut ≡ values_at chosen.places.items r.row)
+    shown-both : IfSome (rows_shown chosen (Some slots)) (λ rows. shown_values chosen (Some r) ≡ option_map (λ row. row.values) (row_at stamp rows)) → IfSome (rows_shown chosen (Some slots)) (λ _. cut ≡ values_at chosen.places.now.items r.row)
         → IfSome (rows_shown chosen (Some slots)) (λ rows. Some cut ≡ option_map (λ row. row.values) (row_at stamp rows))
     shown-both = go (rows_shown chosen (Some slots))
       where
-        go : (o : Option (List StampedRow)) → IfSome o (λ rows. shown_values chosen (Some r) ≡ option_map (λ row. row.values) (row_at stamp rows)) → IfSome o (λ _. cut ≡ values_at chosen.places.items r.row)
+        go : (o : Option (List StampedRow)) → IfSome o (λ rows. shown_values chosen (Some r) ≡ option_map (λ row. row.values) (row_at stamp rows)) → IfSome o (λ _. cut ≡ values_at chosen.places.now.items r.row)
             → IfSome o (λ rows. Some cut ≡ option_map (λ row. row.values) (row_at stamp rows))
         go None there same = tt
         go (Some rows) there same = ap Some same ∙ (rw shown at there)
 
 pub row-cut-reads : (chosen : Chosen) (stamp : ℕ) (slots : Option Slots) (r : RowRecord) (cut : Values) (a b : Option ℕ) → IfSome slots (λ slots. Some r ≡ of_table chosen.table stamp slots) → is_shown chosen r.row ≡ true
-    → (are_a_row (values_at chosen.places.items r.row) ≡ true → cut ≡ values_at chosen.places.items r.row)
+    → (are_a_row (values_at chosen.places.now.items r.row) ≡ true → cut ≡ values_at chosen.places.now.items r.row)
     → IfSome slots (λ slots. Becomes (RisesBetween (least_of (Some r)) (cost_of stamp (row_costs chosen.table slots))) a b)
     → IfSome (costs_shown chosen slots) (λ costs. Becomes (RisesBetween (row_size cut) (cost_of stamp costs)) a b)
 row-cut-reads chosen stamp None r cut a b found shown is reads = tt
 row-cut-reads chosen stamp (Some slots) r cut a b found shown is reads =
     costs-told chosen (Some slots) (λ costs. Becomes (RisesBetween (row_size cut) (cost_of stamp costs)) a b) (λ can after told.
     let h = reads after told in
-    let fits = and_parts (are_a_row (values_at chosen.places.items r.row)) (nat_le (row_size (values_at chosen.places.items r.row)) (row_size r.row)) (can-show chosen stamp slots r can found shown) in
-    let narrow = leb-true (row_size (values_at chosen.places.items r.row)) (row_size r.row) fits.1 in
+    let fits = and_parts (are_a_row (values_at chosen.places.now.items r.row)) (nat_le (row_size (values_at chosen.places.now.items r.row)) (row_size r.row)) (can-show chosen stamp slots r can found shown) in
+    let narrow = leb-true (row_size (values_at chosen.places.now.items r.row)) (row_size r.row) fits.1 in
     let least : row_size cut ≤ row_size r.row = rw (is fits.0) narrow in
     (h.0, h.1, (omega (arith, h.2.0, least), h.2.1)))
 
@@ -146,27 +146,27 @@ can-show-next chosen stamp slots r can next =
 
 -- and is handed out so
 pub next-cut : (chosen : Chosen) (stamp : ℕ) (slots : Option Slots) (r : RowRecord) (cut : Values) → IfSome slots (IsNextShown chosen stamp (Some r))
-    → (are_a_row (values_at chosen.places.items r.row) ≡ true → cut ≡ values_at chosen.places.items r.row) → IfSome (rows_shown chosen slots) (λ rows. row_handed (Some r.stamp) cut ≡ row_behind (At stamp) rows)
+    → (are_a_row (values_at chosen.places.now.items r.row) ≡ true → cut ≡ values_at chosen.places.now.items r.row) → IfSome (rows_shown chosen slots) (λ rows. row_handed (Some r.stamp) cut ≡ row_behind (At stamp) rows)
 next-cut chosen stamp None r cut next is = tt
 next-cut chosen stamp (Some slots) r cut next is =
     cut-as (rows_shown chosen (Some slots)) (next-row chosen stamp (Some slots) (Some r) next)
-    (shown-told chosen (Some slots) (λ _. cut ≡ values_at chosen.places.items r.row) (λ can.
-    is (and_parts (are_a_row (values_at chosen.places.items r.row)) (nat_le (row_size (values_at chosen.places.items r.row)) (row_size r.row)) (can-show-next chosen stamp slots r can next)).0))
+    (shown-told chosen (Some slots) (λ _. cut ≡ values_at chosen.places.now.items r.row) (λ can.
+    is (and_parts (are_a_row (values_at chosen.places.now.items r.row)) (nat_le (row_size (values_at chosen.places.now.items r.row)) (row_size r.row)) (can-show-next chosen stamp slots r can next)).0))
   where
-    cut-as : (o : Option (List StampedRow)) → IfSome o (λ rows. Some (shown_row chosen r) ≡ row_behind (At stamp) rows) → IfSome o (λ _. cut ≡ values_at chosen.places.items r.row)
+    cut-as : (o : Option (List StampedRow)) → IfSome o (λ rows. Some (shown_row chosen r) ≡ row_behind (At stamp) rows) → IfSome o (λ _. cut ≡ values_at chosen.places.now.items r.row)
         → IfSome o (λ rows. row_handed (Some r.stamp) cut ≡ row_behind (At stamp) rows)
     cut-as None next same = tt
     cut-as (Some rows) next same = ap (row_handed (Some r.stamp)) same ∙ next
 
 pub next-cut-reads : (chosen : Chosen) (stamp : ℕ) (slots : Option Slots) (r : RowRecord) (cut : Values) (a b : Option ℕ) → IfSome slots (IsNextShown chosen stamp (Some r))
-    → (are_a_row (values_at chosen.places.items r.row) ≡ true → cut ≡ values_at chosen.places.items r.row)
+    → (are_a_row (values_at chosen.places.now.items r.row) ≡ true → cut ≡ values_at chosen.places.now.items r.row)
     → IfSome slots (λ slots. Becomes (RisesBetween (least_of (Some r)) (cost_passed chosen.table stamp slots (Some r))) a b)
     → IfSome (costs_shown chosen slots) (λ costs. Becomes (RisesBetween (size_handed (Some r.stamp) cut) (cost_behind stamp (Some r.stamp) costs)) a b)
 next-cut-reads chosen stamp None r cut a b next is reads = tt
 next-cut-reads chosen stamp (Some slots) r cut a b next is reads =
     costs-told chosen (Some slots) (λ costs. Becomes (RisesBetween (row_size cut) (cost_behind stamp (Some r.stamp) costs)) a b) (λ can after told.
     let h = reads after told in
-    let fits = and_parts (are_a_row (values_at chosen.places.items r.row)) (nat_le (row_size (values_at chosen.places.items r.row)) (row_size r.row)) (can-show-next chosen stamp slots r can next) in
-    let narrow = leb-true (row_size (values_at chosen.places.items r.row)) (row_size r.row) fits.1 in
+    let fits = and_parts (are_a_row (values_at chosen.places.now.items r.row)) (nat_le (row_size (values_at chosen.places.now.items r.row)) (row_size r.row)) (can-show-next chosen stamp slots r can next) in
+    let narrow = leb-true (row_size (values_at chosen.places.now.items r.row)) (row_size r.row) fits.1 in
     let least : row_size cut ≤ row_size r.row = rw (is fits.0) narrow in
     (h.0, h.1, (omega (arith, h.2.0, least), h.2.1)))

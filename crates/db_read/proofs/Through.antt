@@ -50,7 +50,7 @@ filters-match [] all (cs ∷ lists) values are = absurd are
 filters-match (b ∷ filters) all [] values are = absurd are
 filters-match (b ∷ filters) all (cs ∷ lists) values are = rw (are.0 values, filters-match filters all lists values are.1) refl
 
-module _ (chosen : Chosen) (r : model.Resolved) (wanted : Columns) (conditions : List Condition) (table : chosen.table ≡ r.table) (places : ArePlaces chosen.places.items r.all wanted) (binds : Binds chosen.conditions.now r.all conditions)
+module _ (chosen : Chosen) (r : model.Resolved) (wanted : Columns) (conditions : List Condition) (table : chosen.table ≡ r.table) (places : ArePlaces chosen.places.now.items r.all wanted) (binds : Binds chosen.conditions.now r.all conditions)
     (filters : AreBound chosen.filters.now r.all r.filters) where
   shown-matches : (values : Values) → is_shown chosen values ≡ (matches r.all conditions values && passes_filters r values)
   shown-matches values = rw (binds values, filters-match chosen.filters.now r.all r.filters values filters) refl
@@ -62,7 +62,7 @@ module _ (chosen : Chosen) (r : model.Resolved) (wanted : Columns) (conditions :
   chosen-through (x ∷ rows) =
       elim (cases_Bool (x.table == r.table)) [
         | inl t ↦ elim (cases_Bool (matches r.all conditions x.row && passes_filters r x.row)) [
-          | inl u ↦ rw (table, t, shown-matches x.row, u) (ap (λ (v : Values). let row : StampedRow = record { stamp = x.stamp; values = v } in row ∷ chosen_rows chosen rows) (values-placed chosen.places.items r.all wanted x.row places) ∙ ap (λ (rest : List StampedRow). let row : StampedRow = record { stamp = x.stamp; values = cut_to r.all wanted x.row } in row ∷ rest) (chosen-through rows))
+          | inl u ↦ rw (table, t, shown-matches x.row, u) (ap (λ (v : Values). let row : StampedRow = record { stamp = x.stamp; values = v } in row ∷ chosen_rows chosen rows) (values-placed chosen.places.now.items r.all wanted x.row places) ∙ ap (λ (rest : List StampedRow). let row : StampedRow = record { stamp = x.stamp; values = cut_to r.all wanted x.row } in row ∷ rest) (chosen-through rows))
           | inr f ↦ rw (table, t, shown-matches x.row, f) (chosen-through rows)
         ]
         | inr e ↦ rw (table, e) (chosen-through rows)

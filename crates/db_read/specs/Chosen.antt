@@ -27,7 +27,7 @@ abbrev pub is_chosen : Chosen → RowRecord → Bool
 is_chosen chosen r = r.table == chosen.table && is_shown chosen r.row
 
 abbrev pub shown_row : Chosen → RowRecord → StampedRow
-shown_row chosen r = record { stamp = r.stamp; values = values_at chosen.places.items r.row }
+shown_row chosen r = record { stamp = r.stamp; values = values_at chosen.places.now.items r.row }
 
 abbrev pub chosen_rows : Chosen → List RowRecord → List StampedRow
 chosen_rows chosen rows = map (shown_row chosen) (filter (is_chosen chosen) rows)
@@ -39,7 +39,7 @@ are_rising (r ∷ rows) = list_all (λ (s : RowRecord). nat_lt r.stamp s.stamp) 
 
 -- what is shown of a row is a row, and no longer
 abbrev pub can_cut : Chosen → RowRecord → Bool
-can_cut chosen r = are_a_row (values_at chosen.places.items r.row) && nat_le (row_size (values_at chosen.places.items r.row)) (row_size r.row)
+can_cut chosen r = are_a_row (values_at chosen.places.now.items r.row) && nat_le (row_size (values_at chosen.places.now.items r.row)) (row_size r.row)
 
 -- rows in order, of which each that is chosen can be shown
 abbrev pub can_show : Chosen → List RowRecord → Bool

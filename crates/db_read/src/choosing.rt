@@ -10,6 +10,7 @@ ghost use Rattle.views.specs.Resolved.{ArePlaces};
 ghost use Rattle.db_read.specs.Chosen as specs;
 ghost use Rattle.db_read.specs.Chosen.{values_at};
 
+use crate::scan::Prepared;
 use crate::telling::Told;
 use scql_base::{Conditions, NameList, Row};
 use search_cond::{Bound, Placed, bind_into, meets_each};
@@ -30,7 +31,7 @@ pub(crate) struct Chosen<'a> {
     /// The stamp of the table.
     pub(crate) table: u32,
     /// The places of the cursor's columns among the table's.
-    pub(crate) places: Places,
+    pub(crate) places: &'a Places,
     /// The cursor's conditions.
     pub(crate) conditions: &'a [Placed],
     /// The conditions of the views between.
@@ -38,6 +39,20 @@ pub(crate) struct Chosen<'a> {
 }
 
 impl<'a> Chosen<'a> {
+    /// All rows of a table, as they were prepared.
+    pub(crate) fn all_of(prepared: &'a Prepared) -> Chosen<'a>
+        ensures table { result.table ≡ prepared.now.table }
+        ensures places { result.places.now ≡ prepared.now.places }
+        ensures all { (result.conditions.now ≡ []) × (result.filters.now ≡ []) }
+    {
+        Chosen {
+            table: prepared.table,
+            places: &prepared.places,
+            conditions: &[],
+            filters: &[],
+        }
+    }
+
     /// Whether each row of the table is among those chosen, since there are no conditions.
     pub(crate) fn shows_all(&self) -> bool
         ensures { IsTrue result → (values : Values) → specs.is_shown self.now values ≡ true }
@@ -60,6 +75,7 @@ fn passes_each(filters: &[Bound], row: &Row) -> bool
 }
 
 /// Becomes the values at places of a row. What isn't a row is cut short.
+#[inline(always)]
 pub(crate) fn cut_into(places: &Places, row: &Row, out: &mut Row)
     ensures { are_a_row (values_at places.now.items row.now) ≡ true → out.new ≡ values_at places.now.items row.now }
 {
@@ -94,6 +110,7 @@ fn take_over(row: &Row, out: &mut Row)
 }
 
 // Becomes the values at places of a row, one by one.
+#[inline(never)]
 fn cut_each(places: &Places, row: &Row, out: &mut Row)
     ensures { are_a_row (values_at places.now.items row.now) ≡ true → out.new ≡ values_at places.now.items row.now }
 {
@@ -105,22 +122,24 @@ fn cut_each(places: &Places, row: &Row, out: &mut Row)
     }
 }
 
-/// What columns and conditions choose of a table that is seen through views. None where one of them isn't on the table's columns.
+/// What columns and conditions choose of a table that is seen through views. None where one of them isn't on the table's columns. The
+/// places of the columns, and the conditions bound to them, are put where the caller has room.
 pub(crate) fn choose<'a>(
     table: u32,
     all: &NameList,
     filters: &'a [Bound],
     columns: &NameList,
     conditions: &Conditions,
+    places: &'a mut Places,
     bound: &'a mut Bound,
 ) -> Option<Chosen<'a>>
     ensures chosen { IfSome result (λ chosen. (chosen.table ≡ table) × (chosen.filters.now ≡ filters.now)
-        × ArePlaces chosen.places.items all.now columns.now × Binds chosen.conditions.now all.now conditions.now) }
+        × ArePlaces chosen.places.now.items all.now columns.now × Binds chosen.conditions.now all.now conditions.now) }
     ensures few { IfSome result (λ _. length columns.now ≤ MOST) }
     ensures there { are_named_among all.now columns.now conditions.now ≡ true → IsSome result }
 {
     prove!(columns.len() <= NameList::MOST);
-    let places = places_of(all, columns)?;
+    *places = places_of(all, columns)?;
     bind_into(all, conditions, bound).ok()?;
     Some(Chosen {
         table,
@@ -131,18 +150,12 @@ pub(crate) fn choose<'a>(
 }
 
 /// What columns choose of a table without conditions: all its rows. None where one of them isn't on the table's columns.
-pub(crate) fn choose_all<'a>(table: u32, all: &NameList, columns: &NameList) -> Option<Chosen<'a>>
-    ensures chosen { IfSome result (λ chosen. (chosen.table ≡ table) × (chosen.filters.now ≡ [])
-        × ArePlaces chosen.places.items all.now columns.now × (chosen.conditions.now ≡ [])) }
+pub(crate) fn prepare(table: u32, all: &NameList, columns: &NameList) -> Option<Prepared>
+    ensures prepared { IfSome result (λ prepared. (prepared.table ≡ table) × ArePlaces prepared.places.items all.now columns.now) }
     ensures few { IfSome result (λ _. length columns.now ≤ MOST) }
     ensures there { are_among columns.now all.now ≡ true → IsSome result }
 {
     prove!(columns.len() <= NameList::MOST);
     let places = places_of(all, columns)?;
-    Some(Chosen {
-        table,
-        places,
-        conditions: &[],
-        filters: &[],
-    })
+    Some(Prepared { table, places })
 }

@@ -20,9 +20,11 @@ ghost use Rattle.record_table.specs.Listed.{cells_marked, slots_of};
 ghost use Rattle.record_table.specs.Making.{IsHeld, is_stop_fault};
 ghost use Rattle.cursor.specs.Moved.{refuses};
 ghost use Rattle.db_read.specs.Answered.{Stops, WhereRead, answered};
+ghost use Rattle.db_read.specs.Scan.{IsRightFor};
 
 use crate::columns::columns_of;
 use crate::finding::{find_named, stopped};
+use crate::scan::Scan;
 use eeprom::{Eeprom, EepromFault};
 use record_store::{Side, Store};
 use record_table::{Stop, refused};
@@ -40,12 +42,15 @@ pub fn declare<B: Eeprom>(
     columns: &NameList,
     conditions: &Conditions,
     _index: &RowIndex,
+    scan: &mut Scan,
 ) -> Result<StatusWord, EepromFault>
     requires over { IsOver store.now (B.chip bench.old) }
     ensures moved { (db : Database) → IsHeld store.now side (B.chip bench.old) db → (pending : List ℕ)
         → IfOk result (λ word. moved db actor (record { cursor = cursor.old; pending = pending }) (commands.declare object columns.now conditions.now) ≡ answered word cursor.new) }
     ensures refused { IfOk result (λ word. IsTrue (refuses word) → cursor.new ≡ cursor.old) }
     ensures fault { OnErr result (cursor.new ≡ cursor.old) }
+    // The scan stays right: for the cursor as it is afterwards.
+    ensures right { (db : Database) → IsHeld store.now side (B.chip bench.old) db → IsRightFor db actor scan.old cursor.old → IsRightFor db actor scan.new cursor.new }
     ensures octets_read { (db : Database) → IsHeld store.now side (B.chip bench.old) db → IfOk result (λ _. Becomes
         (RisesAtMost (octets_for_operation db actor cursor.old (commands.declare object columns.now conditions.now))) (B.octets_read bench.old) (B.octets_read bench.new)) }
     ensures frame { Reads each_error B.chip B.faults bench.old bench.new result }
@@ -53,6 +58,7 @@ pub fn declare<B: Eeprom>(
     match cursor_on(store, bench, side, actor, object, columns, conditions) {
         Ok(declared) => {
             *cursor = Some(declared);
+            scan.forget();
             Ok(StatusWord::DONE)
         }
         Err(stop) => stopped(stop),

@@ -1,6 +1,7 @@
 // The rows that a cursor chooses, as a feed.
 use crate::choosing::Choice;
 use crate::rows::{chosen_row, next_chosen, next_chosen_row};
+use crate::scan::RowRoom;
 use crate::telling::{next_told, next_told_row, told_row};
 use cursor::RowFeed;
 use eeprom::{Eeprom, EepromFault};
@@ -16,6 +17,7 @@ pub(crate) struct ChosenRows<'a, B: Eeprom> {
     pub(crate) side: Side,
     pub(crate) choice: &'a Choice<'a>,
     pub(crate) index: &'a RowIndex,
+    pub(crate) room: &'a mut RowRoom,
 }
 
 impl<'a, B: Eeprom> RowFeed for ChosenRows<'a, B> {
@@ -44,7 +46,7 @@ impl<'a, B: Eeprom> RowFeed for ChosenRows<'a, B> {
     fn next_after(&mut self, stamp: u32) -> Result<Option<u32>, EepromFault> {
         match self.choice {
             Choice::OfTable(chosen) => next_chosen(
-                self.store, self.bench, self.side, chosen, stamp, self.index,
+                self.store, self.bench, self.side, chosen, stamp, self.index, self.room,
             ),
             Choice::OfDictionary(told) => {
                 next_told(self.store, self.bench, self.side, told, stamp)
@@ -55,7 +57,7 @@ impl<'a, B: Eeprom> RowFeed for ChosenRows<'a, B> {
     fn row_at(&mut self, stamp: u32, out: &mut Row) -> Result<bool, EepromFault> {
         match self.choice {
             Choice::OfTable(chosen) => chosen_row(
-                self.store, self.bench, self.side, chosen, stamp, out, self.index,
+                self.store, self.bench, self.side, chosen, stamp, out, self.index, self.room,
             ),
             Choice::OfDictionary(told) => {
                 told_row(self.store, self.bench, self.side, told, stamp, out)
@@ -66,7 +68,7 @@ impl<'a, B: Eeprom> RowFeed for ChosenRows<'a, B> {
     fn next_row(&mut self, stamp: u32, out: &mut Row) -> Result<Option<u32>, EepromFault> {
         match self.choice {
             Choice::OfTable(chosen) => next_chosen_row(
-                self.store, self.bench, self.side, chosen, stamp, out, self.index,
+                self.store, self.bench, self.side, chosen, stamp, out, self.index, self.room,
             ),
             Choice::OfDictionary(told) => {
                 next_told_row(self.store, self.bench, self.side, told, stamp, out)

@@ -1,5 +1,5 @@
 // A cursor goes over its rows.
-ghost use Rattle.std.specs.Prelude.{◌≡◌, ◌*◌, List, Ok, IfOk, IfErr, IfSome, IsTrue, true, false};
+ghost use Rattle.std.specs.Prelude.{◌≡◌, ◌*◌, List, None, Ok, IfOk, IfErr, IfSome, IsTrue, true, false};
 ghost use Rattle.eeprom.specs.Chip.{Becomes};
 ghost use Rattle.eeprom.specs.Fault.{each_error};
 ghost use Rattle.eeprom.specs.Frame.{Reads};
@@ -24,11 +24,13 @@ ghost use Rattle.cursor.specs.Moved.{AreStamped, fetched, refuses};
 ghost use Rattle.db_read.specs.Advanced.{Advances};
 ghost use Rattle.db_read.specs.Answered.{selectable};
 ghost use Rattle.db_read.specs.Motion.{Goes, Stays, cost_by, least_by};
+ghost use Rattle.db_read.specs.Scan.{GoesOver, prepared_view};
 ghost use Rattle.db_read.specs.Told.{Tells, costs_of};
 
-use crate::choosing::{Choice, choose, choose_all};
+use crate::choosing::{Choice, Chosen, choose, prepare};
 use crate::feed::ChosenRows;
 use crate::motion::Motion;
+use crate::scan::{Prepared, RowRoom};
 use crate::telling::tell;
 use cursor::{fetch, fetch_step, first, step};
 use eeprom::{Eeprom, EepromFault};
@@ -37,7 +39,7 @@ use record_table::{Stop, refused};
 use row_index::RowIndex;
 use scql_base::{Cursor, NameList, Object, ObjectKind, Place, Row, StatusWord};
 use search_cond::Bound;
-use views::{Resolved, resolve_into};
+use views::{Places, Resolved, resolve_into};
 
 /// A cursor on this object goes over the rows that it chooses. What only a view needs room for is in a function of its own, so
 /// that the others don't pay for it.
@@ -51,29 +53,35 @@ pub(crate) fn go_on<B: Eeprom>(
     place: &mut Place,
     out: &mut Row,
     index: &RowIndex,
+    found: &mut Option<Prepared>,
+    room: &mut RowRoom,
 ) -> Result<StatusWord, Stop>
     requires over { IsOver store.now (B.chip bench.old) }
     requires index { Indexes index.now store.now (B.chip bench.old) }
+    requires none { found.old ≡ None }
     ensures advances { (db : Database) (actor : Actor) → IsHeld store.now side (B.chip bench.old) db → IsCursorOf db cursor.now → selectable db actor (seen_stamped db actor cursor.now.object) ≡ Ok object.now
         → IfOk result (λ word. IfSome (slots_of store.now side (B.chip bench.old))
         (λ slots. Advances db actor cursor.now motion place.old place.new word out.new slots (B.octets_read bench.old) (B.octets_read bench.new))) }
     ensures fault { (db : Database) (actor : Actor) → IsHeld store.now side (B.chip bench.old) db → IsCursorOf db cursor.now → selectable db actor (seen_stamped db actor cursor.now.object) ≡ Ok object.now
         → IfErr result (λ stop. stop ≡ Fault) }
+    // What is prepared, if anything, is right for the cursor.
+    ensures prepared { (db : Database) (actor : Actor) → IsHeld store.now side (B.chip bench.old) db → selectable db actor (seen_stamped db actor cursor.now.object) ≡ Ok object.now
+        → IfSome found.new (λ prepared. GoesOver db actor cursor.now (prepared_view prepared)) }
     ensures stays { IfOk result (Stays motion place.old place.new) }
     ensures frame { Reads is_stop_fault B.chip B.faults bench.old bench.new result }
 {
     match &object.kind {
         ObjectKind::Table { columns } => go_on_table(
-            store, bench, side, object, columns, cursor, motion, place, out, index,
+            store, bench, side, object, columns, cursor, motion, place, out, index, found, room,
         ),
         ObjectKind::View { .. } => {
             go_on_view(
-                store, bench, side, object, cursor, motion, place, out, index,
+                store, bench, side, object, cursor, motion, place, out, index, room,
             )
         }
         ObjectKind::Dictionary { .. } => {
             go_on_dictionary(
-                store, bench, side, object, cursor, motion, place, out, index,
+                store, bench, side, object, cursor, motion, place, out, index, room,
             )
         }
     }
@@ -90,28 +98,60 @@ fn go_on_table<B: Eeprom>(
     place: &mut Place,
     out: &mut Row,
     index: &RowIndex,
+    found: &mut Option<Prepared>,
+    room: &mut RowRoom,
 ) -> Result<StatusWord, Stop>
     requires over { IsOver store.now (B.chip bench.old) }
     requires index { Indexes index.now store.now (B.chip bench.old) }
     requires table { object.now.kind ≡ Table columns.now }
+    requires none { found.old ≡ None }
     ensures advances { (db : Database) (actor : Actor) → IsHeld store.now side (B.chip bench.old) db → IsCursorOf db cursor.now → selectable db actor (seen_stamped db actor cursor.now.object) ≡ Ok object.now
         → IfOk result (λ word. IfSome (slots_of store.now side (B.chip bench.old))
         (λ slots. Advances db actor cursor.now motion place.old place.new word out.new slots (B.octets_read bench.old) (B.octets_read bench.new))) }
     ensures fault { (db : Database) (actor : Actor) → IsHeld store.now side (B.chip bench.old) db → IsCursorOf db cursor.now → selectable db actor (seen_stamped db actor cursor.now.object) ≡ Ok object.now
         → IfErr result (λ stop. stop ≡ Fault) }
+    // What is prepared, if anything, is right for the cursor.
+    ensures prepared { (db : Database) (actor : Actor) → IsHeld store.now side (B.chip bench.old) db → selectable db actor (seen_stamped db actor cursor.now.object) ≡ Ok object.now
+        → IfSome found.new (λ prepared. GoesOver db actor cursor.now (prepared_view prepared)) }
     ensures stays { IfOk result (Stays motion place.old place.new) }
     ensures frame { Reads is_stop_fault B.chip B.faults bench.old bench.new result }
 {
     if cursor.conditions.len() > 0 {
         return go_on_bound(
-            store, bench, side, object, columns, cursor, motion, place, out, index,
+            store, bench, side, object, columns, cursor, motion, place, out, index, room,
         );
     }
-    let Some(chosen) = choose_all(object.stamp, columns, &cursor.columns) else {
+    let Some(prepared) = prepare(object.stamp, columns, &cursor.columns) else {
         return refused(StatusWord::NOT_FOUND);
     };
-    let choice = Choice::OfTable(chosen);
-    Ok(go(store, bench, side, &choice, motion, place, out, index)?)
+    let prepared = found.insert(prepared);
+    Ok(go_over(
+        store, bench, side, prepared, motion, place, out, index, room,
+    )?)
+}
+
+/// A cursor goes over all rows of a table, as they were prepared for it.
+pub(crate) fn go_over<B: Eeprom>(
+    store: &Store,
+    bench: &mut B,
+    side: Side,
+    prepared: &Prepared,
+    motion: Motion,
+    place: &mut Place,
+    out: &mut Row,
+    index: &RowIndex,
+    room: &mut RowRoom,
+) -> Result<StatusWord, EepromFault>
+    requires over { IsOver store.now (B.chip bench.old) }
+    requires index { Indexes index.now store.now (B.chip bench.old) }
+    ensures advances { (db : Database) (actor : Actor) (c : Cursor) → IsHeld store.now side (B.chip bench.old) db → IsCursorOf db c → GoesOver db actor c (prepared_view prepared.now)
+        → IfOk result (λ word. IfSome (slots_of store.now side (B.chip bench.old))
+        (λ slots. Advances db actor c motion place.old place.new word out.new slots (B.octets_read bench.old) (B.octets_read bench.new))) }
+    ensures stays { IfOk result (Stays motion place.old place.new) }
+    ensures frame { Reads each_error B.chip B.faults bench.old bench.new result }
+{
+    let choice = Choice::OfTable(Chosen::all_of(prepared));
+    go(store, bench, side, &choice, motion, place, out, index, room)
 }
 
 // Goes over the rows of a table that meet conditions, for which there is room here.
@@ -127,6 +167,7 @@ fn go_on_bound<B: Eeprom>(
     place: &mut Place,
     out: &mut Row,
     index: &RowIndex,
+    room: &mut RowRoom,
 ) -> Result<StatusWord, Stop>
     requires over { IsOver store.now (B.chip bench.old) }
     requires index { Indexes index.now store.now (B.chip bench.old) }
@@ -139,6 +180,7 @@ fn go_on_bound<B: Eeprom>(
     ensures stays { IfOk result (Stays motion place.old place.new) }
     ensures frame { Reads is_stop_fault B.chip B.faults bench.old bench.new result }
 {
+    let mut places = Places::new();
     let mut bound = Bound::default();
     let Some(chosen) = choose(
         object.stamp,
@@ -146,12 +188,13 @@ fn go_on_bound<B: Eeprom>(
         &[],
         &cursor.columns,
         &cursor.conditions,
+        &mut places,
         &mut bound,
     ) else {
         return refused(StatusWord::NOT_FOUND);
     };
     let choice = Choice::OfTable(chosen);
-    Ok(go(store, bench, side, &choice, motion, place, out, index)?)
+    Ok(go(store, bench, side, &choice, motion, place, out, index, room)?)
 }
 
 fn go_on_view<B: Eeprom>(
@@ -164,6 +207,7 @@ fn go_on_view<B: Eeprom>(
     place: &mut Place,
     out: &mut Row,
     index: &RowIndex,
+    room: &mut RowRoom,
 ) -> Result<StatusWord, Stop>
     requires over { IsOver store.now (B.chip bench.old) }
     requires index { Indexes index.now store.now (B.chip bench.old) }
@@ -178,6 +222,7 @@ fn go_on_view<B: Eeprom>(
 {
     let mut resolved = Resolved::default();
     resolve_into(store, bench, side, object, &mut resolved)?;
+    let mut places = Places::new();
     let mut bound = Bound::default();
     let Some(chosen) = choose(
         resolved.table,
@@ -185,12 +230,13 @@ fn go_on_view<B: Eeprom>(
         resolved.filters.as_slice(),
         &cursor.columns,
         &cursor.conditions,
+        &mut places,
         &mut bound,
     ) else {
         return refused(StatusWord::NOT_FOUND);
     };
     let choice = Choice::OfTable(chosen);
-    Ok(go(store, bench, side, &choice, motion, place, out, index)?)
+    Ok(go(store, bench, side, &choice, motion, place, out, index, room)?)
 }
 
 fn go_on_dictionary<B: Eeprom>(
@@ -203,6 +249,7 @@ fn go_on_dictionary<B: Eeprom>(
     place: &mut Place,
     out: &mut Row,
     index: &RowIndex,
+    room: &mut RowRoom,
 ) -> Result<StatusWord, Stop>
     requires over { IsOver store.now (B.chip bench.old) }
     requires index { Indexes index.now store.now (B.chip bench.old) }
@@ -220,7 +267,7 @@ fn go_on_dictionary<B: Eeprom>(
         return refused(StatusWord::NOT_FOUND);
     };
     let choice = Choice::OfDictionary(told);
-    Ok(go(store, bench, side, &choice, motion, place, out, index)?)
+    Ok(go(store, bench, side, &choice, motion, place, out, index, room)?)
 }
 
 // Goes over what is chosen.
@@ -233,6 +280,7 @@ fn go<B: Eeprom>(
     place: &mut Place,
     out: &mut Row,
     index: &RowIndex,
+    room: &mut RowRoom,
 ) -> Result<StatusWord, EepromFault>
     requires over { IsOver store.now (B.chip bench.old) }
     requires index { Indexes index.now store.now (B.chip bench.old) }
@@ -245,10 +293,12 @@ fn go<B: Eeprom>(
     ensures frame { Reads each_error B.chip B.faults bench.old bench.new result }
 {
     match motion {
-        Motion::Open => to_first(store, bench, side, choice, place, index),
-        Motion::Next => to_next(store, bench, side, choice, place, index),
-        Motion::Fetch { le } => give(store, bench, side, choice, place, le, out, index),
-        Motion::FetchNext { le } => give_next(store, bench, side, choice, place, le, out, index),
+        Motion::Open => to_first(store, bench, side, choice, place, index, room),
+        Motion::Next => to_next(store, bench, side, choice, place, index, room),
+        Motion::Fetch { le } => give(store, bench, side, choice, place, le, out, index, room),
+        Motion::FetchNext { le } => give_next(
+            store, bench, side, choice, place, le, out, index, room,
+        ),
     }
 }
 
@@ -260,6 +310,7 @@ fn to_first<B: Eeprom>(
     choice: &Choice<'_>,
     place: &mut Place,
     index: &RowIndex,
+    room: &mut RowRoom,
 ) -> Result<StatusWord, EepromFault>
     requires over { IsOver store.now (B.chip bench.old) }
     requires index { Indexes index.now store.now (B.chip bench.old) }
@@ -275,6 +326,7 @@ fn to_first<B: Eeprom>(
         side,
         choice,
         index,
+        room,
     };
     first(&mut feed, place)
 }
@@ -287,6 +339,7 @@ fn to_next<B: Eeprom>(
     choice: &Choice<'_>,
     place: &mut Place,
     index: &RowIndex,
+    room: &mut RowRoom,
 ) -> Result<StatusWord, EepromFault>
     requires over { IsOver store.now (B.chip bench.old) }
     requires index { Indexes index.now store.now (B.chip bench.old) }
@@ -302,6 +355,7 @@ fn to_next<B: Eeprom>(
         side,
         choice,
         index,
+        room,
     };
     step(&mut feed, place)
 }
@@ -316,6 +370,7 @@ fn give<B: Eeprom>(
     le: u16,
     out: &mut Row,
     index: &RowIndex,
+    room: &mut RowRoom,
 ) -> Result<StatusWord, EepromFault>
     requires over { IsOver store.now (B.chip bench.old) }
     requires index { Indexes index.now store.now (B.chip bench.old) }
@@ -331,6 +386,7 @@ fn give<B: Eeprom>(
         side,
         choice,
         index,
+        room,
     };
     fetch(&mut feed, place, le, out)
 }
@@ -345,6 +401,7 @@ fn give_next<B: Eeprom>(
     le: u16,
     out: &mut Row,
     index: &RowIndex,
+    room: &mut RowRoom,
 ) -> Result<StatusWord, EepromFault>
     requires over { IsOver store.now (B.chip bench.old) }
     requires index { Indexes index.now store.now (B.chip bench.old) }
@@ -362,6 +419,7 @@ fn give_next<B: Eeprom>(
         side,
         choice,
         index,
+        room,
     };
     fetch_step(&mut feed, place, le, out)
 }

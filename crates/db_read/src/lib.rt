@@ -12,9 +12,11 @@ mod going;
 mod motion;
 mod moving;
 mod rows;
+mod scan;
 mod sight;
 mod telling;
 
 pub use declaring::declare;
 pub use fetching::{fetch_next_row, fetch_row};
 pub use moving::{next_row, open_cursor};
+pub use scan::Scan;

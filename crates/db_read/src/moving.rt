@@ -13,12 +13,14 @@ ghost use Rattle.scql_model.specs.ReadingCommands as commands;
 ghost use Rattle.record_table.specs.Making.{IsHeld};
 ghost use Rattle.row_index.specs.Index.{Indexes};
 ghost use Rattle.cursor.specs.Moved.{refuses};
+ghost use Rattle.db_read.specs.Scan.{IsRightFor};
 ghost use Rattle.db_read.specs.Answered.{answered};
 ghost use Rattle.scql_base.specs.declared.cursor.Place.{Place};
 ghost use Rattle.eeprom.specs.Chip.{Becomes, RisesAtMost};
 
 use crate::advancing::advance;
 use crate::motion::Motion;
+use crate::scan::Scan;
 use eeprom::{Eeprom, EepromFault};
 use record_store::{Side, Store};
 use row_index::RowIndex;
@@ -32,15 +34,18 @@ pub fn open_cursor<B: Eeprom>(
     actor: Actor,
     cursor: &mut Option<Cursor>,
     index: &RowIndex,
+    scan: &mut Scan,
 ) -> Result<StatusWord, EepromFault>
     requires over { IsOver store.now (B.chip bench.old) }
     requires index { Indexes index.now store.now (B.chip bench.old) }
-    ensures moved { (db : Database) → IsHeld store.now side (B.chip bench.old) db → IfSome cursor.old (IsCursorOf db) → (pending : List ℕ)
+    ensures moved { (db : Database) → IsHeld store.now side (B.chip bench.old) db → IfSome cursor.old (IsCursorOf db) → IsRightFor db actor scan.old cursor.old → (pending : List ℕ)
         → IfOk result (λ word. moved db actor (record { cursor = cursor.old; pending = pending }) commands.open_cursor ≡ answered word cursor.new) }
-    ensures refused { (db : Database) → IsHeld store.now side (B.chip bench.old) db → IfSome cursor.old (IsCursorOf db)
+    ensures refused { (db : Database) → IsHeld store.now side (B.chip bench.old) db → IfSome cursor.old (IsCursorOf db) → IsRightFor db actor scan.old cursor.old
         → IfOk result (λ word. IsTrue (refuses word) → cursor.new ≡ cursor.old) }
     ensures fault { OnErr result (cursor.new ≡ cursor.old) }
-    ensures octets_read { (db : Database) → IsHeld store.now side (B.chip bench.old) db → IfSome cursor.old (IsCursorOf db) → IfSome cursor.old (IsOnTableOrView db)
+    // The scan stays right: for the cursor as it is afterwards.
+    ensures right { (db : Database) → IsHeld store.now side (B.chip bench.old) db → IsRightFor db actor scan.old cursor.old → IsRightFor db actor scan.new cursor.new }
+    ensures octets_read { (db : Database) → IsHeld store.now side (B.chip bench.old) db → IfSome cursor.old (IsCursorOf db) → IsRightFor db actor scan.old cursor.old → IfSome cursor.old (IsOnTableOrView db)
         → IfOk result (λ _. Becomes (RisesAtMost (octets_for_operation db actor cursor.old commands.open_cursor)) (B.octets_read bench.old) (B.octets_read bench.new)) }
     ensures frame { Reads each_error B.chip B.faults bench.old bench.new result }
 {
@@ -59,6 +64,7 @@ pub fn open_cursor<B: Eeprom>(
         &mut place,
         &mut row,
         index,
+        scan,
     )?;
     held.place = place;
     Ok(word)
@@ -72,15 +78,18 @@ pub fn next_row<B: Eeprom>(
     actor: Actor,
     cursor: &mut Option<Cursor>,
     index: &RowIndex,
+    scan: &mut Scan,
 ) -> Result<StatusWord, EepromFault>
     requires over { IsOver store.now (B.chip bench.old) }
     requires index { Indexes index.now store.now (B.chip bench.old) }
-    ensures moved { (db : Database) → IsHeld store.now side (B.chip bench.old) db → IfSome cursor.old (IsCursorOf db) → (pending : List ℕ)
+    ensures moved { (db : Database) → IsHeld store.now side (B.chip bench.old) db → IfSome cursor.old (IsCursorOf db) → IsRightFor db actor scan.old cursor.old → (pending : List ℕ)
         → IfOk result (λ word. moved db actor (record { cursor = cursor.old; pending = pending }) commands.next ≡ answered word cursor.new) }
-    ensures refused { (db : Database) → IsHeld store.now side (B.chip bench.old) db → IfSome cursor.old (IsCursorOf db)
+    ensures refused { (db : Database) → IsHeld store.now side (B.chip bench.old) db → IfSome cursor.old (IsCursorOf db) → IsRightFor db actor scan.old cursor.old
         → IfOk result (λ word. IsTrue (refuses word) → cursor.new ≡ cursor.old) }
     ensures fault { OnErr result (cursor.new ≡ cursor.old) }
-    ensures octets_read { (db : Database) → IsHeld store.now side (B.chip bench.old) db → IfSome cursor.old (IsCursorOf db) → IfSome cursor.old (IsOnTableOrView db)
+    // The scan stays right: for the cursor as it is afterwards.
+    ensures right { (db : Database) → IsHeld store.now side (B.chip bench.old) db → IsRightFor db actor scan.old cursor.old → IsRightFor db actor scan.new cursor.new }
+    ensures octets_read { (db : Database) → IsHeld store.now side (B.chip bench.old) db → IfSome cursor.old (IsCursorOf db) → IsRightFor db actor scan.old cursor.old → IfSome cursor.old (IsOnTableOrView db)
         → IfOk result (λ _. Becomes (RisesAtMost (octets_for_operation db actor cursor.old commands.next)) (B.octets_read bench.old) (B.octets_read bench.new)) }
     ensures frame { Reads each_error B.chip B.faults bench.old bench.new result }
 {
@@ -102,6 +111,7 @@ pub fn next_row<B: Eeprom>(
         &mut place,
         &mut row,
         index,
+        scan,
     )?;
     held.place = place;
     Ok(word)

@@ -22,9 +22,10 @@ ghost use Rattle.db_read.specs.Chosen.{IsNextShown, costs_shown, rows_shown};
 ghost use Rattle.db_read.specs.Costs.{cost_passed, cost_reached, least_of, row_costs, row_read};
 
 use crate::choosing::{Chosen, cut_into};
+use crate::scan::RowRoom;
 use catalog_codec::Record;
 use eeprom::{Eeprom, EepromFault};
-use record_store::{RecordOctets, Side, Store};
+use record_store::{Side, Store};
 use row_codec::decode_into;
 use row_index::RowIndex;
 use scql_base::{Row, RowRecord};
@@ -37,6 +38,7 @@ pub(crate) fn next_chosen<B: Eeprom>(
     chosen: &Chosen<'_>,
     stamp: u32,
     index: &RowIndex,
+    room: &mut RowRoom,
 ) -> Result<Option<u32>, EepromFault>
     requires over { IsOver store.now (B.chip bench.old) }
     requires index { Indexes index.now store.now (B.chip bench.old) }
@@ -47,9 +49,9 @@ pub(crate) fn next_chosen<B: Eeprom>(
     ensures frame { Reads each_error B.chip B.faults bench.old bench.new result }
 {
     if chosen.shows_all() {
-        Ok(stamp_behind(side, chosen.table, stamp, index))
+        Ok(stamp_behind(side, chosen.table, stamp, index, &mut room.near))
     } else {
-        next_read(store, bench, side, chosen, stamp, index)
+        next_read(store, bench, side, chosen, stamp, index, room)
     }
 }
 
@@ -62,6 +64,7 @@ pub(crate) fn next_chosen_row<B: Eeprom>(
     stamp: u32,
     out: &mut Row,
     index: &RowIndex,
+    room: &mut RowRoom,
 ) -> Result<Option<u32>, EepromFault>
     requires over { IsOver store.now (B.chip bench.old) }
     requires index { Indexes index.now store.now (B.chip bench.old) }
@@ -71,10 +74,9 @@ pub(crate) fn next_chosen_row<B: Eeprom>(
         (λ costs. Becomes (RisesBetween (size_handed next out.new) (cost_behind stamp next costs)) (B.octets_read bench.old) (B.octets_read bench.new))) }
     ensures frame { Reads each_error B.chip B.faults bench.old bench.new result }
 {
-    let mut row = no_row();
-    if shown_behind(store, bench, side, chosen, stamp, index, &mut row)? {
-        cut_into(&chosen.places, &row.row, out);
-        Ok(Some(row.stamp))
+    if shown_behind(store, bench, side, chosen, stamp, index, room)? {
+        cut_into(chosen.places, &room.row.row, out);
+        Ok(Some(room.row.stamp))
     } else {
         Ok(None)
     }
@@ -89,6 +91,7 @@ pub(crate) fn chosen_row<B: Eeprom>(
     stamp: u32,
     out: &mut Row,
     index: &RowIndex,
+    room: &mut RowRoom,
 ) -> Result<bool, EepromFault>
     requires over { IsOver store.now (B.chip bench.old) }
     requires index { Indexes index.now store.now (B.chip bench.old) }
@@ -98,22 +101,27 @@ pub(crate) fn chosen_row<B: Eeprom>(
         (λ costs. Becomes (RisesBetween (if there then row_size out.new else 0) (cost_of stamp costs)) (B.octets_read bench.old) (B.octets_read bench.new))) }
     ensures frame { Reads each_error B.chip B.faults bench.old bench.new result }
 {
-    let mut record = no_row();
-    if !row_of_table(store, bench, side, chosen.table, stamp, index, &mut record)? {
+    if !row_of_table(store, bench, side, chosen.table, stamp, index, room)? {
         return Ok(false);
     }
-    if !chosen.shows(&record.row) {
+    if !chosen.shows(&room.row.row) {
         return Ok(false);
     }
-    cut_into(&chosen.places, &record.row, out);
+    cut_into(chosen.places, &room.row.row, out);
     Ok(true)
 }
 
 // The stamp of the row of a table behind a stamp, as the index has it.
-fn stamp_behind(side: Side, table: u32, stamp: u32, index: &RowIndex) -> Option<u32>
+fn stamp_behind(
+    side: Side,
+    table: u32,
+    stamp: u32,
+    index: &RowIndex,
+    near: &mut usize,
+) -> Option<u32>
     ensures { result ≡ option_map place_stamp (find (is_later_in table stamp) (side_places index.now side)) }
 {
-    let (next, _) = index.next_after(side, table, stamp)?;
+    let (next, _) = index.next_after_near(side, table, stamp, near)?;
     Some(next)
 }
 
@@ -125,6 +133,7 @@ fn next_read<B: Eeprom>(
     chosen: &Chosen<'_>,
     stamp: u32,
     index: &RowIndex,
+    room: &mut RowRoom,
 ) -> Result<Option<u32>, EepromFault>
     requires over { IsOver store.now (B.chip bench.old) }
     requires index { Indexes index.now store.now (B.chip bench.old) }
@@ -134,15 +143,16 @@ fn next_read<B: Eeprom>(
         (λ costs. Becomes (RisesBetween 0 (cost_behind stamp next costs)) (B.octets_read bench.old) (B.octets_read bench.new))) }
     ensures frame { Reads each_error B.chip B.faults bench.old bench.new result }
 {
-    let mut row = no_row();
-    if shown_behind(store, bench, side, chosen, stamp, index, &mut row)? {
-        Ok(Some(row.stamp))
+    if shown_behind(store, bench, side, chosen, stamp, index, room)? {
+        Ok(Some(room.row.stamp))
     } else {
         Ok(None)
     }
 }
 
 // Reads the next chosen row behind a stamp into a place, and answers whether there is one. The rows between are read there too.
+// It is inlined, as what it calls is, since a scan comes here for each row.
+#[inline(always)]
 fn shown_behind<B: Eeprom>(
     store: &Store,
     bench: &mut B,
@@ -150,26 +160,27 @@ fn shown_behind<B: Eeprom>(
     chosen: &Chosen<'_>,
     stamp: u32,
     index: &RowIndex,
-    row: &mut RowRecord,
+    room: &mut RowRoom,
 ) -> Result<bool, EepromFault>
     requires over { IsOver store.now (B.chip bench.old) }
     requires index { Indexes index.now store.now (B.chip bench.old) }
-    ensures next { IfOk result (λ there. IfSome (slots_of store.now side (B.chip bench.old)) (IsNextShown chosen.now stamp (row_read there row.new))) }
+    ensures next { IfOk result (λ there. IfSome (slots_of store.now side (B.chip bench.old)) (IsNextShown chosen.now stamp (row_read there room.new.row))) }
     ensures octets_read { IfOk result (λ there. IfSome (slots_of store.now side (B.chip bench.old))
-        (λ slots. Becomes (RisesBetween (least_of (row_read there row.new)) (cost_passed chosen.now.table stamp slots (row_read there row.new))) (B.octets_read bench.old) (B.octets_read bench.new))) }
+        (λ slots. Becomes (RisesBetween (least_of (row_read there room.new.row)) (cost_passed chosen.now.table stamp slots (row_read there room.new.row))) (B.octets_read bench.old) (B.octets_read bench.new))) }
     ensures frame { Reads each_error B.chip B.faults bench.old bench.new result }
 {
     let mut passed = stamp;
-    while row_behind(store, bench, side, chosen.table, passed, index, row)? {
-        if chosen.shows(&row.row) {
+    while row_behind(store, bench, side, chosen.table, passed, index, room)? {
+        if chosen.shows(&room.row.row) {
             return Ok(true);
         }
-        passed = row.stamp();
+        passed = room.row.stamp();
     }
     Ok(false)
 }
 
 // Reads the row of a table behind a stamp into a place, and answers whether there is one.
+#[inline(always)]
 fn row_behind<B: Eeprom>(
     store: &Store,
     bench: &mut B,
@@ -177,24 +188,24 @@ fn row_behind<B: Eeprom>(
     table: u32,
     stamp: u32,
     index: &RowIndex,
-    row: &mut RowRecord,
+    room: &mut RowRoom,
 ) -> Result<bool, EepromFault>
     requires over { IsOver store.now (B.chip bench.old) }
     requires index { Indexes index.now store.now (B.chip bench.old) }
-    ensures behind { IfOk result (λ there. IsTrue there → stamp < row.new.stamp) }
-    ensures next { IfOk result (λ there. IfSome (slots_of store.now side (B.chip bench.old)) (λ slots. row_read there row.new ≡ find (is_row_after table stamp) (listed row_kind slots))) }
+    ensures behind { IfOk result (λ there. IsTrue there → stamp < room.new.row.stamp) }
+    ensures next { IfOk result (λ there. IfSome (slots_of store.now side (B.chip bench.old)) (λ slots. row_read there room.new.row ≡ find (is_row_after table stamp) (listed row_kind slots))) }
     ensures octets_read { IfOk result (λ there. IfSome (slots_of store.now side (B.chip bench.old))
-        (λ slots. Becomes (RisesBetween (least_of (row_read there row.new)) (cost_reached table slots (row_read there row.new))) (B.octets_read bench.old) (B.octets_read bench.new))) }
+        (λ slots. Becomes (RisesBetween (least_of (row_read there room.new.row)) (cost_reached table slots (row_read there room.new.row))) (B.octets_read bench.old) (B.octets_read bench.new))) }
     ensures frame { Reads each_error B.chip B.faults bench.old bench.new result }
 {
-    let Some((_, slot)) = index.next_after(side, table, stamp) else {
+    let Some((_, slot)) = index.next_after_near(side, table, stamp, &mut room.near) else {
         return Ok(false);
     };
-    if !row_in(store, bench, side, slot, row)? {
+    if !row_in(store, bench, side, slot, room)? {
         return Ok(false);
     }
     // No stamp is passed twice, whatever an image tells that isn't a valid one.
-    if row.stamp <= stamp {
+    if room.row.stamp <= stamp {
         return Ok(false);
     }
     Ok(true)
@@ -208,14 +219,14 @@ fn row_of_table<B: Eeprom>(
     table: u32,
     stamp: u32,
     index: &RowIndex,
-    row: &mut RowRecord,
+    room: &mut RowRoom,
 ) -> Result<bool, EepromFault>
     requires over { IsOver store.now (B.chip bench.old) }
     requires index { Indexes index.now store.now (B.chip bench.old) }
     ensures found { IfOk result (λ there. IfSome (slots_of store.now side (B.chip bench.old))
-        (λ slots. row_read there row.new ≡ option_filter (λ row. row.table == table) (find (has row_kind.key stamp) (listed row_kind slots)))) }
+        (λ slots. row_read there room.new.row ≡ option_filter (λ row. row.table == table) (find (has row_kind.key stamp) (listed row_kind slots)))) }
     ensures octets_read { IfOk result (λ there. IfSome (slots_of store.now side (B.chip bench.old))
-        (λ slots. Becomes (RisesBetween (least_of (row_read there row.new)) (cost_of stamp (row_costs table slots))) (B.octets_read bench.old) (B.octets_read bench.new))) }
+        (λ slots. Becomes (RisesBetween (least_of (row_read there room.new.row)) (cost_of stamp (row_costs table slots))) (B.octets_read bench.old) (B.octets_read bench.new))) }
     ensures frame { Reads each_error B.chip B.faults bench.old bench.new result }
 {
     let Some((of, slot)) = index.find(side, stamp) else {
@@ -224,41 +235,32 @@ fn row_of_table<B: Eeprom>(
     if of != table {
         return Ok(false);
     }
-    row_in(store, bench, side, slot, row)
+    row_in(store, bench, side, slot, room)
 }
 
 // Reads the row of a slot into a place, and answers whether the slot has one.
+#[inline(always)]
 fn row_in<B: Eeprom>(
     store: &Store,
     bench: &mut B,
     side: Side,
     slot: u16,
-    row: &mut RowRecord,
+    room: &mut RowRoom,
 ) -> Result<bool, EepromFault>
     requires over { IsOver store.now (B.chip bench.old) }
     requires slot { slot < store.now.chains.cells }
-    ensures value { IfOk result (λ there. IfSome (slots_of store.now side (B.chip bench.old)) (λ slots. row_read there row.new ≡ at_slot row_kind slot slots)) }
+    ensures value { IfOk result (λ there. IfSome (slots_of store.now side (B.chip bench.old)) (λ slots. row_read there room.new.row ≡ at_slot row_kind slot slots)) }
     ensures octets_read { IfOk result (λ there. IfSome (slots_of store.now side (B.chip bench.old))
-        (λ slots. Becomes (RisesBetween (least_of (row_read there row.new)) (cell_size * kind_cells row_kind (slice_index_or slots slot None))) (B.octets_read bench.old) (B.octets_read bench.new))) }
+        (λ slots. Becomes (RisesBetween (least_of (row_read there room.new.row)) (cell_size * kind_cells row_kind (slice_index_or slots slot None))) (B.octets_read bench.old) (B.octets_read bench.new))) }
     ensures frame { Reads each_error B.chip B.faults bench.old bench.new result }
 {
     if !is_row(store, side, slot) {
         return Ok(false);
     }
-    let mut octets = RecordOctets::new();
-    if !store.get(bench, side, slot, &mut octets)? {
+    if !store.get(bench, side, slot, &mut room.octets)? {
         return Ok(false);
     }
-    Ok(decode_into(octets.as_slice(), row).is_some())
-}
-
-// A place for a row that is read.
-fn no_row() -> RowRecord {
-    RowRecord {
-        stamp: 0,
-        table: 0,
-        row: Row::new(),
-    }
+    Ok(decode_into(room.octets.as_slice(), &mut room.row).is_some())
 }
 
 // Whether the first octet of a slot's record is that of a row.

@@ -1,90 +1,58 @@
--- The object is searched for, and the cursor goes over its rows.
-use Rattle.std.proofs.Common.{ℕ, ◌+◌, ◌*◌, Option, Some, Ok, sym, ◌∙◌}
+-- What was found is gone over, or else looked for first.
+use Rattle.std.proofs.Common.{ℕ, ◌+◌, ◌*◌, Option, None, Some, option_map, sym, ap, subst, ◌∙◌, arith}
 use Rattle.std.specs.Prelude.{IfSome}
 use Rattle.eeprom.specs.Chip.{Becomes, RisesAtMost}
 use Rattle.eeprom.specs.StoreOf.{cell_size}
-use Rattle.scql_base.specs.declared.records.Object.{Object}
-use Rattle.scql_model.specs.Contents.{Contents}
-use Rattle.scql_model.specs.Moves.{chosen, rows_under}
-use Rattle.scql_model.specs.ReadBound.{octets_for_operation, octets_of_rows}
-use Rattle.scql_model.specs.Rights.{seen_stamped}
+use Rattle.scql_model.specs.Database.{Database}
 use Rattle.catalog_codec.specs.Catalog.{grant_kind, object_kind}
 use Rattle.privilege_table.proofs.Seen.{told-held}
-use Rattle.record_table.specs.Listed.{cells_marked, slots_of}
+use Rattle.record_table.specs.Listed.{cells_marked}
 use Rattle.db_read.specs.Advanced.{Advances}
-use Rattle.db_read.specs.Motion.{command_of}
-use Rattle.db_read.proofs.Adding.{declare-read, rises-stopped, where-read}
-use Rattle.db_read.proofs.MotionLaws.{advanced-least, advanced-most, fault-said, moved-by, refused-stays, stopped-by, stopped-least}
-use Rattle.db_read.proofs.Stopping.{stops-asked}
+use Rattle.db_read.specs.Scan as specs
+use Rattle.db_read.specs.declared.scan.Prepared.{Prepared}
+use Rattle.db_read.specs.Scan.{GoesOver, IsRight, prepared_view}
+use Rattle.db_read.proofs.MotionLaws.{advanced-most, moved-by, of-slots, refused-stays, said-by}
 use Rattle.db_read.proofs.advancing.advance.Goals as goal
+use Rattle.db_read.proofs.advancing.advance.Goals.{After-go_over}
 
-pub returns-in-Err-clause-moved : goal.returns-in-Err-clause-moved
-returns-in-Err-clause-moved g c = λ db held cursor pending.
+-- the scan's rows are those of the cursor
+over : (g : _) (c : After-go_over g) (db : Database) → IsRight db c.args.actor c.args.scan.now c.args.cursor.now → GoesOver db c.args.actor c.args.cursor.now (prepared_view c.in-Some.prepared)
+over g c db right = subst (λ (o : Option specs.TableRows). IfSome o (GoesOver db c.args.actor c.args.cursor.now)) (sym c.scan.view_is ∙ ap (option_map prepared_view) c.in-Some.is) right
+
+pub returns-in-Some-clause-moved : goal.returns-in-Some-clause-moved
+returns-in-Some-clause-moved g c = λ db held cursor right pending.
     let on = c.args.cursor.now in
-    let stops = stops-asked db c.args.actor (seen_stamped db c.args.actor on.object) (λ (x : Object) (contents : Contents). Ok (chosen contents on)) c.in-Err.stop (c.in-Err.ensures.refused db held) in
-    stopped-by c.args.motion db c.args.actor on c.args.place.now c.args.out.now pending c.in-Err.stop c.stopped.result c.stopped.ensures c.requires.opened stops
+    let each = rw c.requires.here at (c.go_over.ensures.advances db c.args.actor on held cursor (over g c db right)) in
+    said-by c.go_over.result (λ word all stays.
+    let advances : Advances db c.args.actor on c.args.motion on.place c.go_over.new.place word c.go_over.new.out held.slots (g.B.Eeprom.octets_read c.args.bench.now) (g.B.Eeprom.octets_read c.go_over.new.bench) =
+    told-held c.args.store.now c.args.side (g.B.Eeprom.chip c.args.bench.now) db _ held all in
+    moved-by c.args.motion db c.args.actor on c.go_over.new.place word c.go_over.new.out pending advances.rows advances.under c.requires.opened (advances.goes on)) each c.go_over.ensures.stays
 
-pub returns-in-Err-clause-octets_read : goal.returns-in-Err-clause-octets_read
-returns-in-Err-clause-octets_read g c = λ db held cursor kind.
+pub returns-in-Some-clause-refused : goal.returns-in-Some-clause-refused
+returns-in-Some-clause-refused g c = λ db held cursor right.
+    let on = c.args.cursor.now in
+    let each = rw c.requires.here at (c.go_over.ensures.advances db c.args.actor on held cursor (over g c db right)) in
+    said-by c.go_over.result (λ word all stays refusing.
+    let advances : Advances db c.args.actor on c.args.motion on.place c.go_over.new.place word c.go_over.new.out held.slots (g.B.Eeprom.octets_read c.args.bench.now) (g.B.Eeprom.octets_read c.go_over.new.bench) =
+    told-held c.args.store.now c.args.side (g.B.Eeprom.chip c.args.bench.now) db _ held all in
+    refused-stays c.args.motion on.place c.go_over.new.place word c.go_over.new.out advances.rows on (advances.goes on) (rw c.requires.here at stays) refusing ∙ sym c.requires.here) each c.go_over.ensures.stays
+
+pub returns-in-Some-clause-octets_read : goal.returns-in-Some-clause-octets_read
+returns-in-Some-clause-octets_read g c = λ db held cursor right kind.
+    let on = c.args.cursor.now in
     let chip = g.B.Eeprom.chip c.args.bench.now in
     let a : Option ℕ = g.B.Eeprom.octets_read c.args.bench.now in
-    let b : Option ℕ = g.B.Eeprom.octets_read c.find_selected.new.bench in
-    where-read (IfSome (slots_of c.args.store.now c.args.side chip) (λ slots. Becomes (RisesAtMost (cell_size * cells_marked object_kind slots + cell_size * cells_marked grant_kind slots)) a b))
-    (Becomes (RisesAtMost (octets_for_operation db c.args.actor (Some c.args.cursor.now) (command_of c.args.motion))) a b)
-    c.in-Err.stop c.stopped.result c.stopped.ensures c.in-Err.ensures.octets_read (declare-read c.args.store.now c.args.side chip db held (octets_of_rows db c.args.actor (Some c.args.cursor.now) (command_of c.args.motion)) a b)
+    let each = rw c.requires.here at (c.go_over.ensures.advances db c.args.actor on held cursor (over g c db right)) in
+    said-by c.go_over.result (λ word all stays.
+    let advances : Advances db c.args.actor on c.args.motion on.place c.go_over.new.place word c.go_over.new.out held.slots a (g.B.Eeprom.octets_read c.go_over.new.bench) =
+    told-held c.args.store.now c.args.side chip db _ held all in
+    advanced-most c.args.store.now c.args.side chip db held c.args.actor on c.args.motion c.go_over.new.place word c.go_over.new.out a a _ kind advances
+    (of-slots c.args.store.now c.args.side chip db held (λ slots. Becomes (RisesAtMost (cell_size * cells_marked object_kind slots + cell_size * cells_marked grant_kind slots)) a a) (λ after told. (after, told, omega arith)))) each c.go_over.ensures.stays
 
-pub returns-in-Err-clause-least : goal.returns-in-Err-clause-least
-returns-in-Err-clause-least g c = λ db held cursor kind.
-    let on = c.args.cursor.now in
-    let a : Option ℕ = g.B.Eeprom.octets_read c.args.bench.now in
-    let b : Option ℕ = g.B.Eeprom.octets_read c.find_selected.new.bench in
-    let stops = stops-asked db c.args.actor (seen_stamped db c.args.actor on.object) (λ (x : Object) (contents : Contents). Ok (chosen contents on)) c.in-Err.stop (c.in-Err.ensures.refused db held) in
-    stopped-least c.args.motion c.args.out.now (rows_under db c.args.actor on) c.in-Err.stop c.stopped.result a b c.stopped.ensures stops
-    (rises-stopped c.args.store.now c.args.side (g.B.Eeprom.chip c.args.bench.now) db held c.in-Err.stop a b c.in-Err.ensures.rises)
+-- what was found, as it is seen
+as-seen : (P : specs.TableRows → Type 0) (o : Option Prepared) → IfSome o (λ prepared. P (prepared_view prepared)) → IfSome (option_map prepared_view o) P
+as-seen P None is = tt
+as-seen P (Some prepared) is = is
 
-pub returns-in-Ok-go_on-clause-moved : goal.returns-in-Ok-go_on-clause-moved
-returns-in-Ok-go_on-clause-moved g c = λ db held cursor pending.
-    let on = c.args.cursor.now in
-    let all = rw c.in-Ok.ensures.frame.same at c.in-Ok-go_on.ensures.advances in
-    let advances : Advances db c.args.actor on c.args.motion on.place c.go_on.new.place c.in-Ok-go_on.word c.go_on.new.out held.slots (g.B.Eeprom.octets_read c.find_selected.new.bench) (g.B.Eeprom.octets_read c.go_on.new.bench) =
-    told-held c.args.store.now c.args.side (g.B.Eeprom.chip c.args.bench.now) db _ held (all db c.args.actor held cursor (c.in-Ok.ensures.found db held)) in
-    moved-by c.args.motion db c.args.actor on c.go_on.new.place c.in-Ok-go_on.word c.go_on.new.out pending advances.rows advances.under c.requires.opened (advances.goes on)
-
-pub returns-in-Ok-go_on-clause-refused : goal.returns-in-Ok-go_on-clause-refused
-returns-in-Ok-go_on-clause-refused g c = λ db held cursor refusing.
-    let on = c.args.cursor.now in
-    let all = rw c.in-Ok.ensures.frame.same at c.in-Ok-go_on.ensures.advances in
-    let advances : Advances db c.args.actor on c.args.motion on.place c.go_on.new.place c.in-Ok-go_on.word c.go_on.new.out held.slots (g.B.Eeprom.octets_read c.find_selected.new.bench) (g.B.Eeprom.octets_read c.go_on.new.bench) =
-    told-held c.args.store.now c.args.side (g.B.Eeprom.chip c.args.bench.now) db _ held (all db c.args.actor held cursor (c.in-Ok.ensures.found db held)) in
-    refused-stays c.args.motion on.place c.go_on.new.place c.in-Ok-go_on.word c.go_on.new.out advances.rows on (advances.goes on) c.in-Ok-go_on.ensures.stays refusing ∙ sym c.requires.here
-
-pub returns-in-Ok-go_on-clause-stays : goal.returns-in-Ok-go_on-clause-stays
-returns-in-Ok-go_on-clause-stays g c = rw c.requires.here c.in-Ok-go_on.ensures.stays
-
-pub returns-in-Ok-go_on-clause-octets_read : goal.returns-in-Ok-go_on-clause-octets_read
-returns-in-Ok-go_on-clause-octets_read g c = λ db held cursor kind.
-    let on = c.args.cursor.now in
-    let chip = g.B.Eeprom.chip c.args.bench.now in
-    let all = rw c.in-Ok.ensures.frame.same at c.in-Ok-go_on.ensures.advances in
-    let advances : Advances db c.args.actor on c.args.motion on.place c.go_on.new.place c.in-Ok-go_on.word c.go_on.new.out held.slots (g.B.Eeprom.octets_read c.find_selected.new.bench) (g.B.Eeprom.octets_read c.go_on.new.bench) =
-    told-held c.args.store.now c.args.side chip db _ held (all db c.args.actor held cursor (c.in-Ok.ensures.found db held)) in
-    advanced-most c.args.store.now c.args.side chip db held c.args.actor on c.args.motion c.go_on.new.place c.in-Ok-go_on.word c.go_on.new.out _ _ _ kind advances c.in-Ok.ensures.octets_read
-
-pub returns-in-Ok-go_on-clause-least : goal.returns-in-Ok-go_on-clause-least
-returns-in-Ok-go_on-clause-least g c = λ db held cursor kind.
-    let on = c.args.cursor.now in
-    let chip = g.B.Eeprom.chip c.args.bench.now in
-    let all = rw c.in-Ok.ensures.frame.same at c.in-Ok-go_on.ensures.advances in
-    let advances : Advances db c.args.actor on c.args.motion on.place c.go_on.new.place c.in-Ok-go_on.word c.go_on.new.out held.slots (g.B.Eeprom.octets_read c.find_selected.new.bench) (g.B.Eeprom.octets_read c.go_on.new.bench) =
-    told-held c.args.store.now c.args.side chip db _ held (all db c.args.actor held cursor (c.in-Ok.ensures.found db held)) in
-    advanced-least c.args.store.now c.args.side chip db held c.args.actor on c.args.motion c.go_on.new.place c.in-Ok-go_on.word c.go_on.new.out _ _ _ kind advances c.in-Ok.ensures.rises
-
-pub returns-in-Err-go_on-clause-octets_read : goal.returns-in-Err-go_on-clause-octets_read
-returns-in-Err-go_on-clause-octets_read g c = λ db held cursor kind.
-    let all = rw c.in-Ok.ensures.frame.same at c.in-Err-go_on.ensures.fault in
-    fault-said _ c.in-Err-go_on.stop c.stopped-in-Err-go_on.result c.stopped-in-Err-go_on.ensures (all db c.args.actor held cursor (c.in-Ok.ensures.found db held))
-
-pub returns-in-Err-go_on-clause-least : goal.returns-in-Err-go_on-clause-least
-returns-in-Err-go_on-clause-least g c = λ db held cursor kind.
-    let all = rw c.in-Ok.ensures.frame.same at c.in-Err-go_on.ensures.fault in
-    fault-said _ c.in-Err-go_on.stop c.stopped-in-Err-go_on.result c.stopped-in-Err-go_on.ensures (all db c.args.actor held cursor (c.in-Ok.ensures.found db held))
+pub returns-clause-right : goal.returns-clause-right
+returns-clause-right g c = λ db held right. as-seen (GoesOver db c.args.actor c.args.cursor.now) c.find_and_go.new.found (c.find_and_go.ensures.prepared db held)

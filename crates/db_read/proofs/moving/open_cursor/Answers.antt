@@ -4,8 +4,8 @@ use Rattle.scql_base.specs.declared.cursor.Place.{Place}
 use Rattle.db_read.proofs.moving.open_cursor.Goals as goal
 
 pub returns-clause-refused : goal.returns-clause-refused
-returns-clause-refused g c = λ db held cursor refusing.
-    ap (λ (place : Place). Some (record c.in-Some.held { place = place })) (c.in_ok-word.ensures.refused db held (rw c.in-Some.is at cursor) refusing) ∙ sym c.in-Some.is
+returns-clause-refused g c = λ db held cursor right refusing.
+    ap (λ (place : Place). Some (record c.in-Some.held { place = place })) (c.in_ok-word.ensures.refused db held (rw c.in-Some.is at cursor) (rw c.in-Some.is at right) refusing) ∙ sym c.in-Some.is
 
 pub returns-clause-moved : goal.returns-clause-moved
-returns-clause-moved g c = λ db held cursor pending. rw c.in-Some.is (c.in_ok-word.ensures.moved db held (rw c.in-Some.is at cursor) pending)
+returns-clause-moved g c = λ db held cursor right pending. rw c.in-Some.is (c.in_ok-word.ensures.moved db held (rw c.in-Some.is at cursor) (rw c.in-Some.is at right) pending)

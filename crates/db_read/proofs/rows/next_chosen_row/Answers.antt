@@ -6,11 +6,11 @@ use Rattle.db_read.proofs.Skipping.{costs-behind}
 use Rattle.db_read.proofs.rows.next_chosen_row.Goals as goal
 
 pub returns-then-branch-clause-next : goal.returns-then-branch-clause-next
-returns-then-branch-clause-next g c = next-cut c.args.chosen.now c.args.stamp (slots_of c.args.store.now c.args.side (g.B.Eeprom.chip c.args.bench.now)) c.shown_behind.new.row c.cut_into.new.out (rw c.if-branch.true at c.in_ok-shown_behind.ensures.next) c.cut_into.ensures
+returns-then-branch-clause-next g c = next-cut c.args.chosen.now c.args.stamp (slots_of c.args.store.now c.args.side (g.B.Eeprom.chip c.args.bench.now)) c.shown_behind.new.room.row c.cut_into.new.out (rw c.if-branch.true at c.in_ok-shown_behind.ensures.next) c.cut_into.ensures
 
 pub returns-then-branch-clause-octets_read : goal.returns-then-branch-clause-octets_read
 returns-then-branch-clause-octets_read g c =
-    next-cut-reads c.args.chosen.now c.args.stamp (slots_of c.args.store.now c.args.side (g.B.Eeprom.chip c.args.bench.now)) c.shown_behind.new.row c.cut_into.new.out _ _ (rw c.if-branch.true at c.in_ok-shown_behind.ensures.next) c.cut_into.ensures
+    next-cut-reads c.args.chosen.now c.args.stamp (slots_of c.args.store.now c.args.side (g.B.Eeprom.chip c.args.bench.now)) c.shown_behind.new.room.row c.cut_into.new.out _ _ (rw c.if-branch.true at c.in_ok-shown_behind.ensures.next) c.cut_into.ensures
     (rw c.if-branch.true at c.in_ok-shown_behind.ensures.octets_read)
 
 pub returns-else-branch-clause-next : goal.returns-else-branch-clause-next

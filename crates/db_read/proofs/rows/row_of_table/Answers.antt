@@ -16,10 +16,10 @@ returns-then-of-table-clause-found g c =
 
 pub returns-clause-found : goal.returns-clause-found
 returns-clause-found g c =
-    IfOk-weaker c.row_in.result _ _ (λ there value. indexed-found c.args.stamp c.in-Some.of c.in-Some.slot c.args.table (slots_of c.args.store.now c.args.side (g.B.Eeprom.chip c.args.bench.now)) (row_read there c.row_in.new.row)
+    IfOk-weaker c.row_in.result _ _ (λ there value. indexed-found c.args.stamp c.in-Some.of c.in-Some.slot c.args.table (slots_of c.args.store.now c.args.side (g.B.Eeprom.chip c.args.bench.now)) (row_read there c.row_in.new.room.row)
     (indexed-told c.args.index.now c.args.store.now (g.B.Eeprom.chip c.args.bench.now) c.args.side c.args.stamp c.in-Some.of c.in-Some.slot c.find.result c.find.ensures.value c.requires.index c.in-Some.is) c.if-of-table.false value) c.row_in.ensures.value
 
 pub returns-clause-octets_read : goal.returns-clause-octets_read
 returns-clause-octets_read g c =
-    IfOk-weaker c.row_in.result _ _ (λ there reads. indexed-reads c.args.stamp c.in-Some.of c.in-Some.slot c.args.table (slots_of c.args.store.now c.args.side (g.B.Eeprom.chip c.args.bench.now)) (row_read there c.row_in.new.row) _ _
+    IfOk-weaker c.row_in.result _ _ (λ there reads. indexed-reads c.args.stamp c.in-Some.of c.in-Some.slot c.args.table (slots_of c.args.store.now c.args.side (g.B.Eeprom.chip c.args.bench.now)) (row_read there c.row_in.new.room.row) _ _
     (indexed-told c.args.index.now c.args.store.now (g.B.Eeprom.chip c.args.bench.now) c.args.side c.args.stamp c.in-Some.of c.in-Some.slot c.find.result c.find.ensures.value c.requires.index c.in-Some.is) c.if-of-table.false reads) c.row_in.ensures.octets_read

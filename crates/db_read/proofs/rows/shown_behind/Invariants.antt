@@ -5,8 +5,8 @@ use Rattle.record_table.specs.Listed.{slots_of}
 use Rattle.db_read.proofs.Skipping.{IsLeft, ReadsBehind}
 use Rattle.db_read.proofs.rows.shown_behind.Given as goal
 
-abbrev pub invariant-loop-row : goal.invariant-loop-row
-invariant-loop-row g l = record {
+abbrev pub invariant-loop-room : goal.invariant-loop-room
+invariant-loop-room g l = record {
   same : g.B.Eeprom.chip l.bench ≡ g.B.Eeprom.chip l.fn.bench;
   faults : g.B.Eeprom.faults l.bench ≡ g.B.Eeprom.faults l.fn.bench;
   low : l.stamp ≤ l.passed;
@@ -14,5 +14,5 @@ invariant-loop-row g l = record {
   read : IfSome (slots_of l.store l.side (g.B.Eeprom.chip l.fn.bench)) (λ slots. ReadsBehind l.chosen l.stamp (Some l.passed) slots (g.B.Eeprom.octets_read l.fn.bench) (g.B.Eeprom.octets_read l.bench));
 }
 
-abbrev pub decreases-loop-row : goal.decreases-loop-row
-decreases-loop-row g l = 4294967296 - l.passed
+abbrev pub decreases-loop-room : goal.decreases-loop-room
+decreases-loop-room g l = 4294967296 - l.passed
