@@ -14,7 +14,7 @@ use Rattle.scql_model.proofs.Acting.{IsActorOf-stamped}
 use Rattle.catalog_codec.specs.Catalog.{user_kind}
 use Rattle.record_table.specs.Listed.{listed, slots_of}
 use Rattle.record_table.specs.Making.{IsHeld}
-use Rattle.card.specs.Changing.{acting}
+use Rattle.card.specs.Acting.{acting}
 use Rattle.card.proofs.Told.{if_some-at}
 
 -- who acts is PUBLIC or a user of the database

@@ -10,10 +10,10 @@ use Rattle.scql_model.specs.Database.{Database}
 use Rattle.scql_model.specs.Machine.{Machine}
 use Rattle.scql_model.specs.Opens.{Holds}
 use Rattle.card.specs.declared.counting.Counts.{Counts}
-use Rattle.card.specs.Card.{Kept, IsAt, IsReady, committed_slots}
+use Rattle.card.specs.Card.{Kept, IsAt, StandsOver, committed_slots}
 use Rattle.card.specs.Counting.{counts_of}
 
-pub counted-at : (card : Kept) (chip : Chip) (m : Machine) (counts : Counts) → IsReady card chip → IsAt card chip m
+pub counted-at : (card : Kept) (chip : Chip) (m : Machine) (counts : Counts) → StandsOver card chip → IsAt card chip m
     → ((image : List ℕ) (slots : Slots) (db : Database) → StandsFor card.store image → contents card.store Committed image ≡ Some slots → Holds slots db → counts ≡ counts_of db) → counts ≡ counts_of m.committed
 unfolding committed_slots
 counted-at card chip m counts ready at each = of chip.image refl

@@ -21,6 +21,7 @@ use Rattle.card.specs.Answering.{HoldsAnswer, Performs, committed_at_once, repli
 use Rattle.card.specs.Card.{Kept, HoldsMachine}
 use Rattle.card.specs.Changing.{new_of}
 use Rattle.card.specs.Proved.{presents}
+use Rattle.card.specs.declared.found.Found.{Found}
 use Rattle.card.specs.Sessions.{left_session, session_seen, sessions_of}
 use Rattle.card.specs.declared.session.Session.{Session as Kept_session}
 use Rattle.record_store.specs.Held.{Held}
@@ -51,11 +52,11 @@ sessions_of-left stamp (Some s ∷ sessions) (chain ∷ chains) =
     ap (λ (seen : Session). Some seen ∷ sessions_of (map (option_map (left_session stamp)) sessions) chains) (left-seen stamp chain s)
     ∙ ap (λ rest. Some (left_by stamp (session_seen chain s)) ∷ rest) (sessions_of-left stamp sessions chains)
 
-pub card-left : (stamp : ℕ) (store : Held) (index : Index) (transaction : Option ℕ) (live : Bool) (sessions after : List (Option Kept_session)) (chains : List (Option Chain)) (card : Kept) → record { store = store; index = index; sessions = sessions_of sessions chains; transaction = transaction; live = live } ≡ card
+pub card-left : (stamp : ℕ) (store : Held) (index : Index) (transaction : Option ℕ) (found : Found) (live : Bool) (sessions after : List (Option Kept_session)) (chains : List (Option Chain)) (card : Kept) → record { store = store; index = index; sessions = sessions_of sessions chains; transaction = transaction; found = found; live = live } ≡ card
     → after ≡ map (option_map (left_session stamp)) sessions
-    → record { store = store; index = index; sessions = sessions_of after chains; transaction = transaction; live = live } ≡ record card { sessions = map (option_map (left_by stamp)) card.sessions }
-card-left stamp store index transaction live sessions after chains card is set =
-    ap (λ (seen : List (Option Session)). let kept : Kept = record { store = store; index = index; sessions = seen; transaction = transaction; live = live } in kept)
+    → record { store = store; index = index; sessions = sessions_of after chains; transaction = transaction; found = found; live = live } ≡ record card { sessions = map (option_map (left_by stamp)) card.sessions }
+card-left stamp store index transaction found live sessions after chains card is set =
+    ap (λ (seen : List (Option Session)). let kept : Kept = record { store = store; index = index; sessions = seen; transaction = transaction; found = found; live = live } in kept)
     (ap (λ (after : List (Option Kept_session)). sessions_of after chains) set ∙ sessions_of-left stamp sessions chains)
     ∙ ap (λ (kept : Kept). record kept { sessions = map (option_map (left_by stamp)) kept.sessions }) is
 

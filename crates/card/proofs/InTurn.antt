@@ -9,7 +9,7 @@ use Rattle.scql_model.specs.Heard.{after_commits}
 use Rattle.scql_model.specs.Machine.{Machine}
 use Rattle.scql_model.specs.Step.{Answer}
 use Rattle.card.specs.Answering.{LeavesEach, LeavesFirstOfTwo, LeavesOneOf}
-use Rattle.card.specs.Card.{Kept, IsReady, HoldsMachine, committed_slots}
+use Rattle.card.specs.Card.{Kept, StandsOver, HoldsMachine, committed_slots}
 use Rattle.card.proofs.Leaving.{Opens-held}
 
 -- the image of a card that holds a machine is told
@@ -22,7 +22,7 @@ told-held card chip m at = of chip.image refl
     of None told = absurd (none-some at.slots (ap (committed_slots card.store) (sym told) ∙ at.committed))
 
 -- what it holds may be left
-leaves-held : (card : Kept) (old new : Chip) (m : Machine) (dbs : List Database) → LeavesOneOf dbs old new → IsReady card new → HoldsMachine card new m → IsValid m.committed → LeavesOnce m.committed old new
+leaves-held : (card : Kept) (old new : Chip) (m : Machine) (dbs : List Database) → LeavesOneOf dbs old new → StandsOver card new → HoldsMachine card new m → IsValid m.committed → LeavesOnce m.committed old new
 leaves-held card old new m dbs leaves ready at valid =
     let image = told-held card new m at in
     record {
@@ -31,7 +31,7 @@ leaves-held card old new m dbs leaves ready at valid =
       moment = subst (λ (mark : ℕ). MayBeLeftSince new old.clock mark image.0) (leaves.now image.0 image.1).0 (left-now new old.clock image.0 image.1);
     }
 
-pub leaves-each : (card : Kept) (old new : Chip) (m : Machine) (answer : Answer) → LeavesOneOf (m.committed ∷ answer.commits) old new → IsReady card new → HoldsMachine card new answer.machine → IsValid answer.machine.committed
+pub leaves-each : (card : Kept) (old new : Chip) (m : Machine) (answer : Answer) → LeavesOneOf (m.committed ∷ answer.commits) old new → StandsOver card new → HoldsMachine card new answer.machine → IsValid answer.machine.committed
     → after_commits m.committed answer.commits (length answer.commits) ≡ answer.machine.committed → length answer.commits ≤ 2 → LeavesFirstOfTwo answer old new → LeavesEach answer.commits old new
 leaves-each card old new m answer leaves ready at valid last two lowered =
     each answer.commits last two lowered

@@ -7,7 +7,7 @@ use Rattle.eeprom.proofs.SameFrom.{drop-from}
 use Rattle.record_store.specs.Recovery.{KeepsStore}
 use Rattle.scql_model.specs.Database.{Database, IsValid}
 use Rattle.scql_model.specs.Machine.{Machine}
-use Rattle.card.specs.Card.{Kept, IsReady, HoldsMachine}
+use Rattle.card.specs.Card.{Kept, StandsOver, HoldsMachine}
 use Rattle.card.specs.Answering.{LeavesOneOf}
 use Rattle.card.specs.Behind.{KeepsBehind, own_cells}
 pub use Rattle.card.specs.CardLaws.{Opens-held, Opens-at}
@@ -34,7 +34,7 @@ pub rises-none : (most : ℕ) (old new : Chip) → new ≡ old → Becomes (Rise
 rises-none most old new same = λ after told. (after, subst (λ (chip : Chip). chip.written ≡ Some after) same told, omega arith)
 
 -- and so does the database
-pub unwritten_leaves : (card : Kept) (old new : Chip) (m : Machine) (more : List Database) → IsReady card old → HoldsMachine card old m → IsValid m.committed → new ≡ old → LeavesOneOf (m.committed ∷ more) old new
+pub unwritten_leaves : (card : Kept) (old new : Chip) (m : Machine) (more : List Database) → StandsOver card old → HoldsMachine card old m → IsValid m.committed → new ≡ old → LeavesOneOf (m.committed ∷ more) old new
 unwritten_leaves card old new m more ready held valid same = subst (λ (chip : Chip). LeavesOneOf (m.committed ∷ more) old chip) (sym same) (record {
   later = omega arith;
   only = λ t g left since there. inl there;

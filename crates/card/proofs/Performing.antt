@@ -28,8 +28,10 @@ use Rattle.db_access.specs.Presenting.{session_presented}
 use Rattle.db_access.specs.declared.presenting.Presented.{Presented as Found}
 use Rattle.card.specs.Answering.{HoldsAnswer, LeavesOneOf, Performs, changing_session, committed_at_once, replied, settled, with_session, with_session_for}
 use Rattle.row_index.specs.Index.{Index}
-use Rattle.card.specs.Card.{Kept, IsReady, IsAt, HoldsMachine, WorksOn, committed_slots, IsAtRest}
-use Rattle.card.specs.Changing.{Concludes, Changes, acting, new_of, octets_of, commits_of}
+use Rattle.card.specs.Card.{Kept, StandsOver, IsAt, HoldsMachine, WorksOn, committed_slots, IsAtRest}
+use Rattle.card.specs.declared.found.Found as found
+use Rattle.card.specs.Acting.{acting}
+use Rattle.card.specs.Changing.{Concludes, Changes, new_of, octets_of, commits_of}
 use Rattle.card.specs.Sessions.{proved_stamp, proved_user}
 use Rattle.card.proofs.Leaving.{rises-none, unwritten_leaves}
 use Rattle.card.proofs.SlotCount.{length-committed_slots}
@@ -37,7 +39,7 @@ use Rattle.card.proofs.Told.{if_some-at}
 use Rattle.card.proofs.FreeCommands.{committed-base, changed-outcome, octets-changed}
 
 -- a command that writes nothing
-pub Performs-unwritten : (card new_card : Kept) (old new : Chip) (m : Machine) (answer : Answer) (most : ℕ) (body : List ℕ) (result : Result StatusWord EepromFault) → IsReady card old → IsAt card old m → new ≡ old
+pub Performs-unwritten : (card new_card : Kept) (old new : Chip) (m : Machine) (answer : Answer) (most : ℕ) (body : List ℕ) (result : Result StatusWord EepromFault) → StandsOver card old → IsAt card old m → new ≡ old
     → IfOk result (λ word. HoldsAnswer answer (replied body word) new_card new) → Performs m answer most body result new_card old new
 Performs-unwritten card new_card old new m answer most body result ready at same step = record {
   step = step;
@@ -64,8 +66,22 @@ Performs-from m next answer most body result card old new same performs = record
   octets = performs.octets;
 }
 
+-- What was found is no part of a machine.
+pub HoldsMachine-found : (card : Kept) (kept : found.Found) (chip : Chip) (m : Machine) → HoldsMachine card chip m → HoldsMachine (record card { found = kept }) chip m
+HoldsMachine-found card kept chip m at =
+    record { slots = at.slots; committed = at.committed; limit = at.limit; holds = at.holds; transaction = at.transaction; works = at.works; sessions = at.sessions }
+
+pub Performs-found : (m : Machine) (answer : Answer) (most : ℕ) (body : List ℕ) (word : StatusWord) (card : Kept) (kept : found.Found) (old new : Chip) → Performs m answer most body (Ok word) card old new
+    → Performs m answer most body (Ok word) (record card { found = kept }) old new
+Performs-found m answer most body word card kept old new performs = record {
+  step = record { reply = performs.step.reply; held = HoldsMachine-found card kept new answer.machine performs.step.held };
+  moments = performs.moments;
+  unwritten = performs.unwritten;
+  octets = performs.octets;
+}
+
 -- A card that holds a machine holds the machine's database,
-pub IsAtRest-at : (card : Kept) (chip : Chip) (m : Machine) → IsReady card chip → IsAt card chip m → IsAtRest card.store chip m.committed
+pub IsAtRest-at : (card : Kept) (chip : Chip) (m : Machine) → StandsOver card chip → IsAt card chip m → IsAtRest card.store chip m.committed
 unfolding committed_slots
 IsAtRest-at card chip m ready from =
     let at = from.held in

@@ -1,10 +1,9 @@
 -- What a reading command does to a card that holds a machine.
-use Rattle.std.proofs.Common.{◌≡◌, ℕ, zero, suc, Bool, true, List, [], ◌∷◌, length, Option, Some, None, is_some, option_map, Result, Ok, Err, refl, lit≤, sym, ap, subst, ◌∙◌}
+use Rattle.std.proofs.Common.{◌≡◌, ℕ, zero, suc, true, List, [], ◌∷◌, length, Option, Some, None, is_some, option_map, Result, Ok, Err, refl, lit≤, sym, ap, subst, ◌∙◌}
 use Rattle.std.specs.Prelude.{IfOk, IfSome, IsErrAnd, OnOk, slice_get, slice_index_or}
 use Rattle.eeprom.specs.declared.fault.EepromFault.{EepromFault}
 use Rattle.scql_base.specs.declared.cursor.Cursor.{Cursor}
 use Rattle.scql_model.specs.Cursors.{IsCursorOf, StandsOn}
-use Rattle.std.specs.List.{Contains}
 use Rattle.std.specs.Option.{option_flatten, option_map_or}
 use Rattle.std.proofs.lemmas.Option.{none-some}
 use Rattle.eeprom.specs.Chip.{Chip}

@@ -1,7 +1,6 @@
 -- What a reading command's word, row and cursor make of a session, as the model's move.
-use Rattle.std.proofs.Common.{◌≡◌, ◌≤◌, ◌==◌, ◌<◌, ℕ, Bool, true, false, List, [], ◌∷◌, length, Option, Some, None, option_map, Result, Ok, Err, if◌then◌else◌, refl, sym, ap, subst, ◌∙◌, arith, inl, inr}
+use Rattle.std.proofs.Common.{◌≡◌, ◌≤◌, ◌==◌, ℕ, true, false, List, [], ◌∷◌, length, Option, Some, None, option_map, Result, Ok, Err, if◌then◌else◌, refl, sym, ap, subst, ◌∙◌, arith, inl, inr}
 use Rattle.std.specs.Prelude.{IfOk, IfSome, IsTrue, unwrap_or}
-use Rattle.std.specs.List.{find, list_all}
 use Rattle.std.proofs.lemmas.Bool.{cases_Bool, eqb-true}
 use Rattle.std.proofs.lemmas.Map.Entries.{option_filter}
 use Rattle.std.proofs.lemmas.Option.{none-some, same_Some}
@@ -11,14 +10,10 @@ use Rattle.scql_base.specs.declared.operation.Command.{Command}
 use Rattle.scql_base.specs.declared.operation.Operation.{Operation}
 use Rattle.scql_base.specs.declared.operation.Operation.TheVariants as asks
 use Rattle.scql_base.specs.declared.records.Object.{Object}
-use Rattle.scql_base.specs.declared.records.ObjectKind.{ObjectKind}
-use Rattle.scql_base.specs.declared.records.ObjectKind.TheVariants.{Table, View, Dictionary}
 use Rattle.scql_base.specs.declared.words.Actor.{Actor}
 use Rattle.scql_base.specs.declared.words.StatusWord.{StatusWord}
 use Rattle.scql_base.specs.Words.{conditions_not_satisfied, done, not_found, security_not_satisfied}
-use Rattle.scql_model.specs.Cursors.{IsCursorOf}
-use Rattle.scql_model.specs.Database.{Database, is_table}
-use Rattle.scql_model.specs.Defining.{is_table_or_view}
+use Rattle.scql_model.specs.Database.{Database}
 use Rattle.scql_model.specs.Machine.{Reading}
 use Rattle.scql_model.specs.Matching.{Values}
 use Rattle.scql_model.specs.Contents.{Contents, contents_of}
@@ -27,9 +22,7 @@ use Rattle.scql_model.specs.Objects.{StampedRow}
 use Rattle.scql_model.specs.Refusals.{◌>>=◌, or_refused}
 use Rattle.scql_model.specs.Rights.{appears, holds, seen_stamped, select_privilege}
 use Rattle.scql_model.specs.ReadingCommands.{Move, ReadingCommand, fetch, fetch_next, get_response, or_stays, reading_command}
-use Rattle.scql_model.proofs.LongerLists.{find-all}
 use Rattle.cursor.specs.Moved.{refuses}
-use Rattle.db_read.specs.Answered as reading
 use Rattle.db_read.specs.Answered.{answered, given, selectable}
 use Rattle.db_read.proofs.Sighted.{asked-Ok}
 use Rattle.scql_model.specs.Operations.{kind_of}

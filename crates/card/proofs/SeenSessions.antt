@@ -10,7 +10,8 @@ use Rattle.scql_model.specs.Machine as machine
 use Rattle.scql_model.specs.Machine.{Chain}
 use Rattle.row_index.specs.Index.{Index}
 use Rattle.card.specs.Card.{Kept}
-use Rattle.card.specs.Sessions.{is_open, session_seen, sessions_of}
+use Rattle.card.specs.declared.found.Found.{Found}
+use Rattle.card.specs.Sessions.{cursor_on, is_open, session_on, session_seen, sessions_of}
 use Rattle.card.specs.Answering.{changing_session, with_session}
 use Rattle.card.specs.declared.session.Session.{Session}
 
@@ -55,7 +56,7 @@ user-seen (Some session ∷ sessions) (chain ∷ chains) zero same = refl
 user-seen (session ∷ sessions) (chain ∷ chains) (suc channel) same = user-seen sessions chains channel cc
 
 -- the same of a card
-module _ (store : Held) (index : Index) (transaction : Option ℕ) (live : Bool) (sessions : List (Option Session)) (chains : List (Option Chain)) (card : Kept) (is : record { store = store; index = index; sessions = sessions_of sessions chains; transaction = transaction; live = live } ≡ card) where
+module _ (store : Held) (index : Index) (transaction : Option ℕ) (found : Found) (live : Bool) (sessions : List (Option Session)) (chains : List (Option Chain)) (card : Kept) (is : record { store = store; index = index; sessions = sessions_of sessions chains; transaction = transaction; found = found; live = live } ≡ card) where
   pub open-card : length sessions ≡ length chains → map (λ (s : Option Session). is_some s) sessions ≡ map (λ (s : Option machine.Session). is_some s) card.sessions
   open-card same = open-sessions sessions chains same ∙ ap (λ (kept : Kept). map (λ (s : Option machine.Session). is_some s) kept.sessions) is
 
@@ -109,6 +110,33 @@ open-parts (None ∷ sessions) (chain ∷ chains) (next ∷ after) zero same is 
 open-parts (Some session ∷ sessions) (chain ∷ chains) (next ∷ after) zero same is = refl
 open-parts (session ∷ sessions) (chain ∷ chains) (next ∷ after) (suc channel) same is = open-parts sessions chains after channel (cc) is
 
+-- and its cursor
+pub cursor-seen : (sessions : List (Option Session)) (chains : List (Option Chain)) (channel : ℕ) (session : Session) → length sessions ≡ length chains → slice_index_or sessions channel None ≡ Some session
+    → cursor_on (sessions_of sessions chains) channel ≡ session.cursor
+cursor-seen [] chains channel session same there = absurd (none-some session there)
+cursor-seen (s ∷ sessions) [] channel session same there = absurd cc
+cursor-seen (s ∷ sessions) (chain ∷ chains) zero session same there = ap (λ (s : Option Session). option_and_then (λ (s : machine.Session). s.reading.cursor) (option_map (session_seen chain) s)) there
+cursor-seen (s ∷ sessions) (chain ∷ chains) (suc channel) session same there = cursor-seen sessions chains channel session (cc) there
+
+-- and what doesn't tell of its parts stays
+pub parts-unseen : {X : Type 0} (told : machine.Session → Option X) → ((chain next : Option Chain) (s : Session) → told (session_seen chain s) ≡ told (session_seen next s))
+    → (sessions : List (Option Session)) (chains after : List (Option Chain)) (channel : ℕ) → length after ≡ length chains
+    → option_and_then told (session_on (sessions_of sessions after) channel) ≡ option_and_then told (session_on (sessions_of sessions chains) channel)
+parts-unseen told stays [] chains after channel same = refl
+parts-unseen told stays (session ∷ sessions) [] [] channel same = refl
+parts-unseen told stays (session ∷ sessions) [] (next ∷ after) channel same = absurd cc
+parts-unseen told stays (session ∷ sessions) (chain ∷ chains) [] channel same = absurd cc
+parts-unseen told stays (None ∷ sessions) (chain ∷ chains) (next ∷ after) zero same = refl
+parts-unseen told stays (Some session ∷ sessions) (chain ∷ chains) (next ∷ after) zero same = stays next chain session
+parts-unseen told stays (session ∷ sessions) (chain ∷ chains) (next ∷ after) (suc channel) same = parts-unseen told stays sessions chains after channel (cc)
+
+-- the session that changes is that of the channel
+pub changed-on : (change : machine.Session → machine.Session) (sessions : List (Option machine.Session)) (channel : ℕ)
+    → session_on (slice_set sessions channel (option_map change (session_on sessions channel))) channel ≡ option_map change (session_on sessions channel)
+changed-on change [] channel = refl
+changed-on change (session ∷ sessions) zero = refl
+changed-on change (session ∷ sessions) (suc channel) = changed-on change sessions channel
+
 -- a channel without a session isn't open
 pub closed-none : (sessions : List (Option Session)) (chains : List (Option Chain)) (channel : ℕ) → slice_index_or sessions channel None ≡ None → is_open (sessions_of sessions chains) channel ≡ false
 closed-none [] chains channel there = refl
@@ -141,29 +169,29 @@ sessions_of-none change (session ∷ sessions) (chain ∷ chains) (suc channel) 
     ap (λ rest. option_map (session_seen chain) session ∷ rest) (sessions_of-none change sessions chains channel there)
 
 -- the same of a card
-pub card-changed : (change : machine.Session → machine.Session) (store : Held) (index : Index) (transaction : Option ℕ) (live : Bool) (sessions : List (Option Session)) (chains : List (Option Chain)) (channel : ℕ) (old new : Session) (card : Kept)
-    → record { store = store; index = index; sessions = sessions_of sessions chains; transaction = transaction; live = live } ≡ card
+pub card-changed : (change : machine.Session → machine.Session) (store : Held) (index : Index) (transaction : Option ℕ) (found : Found) (live : Bool) (sessions : List (Option Session)) (chains : List (Option Chain)) (channel : ℕ) (old new : Session) (card : Kept)
+    → record { store = store; index = index; sessions = sessions_of sessions chains; transaction = transaction; found = found; live = live } ≡ card
     → ((chain : Option Chain) → session_seen chain new ≡ change (session_seen chain old)) → slice_index_or sessions channel None ≡ Some old
-    → record { store = store; index = index; sessions = sessions_of (slice_set sessions channel (Some new)) chains; transaction = transaction; live = live } ≡ changing_session change card channel
-card-changed change store index transaction live sessions chains channel old new card is seen there =
-    ap (λ (changed : List (Option machine.Session)). let kept : Kept = record { store = store; index = index; sessions = changed; transaction = transaction; live = live } in kept)
+    → record { store = store; index = index; sessions = sessions_of (slice_set sessions channel (Some new)) chains; transaction = transaction; found = found; live = live } ≡ changing_session change card channel
+card-changed change store index transaction found live sessions chains channel old new card is seen there =
+    ap (λ (changed : List (Option machine.Session)). let kept : Kept = record { store = store; index = index; sessions = changed; transaction = transaction; found = found; live = live } in kept)
     (sessions_of-changed change new sessions chains channel old seen there)
     ∙ ap (λ (kept : Kept). changing_session change kept channel) is
 
-pub card-none : (change : machine.Session → machine.Session) (store : Held) (index : Index) (transaction : Option ℕ) (live : Bool) (sessions : List (Option Session)) (chains : List (Option Chain)) (channel : ℕ) (card : Kept)
-    → record { store = store; index = index; sessions = sessions_of sessions chains; transaction = transaction; live = live } ≡ card → slice_index_or sessions channel None ≡ None
+pub card-none : (change : machine.Session → machine.Session) (store : Held) (index : Index) (transaction : Option ℕ) (found : Found) (live : Bool) (sessions : List (Option Session)) (chains : List (Option Chain)) (channel : ℕ) (card : Kept)
+    → record { store = store; index = index; sessions = sessions_of sessions chains; transaction = transaction; found = found; live = live } ≡ card → slice_index_or sessions channel None ≡ None
     → card ≡ changing_session change card channel
-card-none change store index transaction live sessions chains channel card is there =
+card-none change store index transaction found live sessions chains channel card is there =
     sym is
-    ∙ (ap (λ (changed : List (Option machine.Session)). let kept : Kept = record { store = store; index = index; sessions = changed; transaction = transaction; live = live } in kept)
+    ∙ (ap (λ (changed : List (Option machine.Session)). let kept : Kept = record { store = store; index = index; sessions = changed; transaction = transaction; found = found; live = live } in kept)
     (sessions_of-none change sessions chains channel there)
     ∙ ap (λ (kept : Kept). changing_session change kept channel) is)
 
-pub sessions_of-set : (store : Held) (index : Index) (transaction : Option ℕ) (live : Bool) (sessions : List (Option Session)) (chains left : List (Option Chain)) (channel : ℕ) (set : Option Session) → (card : Kept)
-    → record { store = store; index = index; sessions = sessions_of sessions chains; transaction = transaction; live = live } ≡ card → left ≡ slice_set chains channel None
-    → record { store = store; index = index; sessions = sessions_of (slice_set sessions channel set) left; transaction = transaction; live = live } ≡ with_session card channel (option_map (session_seen None) set)
-sessions_of-set store index transaction live sessions chains left channel set card is ended =
-    let seen = λ (changed : List (Option machine.Session)). let kept : Kept = record { store = store; index = index; sessions = changed; transaction = transaction; live = live } in kept in
+pub sessions_of-set : (store : Held) (index : Index) (transaction : Option ℕ) (found : Found) (live : Bool) (sessions : List (Option Session)) (chains left : List (Option Chain)) (channel : ℕ) (set : Option Session) → (card : Kept)
+    → record { store = store; index = index; sessions = sessions_of sessions chains; transaction = transaction; found = found; live = live } ≡ card → left ≡ slice_set chains channel None
+    → record { store = store; index = index; sessions = sessions_of (slice_set sessions channel set) left; transaction = transaction; found = found; live = live } ≡ with_session card channel (option_map (session_seen None) set)
+sessions_of-set store index transaction found live sessions chains left channel set card is ended =
+    let seen = λ (changed : List (Option machine.Session)). let kept : Kept = record { store = store; index = index; sessions = changed; transaction = transaction; found = found; live = live } in kept in
     ap (λ (left : List (Option Chain)). seen (sessions_of (slice_set sessions channel set) left)) ended
     ∙ (ap seen (sessions_of-new sessions chains channel set)
     ∙ ap (λ (kept : Kept). with_session kept channel (option_map (session_seen None) set)) is)

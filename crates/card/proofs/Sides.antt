@@ -1,15 +1,14 @@
 -- The sides of the store of a card that is at a machine.
-use Rattle.std.proofs.Common.{◌≡◌, ◌≤◌, ◌==◌, ◌&&◌, ℕ, Bool, true, false, ltb, List, [], ◌∷◌, length, Option, Some, None, is_some, option_map, if◌then◌else◌, refl, sym, ap, subst, ◌∙◌, inl, inr, arith}
+use Rattle.std.proofs.Common.{◌≡◌, ◌≤◌, ◌==◌, ℕ, Bool, true, false, ltb, List, [], ◌∷◌, length, Option, Some, None, is_some, option_map, if◌then◌else◌, refl, sym, ap, subst, ◌∙◌, inl, inr, arith}
 use Rattle.std.specs.Prelude.{IfSome, IsTrue, option_and_then}
-use Rattle.std.specs.List.{list_all}
 use Rattle.std.proofs.lemmas.Bool.{and_parts, and_from, cases_Bool, false≢true, lt-ltb, ltb-true}
-use Rattle.std.proofs.lemmas.Option.{none-some, same_Some}
+use Rattle.std.proofs.lemmas.Option.{same_Some}
 use Rattle.eeprom.specs.Chip.{Chip}
 use Rattle.eeprom.specs.Slots.{kept}
 use Rattle.eeprom.specs.StoreOf.{Slots}
 use Rattle.scql_model.specs.Opens.{counter_stamp}
 use Rattle.scql_model.specs.Records.{counter_in}
-use Rattle.record_store.specs.Held.{Held, contents, IsOver}
+use Rattle.record_store.specs.Held.{Held, IsOver}
 use Rattle.record_store.specs.declared.side.Side.{Side}
 use Rattle.record_store.specs.declared.side.Side.TheVariants.{Committed, Working}
 use Rattle.record_table.specs.Listed.{slots_of}
@@ -24,7 +23,16 @@ use Rattle.scql_model.specs.Sessions.{without_pending}
 use Rattle.scql_model.specs.Machine.{Machine, Session, Transaction, base, base_of}
 use Rattle.scql_model.specs.ValidMachine.{IsValidWork}
 use Rattle.card.specs.Answering.{changing_session, settled}
-use Rattle.card.specs.Card.{Kept, IsReady, IsAt, HoldsSome, KeepsStamps, WorksOn}
+use Rattle.db_read.specs.Scan.{IsRightFor, TableRows}
+use Rattle.scql_base.specs.declared.words.Actor.{Actor}
+use Rattle.scql_model.specs.Sessions.{reading_so}
+use Rattle.scql_model.specs.Machine.{Reading}
+use Rattle.card.specs.Acting.{acting}
+use Rattle.card.specs.Card.{Kept, StandsOver, IsAt, IsReady, IsStillFound, HoldsSome, KeepsStamps, WorksOn}
+use Rattle.card.specs.Sessions.{cursor_on, proved_user, session_on}
+use Rattle.card.specs.declared.found.Found.{Found}
+use Rattle.card.specs.declared.found.ChannelActor.{ChannelActor}
+use Rattle.card.proofs.SeenSessions.{changed-on}
 use Rattle.card.specs.Waiting.{side_of}
 use Rattle.card.proofs.ChangedStore.{held-same, told-image}
 use Rattle.card.proofs.IndexedStore.{last-held, working-idle}
@@ -39,7 +47,7 @@ length-held : (store : Held) (side : Side) (chip : Chip) (db : Database) (slots 
 length-held store side chip db slots held told = ap length (sym (same_Some held.slots slots (sym held.told ∙ told))) ∙ (held.holds.cells ∙ held.cells)
 
 -- The working side of a card holds the database that its transaction works on.
-pub IsHeld-works : (card : Kept) (chip : Chip) (committed : Slots) (t : Transaction) → IsReady card chip → WorksOn card.store chip committed t → IsValid t.working → IsHeld card.store Working chip t.working
+pub IsHeld-works : (card : Kept) (chip : Chip) (committed : Slots) (t : Transaction) → StandsOver card chip → WorksOn card.store chip committed t → IsValid t.working → IsHeld card.store Working chip t.working
 IsHeld-works card chip committed t ready works valid =
     let image = told-image card.store Working chip works.slots works.told in
     let some = some-held card.store Working chip ready.works image.0 image.1 in
@@ -53,7 +61,7 @@ IsHeld-works card chip committed t ready works valid =
     }
 
 -- A channel's side holds what the channel reads and changes.
-pub IsHeld-base : (card : Kept) (chip : Chip) (m : Machine) (channel : ℕ) → IsReady card chip → IsAt card chip m → IsHeld card.store (side_of card.transaction channel) chip (base m channel)
+pub IsHeld-base : (card : Kept) (chip : Chip) (m : Machine) (channel : ℕ) → StandsOver card chip → IsAt card chip m → IsHeld card.store (side_of card.transaction channel) chip (base m channel)
 IsHeld-base card chip m channel ready at =
     subst (λ (own : Option ℕ). IsHeld card.store (side_of own channel) chip (base m channel)) at.held.transaction (each m.transaction at.held.works at.valid.transaction)
   where
@@ -87,9 +95,9 @@ HoldsSome-same store other side from old new holds told same cells rows = of old
     of None (Some now) holds told = absurd (false≢true (sym told))
 
 -- Without a transaction a card is ready that holds a database.
-pub IsReady-idle : (card : Kept) (chip : Chip) → IsTrue card.live → card.transaction ≡ None → card.store.begun ≡ false → IsOver card.store chip → HoldsSome card.store Committed chip → card.index.begun ≡ false
-    → Indexes card.index card.store chip → IsReady card chip
-IsReady-idle card chip live none idle over holds index_idle index = record {
+pub StandsOver-idle : (card : Kept) (chip : Chip) → IsTrue card.live → card.transaction ≡ None → card.store.begun ≡ false → IsOver card.store chip → HoldsSome card.store Committed chip → card.index.begun ≡ false
+    → Indexes card.index card.store chip → StandsOver card chip
+StandsOver-idle card chip live none idle over holds index_idle index = record {
   live = live;
   begun = idle ∙ sym (ap is_some none);
   over = over;
@@ -108,15 +116,15 @@ above-more stamp next (place ∷ places) le all =
     and_from (ltb (place_stamp place) next) (is_above next places) (lt-ltb (place_stamp place) next (omega (arith, le, ltb-true (place_stamp place) stamp parts.0))) (above-more stamp next places le parts.1)
 
 -- The next stamp of what a channel works on is above those of all rows that are committed.
-pub last-works : (card : Kept) (chip : Chip) (working : Database) → IsReady card chip → IsHeld card.store Working chip working → is_above working.next card.index.committed ≡ true
+pub last-works : (card : Kept) (chip : Chip) (working : Database) → StandsOver card chip → IsHeld card.store Working chip working → is_above working.next card.index.committed ≡ true
 last-works card chip working ready works =
     let image = told-image card.store Working chip works.slots works.told in
     let some = some-held card.store Committed chip ready.holds image.0 image.1 in
     above-more some.0.next working.next card.index.committed (ready.stamps some.0 working some.1 works) (last-held card.index card.store chip some.0 ready.index some.1)
 
 -- A card is ready still where nothing but sessions changed.
-pub IsReady-sessions : (card after : Kept) (old new : Chip) (sessions : List (Option Session)) → after ≡ record card { sessions = sessions } → new ≡ old → IsReady card old → IsReady after new
-IsReady-sessions card after old new sessions is same ready = subst (λ (kept : Kept). IsReady kept new) (sym is) (subst (λ (chip : Chip). IsReady (record card { sessions = sessions }) chip) (sym same) (record {
+pub StandsOver-sessions : (card after : Kept) (old new : Chip) (sessions : List (Option Session)) → after ≡ record card { sessions = sessions } → new ≡ old → StandsOver card old → StandsOver after new
+StandsOver-sessions card after old new sessions is same ready = subst (λ (kept : Kept). StandsOver kept new) (sym is) (subst (λ (chip : Chip). StandsOver (record card { sessions = sessions }) chip) (sym same) (record {
   live = ready.live;
   begun = ready.begun;
   over = ready.over;
@@ -128,17 +136,17 @@ IsReady-sessions card after old new sessions is same ready = subst (λ (kept : K
 }))
 
 -- or where a channel's command was settled.
-pub IsReady-settled : (word : StatusWord) (card : Kept) (channel : ℕ) (chip : Chip) → IsReady card chip → IsReady (settled word card channel) chip
-IsReady-settled word card channel chip ready = elim (cases_Bool (word.word == done.word)) [
-  | inl e ↦ rw e (IsReady-sessions card (changing_session without_pending card channel) chip chip _ refl refl ready)
+pub StandsOver-settled : (word : StatusWord) (card : Kept) (channel : ℕ) (chip : Chip) → StandsOver card chip → StandsOver (settled word card channel) chip
+StandsOver-settled word card channel chip ready = elim (cases_Bool (word.word == done.word)) [
+  | inl e ↦ rw e (StandsOver-sessions card (changing_session without_pending card channel) chip chip _ refl refl ready)
   | inr f ↦ rw f ready
 ]
 
 -- Within a transaction a card stays ready whose working side goes on, and whose committed one stays.
-pub IsReady-within : (card : Kept) (store : Held) (index : Index) (old new : Chip) → IsReady card old → is_some card.transaction ≡ true → GoesOn card.store store old new
+pub StandsOver-within : (card : Kept) (store : Held) (index : Index) (old new : Chip) → StandsOver card old → is_some card.transaction ≡ true → GoesOn card.store store old new
     → slots_of store Committed new ≡ slots_of card.store Committed old → HoldsSome store Working new → ((db next : Database) → IsHeld card.store Working old db → IsHeld store Working new next → db.next ≤ next.next)
-    → IsTrue index.begun → Indexes index store new → IsReady (record card { store = store; index = index }) new
-IsReady-within card store index old new ready there goes_on stays works later begun stands = record {
+    → IsTrue index.begun → Indexes index store new → StandsOver (record card { store = store; index = index }) new
+StandsOver-within card store index old new ready there goes_on stays works later begun stands = record {
   live = ready.live;
   begun = goes_on.begun ∙ ready.begun;
   over = goes_on.over;
@@ -154,3 +162,63 @@ IsReady-within card store index old new ready there goes_on stays works later be
   index_begun = begun ∙ sym there;
   index = stands;
 }
+
+-- What was found is no part of what a card stands over,
+pub StandsOver-found : (card : Kept) (found : Found) (chip : Chip) → StandsOver card chip → StandsOver (record card { found = found }) chip
+StandsOver-found card found chip stands = record {
+  live = stands.live;
+  begun = stands.begun;
+  over = stands.over;
+  holds = stands.holds;
+  works = stands.works;
+  stamps = stands.stamps;
+  index_begun = stands.index_begun;
+  index = stands.index;
+}
+
+-- and where nothing was found the card is ready.
+pub IsReady-none : (card : Kept) (found : Found) (chip : Chip) → found.last ≡ None → StandsOver card chip → IsReady (record card { found = found }) chip
+IsReady-none card found chip none stands = record {
+  stands = StandsOver-found card found chip stands;
+  found = subst (λ (last : Option ChannelActor). IfSome last (IsStillFound (record card { found = found }) chip)) (sym none) tt;
+}
+
+-- A card is ready still whose sessions have the same users and cursors.
+pub IsReady-sessions : (card : Kept) (chip : Chip) (sessions : List (Option Session)) → ((channel : ℕ) → proved_user (session_on sessions channel) ≡ proved_user (session_on card.sessions channel))
+    → ((channel : ℕ) → cursor_on sessions channel ≡ cursor_on card.sessions channel) → IsReady card chip → IsReady (record card { sessions = sessions }) chip
+IsReady-sessions card chip sessions users cursors ready = record { stands = StandsOver-sessions card (record card { sessions = sessions }) chip chip sessions refl refl ready.stands; found = each card.found.last ready.found }
+  where
+    each : (o : Option ChannelActor) → IfSome o (IsStillFound card chip) → IfSome o (IsStillFound (record card { sessions = sessions }) chip)
+    each None is = tt
+    each (Some last) is = record {
+      actor = λ db held. is.actor db held ∙ ap (acting db) (sym (users last.channel));
+      scan = λ db held. subst (IsRightFor db last.actor card.found.scan) (sym (cursors last.channel)) (is.scan db held);
+    }
+
+-- A card is ready whose channel has read, for who acts on it, where what was found is right for the cursor.
+pub IsReady-read : (card : Kept) (chip : Chip) (channel : ℕ) (reading : Reading) (actor : Actor) (scan : Option TableRows) → StandsOver card chip
+    → ((db : Database) → IsHeld card.store (side_of card.transaction channel) chip db → actor ≡ acting db (proved_user (session_on card.sessions channel)))
+    → ((db : Database) → IsHeld card.store (side_of card.transaction channel) chip db → IsRightFor db actor scan reading.cursor)
+    → IsReady (record (changing_session (reading_so reading) card channel) { found = record { last = Some (record { channel = channel; actor = actor }); scan = scan } }) chip
+IsReady-read card chip channel reading actor scan stands acts right = record {
+  stands = StandsOver-found read found chip (StandsOver-sessions card read chip chip read.sessions refl refl stands);
+  found = record {
+    actor = λ db held. acts db held ∙ ap (acting db) (sym (ap proved_user (changed-on (reading_so reading) card.sessions channel) ∙ user (session_on card.sessions channel)));
+    scan = λ db held. subst (λ (s : Option Session). IsRightFor db actor scan (option_and_then (λ (s : Session). s.reading.cursor) s)) (sym (changed-on (reading_so reading) card.sessions channel))
+        (cursor db (session_on card.sessions channel) (right db held));
+  };
+}
+  where
+    read : Kept
+    read = changing_session (reading_so reading) card channel
+
+    found : Found
+    found = record { last = Some (record { channel = channel; actor = actor }); scan = scan }
+
+    user : (s : Option Session) → proved_user (option_map (reading_so reading) s) ≡ proved_user s
+    user None = refl
+    user (Some s) = refl
+
+    cursor : (db : Database) (s : Option Session) → IsRightFor db actor scan reading.cursor → IsRightFor db actor scan (option_and_then (λ (s : Session). s.reading.cursor) (option_map (reading_so reading) s))
+    cursor db None is = tt
+    cursor db (Some s) is = is

@@ -18,15 +18,16 @@ use Rattle.std.proofs.lemmas.Option.{none-some}
 use Rattle.card.specs.Making.{LeavesMade}
 use Rattle.row_index.specs.Index.{Index}
 use Rattle.card.specs.Card.{Kept, IsAt, committed_slots}
+use Rattle.card.specs.declared.found.Found.{Found}
 
-abbrev pub opened : Held → Index → List (Option Session) → Kept
-opened store index sessions = record { store = store; index = index; sessions = sessions; transaction = None; live = true }
+abbrev pub opened : Held → Index → Found → List (Option Session) → Kept
+opened store index found sessions = record { store = store; index = index; sessions = sessions; transaction = None; found = found; live = true }
 
-pub starts_at : (store : Held) (index : Index) (sessions : List (Option Session)) (chip : Chip) (image : Option (List ℕ)) → ((db : Database) → sessions ≡ (start db).sessions) → image ≡ chip.image
-    → IfSome image (λ image. store_of image ≡ stored store Committed image) → IfSome image (λ image. (db : Database) → Opens image db → IsAt (opened store index sessions) chip (start db))
+pub starts_at : (store : Held) (index : Index) (found : Found) (sessions : List (Option Session)) (chip : Chip) (image : Option (List ℕ)) → ((db : Database) → sessions ≡ (start db).sessions) → image ≡ chip.image
+    → IfSome image (λ image. store_of image ≡ stored store Committed image) → IfSome image (λ image. (db : Database) → Opens image db → IsAt (opened store index found sessions) chip (start db))
 unfolding committed_slots
-starts_at store index sessions chip None first same has = tt
-starts_at store index sessions chip (Some image) first same has = λ db opens.
+starts_at store index found sessions chip None first same has = tt
+starts_at store index found sessions chip (Some image) first same has = λ db opens.
     let of = limited store.row_limit (contents store Committed image) opens.store (sym has ∙ opens.stored) in record {
       held = record {
         slots = opens.store.slots;

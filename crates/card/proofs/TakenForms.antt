@@ -32,6 +32,7 @@ use Rattle.record_store.specs.Held.{Held}
 use Rattle.row_index.specs.Index.{Index}
 use Rattle.card.specs.Card.{Kept, HoldsMachine, IsAt, WorksOn}
 use Rattle.card.specs.Sessions as opened
+use Rattle.card.specs.declared.found.Found.{Found}
 use Rattle.card.specs.Sessions.{sessions_of}
 use Rattle.card.specs.declared.session.Session.{Session}
 use Rattle.card.proofs.SeenSessions.{chain-seen, open-parts, sessions_of-chain}
@@ -125,10 +126,10 @@ valid-taken m (part_on channel kind octets) valid = valid-changing m channel (wi
 valid-taken m (a_command c) valid = valid-changing m c.channel without_chain (λ s. refl) (λ s. refl) valid
 
 -- card and EEPROM are at the next machine, once octets were taken
-pub IsAt-taken : (store : Held) (index : Index) (transaction : Option ℕ) (live : Bool) (sessions : List (Option Session)) (chains after : List (Option Chain)) (card : Kept) (chip : Chip) (m : Machine) (form : Form) → IsAt card chip m
-    → record { store = store; index = index; sessions = sessions_of sessions chains; transaction = transaction; live = live } ≡ card → after ≡ chains_after chains form
-    → IsAt (record { store = store; index = index; sessions = sessions_of sessions after; transaction = transaction; live = live }) chip (taken_at m form)
-IsAt-taken store index transaction live sessions chains after card chip m form at seen is =
+pub IsAt-taken : (store : Held) (index : Index) (transaction : Option ℕ) (found : Found) (live : Bool) (sessions : List (Option Session)) (chains after : List (Option Chain)) (card : Kept) (chip : Chip) (m : Machine) (form : Form) → IsAt card chip m
+    → record { store = store; index = index; sessions = sessions_of sessions chains; transaction = transaction; found = found; live = live } ≡ card → after ≡ chains_after chains form
+    → IsAt (record { store = store; index = index; sessions = sessions_of sessions after; transaction = transaction; found = found; live = live }) chip (taken_at m form)
+IsAt-taken store index transaction found live sessions chains after card chip m form at seen is =
     let was = subst (λ (kept : Kept). HoldsMachine kept chip m) (sym seen) at.held in
     record {
       held = record {
@@ -257,6 +258,13 @@ pub fits-taken : (octets : List ℕ) (channels : List Bool) (chain : ℕ → Opt
 fits-taken octets channels chain limit c are most is =
     FitsCard-form_of built_operations octets channels chain limit c sound-built_operations are most is
 
+-- there are parts of as many channels as before
+pub length-after : (chains : List (Option Chain)) (form : Form) → length (chains_after chains form) ≡ length chains
+length-after chains (refused word) = refl
+length-after chains (refused_on channel word) = length-set chains channel None
+length-after chains (part_on channel kind part) = length-set chains channel (Some (record { operation = kind; parts = parts_of kind (chain_on chains channel) ++ part ∷ [] }))
+length-after chains (a_command c) = length-set chains c.channel None
+
 -- and its channel is open still
 pub open-taken : (octets : List ℕ) (channels : List Bool) (sessions : List (Option Session)) (chains after : List (Option Chain)) (limit : ℕ) (c : Command)
     → (let form = form_of built_operations octets channels (chain_on chains) limit in channels ≡ map (λ (s : Option Seen). is_some s) (sessions_of sessions chains)
@@ -266,9 +274,3 @@ open-taken octets channels sessions chains after limit c are_open is whole =
     let read : slice_get channels c.channel ≡ Some true = subst (λ (form : Form). IfSome (read_on form) (λ channel. slice_get channels channel ≡ Some true)) whole
     (IfSome-read_on built_operations octets channels (chain_on chains) limit) in
     open-parts sessions chains after c.channel (ap length is ∙ length-after chains form) (subst (λ (channels : List Bool). slice_get channels c.channel ≡ Some true) are_open read)
-  where
-    length-after : (chains : List (Option Chain)) (form : Form) → length (chains_after chains form) ≡ length chains
-    length-after chains (refused word) = refl
-    length-after chains (refused_on channel word) = length-set chains channel None
-    length-after chains (part_on channel kind part) = length-set chains channel (Some (record { operation = kind; parts = parts_of kind (chain_on chains channel) ++ part ∷ [] }))
-    length-after chains (a_command c) = length-set chains c.channel None

@@ -1,13 +1,13 @@
 -- What a card does within a transaction, and with one as a whole.
-use Rattle.std.proofs.Common.{◌≡◌, ◌⊎◌, ℕ, ◌≤◌, ◌+◌, ◌*◌, ◌==◌, Bool, true, false, List, [], ◌∷◌, length, Option, Some, None, is_some, option_map, Result, Ok, Err, refl, sym, ap, subst, ◌∙◌, inl, inr, arith}
-use Rattle.std.specs.Prelude.{IfOk, IfSome, OnOk, IsTrue, option_and_then, slice_get}
+use Rattle.std.proofs.Common.{◌≡◌, ℕ, ◌≤◌, ◌+◌, ◌*◌, ◌==◌, true, false, List, [], ◌∷◌, length, Option, Some, None, is_some, option_map, Result, Ok, Err, refl, sym, ap, subst, ◌∙◌, inl, inr, arith}
+use Rattle.std.specs.Prelude.{IfOk, IfSome, OnOk, IsTrue, slice_get}
 use Rattle.std.specs.Option.{option_flatten}
 use Rattle.std.proofs.lemmas.Bool.{false≢true}
 use Rattle.std.proofs.lemmas.Option.{none-some}
 use Rattle.eeprom.specs.Frame.{HasRoom}
 use Rattle.eeprom.specs.declared.EepromFault.{EepromFault}
 use Rattle.eeprom.specs.Chip.{Chip, Still, Becomes, Keeps, RisesAtMost, RisesBy}
-use Rattle.eeprom.specs.StoreOf.{Slots, image_size, store_of}
+use Rattle.eeprom.specs.StoreOf.{image_size, store_of}
 use Rattle.record_store.specs.Held.{Held, contents, IsOver, StandsFor}
 use Rattle.record_store.specs.Transaction.{begun_from, entries, Commits, IsCommitted}
 use Rattle.record_store.specs.declared.side.Side.{Side}
@@ -17,13 +17,13 @@ use Rattle.scql_base.specs.declared.operation.Operation.{Operation}
 use Rattle.scql_base.specs.declared.words.Actor.{Actor}
 use Rattle.scql_base.specs.declared.words.StatusWord.{StatusWord}
 use Rattle.scql_base.specs.Words.{conditions_not_satisfied, done}
-use Rattle.scql_model.specs.Bound.{octets_changed, octets_committed, octets_for_change, or_nothing}
+use Rattle.scql_model.specs.Bound.{octets_changed, octets_committed, or_nothing}
 use Rattle.scql_model.specs.Changing.{edits_of, transaction_after, with_edits}
 use Rattle.scql_model.specs.Database.{Database, IsValid}
 use Rattle.scql_model.specs.Edits.{Edit, applied, cells_written, lacks_room, octets_for_cells, octets_for_commit}
-use Rattle.scql_model.specs.Machine.{Machine, Session, Transaction, actor, base}
-use Rattle.scql_model.specs.Opens.{Holds, Opens}
-use Rattle.scql_model.specs.Refusals.{◌>>=◌, or_refused, provided}
+use Rattle.scql_model.specs.Machine.{Machine, Transaction, actor, base}
+use Rattle.scql_model.specs.Opens.{Holds}
+use Rattle.scql_model.specs.Refusals.{◌>>=◌}
 use Rattle.scql_model.specs.Replies.{said}
 use Rattle.scql_model.specs.Sessions.{cursor_of, without_cursor, without_pending}
 use Rattle.scql_model.specs.Sessions as sessions
@@ -36,8 +36,9 @@ use Rattle.record_table.specs.Making.{GoesOn, IsHeld, Makes}
 use Rattle.row_index.specs.Index.{Index, side_places}
 use Rattle.record_table.specs.Touching.{IsTouched}
 use Rattle.card.specs.Answering.{HoldsAnswer, LeavesOneOf, Performs, changing_session, replied, settled}
-use Rattle.card.specs.Card.{Kept, HoldsMachine, HoldsSome, IsAt, IsAtRest, IsReady, KeepsStamps, WorksOn, committed_slots}
-use Rattle.card.specs.Changing.{Changes, ConcludesWithin, acting, new_of}
+use Rattle.card.specs.Card.{Kept, HoldsMachine, HoldsSome, IsAt, IsAtRest, StandsOver, WorksOn, committed_slots}
+use Rattle.card.specs.Acting.{acting}
+use Rattle.card.specs.Changing.{Changes, ConcludesWithin, new_of}
 use Rattle.card.specs.Waiting.{keeps_waiting}
 use Rattle.card.specs.Sessions.{proved_user}
 use Rattle.card.proofs.ChangedStore.{held-same, leaves-committed, leaves-kept, opens-rest, over-begun, same-slots, slots-committed}
@@ -45,7 +46,7 @@ use Rattle.card.proofs.FreeCommands.{base-own, changed-own, committed-base, outc
 use Rattle.card.proofs.Leaving.{Keeps-none, rises-none}
 use Rattle.card.proofs.IndexedStore.{Indexes-begun, Indexes-ended}
 use Rattle.card.proofs.Performing.{HoldsAnswer-done, HoldsMachine-changing, HoldsMachine-rest, IsAtRest-at, Performs-changed, Performs-unwritten, actor-at, refused-not_done}
-use Rattle.card.proofs.Sides.{HoldsSome-same, IsHeld-works, IsReady-idle, KeepsStamps-same}
+use Rattle.card.proofs.Sides.{HoldsSome-same, IsHeld-works, StandsOver-idle, KeepsStamps-same}
 use Rattle.record_table.proofs.TouchedRecords.{IsTouched-after, IsTouched-begun, entries-touched}
 
 -- Within a transaction nothing is committed.
@@ -88,7 +89,7 @@ HoldsMachine-still card after old new m store sessions transaction same at = sub
 })
 
 -- A card that holds a machine holds it on, with another working database, where a change within its transaction was made.
-module _ (card : Kept) (store : Held) (index : Index) (old new : Chip) (m : Machine) (channel : ℕ) (t : Transaction) (ready : IsReady card old) (at : IsAt card old m) (is : m.transaction ≡ Some t)
+module _ (card : Kept) (store : Held) (index : Index) (old new : Chip) (m : Machine) (channel : ℕ) (t : Transaction) (ready : StandsOver card old) (at : IsAt card old m) (is : m.transaction ≡ Some t)
     (own : own_transaction m.transaction channel ≡ Some t) where
   works : WorksOn card.store old at.held.slots t
   works = subst (λ (o : Option Transaction). IfSome o (WorksOn card.store old at.held.slots)) is at.held.works
@@ -191,7 +192,7 @@ none-of (Some t) own is none = absurd (none-some t.channel (sym none ∙ sym is)
 
 -- What comes of a change that is committed at once, by the cursor that the session has,
 pub Performs-at_once : (card after : Kept) (store : Held) (index : Index) (old new : Chip) (m : Machine) (channel : ℕ) (operation : Operation) (user : Option ℕ) (cursor : Option Cursor) (result : Result StatusWord EepromFault)
-    → IsReady card old → IsAt card old m → card.transaction ≡ None → user ≡ proved_user (option_flatten (slice_get card.sessions channel)) → (cursor_of m channel ≡ cursor) × IfSome cursor (IsCursorOf (base m channel))
+    → StandsOver card old → IsAt card old m → card.transaction ≡ None → user ≡ proved_user (option_flatten (slice_get card.sessions channel)) → (cursor_of m channel ≡ cursor) × IfSome cursor (IsCursorOf (base m channel))
     → IfOk result (λ word. after ≡ settled word (record card { store = store; index = index }) channel)
     → ((db : Database) → IsAtRest card.store old db → IfSome cursor (IsCursorOf db) → Changes db (edits_of db (acting db user) cursor operation) result store old new)
     → Performs m (answered m (changed m channel operation)) (or_nothing (octets_changed m channel operation)) [] result after old new
@@ -203,7 +204,7 @@ Performs-at_once card after store index old new m channel operation user cursor 
 
 -- and of one within the channel's transaction.
 pub Performs-in_transaction : (card after : Kept) (store : Held) (index : Index) (old new : Chip) (m : Machine) (channel own : ℕ) (operation : Operation) (user : Option ℕ) (cursor : Option Cursor) (result : Result StatusWord EepromFault)
-    → IsReady card old → IsAt card old m → card.transaction ≡ Some own → keeps_waiting for_others card.transaction channel ≡ false → user ≡ proved_user (option_flatten (slice_get card.sessions channel))
+    → StandsOver card old → IsAt card old m → card.transaction ≡ Some own → keeps_waiting for_others card.transaction channel ≡ false → user ≡ proved_user (option_flatten (slice_get card.sessions channel))
     → (cursor_of m channel ≡ cursor) × IfSome cursor (IsCursorOf (base m channel)) → IfOk result (λ word. after ≡ settled word (record card { store = store; index = index }) channel)
     → ((db : Database) → IsHeld card.store Working old db → IfSome cursor (IsCursorOf db) → IfOk result (λ word. ConcludesWithin db (edits_of db (acting db user) cursor operation) word card.store store old new))
     → OnOk result (slots_of store Committed new ≡ slots_of card.store Committed old) → OnOk result (GoesOn card.store store old new) → Keeps store_of old new
@@ -264,11 +265,11 @@ HoldsAnswer-begun_already card chip m channel there at =
     subst (λ (o : Result Answer StatusWord). HoldsAnswer (answered m o) (said conditions_not_satisfied) card chip) (sym (begun-refused m channel (some-of m.transaction card.transaction at.transaction there))) (record { reply = refl; held = at })
 
 -- A store with the working side begun as the committed one has the card ready.
-pub IsReady-begun : (card after : Kept) (chip : Chip) → IsReady card chip → card.transaction ≡ None → after.live ≡ card.live → is_some after.transaction ≡ true → after.store ≡ begun_from card.store
+pub StandsOver-begun : (card after : Kept) (chip : Chip) → StandsOver card chip → card.transaction ≡ None → after.live ≡ card.live → is_some after.transaction ≡ true → after.store ≡ begun_from card.store
     → ((image : List ℕ) → StandsFor card.store image → StandsFor after.store image)
     → ((image : List ℕ) → contents after.store Working image ≡ contents card.store Committed image) → ((image : List ℕ) → contents after.store Committed image ≡ contents card.store Committed image)
-    → after.index ≡ record { cells = card.index.cells; begun = true; committed = card.index.committed; working = card.index.committed } → IsReady after chip
-IsReady-begun card after chip ready closed live there is stands starts stays index =
+    → after.index ≡ record { cells = card.index.cells; begun = true; committed = card.index.committed; working = card.index.committed } → StandsOver after chip
+StandsOver-begun card after chip ready closed live there is stands starts stays index =
     let committed = same-slots after.store card.store Committed Committed chip stays in
     let working = same-slots after.store card.store Working Committed chip starts in
     let cells : after.store.chains.cells ≡ card.store.chains.cells = ap (λ (s : Held). s.chains.cells) is in
@@ -284,11 +285,11 @@ IsReady-begun card after chip ready closed live there is stands starts stays ind
     }
 
 -- The end of a transaction: the slots of one side are committed.
-pub IsReady-ended : (card after : Kept) (side : Side) (old new : Chip) → IsReady card old → HoldsSome card.store side old → IsTrue after.live → after.transaction ≡ None → after.store.begun ≡ false → IsOver after.store new
+pub StandsOver-ended : (card after : Kept) (side : Side) (old new : Chip) → StandsOver card old → HoldsSome card.store side old → IsTrue after.live → after.transaction ≡ None → after.store.begun ≡ false → IsOver after.store new
     → is_some new.image ≡ is_some old.image → slots_of after.store Committed new ≡ slots_of card.store side old → after.store.chains.cells ≡ card.store.chains.cells → after.store.row_limit ≡ card.store.row_limit
-    → after.index ≡ record { cells = card.index.cells; begun = false; committed = side_places card.index side; working = side_places card.index side } → IsReady after new
-IsReady-ended card after side old new ready holds live none idle over told same cells rows index =
-    IsReady-idle after new live none idle over (HoldsSome-same after.store card.store Committed side old new holds told same cells rows) (ap (λ (i : Index). i.begun) index)
+    → after.index ≡ record { cells = card.index.cells; begun = false; committed = side_places card.index side; working = side_places card.index side } → StandsOver after new
+StandsOver-ended card after side old new ready holds live none idle over told same cells rows index =
+    StandsOver-idle after new live none idle over (HoldsSome-same after.store card.store Committed side old new holds told same cells rows) (ap (λ (i : Index). i.begun) index)
     (Indexes-ended card.index after.index side card.store after.store old new ready.index index idle cells same)
 
 -- a store that was committed is over its EEPROM,
@@ -355,13 +356,13 @@ committed-refused m channel none = rw none refl
 octets-of_commit : (m : Machine) (channel : ℕ) (t : Transaction) → own_transaction m.transaction channel ≡ Some t → or_nothing (octets_committed m channel) ≡ octets_for_commit (length t.touched)
 octets-of_commit m channel t own = rw own refl
 
-pub Performs-no_commit : (card : Kept) (chip : Chip) (m : Machine) (channel : ℕ) → own_transaction m.transaction channel ≡ None → IsReady card chip → IsAt card chip m
+pub Performs-no_commit : (card : Kept) (chip : Chip) (m : Machine) (channel : ℕ) → own_transaction m.transaction channel ≡ None → StandsOver card chip → IsAt card chip m
     → Performs m (answered m (transaction_committed m channel)) (or_nothing (octets_committed m channel)) [] (Ok conditions_not_satisfied) card chip chip
 Performs-no_commit card chip m channel none ready at =
     Performs-unwritten card card chip chip m _ _ [] (Ok conditions_not_satisfied) ready at refl
     (subst (λ (o : Result Answer StatusWord). HoldsAnswer (answered m o) (said conditions_not_satisfied) card chip) (sym (committed-refused m channel none)) (record { reply = refl; held = at.held }))
 
-module _ (card : Kept) (store : Held) (index : Index) (old new : Chip) (m : Machine) (channel : ℕ) (t : Transaction) (ready : IsReady card old) (at : IsAt card old m) (is : m.transaction ≡ Some t)
+module _ (card : Kept) (store : Held) (index : Index) (old new : Chip) (m : Machine) (channel : ℕ) (t : Transaction) (ready : StandsOver card old) (at : IsAt card old m) (is : m.transaction ≡ Some t)
     (own : own_transaction m.transaction channel ≡ Some t) (commits : Commits card.store old new) where
   work : WorksOn card.store old at.held.slots t
   work = subst (λ (o : Option Transaction). IfSome o (WorksOn card.store old at.held.slots)) is at.held.works

@@ -30,11 +30,11 @@ use Rattle.scql_model.specs.ValidMachine.{ArePresentedIn, HasSecret, IsPresented
 use Rattle.db_access.specs.Verifying.{HoldsSecret, octets_for_verdict, verdict}
 use Rattle.db_access.proofs.OnChannels.{AnswersOn, octets-unproved, said-verified, twice-verified, verified-nobody, verified-proved, verified-unproved, with_database}
 use Rattle.card.specs.Answering.{HoldsAnswer, LeavesFirstOfTwo, LeavesOneOf, Performs, changing_session, replied, settled}
-use Rattle.card.specs.Card.{Kept, IsReady, HoldsMachine, IsAt, IsAtRest}
+use Rattle.card.specs.Card.{Kept, StandsOver, HoldsMachine, IsAt, IsAtRest}
 use Rattle.card.specs.Sessions.{unproved_stamp, unproved_user}
 use Rattle.card.proofs.IndexedStore.{HoldsSome-changed, Indexes-on}
 use Rattle.card.proofs.Performing.{HoldsMachine-changing, HoldsMachine-rest, IsAtRest-at, Performs-unwritten}
-use Rattle.card.proofs.Sides.{IsReady-idle, IsReady-sessions, IsReady-settled}
+use Rattle.card.proofs.Sides.{StandsOver-idle, StandsOver-sessions, StandsOver-settled}
 use Rattle.card.proofs.Transacting.{none-of}
 
 -- who is presented on a channel is a user of the database
@@ -80,7 +80,7 @@ module _ (card : Kept) (old : Chip) (m : Machine) (channel : ℕ) (at : HoldsMac
       of (Some p) there is = by_proof p there p.proved refl is
 
 -- it is refused there
-pub Performs-nobody : (card : Kept) (old : Chip) (m : Machine) (channel most : ℕ) (secret : List ℕ) → IsReady card old → IsAt card old m → None ≡ unproved_user (option_flatten (slice_get card.sessions channel))
+pub Performs-nobody : (card : Kept) (old : Chip) (m : Machine) (channel most : ℕ) (secret : List ℕ) → StandsOver card old → IsAt card old m → None ≡ unproved_user (option_flatten (slice_get card.sessions channel))
     → Performs m (answered m (verified m channel secret)) most [] (Ok conditions_not_satisfied) card old old
 Performs-nobody card old m channel most secret ready from none =
     Performs-unwritten card card old old m (answered m (verified m channel secret)) most [] (Ok conditions_not_satisfied) ready from refl
@@ -131,7 +131,7 @@ other_number n m other = of (n == m) refl
 other_word : (word : StatusWord) → word ≢ done → (word.word == done.word) ≡ false
 other_word word other = other_number word.word done.word (λ same. other (ap (λ (n : ℕ). let w : StatusWord = record { word = n } in w) same))
 
-module _ (card : Kept) (old : Chip) (m : Machine) (channel stamp : ℕ) (secret : List ℕ) (ready : IsReady card old) (from : IsAt card old m) (closed : card.transaction ≡ None) (user : IsUnproved m channel stamp) where
+module _ (card : Kept) (old : Chip) (m : Machine) (channel stamp : ℕ) (secret : List ℕ) (ready : StandsOver card old) (from : IsAt card old m) (closed : card.transaction ≡ None) (user : IsUnproved m channel stamp) where
   abbrev answer : Answer
   answer = answered m (verified m channel secret)
 
@@ -219,13 +219,13 @@ module _ (card : Kept) (old : Chip) (m : Machine) (channel stamp : ℕ) (secret 
             subst (λ (db : Database). LeavesOnce db old new) (sym both.lowered) (left both.user stored (word-on word same ∙ both.is_done))
 
 -- The card is ready again.
-pub IsReady-verified : (card : Kept) (store : Held) (old new : Chip) → IsReady card old → card.transaction ≡ None → GoesOn card.store store old new → ((db : Database) → IsAtRest card.store old db → (next : Database) × IsAtRest store new next)
-    → ((side : Side) → KeepsRows (slots_of card.store side old) (slots_of store side new)) → IsReady (record card { store = store }) new
-IsReady-verified card store old new ready closed goes_on holds rows =
+pub StandsOver-verified : (card : Kept) (store : Held) (old new : Chip) → StandsOver card old → card.transaction ≡ None → GoesOn card.store store old new → ((db : Database) → IsAtRest card.store old db → (next : Database) × IsAtRest store new next)
+    → ((side : Side) → KeepsRows (slots_of card.store side old) (slots_of store side new)) → StandsOver (record card { store = store }) new
+StandsOver-verified card store old new ready closed goes_on holds rows =
     let idle : card.store.begun ≡ false = ready.begun ∙ ap is_some closed in
-    IsReady-idle (record card { store = store }) new ready.live closed (goes_on.begun ∙ idle) goes_on.over (HoldsSome-changed store card.store Committed old new ready.holds goes_on.told holds) (ready.index_begun ∙ ap is_some closed)
+    StandsOver-idle (record card { store = store }) new ready.live closed (goes_on.begun ∙ idle) goes_on.over (HoldsSome-changed store card.store Committed old new ready.holds goes_on.told holds) (ready.index_begun ∙ ap is_some closed)
     (Indexes-on card.index card.store store old new ready.index goes_on (goes_on.begun ∙ idle) rows)
 
-pub IsReady-proved : (card : Kept) (chip : Chip) (word : StatusWord) (channel : ℕ) (right : Bool) → IsReady card chip → IsReady (settled word (if right then changing_session proving card channel else card) channel) chip
-IsReady-proved card chip word channel true ready = IsReady-settled word (changing_session proving card channel) channel chip (IsReady-sessions card (changing_session proving card channel) chip chip _ refl refl ready)
-IsReady-proved card chip word channel false ready = IsReady-settled word card channel chip ready
+pub StandsOver-proved : (card : Kept) (chip : Chip) (word : StatusWord) (channel : ℕ) (right : Bool) → StandsOver card chip → StandsOver (settled word (if right then changing_session proving card channel else card) channel) chip
+StandsOver-proved card chip word channel true ready = StandsOver-settled word (changing_session proving card channel) channel chip (StandsOver-sessions card (changing_session proving card channel) chip chip _ refl refl ready)
+StandsOver-proved card chip word channel false ready = StandsOver-settled word card channel chip ready

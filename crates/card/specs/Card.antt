@@ -12,16 +12,24 @@ use Rattle.record_table.specs.Listed.{slots_of}
 use Rattle.record_table.specs.Making.{IsHeld}
 use Rattle.record_table.specs.Touching.{IsTouched}
 use Rattle.row_index.specs.Index.{Index, Indexes}
+use Rattle.db_read.specs.Scan.{IsRightFor}
 use Rattle.scql_model.specs.Machine.{Machine, Session, Transaction}
 use Rattle.scql_model.specs.ValidMachine.{IsValidMachine}
 use Rattle.scql_model.specs.Opens.{Holds}
+use Rattle.card.specs.Acting.{acting}
+use Rattle.card.specs.Sessions.{cursor_on, proved_user, session_on}
+use Rattle.card.specs.Waiting.{side_of}
+use Rattle.card.specs.declared.found.Found.{Found}
+use Rattle.card.specs.declared.found.ChannelActor.{ChannelActor}
 
--- its store, the index of its rows, a session or none for each channel, the channel of the open transaction, if there is one, and whether it answers
+-- its store, the index of its rows, a session or none for each channel, the channel of the open transaction, if there is one, what was found for the reading
+-- command that came last, and whether it answers
 pub record Kept : Type 0 where
   pub store : Held
   pub index : Index
   pub sessions : List (Option Session)
   pub transaction : Option ℕ
+  pub found : Found
   pub live : Bool
 
 -- the committed records, where the image is told
@@ -42,7 +50,7 @@ KeepsStamps store chip = (db working : Database) → IsHeld store Committed chip
 
 -- The card answers, its store is over the EEPROM and holds a database on each side, the index stands for the rows of both, and a transaction is begun where
 -- a channel has one.
-pub record IsReady (card : Kept) (chip : Chip) : Type 0 where
+pub record StandsOver (card : Kept) (chip : Chip) : Type 0 where
   pub live : IsTrue card.live
   pub begun : card.store.begun ≡ is_some card.transaction
   pub over : IsOver card.store chip
@@ -51,6 +59,16 @@ pub record IsReady (card : Kept) (chip : Chip) : Type 0 where
   pub stamps : KeepsStamps card.store chip
   pub index_begun : card.index.begun ≡ is_some card.transaction
   pub index : Indexes card.index card.store chip
+
+-- What was found for a channel is what its next reading command would find in what the channel reads: who acts on it, and what its cursor goes over.
+pub record IsStillFound (card : Kept) (chip : Chip) (last : ChannelActor) : Type 0 where
+  pub actor : (db : Database) → IsHeld card.store (side_of card.transaction last.channel) chip db → last.actor ≡ acting db (proved_user (session_on card.sessions last.channel))
+  pub scan : (db : Database) → IsHeld card.store (side_of card.transaction last.channel) chip db → IsRightFor db last.actor card.found.scan (cursor_on card.sessions last.channel)
+
+-- The card may be asked: it stands over the EEPROM, and what it keeps of the reading command that came last, if anything, is what it would find again.
+pub record IsReady (card : Kept) (chip : Chip) : Type 0 where
+  pub stands : StandsOver card chip
+  pub found : IfSome card.found.last (IsStillFound card chip)
 
 -- The working records are those of a transaction's database, and those that it touched stand in all slots that it changed.
 pub record WorksOn (store : Held) (chip : Chip) (committed : Slots) (t : Transaction) : Type 0 where

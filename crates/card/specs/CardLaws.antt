@@ -13,10 +13,12 @@ use Rattle.row_index.specs.Index.{HasRows}
 use Rattle.scql_model.specs.Database.{Database, IsValid}
 use Rattle.scql_model.specs.Machine.{Machine, Transaction}
 use Rattle.scql_model.specs.Opens.{Opens}
-use Rattle.card.specs.Card.{Kept, HoldsMachine, HoldsSome, IsAt, IsReady, WorksOn, committed_slots}
+use Rattle.card.specs.Card.{Kept, HoldsMachine, HoldsSome, IsAt, IsReady, IsStillFound, StandsOver, WorksOn, committed_slots}
+use Rattle.card.specs.Waiting.{side_of}
+use Rattle.card.specs.declared.found.ChannelActor.{ChannelActor}
 
 -- the image of a card that holds a machine opens to the machine's database, where that is valid
-pub Opens-held : (card : Kept) (chip : Chip) (m : Machine) → IsReady card chip → HoldsMachine card chip m → IsValid m.committed → (image : List ℕ) → chip.image ≡ Some image → Opens image m.committed
+pub Opens-held : (card : Kept) (chip : Chip) (m : Machine) → StandsOver card chip → HoldsMachine card chip m → IsValid m.committed → (image : List ℕ) → chip.image ≡ Some image → Opens image m.committed
 unfolding committed_slots
 Opens-held card chip m ready at valid image told =
     let stands : StandsFor card.store image = subst (λ (o : Option (List ℕ)). IfSome o (StandsFor card.store)) told ready.over.stands in
@@ -24,7 +26,7 @@ Opens-held card chip m ready at valid image told =
     record { store = record { row_limit = card.store.row_limit; slots = at.slots }; stored = store_of-stands card.store image stands ∙ ap (with_limit card.store.row_limit) stored; limit = at.limit; holds = at.holds; valid = valid }
 
 pub Opens-at : (card : Kept) (chip : Chip) (m : Machine) → IsReady card chip → IsAt card chip m → (image : List ℕ) → chip.image ≡ Some image → Opens image m.committed
-Opens-at card chip m ready at = Opens-held card chip m ready at.held at.valid.committed
+Opens-at card chip m ready at = Opens-held card chip m ready.stands at.held at.valid.committed
 
 -- The image stays, and so does the size.
 module _ (card : Kept) (old new : Chip) (image : new.image ≡ old.image) where
@@ -44,8 +46,8 @@ module _ (card : Kept) (old new : Chip) (image : new.image ≡ old.image) where
       go None holds = tt
       go (Some was) holds = (holds.0, held-given side holds.0 holds.1)
 
-  pub IsReady-given : new.still.size ≡ old.still.size → IsReady card old → IsReady card new
-  IsReady-given size ready = record {
+  stands-given : new.still.size ≡ old.still.size → StandsOver card old → StandsOver card new
+  stands-given size ready = record {
     live = ready.live;
     begun = ready.begun;
     over = record {
@@ -62,6 +64,16 @@ module _ (card : Kept) (old new : Chip) (image : new.image ≡ old.image) where
       working = subst (λ (o : Option Slots). IfSome o (HasRows card.index.cells card.index.working)) (sym (slots-given Working)) ready.index.working;
     };
   }
+
+  found-given : (o : Option ChannelActor) → IfSome o (IsStillFound card old) → IfSome o (IsStillFound card new)
+  found-given None is = tt
+  found-given (Some last) is = record {
+    actor = λ db held. is.actor db (held-before (side_of card.transaction last.channel) db held);
+    scan = λ db held. is.scan db (held-before (side_of card.transaction last.channel) db held);
+  }
+
+  pub IsReady-given : new.still.size ≡ old.still.size → IsReady card old → IsReady card new
+  IsReady-given size ready = record { stands = stands-given size ready.stands; found = found-given card.found.last ready.found }
 
   pub IsAt-given : (m : Machine) → IsAt card old m → IsAt card new m
   IsAt-given m at = record {

@@ -1,19 +1,15 @@
 -- A change of the database of a card: which operations make one, for whom, and what it comes to.
-use Rattle.std.specs.Prelude.{◌≡◌, ◌⊎◌, ℕ, Bool, true, false, List, [], ◌∷◌, Option, Some, None, Result, Ok, Err, IfOk, OnOk}
-use Rattle.std.specs.Option.{option_map_or}
+use Rattle.std.specs.Prelude.{◌≡◌, ◌⊎◌, ℕ, Bool, true, false, List, [], ◌∷◌, Result, Ok, Err, IfOk, OnOk}
 use Rattle.eeprom.specs.Chip.{Chip, Becomes, RisesAtMost}
 use Rattle.eeprom.specs.declared.EepromFault.{EepromFault}
 use Rattle.record_store.specs.Held.{Held}
 use Rattle.scql_base.specs.declared.operation.Operation.{Operation}
 use Rattle.scql_base.specs.declared.operation.OperationKind.{OperationKind}
 use Rattle.scql_base.specs.declared.operation.OperationKind.TheVariants.{CreateTable, CreateView, CreateDictionary, DropTable, DropView, Grant, Revoke, Insert, Update, Delete, CreateUser, DeleteUser}
-use Rattle.scql_base.specs.declared.records.User.{User}
-use Rattle.scql_base.specs.declared.words.Actor.{Actor}
-use Rattle.scql_base.specs.declared.words.Actor.TheVariants.{Public, User as a_user}
 use Rattle.scql_base.specs.declared.words.StatusWord.{StatusWord}
 use Rattle.scql_base.specs.Words.{done}
 use Rattle.scql_model.specs.Bound.{or_nothing}
-use Rattle.scql_model.specs.Database.{Database, user_stamped}
+use Rattle.scql_model.specs.Database.{Database}
 use Rattle.scql_model.specs.Edits.{Edit, octets_for, with_edits}
 use Rattle.scql_model.specs.Operations.{IsBuilt, kind_of}
 use Rattle.scql_model.specs.Refusals.{◌>>=◌}
@@ -46,11 +42,6 @@ goes_through_cursor kind = false
 -- one of them, which is built
 abbrev pub IsChange : Operation → Type 0
 IsChange operation = IsBuilt (kind_of operation) × (is_changing (kind_of operation) ≡ true)
-
--- for whom a channel acts whose proved user has this stamp, or that has none
-abbrev pub acting : Database → Option ℕ → Actor
-acting db None = Public
-acting db (Some stamp) = option_map_or (λ (u : User). a_user u.stamp u.profile) (user_stamped db.users stamp) Public
 
 -- the new database of a change with these edits, or the first refusal that applies
 abbrev pub new_of : Database → Result (List Edit) StatusWord → Result Database StatusWord

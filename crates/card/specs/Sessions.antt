@@ -2,6 +2,7 @@
 use Rattle.std.specs.Prelude.{ℕ, Bool, not, List, [], ◌∷◌, Option, None, is_some, option_map, option_and_then, slice_get, if◌then◌else◌}
 use Rattle.std.specs.List.{find}
 use Rattle.std.specs.Option.{option_flatten}
+use Rattle.scql_base.specs.declared.cursor.Cursor.{Cursor}
 use Rattle.scql_model.specs.Machine as machine
 use Rattle.card.specs.declared.session.Session.{Session}
 pub use Rattle.card.specs.Proved.{presents, proved_stamp, unproved_stamp}
@@ -32,9 +33,16 @@ unproved_user session = option_and_then unproved_stamp (option_and_then (λ (s :
 abbrev pub left_session : ℕ → Session → Session
 left_session stamp s = if presents stamp s.user then record { user = None; cursor = None; pending = [] } else s
 
+-- the session of a channel, and its cursor
+abbrev pub session_on : List (Option machine.Session) → ℕ → Option machine.Session
+session_on sessions channel = option_flatten (slice_get sessions channel)
+
+abbrev pub cursor_on : List (Option machine.Session) → ℕ → Option Cursor
+cursor_on sessions channel = option_and_then (λ (s : machine.Session). s.reading.cursor) (session_on sessions channel)
+
 -- Which channels are open.
 abbrev pub is_open : List (Option machine.Session) → ℕ → Bool
-is_open sessions channel = is_some (option_flatten (slice_get sessions channel))
+is_open sessions channel = is_some (session_on sessions channel)
 
 abbrev pub least_closed : List (Option machine.Session) → Option ℕ
 least_closed sessions = find (λ channel. not (is_open sessions channel)) (1 ∷ 2 ∷ 3 ∷ [])

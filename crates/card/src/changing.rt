@@ -19,7 +19,8 @@ ghost use Rattle.record_table.specs.Listed.{cells_marked, slots_of};
 ghost use Rattle.record_table.specs.Making.{IsHeld, Ends, GoesOn, is_stop_fault};
 ghost use Rattle.row_index.specs.Index.{Indexes, is_above};
 ghost use Rattle.card.specs.Card.{HoldsSome, IsAtRest};
-ghost use Rattle.card.specs.Changing.{IsChange, Changes, ConcludesWithin, acting, goes_through_cursor};
+ghost use Rattle.card.specs.Acting.{acting};
+ghost use Rattle.card.specs.Changing.{IsChange, Changes, ConcludesWithin, goes_through_cursor};
 
 use db_access::{create_user, delete_user, grant, revoke};
 use db_define::{create_dictionary, create_table, create_view, drop_table, drop_view};

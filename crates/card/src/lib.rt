@@ -5,6 +5,8 @@ mod apart;
 mod card;
 mod changing;
 mod counting;
+mod engine;
+mod found;
 mod founded;
 mod kept_record;
 mod kept_records;

@@ -22,6 +22,7 @@ ghost use Rattle.scql_model.specs.Rights.{seen_stamped};
 ghost use Rattle.scql_model.specs.WellFormed.{IsWellFormed};
 ghost use Rattle.cursor.specs.Moved as outcomes;
 ghost use Rattle.db_read.specs.Answered.{Stops, WhereRead, given, selectable};
+ghost use Rattle.db_read.specs.Scan.{IsRightFor};
 ghost use Rattle.card.specs.ReadCosts.{GoesWithin, OperatesWithin};
 ghost use Rattle.card.specs.Reading as specs;
 ghost use Rattle.card.specs.Reading.{Goes, MovesSo, move_to};
@@ -30,7 +31,7 @@ ghost use Rattle.card.specs.Sessions.{reading_in};
 use crate::session::Session;
 use apdu::Reply;
 use apdu_chain::Pending;
-use db_read::{declare, fetch_next_row, fetch_row, next_row, open_cursor};
+use db_read::{Scan, declare, fetch_next_row, fetch_row, next_row, open_cursor};
 use eeprom::{Eeprom, EepromFault};
 use object_table::find_stamp;
 use privilege_table::{Privilege, appears, holds};
@@ -65,33 +66,35 @@ pub(crate) fn read<B: Eeprom>(
     actor: Actor,
     command: &Command,
     reply: &mut Reply,
+    row: &mut Row,
+    scan: &mut Scan,
 ) -> Result<StatusWord, EepromFault>
     requires over { IsOver store.now (B.chip bench.old) }
     requires index { Indexes index.now store.now (B.chip bench.old) }
     requires formed { IsWellFormed command.now }
     requires reads { specs.is_reading (kind_of command.now.operation) ≡ true }
     requires empty { reply.old.body ≡ [] }
-    ensures moves { (db : Database) → IsHeld store.now side (B.chip bench.old) db → IfSome session.old.cursor (IsCursorOf db)
+    ensures moves { (db : Database) → IsHeld store.now side (B.chip bench.old) db → IfSome session.old.cursor (IsCursorOf db) → IsRightFor db actor scan.old session.old.cursor
         → IfOk result (λ word. MovesSo db actor command.now (reading_in session.old) (move_to reply.new.body word session.new.cursor session.new.pending)) }
-    ensures octets_read { (db : Database) → IsHeld store.now side (B.chip bench.old) db → IfSome session.old.cursor (IsCursorOf db)
+    ensures octets_read { (db : Database) → IsHeld store.now side (B.chip bench.old) db → IfSome session.old.cursor (IsCursorOf db) → IsRightFor db actor scan.old session.old.cursor
         → OnOk result (OperatesWithin db actor command.now (reading_in session.old) (B.octets_read bench.old) (B.octets_read bench.new)) }
+    ensures right { (db : Database) → IsHeld store.now side (B.chip bench.old) db → IsRightFor db actor scan.old session.old.cursor → IsRightFor db actor scan.new session.new.cursor }
     ensures user { session.new.user ≡ session.old.user }
     ensures unsaid { OnErr result (reply.new.body ≡ []) }
     ensures frame { Reads each_error B.chip B.faults bench.old bench.new result }
 {
     let le = command.le.unwrap_or(Command::LARGEST_LE);
-    let mut row = Row::new();
     match &command.operation {
         Operation::GetResponse => give_rest(store, bench, side, session, actor, le, reply),
         Operation::Fetch => {
             let cursor = &mut session.cursor;
-            let word = fetch_row(store, bench, side, actor, cursor, le, &mut row, index)?;
-            Ok(give(word, &row, le, &mut session.pending, reply))
+            let word = fetch_row(store, bench, side, actor, cursor, le, row, index, scan)?;
+            Ok(give(word, row, le, &mut session.pending, reply))
         }
         Operation::FetchNext => {
             let cursor = &mut session.cursor;
-            let word = fetch_next_row(store, bench, side, actor, cursor, le, &mut row, index)?;
-            Ok(give(word, &row, le, &mut session.pending, reply))
+            let word = fetch_next_row(store, bench, side, actor, cursor, le, row, index, scan)?;
+            Ok(give(word, row, le, &mut session.pending, reply))
         }
         operation => {
             let word = go(
@@ -102,6 +105,7 @@ pub(crate) fn read<B: Eeprom>(
                 &mut session.cursor,
                 actor,
                 operation,
+                scan,
             )?;
             Ok(settle(word, &mut session.pending))
         }
@@ -117,14 +121,16 @@ fn go<B: Eeprom>(
     cursor: &mut Option<Cursor>,
     actor: Actor,
     operation: &Operation,
+    scan: &mut Scan,
 ) -> Result<StatusWord, EepromFault>
     requires over { IsOver store.now (B.chip bench.old) }
     requires index { Indexes index.now store.now (B.chip bench.old) }
     requires goes { specs.is_going (kind_of operation.now) ≡ true }
-    ensures moves { (db : Database) → IsHeld store.now side (B.chip bench.old) db → IfSome cursor.old (IsCursorOf db)
+    ensures moves { (db : Database) → IsHeld store.now side (B.chip bench.old) db → IfSome cursor.old (IsCursorOf db) → IsRightFor db actor scan.old cursor.old
         → IfOk result (λ word. Goes db actor operation.now word cursor.old cursor.new) }
-    ensures octets_read { (db : Database) → IsHeld store.now side (B.chip bench.old) db → IfSome cursor.old (IsCursorOf db)
+    ensures octets_read { (db : Database) → IsHeld store.now side (B.chip bench.old) db → IfSome cursor.old (IsCursorOf db) → IsRightFor db actor scan.old cursor.old
         → OnOk result (GoesWithin db actor operation.now cursor.old (B.octets_read bench.old) (B.octets_read bench.new)) }
+    ensures right { (db : Database) → IsHeld store.now side (B.chip bench.old) db → IsRightFor db actor scan.old cursor.old → IsRightFor db actor scan.new cursor.new }
     ensures frame { Reads each_error B.chip B.faults bench.old bench.new result }
 {
     match operation {
@@ -142,9 +148,10 @@ fn go<B: Eeprom>(
             columns,
             conditions,
             index,
+            scan,
         ),
-        Operation::OpenCursor => open_cursor(store, bench, side, actor, cursor, index),
-        Operation::Next => next_row(store, bench, side, actor, cursor, index),
+        Operation::OpenCursor => open_cursor(store, bench, side, actor, cursor, index, scan),
+        Operation::Next => next_row(store, bench, side, actor, cursor, index, scan),
         _ => unreachable!(),
     }
 }
@@ -167,6 +174,7 @@ fn give_rest<B: Eeprom>(
         → IfOk result (λ word. move_of db actor (reading_in session.old) (commands.get_response le) ≡ move_to reply.new.body word session.new.cursor session.new.pending) }
     ensures octets_read { (db : Database) → IsHeld store.now side (B.chip bench.old) db
         → OnOk result (Becomes (RisesAtMost (octets_for_operation db actor session.old.cursor (commands.get_response le))) (B.octets_read bench.old) (B.octets_read bench.new)) }
+    ensures cursor { session.new.cursor ≡ session.old.cursor }
     ensures user { session.new.user ≡ session.old.user }
     ensures unsaid { OnErr result (reply.new.body ≡ []) }
     ensures frame { Reads each_error B.chip B.faults bench.old bench.new result }

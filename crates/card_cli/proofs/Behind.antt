@@ -69,7 +69,7 @@ cells-there form image (inr (inr (inr (inr is)))) = λ now told. (now, told, sub
 
 -- a card is over an image that says how many cells it has
 cells-ready : (card : Kept) (chip : Chip) → IsReady card chip → (image : List ℕ) → chip.image ≡ Some image → own_cells image ≡ card.store.chains.cells
-cells-ready card chip ready image told = (at-told (StandsFor card.store) chip.image image told ready.over.stands).begins.cells
+cells-ready card chip ready image told = (at-told (StandsFor card.store) chip.image image told ready.stands.over.stands).begins.cells
 
 -- and the card that is opened has as many
 pub cells-opened : (form : Form) (card : Kept) (old mid new : Chip) → IsReady card new → KeepsStore mid new → Becomes (λ was now. own_cells now ≡ run_cells form was) old.image mid.image

@@ -15,7 +15,8 @@ use Rattle.record_table.specs.declared.stop.Stop.TheVariants.{Fault}
 use Rattle.std.specs.Prelude.{IfSome, IsErrOf, Ok}
 use Rattle.scql_base.specs.Words.{done}
 use Rattle.card.specs.Card.{IsAtRest}
-use Rattle.card.specs.Changing.{Changes, acting}
+use Rattle.card.specs.Acting.{acting}
+use Rattle.card.specs.Changing.{Changes}
 use Rattle.row_index.specs.Index.{Index, Indexes, is_above}
 use Rattle.card.proofs.IndexedStore.{HoldsSome-changed, Indexes-begun, Indexes-ended, Indexes-held, last-held, rest-concluded}
 use Rattle.card.proofs.ChangedStore.{held-begun, held-before, slots-committed, slots-rolled_back, over-begun, opens-rest, committed-begun, behind-changed, rest-rolled_back, Changes-failed, Changes-refused, Changes-half_committed, Changes-committed}

@@ -1,5 +1,5 @@
 -- Each way in which a change within a transaction ends.
-use Rattle.std.proofs.Common.{◌≡◌, ◌≤◌, ℕ, List, Option, Some, Result, Ok, Err, is_some, refl, sym, ap, subst, ◌∙◌, inl, inr, arith}
+use Rattle.std.proofs.Common.{◌≡◌, ℕ, List, Option, Result, Ok, Err, is_some, refl, sym, ap, subst, ◌∙◌, inl, inr, arith}
 use Rattle.std.specs.Prelude.{IfSome, IsErrOf}
 use Rattle.eeprom.specs.Chip.{Chip}
 use Rattle.record_store.specs.Held.{Held}
@@ -17,8 +17,8 @@ use Rattle.scql_model.proofs.ObjectsFollow.{Follows-edits_of}
 use Rattle.record_table.specs.Making.{Ends, IsHeld, Makes}
 use Rattle.record_table.specs.declared.stop.Stop.{Stop}
 use Rattle.record_table.specs.declared.stop.Stop.TheVariants.{Fault, Refused}
-use Rattle.row_index.specs.Index.{Index, Indexes}
-use Rattle.card.specs.Changing.{acting}
+use Rattle.row_index.specs.Index.{Indexes}
+use Rattle.card.specs.Acting.{acting}
 use Rattle.card.proofs.ChangingOperations.{IsActorOf-acting}
 use Rattle.card.proofs.IndexedStore.{HoldsSome-changed, Indexes-held}
 use Rattle.card.proofs.Sides.{stamps-held}

@@ -1,5 +1,5 @@
 -- What is pending is given where the cursor's object may be read, or the first refusal.
-use Rattle.std.proofs.Common.{◌≡◌, List, Option, Some, Ok, Result, refl, sym, ap, subst, ◌∙◌}
+use Rattle.std.proofs.Common.{Option, Ok, sym, ap, ◌∙◌}
 use Rattle.scql_model.specs.Moves.{chosen}
 use Rattle.scql_model.specs.Contents.{Contents}
 use Rattle.scql_model.specs.Rights.{seen_stamped}

@@ -1,5 +1,0 @@
-use Rattle.card.proofs.SeenSessions.{sessions_of-set}
-use Rattle.card.proofs.card.Card.set_session.Goals as goal
-
-pub returns : goal.returns
-returns c = sessions_of-set c.self.inside.store c.self.inside.index c.self.inside.transaction c.self.inside.live c.self.inside.sessions c.self.inside.chains c.forget.new.self c.args.channel c.args.session c.args.self.now c.self.view_is c.forget.ensures

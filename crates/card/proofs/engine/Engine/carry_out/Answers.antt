@@ -1,0 +1,43 @@
+-- A command reads, or what was found for the one that read last is let go behind it.
+use Rattle.std.proofs.Common.{◌≡◌, ℕ, List, Result, Ok, Err, sym, ◌∙◌, ap, subst}
+use Rattle.std.specs.Prelude.{OnOk}
+use Rattle.eeprom.specs.Chip.{Chip}
+use Rattle.eeprom.specs.declared.EepromFault.{EepromFault}
+use Rattle.scql_base.specs.declared.words.StatusWord.{StatusWord}
+use Rattle.scql_base.specs.declared.operation.Command.{Command}
+use Rattle.scql_base.specs.declared.operation.Operation.TheVariants.{Verify}
+use Rattle.scql_model.proofs.FewCommits.{one-answered}
+use Rattle.scql_model.specs.Machine.{Machine}
+use Rattle.scql_model.specs.Step.{answered, carried_out}
+use Rattle.scql_model.specs.Bound.{octets_carried_out, or_nothing}
+use Rattle.card.specs.Answering.{LeavesFirstOfTwo, Performs}
+use Rattle.card.specs.Card.{IsReady, Kept}
+use Rattle.card.specs.declared.found.Found.{Found}
+use Rattle.card.proofs.Sides.{IsReady-none}
+use Rattle.card.proofs.Performing.{Performs-found}
+use Rattle.card.proofs.ReadingCosts.{reads-none}
+use Rattle.card.proofs.engine.Engine.carry_out.Goals as goal
+
+-- VERIFY alone commits a second database.
+not_twice : (m : Machine) (c : Command) (result : Result StatusWord EepromFault) (old new : Chip) → ((secret : List ℕ) → c.operation ≡ Verify secret → ⊥) → OnOk result (LeavesFirstOfTwo (answered m (carried_out m c)) old new)
+not_twice m c (Ok word) old new other = λ first second rest twice. absurd (one-answered m c first second rest other twice)
+not_twice m c (Err fault) old new other = tt
+
+pub returns-then-is_reading-clause-lowered : goal.returns-then-is_reading-clause-lowered
+returns-then-is_reading-clause-lowered g c = λ m at. not_twice m c.args.command.now c.read.result _ _ (λ secret is. let reads = sym c.is_reading.ensures ∙ c.if-is_reading.true in let wrong = rw is at reads in absurd cc)
+
+pub returns-clause-octets_read : goal.returns-clause-octets_read
+returns-clause-octets_read g c = λ m at command is. absurd (reads-none c.args.command.now.operation c.args.command.now.le command (sym c.is_reading.ensures ∙ c.if-is_reading.false) is)
+
+pub returns-clause-performs : goal.returns-clause-performs
+returns-clause-performs g c = λ m at.
+    let old = g.B.Eeprom.chip c.args.bench.now in
+    let new = g.B.Eeprom.chip c.carry_out_otherwise.new.bench in
+    subst (λ (kept : Kept). Performs m (answered m (carried_out m c.args.command.now)) (or_nothing (octets_carried_out m c.args.command.now)) c.carry_out_otherwise.new.reply.body (Ok c.in_ok-word.word) (record kept { found = c.forget.new.self }) old new) (sym c.self.view_is)
+    (Performs-found m _ _ c.carry_out_otherwise.new.reply.body c.in_ok-word.word c.carry_out_otherwise.new.self c.forget.new.self old new (c.in_ok-word.ensures.performs m at))
+
+pub returns-clause-ready : goal.returns-clause-ready
+returns-clause-ready g c =
+    let new = g.B.Eeprom.chip c.carry_out_otherwise.new.bench in
+    subst (λ (kept : Kept). IsReady (record kept { found = c.forget.new.self }) new) (sym c.self.view_is)
+    (IsReady-none c.carry_out_otherwise.new.self c.forget.new.self new (ap (λ (f : Found). f.last) c.forget.ensures) c.in_ok-word.ensures.ready)

@@ -1,0 +1,15 @@
+-- By the number 0 the least channel that is closed is opened, and else the one that is named.
+use Rattle.std.proofs.Common.{ℕ, List, sym, subst}
+use Rattle.scql_model.specs.Step.{answered, channel_opened}
+use Rattle.card.specs.Answering.{HoldsAnswer, replied}
+use Rattle.card.proofs.engine.Engine.open_channel.Goals as goal
+
+pub returns-then-number-eq0-clause-step : goal.returns-then-number-eq0-clause-step
+returns-then-number-eq0-clause-step c = λ chip m at.
+    subst (λ (number : ℕ). HoldsAnswer (answered m (channel_opened m c.args.asking number)) (replied c.open_least.new.reply.body c.open_least.result) c.open_least.new.self chip) (sym c.if-number-eq0.true)
+    (c.open_least.ensures.step chip m at)
+
+pub returns-else-number-eq0-clause-step : goal.returns-else-number-eq0-clause-step
+returns-else-number-eq0-clause-step c = λ chip m at.
+    subst (λ (body : List ℕ). HoldsAnswer (answered m (channel_opened m c.args.asking c.args.number)) (replied body c.open_named.result) c.open_named.new.self chip) (sym c.requires.empty)
+    (c.open_named.ensures.step chip m at)

@@ -1,0 +1,463 @@
+// The engine of a card: its store, its sessions, and what carries out a command.
+ghost use Rattle.std.specs.Prelude.{◌≡◌, ◌==◌, slice_get, ◌<◌, ◌*◌, [], ◌∷◌, Some, None, true, false, map, is_some, length, drop, option_map, IfSome, IfOk, OnOk, OnErr, if◌then◌else◌};
+ghost use Rattle.eeprom.specs.Chip.{Chip, Becomes, Keeps};
+ghost use Rattle.eeprom.specs.Fault.{Counts, each_error};
+ghost use Rattle.eeprom.specs.Frame.{Reads};
+ghost use Rattle.eeprom.specs.StoreOf.{cell_size, image_size};
+ghost use Rattle.scql_model.specs.Replies as model;
+ghost use Rattle.scql_model.specs.Machine as machine;
+ghost use Rattle.scql_model.specs.Step as stepping;
+ghost use Rattle.scql_model.specs.Database.{Database};
+ghost use Rattle.card.specs.Card.{Kept, IsReady, IsAt, StandsOver};
+ghost use Rattle.card.specs.Answering.{HoldsAnswer, LeavesFirstOfTwo, Performs, changing_session, settled, with_session, with_session_for};
+ghost use Rattle.card.specs.Changing.{IsChange};
+ghost use Rattle.card.specs.Counting.{counts_of};
+ghost use Rattle.card.specs.ReadCosts.{ReadsAsked, ReadsFor};
+ghost use Rattle.card.specs.Reading as reading;
+ghost use Rattle.card.specs.Acting.{acting};
+ghost use Rattle.card.specs.Sessions.{cursor_on, is_open, proved_user, session_on, session_seen, sessions_of};
+ghost use Rattle.scql_model.specs.Bound.{octets_bound, octets_carried_out, octets_changed, or_nothing};
+ghost use Rattle.scql_model.specs.Accepting as accepting;
+ghost use Rattle.scql_model.specs.Sessions.{without_pending};
+ghost use Rattle.scql_model.specs.Transactions.{for_others};
+ghost use Rattle.card.specs.Waiting.{keeps_waiting, side_of};
+ghost use Rattle.catalog_codec.specs.Catalog.{user_kind};
+ghost use Rattle.cursor.specs.Costs.{RisesBetween};
+ghost use Rattle.db_read.specs.Scan.{IsRightFor};
+ghost use Rattle.record_table.specs.Listed.{cells_marked, slots_of};
+ghost use Rattle.record_table.specs.Making.{IsHeld};
+ghost use Rattle.scql_model.specs.Operations.{IsBuilt, kind_of};
+ghost use Rattle.scql_model.specs.WellFormed.{HasForm, FitsCard, IsWellFormed};
+ghost use Rattle.std.specs.Option.{option_flatten};
+
+mod channels;
+mod deleting;
+mod transacting;
+mod verifying;
+
+use crate::changing::{actor_of, change, change_within};
+use crate::counting::count_records;
+use crate::engine::channels::channel_meant;
+use crate::found::{ChannelActor, Found};
+use crate::reading::{is_reading, read};
+use crate::session::Session;
+use apdu::Reply;
+use apdu_chain::{Chains, Taken};
+use db_access::present;
+use eeprom::{Eeprom, EepromFault};
+use record_store::Store;
+use row_index::RowIndex;
+use scql_base::{Actor, Command, Name, Operation, PresentedUser, Row, StatusWord};
+use std::marker::Model;
+
+/// What a card keeps in memory, and carries out commands with.
+#[derive(Drop)]
+pub(crate) struct Engine {
+    store: Store,
+    index: RowIndex,
+    sessions: [Option<Session>; 4],
+    chains: Chains,
+    // the channel that has the open transaction
+    transaction: Option<u8>,
+    found: Found,
+    live: bool,
+    // a place for the row that a reading command gives
+    row: Row,
+}
+
+impl Model for Engine {
+    ghost use Rattle.std.specs.Prelude.{◌≡◌, length};
+    ghost use Rattle.card.specs.Card.{Kept};
+    ghost use Rattle.card.specs.Sessions.{sessions_of};
+
+    ghost Value = { Kept };
+
+    ghost view = { λ engine. record { store = engine.store; index = engine.index; sessions = sessions_of engine.sessions engine.chains; transaction = engine.transaction; found = engine.found; live = engine.live } };
+
+    ghost invariant = { λ engine. (length engine.sessions ≡ 4) × (length engine.chains ≡ 4) };
+}
+
+impl Engine {
+    /// One over a store that was opened. Channel 0 is open, without a user.
+    pub(crate) fn new(store: Store, index: RowIndex) -> Engine
+        ensures kept { result ≡ record { store = store; index = index; sessions = result.sessions; transaction = None; found = record { last = None; scan = None }; live = true } }
+        ensures starts { (db : Database) → result.sessions ≡ (machine.start db).sessions }
+    {
+        Engine {
+            store,
+            index,
+            sessions: first_sessions(),
+            chains: Chains::new(),
+            transaction: None,
+            found: Found::new(),
+            live: true,
+            row: Row::new(),
+        }
+    }
+
+    /// Whether it answers: until an answer was mute.
+    pub(crate) fn live(&self) -> bool
+        ensures { result ≡ self.now.live }
+    {
+        self.live
+    }
+
+    /// It answers no more.
+    pub(crate) fn fall_silent(&mut self)
+        ensures { self.new ≡ record self.old { live = false } }
+    {
+        self.live = false;
+    }
+
+    /// Ends all sessions, and undoes a transaction that is open. Channel 0 is then open, without a user.
+    pub(crate) fn reset(&mut self)
+        requires ready { (chip : Chip) × IsReady self.old chip }
+        ensures at { (chip : Chip) (m : machine.Machine) → IsAt self.old chip m → IsAt self.new chip (machine.reset m) }
+        ensures ready { (chip : Chip) → IsReady self.old chip → IsReady self.new chip }
+        ensures cells { self.new.store.chains.cells ≡ self.old.store.chains.cells }
+    {
+        if self.transaction.is_some() {
+            self.undo();
+        }
+        self.sessions = first_sessions();
+        self.chains.clear();
+        self.found.forget();
+    }
+
+    /// How many records of each kind are committed. Their kinds are kept in memory, so that nothing is read.
+    pub(crate) fn counts<B: Eeprom>(&self, bench: &mut B) -> Result<crate::Counts, EepromFault>
+        requires ready { IsReady self.now (B.chip bench.old) }
+        ensures counts { (m : machine.Machine) → IsAt self.now (B.chip bench.old) m → IfOk result (λ counts. counts ≡ counts_of m.committed) }
+        ensures unchanged { bench.new ≡ bench.old }
+        ensures cause { Counts (B.faults bench.old) (B.faults bench.new) result }
+    {
+        Ok(count_records(&self.store))
+    }
+
+    /// The word that a command is answered with. The body of the reply, which is empty before, is written. The command is read into a place.
+    pub(crate) fn word_of<B: Eeprom>(
+        &mut self,
+        bench: &mut B,
+        octets: &[u8],
+        command: &mut Command,
+        reply: &mut Reply,
+    ) -> Result<StatusWord, EepromFault>
+        requires ready { IsReady self.old (B.chip bench.old) }
+        requires empty { reply.old.body ≡ [] }
+        ensures performs { (m : machine.Machine) → IsAt self.old (B.chip bench.old) m
+            → Performs m (stepping.step m octets.now) (octets_bound m octets.now) reply.new.body result self.new (B.chip bench.old) (B.chip bench.new) }
+        ensures lowered { (m : machine.Machine) → IsAt self.old (B.chip bench.old) m
+            → OnOk result (LeavesFirstOfTwo (stepping.step m octets.now) (B.chip bench.old) (B.chip bench.new)) }
+        ensures octets_read { (m : machine.Machine) → IsAt self.old (B.chip bench.old) m
+            → OnOk result (ReadsAsked m octets.now (B.octets_read bench.old) (B.octets_read bench.new)) }
+        ensures ready { OnOk result (IsReady self.new (B.chip bench.new)) }
+        ensures cause { Counts (B.faults bench.old) (B.faults bench.new) result }
+        ensures cells { OnOk result (self.new.store.chains.cells ≡ self.old.store.chains.cells) }
+        ensures behind { Keeps (drop (image_size self.old.store.chains.cells)) (B.chip bench.old) (B.chip bench.new) }
+        ensures unsaid { OnErr result (reply.new.body ≡ []) }
+    {
+        let channels = self.open_channels();
+        match self
+            .chains
+            .take(octets, channels, self.store.row_limit(), command)
+        {
+            Taken::Refused { word } => Ok(word),
+            Taken::Kept => {
+                self.drop_pending(channel_named(octets));
+                // As behind any command that doesn't read.
+                self.found.forget();
+                Ok(StatusWord::DONE)
+            }
+            Taken::Whole => self.carry_out(bench, command, reply),
+        }
+    }
+
+    fn carry_out<B: Eeprom>(
+        &mut self,
+        bench: &mut B,
+        command: &Command,
+        reply: &mut Reply,
+    ) -> Result<StatusWord, EepromFault>
+        requires ready { IsReady self.old (B.chip bench.old) }
+        requires empty { reply.old.body ≡ [] }
+        requires formed { IsWellFormed command.now }
+        requires built { IsBuilt (kind_of command.now.operation) }
+        requires fits { FitsCard self.old.store.row_limit command.now.operation }
+        requires open { is_open self.old.sessions command.now.channel ≡ true }
+        ensures performs { (m : machine.Machine) → IsAt self.old (B.chip bench.old) m
+            → Performs m (stepping.answered m (stepping.carried_out m command.now)) (or_nothing (octets_carried_out m command.now)) reply.new.body result self.new (B.chip bench.old) (B.chip bench.new) }
+        // A second database is committed by VERIFY alone. Then there was a moment at which a power loss may leave the first.
+        ensures lowered { (m : machine.Machine) → IsAt self.old (B.chip bench.old) m
+            → OnOk result (LeavesFirstOfTwo (stepping.answered m (stepping.carried_out m command.now)) (B.chip bench.old) (B.chip bench.new)) }
+        ensures octets_read { (m : machine.Machine) → IsAt self.old (B.chip bench.old) m
+            → OnOk result (ReadsFor m command.now (B.octets_read bench.old) (B.octets_read bench.new)) }
+        ensures ready { OnOk result (IsReady self.new (B.chip bench.new)) }
+        ensures cause { Counts (B.faults bench.old) (B.faults bench.new) result }
+        ensures cells { OnOk result (self.new.store.chains.cells ≡ self.old.store.chains.cells) }
+        ensures behind { Keeps (drop (image_size self.old.store.chains.cells)) (B.chip bench.old) (B.chip bench.new) }
+        ensures unsaid { OnErr result (reply.new.body ≡ []) }
+    {
+        if is_reading(&command.operation) {
+            return self.read(bench, command, reply);
+        }
+        let word = self.carry_out_otherwise(bench, command, reply)?;
+        // Who acts, what is granted and the tables may be others now.
+        self.found.forget();
+        Ok(word)
+    }
+
+    // Carries out a command that doesn't read.
+    fn carry_out_otherwise<B: Eeprom>(
+        &mut self,
+        bench: &mut B,
+        command: &Command,
+        reply: &mut Reply,
+    ) -> Result<StatusWord, EepromFault>
+        requires ready { StandsOver self.old (B.chip bench.old) }
+        requires empty { reply.old.body ≡ [] }
+        requires formed { IsWellFormed command.now }
+        requires built { IsBuilt (kind_of command.now.operation) }
+        requires fits { FitsCard self.old.store.row_limit command.now.operation }
+        requires other { reading.is_reading (kind_of command.now.operation) ≡ false }
+        requires open { is_open self.old.sessions command.now.channel ≡ true }
+        ensures performs { (m : machine.Machine) → IsAt self.old (B.chip bench.old) m
+            → Performs m (stepping.answered m (stepping.carried_out m command.now)) (or_nothing (octets_carried_out m command.now)) reply.new.body result self.new (B.chip bench.old) (B.chip bench.new) }
+        // A second database is committed by VERIFY alone. Then there was a moment at which a power loss may leave the first.
+        ensures lowered { (m : machine.Machine) → IsAt self.old (B.chip bench.old) m
+            → OnOk result (LeavesFirstOfTwo (stepping.answered m (stepping.carried_out m command.now)) (B.chip bench.old) (B.chip bench.new)) }
+        ensures ready { OnOk result (StandsOver self.new (B.chip bench.new)) }
+        ensures cause { Counts (B.faults bench.old) (B.faults bench.new) result }
+        ensures cells { OnOk result (self.new.store.chains.cells ≡ self.old.store.chains.cells) }
+        ensures behind { Keeps (drop (image_size self.old.store.chains.cells)) (B.chip bench.old) (B.chip bench.new) }
+        ensures unsaid { OnErr result (reply.new.body ≡ []) }
+    {
+        if self.keeps_waiting(command) {
+            return Ok(StatusWord::CONDITIONS_NOT_SATISFIED);
+        }
+        let channel = command.channel;
+        match &command.operation {
+            Operation::Begin => Ok(self.begin(channel)),
+            Operation::Commit => self.commit(bench, channel),
+            Operation::Rollback => Ok(self.roll_back(channel)),
+            Operation::PresentUser { name } => self.present_user(bench, channel, name.copy()),
+            Operation::OpenChannel { number } => Ok(self.open_channel(channel, *number, reply)),
+            Operation::CloseChannel { number } => {
+                Ok(self.close_channel(channel, channel_meant(channel, *number)))
+            }
+            Operation::Verify { secret } => self.verify(bench, channel, secret.as_slice()),
+            Operation::DeleteUser { name } => {
+                self.delete_user(bench, channel, name.copy(), &command.operation)
+            }
+            operation => self.change(bench, channel, operation),
+        }
+    }
+
+    // Carries a reading command out on the session of its channel.
+    fn read<B: Eeprom>(
+        &mut self,
+        bench: &mut B,
+        command: &Command,
+        reply: &mut Reply,
+    ) -> Result<StatusWord, EepromFault>
+        requires ready { IsReady self.old (B.chip bench.old) }
+        requires empty { reply.old.body ≡ [] }
+        requires formed { IsWellFormed command.now }
+        requires reads { reading.is_reading (kind_of command.now.operation) ≡ true }
+        requires open { is_open self.old.sessions command.now.channel ≡ true }
+        ensures performs { (m : machine.Machine) → IsAt self.old (B.chip bench.old) m
+            → Performs m (stepping.answered m (stepping.carried_out m command.now)) (or_nothing (octets_carried_out m command.now)) reply.new.body result self.new (B.chip bench.old) (B.chip bench.new) }
+        ensures ready { OnOk result (IsReady self.new (B.chip bench.new)) }
+        ensures cause { Counts (B.faults bench.old) (B.faults bench.new) result }
+        ensures octets_read { (m : machine.Machine) → IsAt self.old (B.chip bench.old) m
+            → OnOk result (ReadsFor m command.now (B.octets_read bench.old) (B.octets_read bench.new)) }
+        ensures same { B.chip bench.new ≡ B.chip bench.old }
+        ensures store { self.new.store ≡ self.old.store }
+        ensures unsaid { OnErr result (reply.new.body ≡ []) }
+    {
+        let channel = command.channel;
+        let actor = self.actor_reading(bench, channel)?;
+        let side = self.side(channel);
+        let Some(session) = &mut self.sessions[usize::from(channel)] else {
+            unreachable!();
+        };
+        let word = read(
+            &self.store,
+            bench,
+            &self.index,
+            side,
+            session,
+            actor,
+            command,
+            reply,
+            &mut self.row,
+            &mut self.found.scan,
+        )?;
+        self.found.last = Some(ChannelActor { channel, actor });
+        Ok(word)
+    }
+
+    // Who acts on a channel that reads. Where another channel read last, or none, what was found for it is let go.
+    fn actor_reading<B: Eeprom>(&mut self, bench: &mut B, channel: u8) -> Result<Actor, EepromFault>
+        requires ready { IsReady self.old (B.chip bench.old) }
+        requires channel { channel < 4 }
+        ensures actor { (db : Database) → IsHeld self.old.store (side_of self.old.transaction channel) (B.chip bench.old) db
+            → IfOk result (λ actor. actor ≡ acting db (proved_user (session_on self.old.sessions channel))) }
+        ensures right { (db : Database) → IsHeld self.old.store (side_of self.old.transaction channel) (B.chip bench.old) db
+            → IfOk result (λ actor. IsRightFor db actor self.new.found.scan (cursor_on self.old.sessions channel)) }
+        ensures kept { self.new ≡ record self.old { found = self.new.found } }
+        ensures octets_read { OnOk result (IfSome (slots_of self.old.store (side_of self.old.transaction channel) (B.chip bench.old))
+            (λ slots. Becomes (RisesBetween 0 (cell_size * cells_marked user_kind slots)) (B.octets_read bench.old) (B.octets_read bench.new))) }
+        ensures frame { Reads each_error B.chip B.faults bench.old bench.new result }
+    {
+        if let Some(actor) = self.found.actor_on(channel) {
+            return Ok(actor);
+        }
+        self.found.forget();
+        let user = self.proved_user(channel);
+        let side = self.side(channel);
+        actor_of(&self.store, bench, side, user)
+    }
+
+    fn open_channels(&self) -> [bool; 4]
+        ensures { result ≡ map is_some self.now.sessions }
+    {
+        let [first, second, third, fourth] = &self.sessions;
+        [
+            first.is_some(),
+            second.is_some(),
+            third.is_some(),
+            fourth.is_some(),
+        ]
+    }
+
+    fn present_user<B: Eeprom>(
+        &mut self,
+        bench: &mut B,
+        channel: u8,
+        name: Name,
+    ) -> Result<StatusWord, EepromFault>
+        requires ready { StandsOver self.old (B.chip bench.old) }
+        requires channel { channel < 4 }
+        requires closed { self.old.transaction ≡ None }
+        ensures step { (m : machine.Machine) → IsAt self.old (B.chip bench.old) m
+            → IfOk result (λ word. HoldsAnswer (stepping.answered m (stepping.user_presented m channel name)) (model.said word) self.new (B.chip bench.new)) }
+        ensures ready { OnOk result (StandsOver self.new (B.chip bench.new)) }
+        ensures cause { Counts (B.faults bench.old) (B.faults bench.new) result }
+        ensures same { B.chip bench.new ≡ B.chip bench.old }
+        ensures store { self.new.store ≡ self.old.store }
+    {
+        let user = match present(&self.store, bench, name)? {
+            db_access::Presented::Unknown => return Ok(StatusWord::NOT_FOUND),
+            db_access::Presented::Public => None,
+            db_access::Presented::User { stamp, proved } => Some(PresentedUser { stamp, proved }),
+        };
+        self.set_user(channel, user);
+        Ok(StatusWord::DONE)
+    }
+
+    // Changes the database for who acts on a channel, in its transaction or in one of its own.
+    fn change<B: Eeprom>(
+        &mut self,
+        bench: &mut B,
+        channel: u8,
+        operation: &Operation,
+    ) -> Result<StatusWord, EepromFault>
+        requires ready { StandsOver self.old (B.chip bench.old) }
+        requires channel { channel < 4 }
+        requires there { is_open self.old.sessions channel ≡ true }
+        requires changes { IsChange operation.now }
+        requires formed { HasForm operation.now }
+        requires fits { FitsCard self.old.store.row_limit operation.now }
+        ensures performs { (m : machine.Machine) → IsAt self.old (B.chip bench.old) m → keeps_waiting for_others self.old.transaction channel ≡ false
+            → Performs m (stepping.answered m (stepping.changed m channel operation.now)) (or_nothing (octets_changed m channel operation.now)) [] result self.new (B.chip bench.old) (B.chip bench.new) }
+        ensures ready { OnOk result (StandsOver self.new (B.chip bench.new)) }
+        ensures cause { Counts (B.faults bench.old) (B.faults bench.new) result }
+        ensures cells { OnOk result (self.new.store.chains.cells ≡ self.old.store.chains.cells) }
+        ensures behind { Keeps (drop (image_size self.old.store.chains.cells)) (B.chip bench.old) (B.chip bench.new) }
+    {
+        let user = self.proved_user(channel);
+        let Engine {
+            store,
+            index,
+            sessions,
+            transaction,
+            ..
+        } = self;
+        let sessions = &*sessions;
+        let Some(session) = &sessions[usize::from(channel)] else {
+            unreachable!();
+        };
+        let word = match transaction {
+            None => change(store, bench, index, user, &session.cursor, operation)?,
+            Some(_) => change_within(store, bench, index, user, &session.cursor, operation)?,
+        };
+        self.settle(channel, word);
+        Ok(word)
+    }
+
+    // The stamp of a channel's user, where that one is proved.
+    fn proved_user(&self, channel: u8) -> Option<u32>
+        requires channel { channel < 4 }
+        ensures { result ≡ proved_user (option_flatten (slice_get self.now.sessions channel)) }
+    {
+        match &self.sessions[channel as usize] {
+            Some(session) => session.proved_user(),
+            None => None,
+        }
+    }
+
+    // A new session of a channel, for this user.
+    fn set_user(&mut self, channel: u8, user: Option<PresentedUser>)
+        requires channel { channel < 4 }
+        ensures { self.new ≡ with_session_for self.old channel user }
+    {
+        self.set_session(channel, Some(Session::new(user)));
+    }
+
+    // What is done drops what is pending on its channel.
+    fn settle(&mut self, channel: u8, word: StatusWord)
+        requires channel { channel < 4 }
+        ensures { self.new ≡ settled word self.old channel }
+    {
+        if word.word == StatusWord::DONE.word {
+            self.drop_pending(channel);
+        }
+    }
+
+    // Nothing is pending on a channel any more.
+    fn drop_pending(&mut self, channel: u8)
+        requires channel { channel < 4 }
+        ensures { self.new ≡ changing_session without_pending self.old channel }
+    {
+        if let Some(session) = &mut self.sessions[channel as usize] {
+            session.pending.forget();
+        }
+    }
+
+    // A channel has this session from now on, or is closed. It has no parts of a command.
+    fn set_session(&mut self, channel: u8, session: Option<Session>)
+        requires channel { channel < 4 }
+        ensures { self.new ≡ with_session self.old channel (option_map (session_seen None) session) }
+    {
+        self.sessions[channel as usize] = session;
+        self.chains.forget(channel);
+    }
+}
+
+// The channel that the class of a command names.
+fn channel_named(command: &[u8]) -> u8
+    ensures named { result ≡ accepting.channel_named command.now }
+    ensures few { result < 4 }
+{
+    match command {
+        [class, ..] => class % 4,
+        [] => 0,
+    }
+}
+
+// Channel 0 alone is open, without a user.
+fn first_sessions() -> [Option<Session>; 4]
+    ensures { (db : Database) → sessions_of result (None ∷ None ∷ None ∷ None ∷ []) ≡ (machine.start db).sessions }
+{
+    [Some(Session::new(None)), None, None, None]
+}
