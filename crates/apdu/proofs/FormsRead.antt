@@ -9,7 +9,7 @@ use Rattle.scql_base.specs.Words.{wrong_data, wrong_length}
 use Rattle.scql_base.specs.declared.operation.Operation.{Operation}
 use Rattle.scql_model.specs.Machine.{Chain}
 use Rattle.scql_model.specs.Refusals.{◌>>=◌, or_refused}
-use Rattle.scql_model.specs.Operations.{built_operations, has_secrets}
+use Rattle.scql_model.specs.Operations.{operations, has_secrets}
 use Rattle.scql_model.specs.Parameters.{operation_in}
 use Rattle.scql_model.specs.Form.{Form, Tail, refused, refused_on, data_in, is_chained, line_on, taken_in, parts_of, formed, formed_on, part_in, command_in, channel_asked, form_of}
 use Rattle.apdu.specs.declared.reading.Apdu.{Apdu}
@@ -18,18 +18,18 @@ use Rattle.apdu.specs.Reading.{Asked, apdu_on, with_parts, command_of}
 -- what is formed on a channel
 abbrev on_channel : (ℕ → Option Chain) → ℕ → ℕ → ℕ → ℕ → ℕ → ℕ → List ℕ → Result Form StatusWord
 on_channel chain limit channel cla ins p1 p2 after =
-    line_on built_operations channel ins p1 p2 >>= λ line. taken_in line.takes (is_chained cla) after >>= λ tail.
+    line_on operations channel ins p1 p2 >>= λ line. taken_in line.takes (is_chained cla) after >>= λ tail.
     if is_chained cla then part_in channel line.kind (parts_of line.kind (chain channel)) tail
-    else command_in (has_secrets built_operations) channel line.kind limit (parts_of line.kind (chain channel)) tail
+    else command_in (has_secrets operations) channel line.kind limit (parts_of line.kind (chain channel)) tail
 
 asked-on : (chain : ℕ → Option Chain) (limit channel cla ins p1 p2 : ℕ) (after : List ℕ)
     → on_channel chain limit channel cla ins p1 p2 after ≡ (apdu_on channel cla ins p1 p2 after >>= λ (a : Asked). with_parts a (parts_of a.kind (chain a.channel)) limit)
-asked-on chain limit channel cla ins p1 p2 after = of_line (line_on built_operations channel ins p1 p2)
+asked-on chain limit channel cla ins p1 p2 after = of_line (line_on operations channel ins p1 p2)
   where
     whole : Line → Tail → Result Form StatusWord
     whole line tail =
         if is_chained cla then part_in channel line.kind (parts_of line.kind (chain channel)) tail
-        else command_in (has_secrets built_operations) channel line.kind limit (parts_of line.kind (chain channel)) tail
+        else command_in (has_secrets operations) channel line.kind limit (parts_of line.kind (chain channel)) tail
 
     asked : Line → Tail → Asked
     asked line tail = record { channel = channel; kind = line.kind; is_part = is_chained cla; body = data_in tail; le = tail.le }
@@ -49,10 +49,10 @@ asked-on chain limit channel cla ins p1 p2 after = of_line (line_on built_operat
 
 -- what octets with a class are
 pub form_of-asked : (cla ins p1 p2 : ℕ) (after : List ℕ) (channels : List Bool) (chain : ℕ → Option Chain) (limit : ℕ)
-    → form_of built_operations (cla ∷ ins ∷ p1 ∷ p2 ∷ after) channels chain limit
-    ≡ formed (channel_asked built_operations cla ins channels) (λ channel. apdu_on channel cla ins p1 p2 after >>= λ (a : Asked). with_parts a (parts_of a.kind (chain a.channel)) limit)
+    → form_of operations (cla ∷ ins ∷ p1 ∷ p2 ∷ after) channels chain limit
+    ≡ formed (channel_asked operations cla ins channels) (λ channel. apdu_on channel cla ins p1 p2 after >>= λ (a : Asked). with_parts a (parts_of a.kind (chain a.channel)) limit)
 unfolding form_of
-form_of-asked cla ins p1 p2 after channels chain limit = go (channel_asked built_operations cla ins channels)
+form_of-asked cla ins p1 p2 after channels chain limit = go (channel_asked operations cla ins channels)
   where
     go : (r : Result ℕ StatusWord)
         → formed r (λ channel. on_channel chain limit channel cla ins p1 p2 after)
@@ -61,7 +61,7 @@ form_of-asked cla ins p1 p2 after channels chain limit = go (channel_asked built
     go (Ok channel) = ap (formed_on channel) (asked-on chain limit channel cla ins p1 p2 after)
 
 -- Octets that are too few, or refused before or on their channel, or an APDU.
-pub form_of-short : (octets : List ℕ) (channels : List Bool) (chain : ℕ → Option Chain) (limit : ℕ) → length octets < 4 → form_of built_operations octets channels chain limit ≡ refused wrong_length
+pub form_of-short : (octets : List ℕ) (channels : List Bool) (chain : ℕ → Option Chain) (limit : ℕ) → length octets < 4 → form_of operations octets channels chain limit ≡ refused wrong_length
 unfolding form_of
 form_of-short [] channels chain limit short = refl
 form_of-short (cla ∷ []) channels chain limit short = refl
@@ -78,7 +78,7 @@ long P holds (cla ∷ ins ∷ p1 ∷ []) enough = absurd (omega (arith, enough))
 long P holds (cla ∷ ins ∷ p1 ∷ p2 ∷ after) enough = holds cla ins p1 p2 after
 
 abbrev asked_of : List ℕ → List Bool → Result ℕ StatusWord
-asked_of octets channels = channel_asked built_operations (slice_index octets 0) (slice_index octets 1) channels
+asked_of octets channels = channel_asked operations (slice_index octets 0) (slice_index octets 1) channels
 
 abbrev apdu_of : List ℕ → ℕ → Result Asked StatusWord
 apdu_of octets channel = apdu_on channel (slice_index octets 0) (slice_index octets 1) (slice_index octets 2) (slice_index octets 3) (drop 4 octets)
@@ -93,13 +93,13 @@ apdu-seen octets channel =
     ap (apdu_on channel (slice_index octets 0) (slice_index octets 1) (slice_index octets 2) (slice_index octets 3)) (take_all (length octets - 4) (drop 4 octets) (omega (arith, size)))
 
 form_of-header : (octets : List ℕ) (channels : List Bool) (chain : ℕ → Option Chain) (limit : ℕ) → 4 ≤ length octets
-    → form_of built_operations octets channels chain limit ≡ formed (asked_of octets channels) (λ channel. apdu_of octets channel >>= λ (a : Asked). with_parts a (parts_of a.kind (chain a.channel)) limit)
+    → form_of operations octets channels chain limit ≡ formed (asked_of octets channels) (λ channel. apdu_of octets channel >>= λ (a : Asked). with_parts a (parts_of a.kind (chain a.channel)) limit)
 form_of-header octets channels chain limit enough =
-    long (λ octets. form_of built_operations octets channels chain limit ≡ formed (asked_of octets channels) (λ channel. apdu_of octets channel >>= λ (a : Asked). with_parts a (parts_of a.kind (chain a.channel)) limit))
+    long (λ octets. form_of operations octets channels chain limit ≡ formed (asked_of octets channels) (λ channel. apdu_of octets channel >>= λ (a : Asked). with_parts a (parts_of a.kind (chain a.channel)) limit))
     (λ cla ins p1 p2 after. form_of-asked cla ins p1 p2 after channels chain limit) octets enough
 
 pub form_of-nowhere : (octets : List ℕ) (channels : List Bool) (chain : ℕ → Option Chain) (limit : ℕ) (word : StatusWord) → 4 ≤ length octets → Err word ≡ asked_of octets channels
-    → form_of built_operations octets channels chain limit ≡ refused word
+    → form_of operations octets channels chain limit ≡ refused word
 form_of-nowhere octets channels chain limit word enough is = rw (form_of-header octets channels chain limit enough, ← is) refl
 
 -- what is formed where the channel is known, by what is asked on it
@@ -111,13 +111,13 @@ module _ (asked : ℕ → Result Asked StatusWord) (done : Asked → Result Form
   asked-formed a here = rw (← is, ← here) refl
 
 pub form_of-refused : (octets : List ℕ) (channels : List Bool) (chain : ℕ → Option Chain) (limit channel : ℕ) (word : StatusWord) → 4 ≤ length octets → Ok channel ≡ asked_of octets channels
-    → Err word ≡ apdu_seen octets channel → form_of built_operations octets channels chain limit ≡ refused_on channel word
+    → Err word ≡ apdu_seen octets channel → form_of operations octets channels chain limit ≡ refused_on channel word
 form_of-refused octets channels chain limit channel word enough is at =
     form_of-header octets channels chain limit enough
     ∙ refused-formed (apdu_of octets) (λ (a : Asked). with_parts a (parts_of a.kind (chain a.channel)) limit) (asked_of octets channels) channel is word (at ∙ apdu-seen octets channel)
 
 pub form_of-apdu : (octets : List ℕ) (channels : List Bool) (chain : ℕ → Option Chain) (limit channel : ℕ) (a : Asked) → 4 ≤ length octets → Ok channel ≡ asked_of octets channels
-    → Ok a ≡ apdu_seen octets channel → a.channel ≡ channel → form_of built_operations octets channels chain limit ≡ formed_on a.channel (with_parts a (parts_of a.kind (chain a.channel)) limit)
+    → Ok a ≡ apdu_seen octets channel → a.channel ≡ channel → form_of operations octets channels chain limit ≡ formed_on a.channel (with_parts a (parts_of a.kind (chain a.channel)) limit)
 form_of-apdu octets channels chain limit channel a enough is at same =
     form_of-header octets channels chain limit enough
     ∙ (asked-formed (apdu_of octets) (λ (a : Asked). with_parts a (parts_of a.kind (chain a.channel)) limit) (asked_of octets channels) channel is a (at ∙ apdu-seen octets channel)
@@ -125,7 +125,7 @@ form_of-apdu octets channels chain limit channel a enough is at same =
 
 -- A command is on the channel of its APDU.
 pub command_of-open : (a : Apdu) (limit : ℕ) (body : List ℕ) (channels : List Bool) → slice_get channels a.channel ≡ Some true → IfOk (command_of a limit body) (λ c. slice_get channels c.channel ≡ Some true)
-command_of-open a limit body channels is = go (operation_in (has_secrets built_operations) a.kind limit body)
+command_of-open a limit body channels is = go (operation_in (has_secrets operations) a.kind limit body)
   where
     go : (o : Option Operation)
         → IfOk (or_refused o wrong_data >>= λ (operation : Operation). let c : Command = record { channel = a.channel; operation = operation; le = a.le } in Ok c) (λ c. slice_get channels c.channel ≡ Some true)

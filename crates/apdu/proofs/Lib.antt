@@ -1,4 +1,4 @@
-pub mod BuiltLines
+pub mod TableLines
 pub mod FieldsRead
 pub mod FieldsWritten
 pub mod FormsRead

@@ -63,8 +63,8 @@ changes_in strings = do
   only_where (are_changes changes) changes
 
 -- 1 to 15 values, within a limit of octets
-abbrev pub row_in : ℕ → List (List ℕ) → Option (List (List ℕ))
-row_in limit values = only_where (is_row_within limit values) values
+abbrev pub values_in : ℕ → List (List ℕ) → Option (List (List ℕ))
+values_in limit values = only_where (is_row_within limit values) values
 
 -- one octet, and what it stands for
 abbrev pub octet_in : List ℕ → Option ℕ

@@ -6,7 +6,7 @@ use Rattle.scql_base.specs.declared.operation.OperationKind.{OperationKind}
 use Rattle.scql_base.specs.Words.{wrong_data}
 use Rattle.scql_model.specs.Machine.{Chain}
 use Rattle.scql_model.specs.Refusals.{◌>>=◌, or_refused}
-use Rattle.scql_model.specs.Operations.{built_operations, has_secrets}
+use Rattle.scql_model.specs.Operations.{operations, has_secrets}
 use Rattle.scql_model.specs.Parameters.{operation_in}
 use Rattle.scql_model.specs.Form as form
 use Rattle.scql_model.specs.Form.{Form, is_chained, line_on, taken_in, data_in, parts_of, formed_on, part_in, command_in}
@@ -37,7 +37,7 @@ apdu_view a = record { channel = a.channel; kind = a.kind; is_part = a.is_part; 
 -- what octets with an instruction ask for on a channel
 abbrev pub apdu_on : ℕ → ℕ → ℕ → ℕ → ℕ → List ℕ → Result Asked StatusWord
 apdu_on channel cla ins p1 p2 after = do
-  line ← line_on built_operations channel ins p1 p2
+  line ← line_on operations channel ins p1 p2
   tail ← taken_in line.takes (is_chained cla) after
   Ok (record { channel = channel; kind = line.kind; is_part = is_chained cla; body = data_in tail; le = tail.le })
 
@@ -45,7 +45,7 @@ apdu_on channel cla ins p1 p2 after = do
 abbrev pub with_parts : Asked → List (List ℕ) → ℕ → Result Form StatusWord
 with_parts a parts limit =
     let tail : form.Tail = record { body = Some a.body; le = a.le } in
-    if a.is_part then part_in a.channel a.kind parts tail else command_in (has_secrets built_operations) a.channel a.kind limit parts tail
+    if a.is_part then part_in a.channel a.kind parts tail else command_in (has_secrets operations) a.channel a.kind limit parts tail
 
 -- what is read of octets, from the APDU that they are, the chain of its channel and the limit of a row
 abbrev pub completed : Result Apdu Refusal → (ℕ → Option Chain) → ℕ → Form
@@ -56,7 +56,7 @@ completed (Ok a) chain limit = formed_on a.channel (with_parts (apdu_view a) (pa
 -- the command of an APDU's operation with a data field
 abbrev pub command_of : Apdu → ℕ → List ℕ → Result Command StatusWord
 command_of a limit body = do
-  operation ← or_refused (operation_in (has_secrets built_operations) a.kind limit body) wrong_data
+  operation ← or_refused (operation_in (has_secrets operations) a.kind limit body) wrong_data
   Ok (record { channel = a.channel; operation = operation; le = a.le })
 
 -- a refusal on a channel is on an open one of the channels 0 to 3

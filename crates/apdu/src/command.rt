@@ -64,7 +64,7 @@ impl CommandApdu for Command {
     ghost part_octets = { spelling.part_octets };
 
     fn read(octets: &[u8], channels: [bool; 4], limit: u16) -> Result<Command, StatusWord>
-        ensures command { result ≡ form.as_command (form.form_of table.built_operations octets.now channels form.no_chain (min limit LARGEST)) }
+        ensures command { result ≡ form.as_command (form.form_of table.operations octets.now channels form.no_chain (min limit LARGEST)) }
         ensures formed { IfOk result IsWellFormed }
         ensures on_open { IfOk result (λ command. slice_get channels command.channel ≡ Some true) }
     {
@@ -92,9 +92,9 @@ impl CommandApdu for Command {
         requires one { spelling.part_count self.now ≡ 1 }
         ensures octets { out.new.items ≡ spelling.octets_of self.now }
         ensures read_back { (limit : ℕ)
-            → IsWellFormed self.now → table.IsBuilt (table.kind_of self.now.operation)
-            → spelling.IsTaken (table.has_secrets table.built_operations) limit self.now.operation
-            → spelling.ReadsAs table.built_operations limit self.now [] out.new.items (form.a_command self.now) }
+            → IsWellFormed self.now
+            → spelling.IsTaken (table.has_secrets table.operations) limit self.now.operation
+            → spelling.ReadsAs table.operations limit self.now [] out.new.items (form.a_command self.now) }
     {
         self.write_part(0, out);
     }
@@ -104,13 +104,13 @@ impl CommandApdu for Command {
         requires there { part < spelling.part_count self.now }
         ensures octets { out.new.items ≡ spelling.part_octets self.now part }
         ensures part { (limit : ℕ)
-            → IsWellFormed self.now → table.IsBuilt (table.kind_of self.now.operation) → part + 1 < spelling.part_count self.now
-            → spelling.ReadsAs table.built_operations limit self.now (spelling.first_parts part (spelling.field_of self.now.operation)) out.new.items
+            → IsWellFormed self.now → part + 1 < spelling.part_count self.now
+            → spelling.ReadsAs table.operations limit self.now (spelling.first_parts part (spelling.field_of self.now.operation)) out.new.items
             (form.part_on self.now.channel (table.kind_of self.now.operation) (spelling.part_at part (spelling.field_of self.now.operation))) }
         ensures last { (limit : ℕ)
-            → IsWellFormed self.now → table.IsBuilt (table.kind_of self.now.operation) → part + 1 ≡ spelling.part_count self.now
-            → spelling.IsTaken (table.has_secrets table.built_operations) limit self.now.operation
-            → spelling.ReadsAs table.built_operations limit self.now (spelling.first_parts part (spelling.field_of self.now.operation)) out.new.items
+            → IsWellFormed self.now → part + 1 ≡ spelling.part_count self.now
+            → spelling.IsTaken (table.has_secrets table.operations) limit self.now.operation
+            → spelling.ReadsAs table.operations limit self.now (spelling.first_parts part (spelling.field_of self.now.operation)) out.new.items
             (form.a_command self.now) }
     {
         write_at(self, part, out);
@@ -191,7 +191,7 @@ fn put_field(command: &Command, field: &[u8], part: u8, out: &mut CommandOctets)
 }
 
 fn command_in(octets: &[u8], channels: [bool; 4], limit: u16) -> Result<Command, StatusWord>
-    ensures command { result ≡ form.as_command (form.form_of table.built_operations octets.now channels form.no_chain (min limit LARGEST)) }
+    ensures command { result ≡ form.as_command (form.form_of table.operations octets.now channels form.no_chain (min limit LARGEST)) }
     ensures on_open { IfOk result (λ command. slice_get channels command.channel ≡ Some true) }
 {
     match Apdu::read(octets, channels) {

@@ -24,7 +24,7 @@ pub(crate) fn read_operation(
 ) -> Option<()>
     requires limit { limit ≤ LARGEST }
     requires short { length octets.now ≤ LONGEST_IN_PARTS }
-    ensures { option_map (λ _. place.new) result ≡ parameters.operation_in (table.has_secrets table.built_operations) kind limit octets.now }
+    ensures { option_map (λ _. place.new) result ≡ parameters.operation_in (table.has_secrets table.operations) kind limit octets.now }
 {
     match (kind, &*place) {
         (OperationKind::FetchNext, Operation::FetchNext) => Some(()),
@@ -37,7 +37,7 @@ pub(crate) fn read_operation(
 fn read_another(kind: OperationKind, limit: u16, octets: &[u8], place: &mut Operation) -> Option<()>
     requires limit { limit ≤ LARGEST }
     requires short { length octets.now ≤ LONGEST_IN_PARTS }
-    ensures { option_map (λ _. place.new) result ≡ parameters.operation_in (table.has_secrets table.built_operations) kind limit octets.now }
+    ensures { option_map (λ _. place.new) result ≡ parameters.operation_in (table.has_secrets table.operations) kind limit octets.now }
 {
     match kind {
         OperationKind::CreateTable => read_create_table(octets, place),

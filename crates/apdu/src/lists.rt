@@ -134,7 +134,7 @@ pub(crate) fn changes_in(octets: &[u8]) -> Option<PackedChanges>
 // Reads a row of 1 to 15 values and at most so many octets, to the end, into a place.
 pub(crate) fn read_row(limit: u16, octets: &[u8], place: &mut Row) -> Option<()>
     requires { limit ≤ LARGEST }
-    ensures { option_map (λ _. place.new) result ≡ fields.read_by (fields.row_in limit) octets.now }
+    ensures { option_map (λ _. place.new) result ≡ fields.read_by (fields.values_in limit) octets.now }
 {
     place.read_into(octets)?;
     if place.len() != 0 && place.size() <= usize::from(limit) {

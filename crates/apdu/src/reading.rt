@@ -39,7 +39,7 @@ impl<'a> Apdu<'a> {
     /// The command APDU that octets are, where these channels are open.
     pub fn read(octets: &'a [u8], channels: [bool; 4]) -> Result<Apdu<'a>, Refusal>
         ensures form { (chain : ℕ → Option Chain) (limit : ℕ)
-            → form.form_of table.built_operations octets.now channels chain limit ≡ completed result chain limit }
+            → form.form_of table.operations octets.now channels chain limit ≡ completed result chain limit }
         ensures on_open { IfOk result (λ apdu. slice_get channels apdu.channel ≡ Some true) }
         ensures channel { IfOk result (λ apdu. apdu.channel < 4) }
         ensures short { IfOk result (λ apdu. length apdu.body.now ≤ 255) }
@@ -93,7 +93,7 @@ impl Refusal {
 
 // The open channel that a known instruction of the class is for.
 fn channel_asked(cla: u8, ins: u8, channels: [bool; 4]) -> Result<u8, StatusWord>
-    ensures channel { result ≡ form.channel_asked table.built_operations cla ins channels }
+    ensures channel { result ≡ form.channel_asked table.operations cla ins channels }
     ensures on_open { IfOk result (λ channel. slice_get channels channel ≡ Some true) }
     ensures four { IfOk result (λ channel. channel < 4) }
 {
@@ -147,7 +147,7 @@ fn is_chained(cla: u8) -> bool
 }
 
 fn check_instruction(ins: u8) -> Result<(), StatusWord>
-    ensures { result ≡ refusals.provided (table.has_instruction table.built_operations ins) instruction_not_supported }
+    ensures { result ≡ refusals.provided (table.has_instruction table.operations ins) instruction_not_supported }
 {
     if has_instruction(ins) {
         Ok(())
@@ -174,9 +174,9 @@ fn is_for_channel(channel: u8, kind: OperationKind) -> bool
     !(channel == 0 && kind == OperationKind::CloseChannel { number: 0 })
 }
 
-// The operation that is built for INS, P1 and P2 on a channel.
+// The operation for INS, P1 and P2 on a channel.
 fn line_on(channel: u8, ins: u8, p1: u8, p2: u8) -> Result<Line, StatusWord>
-    ensures { result ≡ form.line_on table.built_operations channel ins p1 p2 }
+    ensures { result ≡ form.line_on table.operations channel ins p1 p2 }
 {
     let line = line_of(ins, p1, p2).ok_or(StatusWord::WRONG_PARAMETERS)?;
     if !is_for_channel(channel, line.kind) {

@@ -7,51 +7,50 @@ ghost use Rattle.scql_model.specs.Spelling as spelling;
 use scql_base::{Line, OperationKind, Takes};
 
 macro_rules! operation {
-    (built $ins:literal $p1:literal $p2:literal $kind:ident $({ number: $number:literal })?, $takes:ident) => {
+    ($ins:literal $p1:literal $p2:literal $kind:ident $({ number: $number:literal })?, $takes:ident) => {
         Line {
             ins: $ins,
             p1: $p1,
             p2: $p2,
             kind: OperationKind::$kind $({ number: $number })?,
             takes: Takes::$takes,
-            is_built: true,
         }
     };
 }
 
 // All operations. The number of a channel to open or to close is P2.
 static OPERATIONS: [Line; 31] = [
-    operation!(built 0x10 0x00 0x80 CreateTable, DataField),
-    operation!(built 0x10 0x00 0x81 CreateView, DataField),
-    operation!(built 0x10 0x00 0x82 CreateDictionary, DataField),
-    operation!(built 0x10 0x00 0x83 DropTable, DataField),
-    operation!(built 0x10 0x00 0x84 DropView, DataField),
-    operation!(built 0x10 0x00 0x85 Grant, DataField),
-    operation!(built 0x10 0x00 0x86 Revoke, DataField),
-    operation!(built 0x10 0x00 0x87 DeclareCursor, DataField),
-    operation!(built 0x10 0x00 0x88 OpenCursor, Nothing),
-    operation!(built 0x10 0x00 0x89 Next, Nothing),
-    operation!(built 0x10 0x00 0x8A Fetch, LeAlone),
-    operation!(built 0x10 0x00 0x8B FetchNext, LeAlone),
-    operation!(built 0x10 0x00 0x8C Insert, DataField),
-    operation!(built 0x10 0x00 0x8D Update, DataField),
-    operation!(built 0x10 0x00 0x8E Delete, Nothing),
-    operation!(built 0x12 0x00 0x80 Begin, Nothing),
-    operation!(built 0x12 0x00 0x81 Commit, Nothing),
-    operation!(built 0x12 0x00 0x82 Rollback, Nothing),
-    operation!(built 0x14 0x00 0x80 PresentUser, DataField),
-    operation!(built 0x14 0x00 0x81 CreateUser, DataField),
-    operation!(built 0x14 0x00 0x82 DeleteUser, DataField),
-    operation!(built 0x20 0x00 0x00 Verify, DataField),
-    operation!(built 0x70 0x00 0x00 OpenChannel { number: 0 }, LeAlone),
-    operation!(built 0x70 0x00 0x01 OpenChannel { number: 1 }, Nothing),
-    operation!(built 0x70 0x00 0x02 OpenChannel { number: 2 }, Nothing),
-    operation!(built 0x70 0x00 0x03 OpenChannel { number: 3 }, Nothing),
-    operation!(built 0x70 0x80 0x00 CloseChannel { number: 0 }, Nothing),
-    operation!(built 0x70 0x80 0x01 CloseChannel { number: 1 }, Nothing),
-    operation!(built 0x70 0x80 0x02 CloseChannel { number: 2 }, Nothing),
-    operation!(built 0x70 0x80 0x03 CloseChannel { number: 3 }, Nothing),
-    operation!(built 0xC0 0x00 0x00 GetResponse, LeAlone),
+    operation!(0x10 0x00 0x80 CreateTable, DataField),
+    operation!(0x10 0x00 0x81 CreateView, DataField),
+    operation!(0x10 0x00 0x82 CreateDictionary, DataField),
+    operation!(0x10 0x00 0x83 DropTable, DataField),
+    operation!(0x10 0x00 0x84 DropView, DataField),
+    operation!(0x10 0x00 0x85 Grant, DataField),
+    operation!(0x10 0x00 0x86 Revoke, DataField),
+    operation!(0x10 0x00 0x87 DeclareCursor, DataField),
+    operation!(0x10 0x00 0x88 OpenCursor, Nothing),
+    operation!(0x10 0x00 0x89 Next, Nothing),
+    operation!(0x10 0x00 0x8A Fetch, LeAlone),
+    operation!(0x10 0x00 0x8B FetchNext, LeAlone),
+    operation!(0x10 0x00 0x8C Insert, DataField),
+    operation!(0x10 0x00 0x8D Update, DataField),
+    operation!(0x10 0x00 0x8E Delete, Nothing),
+    operation!(0x12 0x00 0x80 Begin, Nothing),
+    operation!(0x12 0x00 0x81 Commit, Nothing),
+    operation!(0x12 0x00 0x82 Rollback, Nothing),
+    operation!(0x14 0x00 0x80 PresentUser, DataField),
+    operation!(0x14 0x00 0x81 CreateUser, DataField),
+    operation!(0x14 0x00 0x82 DeleteUser, DataField),
+    operation!(0x20 0x00 0x00 Verify, DataField),
+    operation!(0x70 0x00 0x00 OpenChannel { number: 0 }, LeAlone),
+    operation!(0x70 0x00 0x01 OpenChannel { number: 1 }, Nothing),
+    operation!(0x70 0x00 0x02 OpenChannel { number: 2 }, Nothing),
+    operation!(0x70 0x00 0x03 OpenChannel { number: 3 }, Nothing),
+    operation!(0x70 0x80 0x00 CloseChannel { number: 0 }, Nothing),
+    operation!(0x70 0x80 0x01 CloseChannel { number: 1 }, Nothing),
+    operation!(0x70 0x80 0x02 CloseChannel { number: 2 }, Nothing),
+    operation!(0x70 0x80 0x03 CloseChannel { number: 3 }, Nothing),
+    operation!(0xC0 0x00 0x00 GetResponse, LeAlone),
 ];
 
 // So many places are told apart by the last four bits of P2.
@@ -64,23 +63,23 @@ fn operations() -> &'static [Line]
     &OPERATIONS
 }
 
-// Some operation that is built has this instruction.
+// Some operation has this instruction.
 pub(crate) fn has_instruction(ins: u8) -> bool
-    ensures { result ≡ table.has_instruction table.built_operations ins }
+    ensures { result ≡ table.has_instruction table.operations ins }
 {
     is_among(operations(), ins)
 }
 
 fn is_among(lines: &[Line], ins: u8) -> bool
-    ensures { result ≡ list_any (λ line. line.is_built && line.ins == ins) lines.now }
+    ensures { result ≡ list_any (λ line. line.ins == ins) lines.now }
 {
-    lines.iter().any(|line| line.is_built && line.ins == ins)
+    lines.iter().any(|line| line.ins == ins)
 }
 
-// The line of the operation that is built for INS, P1 and P2. The operations on the database stand first, each at the place that its
+// The line of the operation for INS, P1 and P2. The operations on the database stand first, each at the place that its
 // P2 ends with, so that one line is looked at before all are.
 pub(crate) fn line_of(ins: u8, p1: u8, p2: u8) -> Option<Line>
-    ensures { result ≡ table.line_of table.built_operations ins p1 p2 }
+    ensures { result ≡ table.line_of table.operations ins p1 p2 }
 {
     let lines = operations();
     match line_at(lines, usize::from(p2 % PLACES)) {
@@ -95,22 +94,22 @@ fn line_at(lines: &[Line], place: usize) -> Option<Line>
     lines.get(place).copied()
 }
 
-// A line is of an operation that is built, and for INS, P1 and P2.
+// A line is for INS, P1 and P2.
 fn is_for(line: &Line, ins: u8, p1: u8, p2: u8) -> bool
-    ensures { result ≡ (line.now.is_built && line.now.ins == ins && line.now.p1 == p1 && line.now.p2 == p2) }
+    ensures { result ≡ (line.now.ins == ins && line.now.p1 == p1 && line.now.p2 == p2) }
 {
-    line.is_built && line.ins == ins && line.p1 == p1 && line.p2 == p2
+    line.ins == ins && line.p1 == p1 && line.p2 == p2
 }
 
 // It isn't inlined, since what a scan asks for stands where it is looked for first.
 #[inline(never)]
 fn find_line(lines: &[Line], ins: u8, p1: u8, p2: u8) -> Option<Line>
-    ensures { result ≡ find (λ line. line.is_built && line.ins == ins && line.p1 == p1 && line.p2 == p2) lines.now }
+    ensures { result ≡ find (λ line. line.ins == ins && line.p1 == p1 && line.p2 == p2) lines.now }
 {
     lines.iter().copied().find(|line| is_for(line, ins, p1, p2))
 }
 
-// The line of an operation, whether it is built or not.
+// The line of an operation.
 pub(crate) fn line_for(kind: OperationKind) -> Option<Line>
     ensures { result ≡ spelling.line_for table.operations kind }
 {

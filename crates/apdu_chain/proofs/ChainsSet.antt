@@ -9,7 +9,7 @@ use Rattle.scql_base.specs.Words.{wrong_data}
 use Rattle.scql_base.specs.declared.operation.OperationKind.{OperationKind}
 use Rattle.scql_base.specs.declared.operation.OperationKind.TheVariants.{Insert, Update}
 use Rattle.scql_model.specs.Machine.{Chain}
-use Rattle.scql_model.specs.Operations.{built_operations, has_secrets, goes_on, comes_in_parts}
+use Rattle.scql_model.specs.Operations.{operations, has_secrets, goes_on, comes_in_parts}
 use Rattle.scql_model.specs.Parameters.{operation_in}
 use Rattle.scql_model.specs.Form.{Form, refused_on, part_on, a_command, formed_on, parts_of}
 use Rattle.scql_model.specs.Refusals.{◌>>=◌, or_refused}
@@ -52,7 +52,7 @@ finished channel (Ok c) = a_command c
 
 on_channel-whole : (chains : List (Option Chain)) (a : Apdu) (limit : ℕ) → a.is_part ≡ false
     → on_channel chains a limit ≡ finished a.channel (command_of a limit (concat (parts_of a.kind (chain_on chains a.channel)) ++ a.body.now))
-on_channel-whole chains a limit whole = rw whole (go (operation_in (has_secrets built_operations) a.kind limit (concat (parts_of a.kind (chain_on chains a.channel)) ++ a.body.now)))
+on_channel-whole chains a limit whole = rw whole (go (operation_in (has_secrets operations) a.kind limit (concat (parts_of a.kind (chain_on chains a.channel)) ++ a.body.now)))
   where
     command : Operation → Command
     command operation = record { channel = a.channel; operation = operation; le = a.le }
@@ -62,7 +62,7 @@ on_channel-whole chains a limit whole = rw whole (go (operation_in (has_secrets 
     go (Some operation) = refl
 
 channel-command_of : (a : Apdu) (limit : ℕ) (body : List ℕ) (c : Command) → Ok c ≡ command_of a limit body → c.channel ≡ a.channel
-channel-command_of a limit body c is = go (operation_in (has_secrets built_operations) a.kind limit body) is
+channel-command_of a limit body c is = go (operation_in (has_secrets operations) a.kind limit body) is
   where
     command : Operation → Command
     command operation = record { channel = a.channel; operation = operation; le = a.le }

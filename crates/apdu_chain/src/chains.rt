@@ -58,9 +58,9 @@ impl Chains {
         limit: u16,
         command: &mut Command,
     ) -> Taken
-        ensures taken { result ≡ taken_of (form.form_of table.built_operations octets.now channels (chain_on self.old) (min limit LARGEST)) }
-        ensures chains { self.new ≡ chains_after self.old (form.form_of table.built_operations octets.now channels (chain_on self.old) (min limit LARGEST)) }
-        ensures whole { result ≡ Taken.Whole → form.form_of table.built_operations octets.now channels (chain_on self.old) (min limit LARGEST) ≡ form.a_command command.new }
+        ensures taken { result ≡ taken_of (form.form_of table.operations octets.now channels (chain_on self.old) (min limit LARGEST)) }
+        ensures chains { self.new ≡ chains_after self.old (form.form_of table.operations octets.now channels (chain_on self.old) (min limit LARGEST)) }
+        ensures whole { result ≡ Taken.Whole → form.form_of table.operations octets.now channels (chain_on self.old) (min limit LARGEST) ≡ form.a_command command.new }
         ensures formed { result ≡ Taken.Whole → IsWellFormed command.new }
     {
         match Apdu::read(octets, channels) {

@@ -3,12 +3,12 @@ use Rattle.std.proofs.Common.{◌≡◌, ◌≤◌, ◌∙◌, ℕ, List, [], �
 use Rattle.std.proofs.lemmas.Option.{none-some}
 use Rattle.eeprom.specs.Chip.{Chip, MayBeLeftSince}
 use Rattle.eeprom.proofs.Moments.{left-now}
-use Rattle.record_table.specs.AtRest.{LeavesOnce}
+use Rattle.record_table.specs.AtRest.{LeavesOnce, LeavesOneOf}
 use Rattle.scql_model.specs.Database.{Database, IsValid}
 use Rattle.scql_model.specs.Heard.{after_commits}
 use Rattle.scql_model.specs.Machine.{Machine}
 use Rattle.scql_model.specs.Step.{Answer}
-use Rattle.card.specs.Answering.{LeavesEach, LeavesFirstOfTwo, LeavesOneOf}
+use Rattle.card.specs.Answering.{LeavesEach, LeavesFirstOfTwo}
 use Rattle.card.specs.Card.{Kept, StandsOver, HoldsMachine, committed_slots}
 use Rattle.card.proofs.Leaving.{Opens-held}
 

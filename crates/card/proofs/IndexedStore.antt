@@ -28,9 +28,10 @@ use Rattle.row_index.specs.Index.{HasRows, Index, Indexes, is_above, side_places
 use Rattle.row_index.proofs.IndexLaws.{Indexes-kept, Indexes-untold}
 use Rattle.row_index.specs.Places.{numbered, place_in, place_of, place_stamp}
 use Rattle.row_index.specs.declared.place.RowPlace.{RowPlace}
-use Rattle.card.specs.Card.{HoldsSome, IsAtRest, committed_slots}
+use Rattle.record_table.specs.AtRest.{IsAtRest}
+use Rattle.card.specs.Card.{HoldsSome, committed_slots}
 use Rattle.card.specs.Changing.{Concludes}
-use Rattle.card.proofs.ChangedStore.{same-slots}
+use Rattle.record_table.proofs.AtRest.{same-slots}
 use Rattle.card.proofs.SlotCount.{length-committed_slots}
 use Rattle.card.proofs.Told.{if_some-at}
 

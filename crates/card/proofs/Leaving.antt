@@ -1,6 +1,6 @@
 -- What a power loss may leave of a card.
 use Rattle.std.proofs.Common.{◌≡◌, ℕ, List, ◌∷◌, Some, refl, sym, subst, inl, arith}
-use Rattle.eeprom.specs.Chip.{Chip, Becomes, Keeps, RisesAtMost}
+use Rattle.eeprom.specs.Chip.{Chip, Becomes, RisesAtMost}
 use Rattle.eeprom.specs.StoreOf.{front_size, image_size}
 use Rattle.eeprom.proofs.Moments.{throughout-weaker}
 use Rattle.eeprom.proofs.SameFrom.{drop-from}
@@ -8,19 +8,9 @@ use Rattle.record_store.specs.Recovery.{KeepsStore}
 use Rattle.scql_model.specs.Database.{Database, IsValid}
 use Rattle.scql_model.specs.Machine.{Machine}
 use Rattle.card.specs.Card.{Kept, StandsOver, HoldsMachine}
-use Rattle.card.specs.Answering.{LeavesOneOf}
+use Rattle.record_table.specs.AtRest.{LeavesOneOf}
 use Rattle.card.specs.Behind.{KeepsBehind, own_cells}
 pub use Rattle.card.specs.CardLaws.{Opens-held, Opens-at}
-
--- where nothing is written, all stays
-pub Keeps-none : {A : Type 0} (look : List ℕ → A) (old new : Chip) → new ≡ old → Keeps look old new
-Keeps-none look old new same = subst (Keeps look old) (sym same) (record {
-  still = refl;
-  image = λ after told. (after, told, refl);
-  later = omega arith;
-  only = λ t g left since there. inl there;
-  stays = λ t g left since there. there;
-})
 
 -- an opening writes the front alone
 pub behind-opened : (old new : Chip) → KeepsStore old new → KeepsBehind own_cells old new

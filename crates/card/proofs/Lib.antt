@@ -1,31 +1,30 @@
 mod Asked
-mod BuiltLines
 mod ChangedStore
 mod ChangingOperations
 mod Counted
 mod CountedKinds
 mod DeletedSessions
-mod GatheredSlots
 mod Founding
-pub mod Giving
+mod FreeCommands
+mod GatheredSlots
 mod Grouped
 mod HeldInOrder
 mod HeldKinds
 mod InTurn
 mod IndexedStore
 mod Labels
-pub mod Leaving
 mod ListsInOrder
 mod ManagedChannels
 mod Neighbours
 mod OfKinds
 mod OpenedDatabase
+mod OtherCommands
 mod OwnerSearch
 mod Passing
-mod Pooled
-mod PooledSizes
 mod Performing
 mod PlacedRows
+mod Pooled
+mod PooledSizes
 mod ReadingCard
 mod ReadingCosts
 mod ReadingMoves
@@ -35,11 +34,12 @@ mod SlotCount
 mod SortedTest
 mod Sorting
 mod SpelledKinds
-pub mod Stamped
-pub mod Starting
 mod TakenForms
 mod Transacting
+mod Verifying
+pub mod Giving
+pub mod Leaving
+pub mod Stamped
+pub mod Starting
 pub mod Tested
 pub mod Told
-mod FreeCommands
-mod Verifying

@@ -23,6 +23,7 @@ use Rattle.card.specs.declared.kept_record.KeptRecord.{KeptRecord}
 use Rattle.card.proofs.GatheredSlots.{Gathers, GathersSoFar, HoldsNone}
 use Rattle.card.proofs.HeldKinds.{user_stamp, object_stamp, grant_stamp, row_stamp, admitted-held, admitted-parts}
 use Rattle.card.proofs.HeldInOrder.{apart-held, records-held}
+use Rattle.card.proofs.Starting.{opens-same}
 use Rattle.card.proofs.Tested.{IsValid-tested, tested-IsValid}
 use Rattle.card.proofs.SortedTest.{is_valid_list}
 
@@ -130,10 +131,6 @@ pub none-tested_told : (image : Option (List ℕ)) (count : ℕ) (counter : Opti
     → ((next : ℕ) → counter ≡ Some next → PassTest next records → ⊥) → IfSome image (λ image. (was : Stored) → store_of image ≡ Some was → HoldsNone was)
 none-tested_told None count counter records g failed = tt
 none-tested_told (Some image) count counter records g failed = λ was there. none-tested was count counter records (g was there) failed
-
--- an image with the same store opens to the same database
-opens-same : (left was : List ℕ) → store_of left ≡ store_of was → (db : Database) → Opens left db → Opens was db
-opens-same left was same db opens = record { store = opens.store; stored = sym same ∙ opens.stored; limit = opens.limit; holds = opens.holds; valid = opens.valid }
 
 pub opens-kept : (old new : Chip) → Keeps store_of old new → is_some new.image ≡ is_some old.image → IfSome new.image (λ image. (db : Database) × Opens image db) → IfSome old.image (λ image. (db : Database) × Opens image db)
 opens-kept old new keeps told opens =

@@ -26,9 +26,10 @@ use Rattle.scql_model.proofs.ChangingSessions.{changing_session-set}
 use Rattle.scql_model.proofs.RefusalWords.{Anything, Gives, behind, gives-edits_of, gives-with_edits, not_done-refusal}
 use Rattle.db_access.specs.Presenting.{session_presented}
 use Rattle.db_access.specs.declared.presenting.Presented.{Presented as Found}
-use Rattle.card.specs.Answering.{HoldsAnswer, LeavesOneOf, Performs, changing_session, committed_at_once, replied, settled, with_session, with_session_for}
+use Rattle.card.specs.Answering.{HoldsAnswer, Performs, changing_session, committed_at_once, replied, settled, with_session, with_session_for}
 use Rattle.row_index.specs.Index.{Index}
-use Rattle.card.specs.Card.{Kept, StandsOver, IsAt, HoldsMachine, WorksOn, committed_slots, IsAtRest}
+use Rattle.record_table.specs.AtRest.{IsAtRest, LeavesOneOf}
+use Rattle.card.specs.Card.{Kept, StandsOver, IsAt, HoldsMachine, WorksOn, committed_slots}
 use Rattle.card.specs.declared.found.Found as found
 use Rattle.card.specs.Acting.{acting}
 use Rattle.card.specs.Changing.{Concludes, Changes, new_of, octets_of, commits_of}

@@ -30,7 +30,8 @@ use Rattle.row_index.specs.Places.{numbered, place_in, place_of, place_slot, pla
 use Rattle.row_index.specs.declared.place.RowPlace.{RowPlace}
 use Rattle.row_index.proofs.Changes.{all-push, length-in_order}
 use Rattle.row_index.proofs.Tables.{all-in_order}
-use Rattle.card.specs.Card.{HoldsSome, IsAtRest}
+use Rattle.record_table.specs.AtRest.{IsAtRest}
+use Rattle.card.specs.Card.{HoldsSome}
 use Rattle.card.specs.Opening.{gathered, record_in}
 use Rattle.card.specs.KeptRecords.{as_place, places_in, stamp_of}
 use Rattle.card.specs.declared.kept_record.KeptRecord.{KeptRecord}

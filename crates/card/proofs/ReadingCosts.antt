@@ -23,7 +23,7 @@ use Rattle.scql_model.specs.Form.{Form, a_command, form_of}
 use Rattle.scql_model.specs.Machine.{Machine, Reading, actor, base, open_channels}
 use Rattle.scql_model.specs.Matching.{Values}
 use Rattle.scql_model.specs.Moves.{move_of}
-use Rattle.scql_model.specs.Operations.{built_operations, kind_of}
+use Rattle.scql_model.specs.Operations.{operations, kind_of}
 use Rattle.scql_model.specs.ReadBound.{IsOnTableOrView, RisesAtLeast, octets_for_operation, octets_for_reading}
 use Rattle.scql_model.specs.ReadingCommands.{Move, ReadingCommand, declare, open_cursor, next, get_response, or_stays, reading_command, row_octets}
 use Rattle.scql_model.specs.Sessions.{changing_session, command_chain, reading_of, without_chain}
@@ -152,11 +152,11 @@ waits-none m c command kept is =
 -- What was taken, once octets were read.
 module _ (m : Machine) (octets : List ℕ) (a b : Option ℕ) where
   -- what isn't a command reads nothing
-  pub reads-untaken : (form : Form) → form_of built_operations octets (open_channels m) (command_chain m) m.committed.limit ≡ form → ((c : Command) → form ≡ a_command c → ⊥) → ReadsAsked m octets a b
+  pub reads-untaken : (form : Form) → form_of operations octets (open_channels m) (command_chain m) m.committed.limit ≡ form → ((c : Command) → form ≡ a_command c → ⊥) → ReadsAsked m octets a b
   reads-untaken form is none = λ command are. absurd (none are.command (sym is ∙ are.read))
 
   -- a command reads what it does where its channel has no parts of one
-  pub reads-taken : (form : Form) (c : Command) → form_of built_operations octets (open_channels m) (command_chain m) m.committed.limit ≡ form → form ≡ a_command c → IfSome (read_on form) (λ channel. channel ≡ channel_named octets)
+  pub reads-taken : (form : Form) (c : Command) → form_of operations octets (open_channels m) (command_chain m) m.committed.limit ≡ form → form ≡ a_command c → IfSome (read_on form) (λ channel. channel ≡ channel_named octets)
       → ReadsFor (taken_at m form) c a b → ReadsAsked m octets a b
   reads-taken form c is whole named reads = λ command are.
       let same : a_command c ≡ a_command are.command = sym whole ∙ (sym is ∙ are.read) in

@@ -34,7 +34,8 @@ use Rattle.card.specs.declared.found.Found.{Found}
 use Rattle.card.specs.declared.found.ChannelActor.{ChannelActor}
 use Rattle.card.proofs.SeenSessions.{changed-on}
 use Rattle.card.specs.Waiting.{side_of}
-use Rattle.card.proofs.ChangedStore.{held-same, told-image}
+use Rattle.record_table.proofs.AtRest.{held-same}
+use Rattle.record_table.proofs.Steps.{told-image}
 use Rattle.card.proofs.IndexedStore.{last-held, working-idle}
 use Rattle.card.proofs.Performing.{IsAtRest-at}
 

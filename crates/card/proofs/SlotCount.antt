@@ -2,7 +2,7 @@
 use Rattle.std.proofs.Common.{◌≡◌, ℕ, List, length, Option, Some, None, sym, ap, subst, ◌∙◌}
 use Rattle.record_store.specs.declared.side.Side.TheVariants.{Committed}
 use Rattle.std.specs.Prelude.{IfSome}
-use Rattle.cell_store.proofs.Chains.{length-slots_at}
+use Rattle.eeprom.proofs.Chains.{length-slots_at}
 use Rattle.eeprom.proofs.Places.{length-numbers_at}
 use Rattle.record_store.specs.Held.{Held, StandsFor, contents}
 use Rattle.card.specs.Card.{committed_slots}

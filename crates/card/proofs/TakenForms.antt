@@ -13,15 +13,15 @@ use Rattle.scql_model.specs.Refusals.{◌>>=◌, provided}
 use Rattle.scql_base.specs.declared.cursor.PresentedUser.{PresentedUser}
 use Rattle.scql_model.specs.Machine.{Machine, Session as Seen, Chain, Transaction, base, no_reading, open_channels}
 use Rattle.scql_model.specs.Sessions.{changing_session, command_chain, without_chain, with_part}
-use Rattle.scql_model.specs.Operations.{IsBuilt, built_operations, has_instruction, has_secrets, kind_of}
+use Rattle.scql_model.specs.Operations.{operations, has_instruction, has_secrets}
 use Rattle.scql_model.specs.Form.{Form, refused, refused_on, part_on, a_command, form_of, formed, formed_on, class_of, is_open, channel_asked, line_on, taken_in, is_chained, part_in, command_in, parts_of}
 use Rattle.scql_model.specs.Accepting.{channel_named}
 use Rattle.scql_model.specs.ValidMachine.{ArePresentedIn, IsPresentedIn, IsReadingOf, IsValidMachine, IsValidWork}
-use Rattle.scql_model.specs.Bound.{octets_bound, octets_bound_by, octets_carried_out, octets_stepped, or_nothing}
+use Rattle.scql_model.specs.Bound.{octets_bound, octets_carried_out, octets_stepped, or_nothing}
 use Rattle.scql_model.specs.Database.{Database}
 use Rattle.scql_model.specs.Opens.{Holds}
-use Rattle.scql_model.specs.Step.{Answer, answered, done_with, carried_out, stepped, step_by, step}
-use Rattle.scql_model.proofs.FormedCommands.{bound, refused-not, kind-form_of, sound-built_operations}
+use Rattle.scql_model.specs.Step.{Answer, answered, done_with, carried_out, stepped, step}
+use Rattle.scql_model.proofs.FormedCommands.{bound, refused-not, sound-operations}
 use Rattle.scql_model.proofs.FormedParts.{IfSome-read_on, IfSome-read_on-named, read_on}
 use Rattle.scql_model.proofs.FieldLaws.{AreOctets}
 use Rattle.scql_model.proofs.ReadFits.{FitsCard-form_of}
@@ -180,12 +180,12 @@ form_of-open table (cla ∷ ins ∷ p1 ∷ p2 ∷ after) channels chain other li
 -- What the machine reads is what is read with the card's open channels and chains.
 pub form-card : (card : Kept) (chip : Chip) (m : Machine) (octets : List ℕ) (channels : List Bool) (sessions : List (Option Session)) (chains : List (Option Chain)) (limit : ℕ) → IsAt card chip m
     → channels ≡ map (λ (s : Option Seen). is_some s) card.sessions → card.sessions ≡ sessions_of sessions chains → limit ≡ card.store.row_limit
-    → form_of built_operations octets (open_channels m) (command_chain m) m.committed.limit ≡ form_of built_operations octets channels (chain_on chains) limit
+    → form_of operations octets (open_channels m) (command_chain m) m.committed.limit ≡ form_of operations octets channels (chain_on chains) limit
 form-card card chip m octets channels sessions chains limit at are_open seen is =
     let opened : open_channels m ≡ channels = ap (map (λ (s : Option Seen). is_some s)) at.held.sessions ∙ sym are_open in
-    form_of-open built_operations octets (open_channels m) (command_chain m) (chain_on chains) m.committed.limit (chain-at (at.held.sessions ∙ seen))
-    ∙ (ap (form_of built_operations octets (open_channels m) (chain_on chains)) (at.held.limit ∙ sym is)
-    ∙ ap (λ (channels : List Bool). form_of built_operations octets channels (chain_on chains) limit) opened)
+    form_of-open operations octets (open_channels m) (command_chain m) (chain_on chains) m.committed.limit (chain-at (at.held.sessions ∙ seen))
+    ∙ (ap (form_of operations octets (open_channels m) (chain_on chains)) (at.held.limit ∙ sym is)
+    ∙ ap (λ (channels : List Bool). form_of operations octets channels (chain_on chains) limit) opened)
   where
     chain-at : m.sessions ≡ sessions_of sessions chains → (channel : ℕ) → slice_get (open_channels m) channel ≡ Some true → command_chain m channel ≡ chain_on chains channel
     chain-at is channel open' =
@@ -195,11 +195,11 @@ form-card card chip m octets channels sessions chains limit at are_open seen is 
 -- The step to octets, from what was taken of them.
 pub step-taken : (card : Kept) (chip : Chip) (m : Machine) (octets : List ℕ) (channels : List Bool) (sessions : List (Option Session)) (chains : List (Option Chain)) (limit : ℕ) → IsAt card chip m
     → channels ≡ map (λ (s : Option Seen). is_some s) card.sessions → card.sessions ≡ sessions_of sessions chains → limit ≡ card.store.row_limit
-    → (let form = form_of built_operations octets channels (chain_on chains) limit in step m octets ≡ answered (taken_at m form) (outcome_of (taken_at m form) form))
-unfolding step step_by
+    → (let form = form_of operations octets channels (chain_on chains) limit in step m octets ≡ answered (taken_at m form) (outcome_of (taken_at m form) form))
+unfolding step
 step-taken card chip m octets channels sessions chains limit at are_open seen is =
     ap (stepped m) (form-card card chip m octets channels sessions chains limit at are_open seen is)
-    ∙ stepped-taken m (form_of built_operations octets channels (chain_on chains) limit)
+    ∙ stepped-taken m (form_of operations octets channels (chain_on chains) limit)
 
 -- How many octets are written for it at most.
 abbrev pub octets_taken : Machine → Form → ℕ
@@ -216,11 +216,11 @@ octets_stepped-taken m (a_command c) = refl
 
 pub bound-taken : (card : Kept) (chip : Chip) (m : Machine) (octets : List ℕ) (channels : List Bool) (sessions : List (Option Session)) (chains : List (Option Chain)) (limit : ℕ) → IsAt card chip m
     → channels ≡ map (λ (s : Option Seen). is_some s) card.sessions → card.sessions ≡ sessions_of sessions chains → limit ≡ card.store.row_limit
-    → (let form = form_of built_operations octets channels (chain_on chains) limit in octets_bound m octets ≡ octets_taken (taken_at m form) form)
-unfolding octets_bound octets_bound_by
+    → (let form = form_of operations octets channels (chain_on chains) limit in octets_bound m octets ≡ octets_taken (taken_at m form) form)
+unfolding octets_bound
 bound-taken card chip m octets channels sessions chains limit at are_open seen is =
     ap (octets_stepped m) (form-card card chip m octets channels sessions chains limit at are_open seen is)
-    ∙ octets_stepped-taken m (form_of built_operations octets channels (chain_on chains) limit)
+    ∙ octets_stepped-taken m (form_of operations octets channels (chain_on chains) limit)
 
 -- What comes of what was taken.
 pub taken-refused : (m : Machine) (form : Form) (word : StatusWord) → taken.Refused word ≡ taken_of form → outcome_of m form ≡ Err word
@@ -237,8 +237,8 @@ taken-kept m octets (part_on channel kind part) named is = ap (λ (channel : ℕ
 taken-kept m octets (a_command c) named is = absurd cc
 
 -- what octets are that are read on a channel names it
-pub named-taken : (octets : List ℕ) (channels : List Bool) (chain : ℕ → Option Chain) (limit : ℕ) → IfSome (read_on (form_of built_operations octets channels chain limit)) (λ channel. channel ≡ channel_named octets)
-named-taken octets channels chain limit = IfSome-read_on-named built_operations octets channels chain limit
+pub named-taken : (octets : List ℕ) (channels : List Bool) (chain : ℕ → Option Chain) (limit : ℕ) → IfSome (read_on (form_of operations octets channels chain limit)) (λ channel. channel ≡ channel_named octets)
+named-taken octets channels chain limit = IfSome-read_on-named operations octets channels chain limit
 
 pub outcome-whole : (m : Machine) (form : Form) (c : Command) → form ≡ a_command c → outcome_of m form ≡ carried_out m c
 outcome-whole m form c is = ap (outcome_of m) is
@@ -246,17 +246,11 @@ outcome-whole m form c is = ap (outcome_of m) is
 pub octets-whole : (m : Machine) (form : Form) (c : Command) → form ≡ a_command c → octets_taken m form ≡ or_nothing (octets_carried_out m c)
 octets-whole m form c is = ap (octets_taken m) is
 
--- a command that was taken whole is of an operation that is built
-pub built-taken : (octets : List ℕ) (channels : List Bool) (chain : ℕ → Option Chain) (limit : ℕ) (c : Command) → limit ≤ 1020 → form_of built_operations octets channels chain limit ≡ a_command c
-    → IsBuilt (kind_of c.operation)
-built-taken octets channels chain limit c most is =
-    kind-form_of built_operations octets channels chain limit c sound-built_operations most is
-
--- and fits the card
-pub fits-taken : (octets : List ℕ) (channels : List Bool) (chain : ℕ → Option Chain) (limit : ℕ) (c : Command) → AreOctets octets → limit ≤ 1020 → form_of built_operations octets channels chain limit ≡ a_command c
+-- a command that was taken whole fits the card
+pub fits-taken : (octets : List ℕ) (channels : List Bool) (chain : ℕ → Option Chain) (limit : ℕ) (c : Command) → AreOctets octets → limit ≤ 1020 → form_of operations octets channels chain limit ≡ a_command c
     → FitsCard limit c.operation
 fits-taken octets channels chain limit c are most is =
-    FitsCard-form_of built_operations octets channels chain limit c sound-built_operations are most is
+    FitsCard-form_of operations octets channels chain limit c sound-operations are most is
 
 -- there are parts of as many channels as before
 pub length-after : (chains : List (Option Chain)) (form : Form) → length (chains_after chains form) ≡ length chains
@@ -267,10 +261,10 @@ length-after chains (a_command c) = length-set chains c.channel None
 
 -- and its channel is open still
 pub open-taken : (octets : List ℕ) (channels : List Bool) (sessions : List (Option Session)) (chains after : List (Option Chain)) (limit : ℕ) (c : Command)
-    → (let form = form_of built_operations octets channels (chain_on chains) limit in channels ≡ map (λ (s : Option Seen). is_some s) (sessions_of sessions chains)
+    → (let form = form_of operations octets channels (chain_on chains) limit in channels ≡ map (λ (s : Option Seen). is_some s) (sessions_of sessions chains)
     → after ≡ chains_after chains form → form ≡ a_command c → opened.is_open (sessions_of sessions after) c.channel ≡ true)
 open-taken octets channels sessions chains after limit c are_open is whole =
-    let form : Form = form_of built_operations octets channels (chain_on chains) limit in
+    let form : Form = form_of operations octets channels (chain_on chains) limit in
     let read : slice_get channels c.channel ≡ Some true = subst (λ (form : Form). IfSome (read_on form) (λ channel. slice_get channels channel ≡ Some true)) whole
-    (IfSome-read_on built_operations octets channels (chain_on chains) limit) in
+    (IfSome-read_on operations octets channels (chain_on chains) limit) in
     open-parts sessions chains after c.channel (ap length is ∙ length-after chains form) (subst (λ (channels : List Bool). slice_get channels c.channel ≡ Some true) are_open read)

@@ -35,15 +35,16 @@ use Rattle.record_table.specs.Listed.{slots_of}
 use Rattle.record_table.specs.Making.{GoesOn, IsHeld, Makes}
 use Rattle.row_index.specs.Index.{Index, side_places}
 use Rattle.record_table.specs.Touching.{IsTouched}
-use Rattle.card.specs.Answering.{HoldsAnswer, LeavesOneOf, Performs, changing_session, replied, settled}
-use Rattle.card.specs.Card.{Kept, HoldsMachine, HoldsSome, IsAt, IsAtRest, StandsOver, WorksOn, committed_slots}
+use Rattle.card.specs.Answering.{HoldsAnswer, Performs, changing_session, replied, settled}
+use Rattle.record_table.specs.AtRest.{IsAtRest, LeavesOneOf}
+use Rattle.card.specs.Card.{Kept, HoldsMachine, HoldsSome, IsAt, StandsOver, WorksOn, committed_slots}
 use Rattle.card.specs.Acting.{acting}
 use Rattle.card.specs.Changing.{Changes, ConcludesWithin, new_of}
 use Rattle.card.specs.Waiting.{keeps_waiting}
 use Rattle.card.specs.Sessions.{proved_user}
-use Rattle.card.proofs.ChangedStore.{held-same, leaves-committed, leaves-kept, opens-rest, over-begun, same-slots, slots-committed}
+use Rattle.record_table.proofs.AtRest.{held-same, leaves-committed, leaves-kept, opens-rest, over-begun, same-slots, slots-committed, Keeps-none}
 use Rattle.card.proofs.FreeCommands.{base-own, changed-own, committed-base, outcome_with, own-open}
-use Rattle.card.proofs.Leaving.{Keeps-none, rises-none}
+use Rattle.card.proofs.Leaving.{rises-none}
 use Rattle.card.proofs.IndexedStore.{Indexes-begun, Indexes-ended}
 use Rattle.card.proofs.Performing.{HoldsAnswer-done, HoldsMachine-changing, HoldsMachine-rest, IsAtRest-at, Performs-changed, Performs-unwritten, actor-at, refused-not_done}
 use Rattle.card.proofs.Sides.{HoldsSome-same, IsHeld-works, StandsOver-idle, KeepsStamps-same}

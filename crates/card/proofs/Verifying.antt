@@ -9,7 +9,7 @@ use Rattle.eeprom.specs.declared.EepromFault.{EepromFault}
 use Rattle.record_store.specs.Held.{Held}
 use Rattle.record_store.specs.declared.side.Side.{Side}
 use Rattle.record_store.specs.declared.side.Side.TheVariants.{Committed}
-use Rattle.record_table.specs.AtRest.{LeavesOnce}
+use Rattle.record_table.specs.AtRest.{IsAtRest, LeavesOnce, LeavesOneOf}
 use Rattle.record_table.specs.Listed.{slots_of}
 use Rattle.record_table.specs.Making.{GoesOn, KeepsRows}
 use Rattle.scql_base.specs.declared.cursor.PresentedUser.{PresentedUser}
@@ -29,8 +29,8 @@ use Rattle.scql_model.specs.Step.{Answer, answered, compared, secret_right, secr
 use Rattle.scql_model.specs.ValidMachine.{ArePresentedIn, HasSecret, IsPresentedIn}
 use Rattle.db_access.specs.Verifying.{HoldsSecret, octets_for_verdict, verdict}
 use Rattle.db_access.proofs.OnChannels.{AnswersOn, octets-unproved, said-verified, twice-verified, verified-nobody, verified-proved, verified-unproved, with_database}
-use Rattle.card.specs.Answering.{HoldsAnswer, LeavesFirstOfTwo, LeavesOneOf, Performs, changing_session, replied, settled}
-use Rattle.card.specs.Card.{Kept, StandsOver, HoldsMachine, IsAt, IsAtRest}
+use Rattle.card.specs.Answering.{HoldsAnswer, LeavesFirstOfTwo, Performs, changing_session, replied, settled}
+use Rattle.card.specs.Card.{Kept, StandsOver, HoldsMachine, IsAt}
 use Rattle.card.specs.Sessions.{unproved_stamp, unproved_user}
 use Rattle.card.proofs.IndexedStore.{HoldsSome-changed, Indexes-on}
 use Rattle.card.proofs.Performing.{HoldsMachine-changing, HoldsMachine-rest, IsAtRest-at, Performs-unwritten}

@@ -2,10 +2,10 @@
 use Rattle.std.specs.Prelude.{◌≡◌, ◌==◌, if◌then◌else◌, ℕ, List, [], ◌∷◌, Option, Some, Result, Ok, Err, IfOk, OnOk, option_map, slice_get, slice_set}
 use Rattle.std.specs.List.{AllByRecursion}
 use Rattle.std.specs.Option.{option_flatten}
-use Rattle.eeprom.specs.Chip.{Chip, Becomes, Leaves, RisesAtMost}
+use Rattle.eeprom.specs.Chip.{Chip, Becomes, RisesAtMost}
+pub use Rattle.record_table.specs.AtRest.{LeavesOneOf}
 use Rattle.record_table.specs.AtRest.{LeavesOnce}
 use Rattle.scql_model.specs.Database.{Database}
-use Rattle.scql_model.specs.Opens.{OpensToOneOf}
 use Rattle.eeprom.specs.declared.EepromFault.{EepromFault}
 use Rattle.scql_base.specs.declared.words.StatusWord.{StatusWord}
 use Rattle.scql_base.specs.Words.{done}
@@ -26,10 +26,6 @@ pub record Answers (answer : Answer) (sent : model.Reply) (card : Kept) (chip : 
 pub record HoldsAnswer (answer : Answer) (sent : model.Reply) (card : Kept) (chip : Chip) : Type 0 where
   pub reply : sent ≡ answer.reply
   pub held : HoldsMachine card chip answer.machine
-
--- at each moment a power loss leaves an image that opens to one of these databases, and nothing was given meanwhile
-abbrev pub LeavesOneOf : List Database → Chip → Chip → Type 0
-LeavesOneOf dbs old new = Leaves (OpensToOneOf dbs) old new
 
 -- each of these databases a power loss may leave at some moment
 abbrev pub LeavesEach : List Database → Chip → Chip → Type 0

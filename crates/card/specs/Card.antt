@@ -36,10 +36,6 @@ pub record Kept : Type 0 where
 unfoldable pub committed_slots : Held → Option (List ℕ) → Option Slots
 committed_slots store image = option_and_then (contents store Committed) image
 
--- outside of a transaction the store holds the database
-abbrev pub IsAtRest : Held → Chip → Database → Type 0
-IsAtRest store chip db = IsHeld store Committed chip db
-
 -- where the image is told, a side of the store holds some database
 abbrev pub HoldsSome : Held → Side → Chip → Type 0
 HoldsSome store side chip = IfSome chip.image (λ image. (db : Database) × IsHeld store side chip db)

@@ -1,4 +1,4 @@
--- What holds of a card that is ready: its image opens to its machine's database, and it stays ready, and at its machine, while output goes out.
+-- Lemmas, in specs/ since `LiveCardLaws.antt` cites them: the image of a card that is ready opens to its machine's database, and the card stays ready, and at its machine, while output goes out.
 use Rattle.std.proofs.Common.{◌≡◌, ◌≤◌, ◌∙◌, ℕ, List, Option, Some, None, ap, sym, subst}
 use Rattle.std.specs.Prelude.{IfSome, option_and_then}
 use Rattle.eeprom.specs.Chip.{Chip}

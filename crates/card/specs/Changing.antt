@@ -11,11 +11,10 @@ use Rattle.scql_base.specs.Words.{done}
 use Rattle.scql_model.specs.Bound.{or_nothing}
 use Rattle.scql_model.specs.Database.{Database}
 use Rattle.scql_model.specs.Edits.{Edit, octets_for, with_edits}
-use Rattle.scql_model.specs.Operations.{IsBuilt, kind_of}
+use Rattle.scql_model.specs.Operations.{kind_of}
 use Rattle.scql_model.specs.Refusals.{◌>>=◌}
 use Rattle.record_table.specs.Making.{Makes}
-use Rattle.card.specs.Card.{IsAtRest}
-use Rattle.card.specs.Answering.{LeavesOneOf}
+use Rattle.record_table.specs.AtRest.{IsAtRest, LeavesOneOf}
 
 -- the operations that change the database; DELETE USER changes sessions besides
 abbrev pub is_changing : OperationKind → Bool
@@ -39,9 +38,9 @@ goes_through_cursor Update = true
 goes_through_cursor Delete = true
 goes_through_cursor kind = false
 
--- one of them, which is built
+-- one of them
 abbrev pub IsChange : Operation → Type 0
-IsChange operation = IsBuilt (kind_of operation) × (is_changing (kind_of operation) ≡ true)
+IsChange operation = is_changing (kind_of operation) ≡ true
 
 -- the new database of a change with these edits, or the first refusal that applies
 abbrev pub new_of : Database → Result (List Edit) StatusWord → Result Database StatusWord

@@ -1,4 +1,4 @@
--- The moments while a piece of output goes out, and what lies behind an image meanwhile.
+-- The moments while a piece of output goes out, and lemmas on them and on what lies behind an image meanwhile, in specs/ since `LiveCardLaws.antt` cites them.
 use Rattle.std.proofs.Common.{◌≡◌, ◌≤◌, inl, inr, ℕ, List, [], ◌∷◌, ◌++◌, length, drop, Some, IfSome, refl, sym, ap, subst, ◌∙◌, arith}
 use Rattle.std.proofs.lemmas.Option.{same_Some}
 use Rattle.eeprom.specs.Chip.{Chip, Stretch, giving, LeftIn, MayBeLeftSince, Gives, Keeps, Throughout}

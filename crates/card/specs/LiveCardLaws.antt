@@ -1,4 +1,4 @@
--- The laws of a live card: what its calls keep, one after another, and its moments, as its link tells them.
+-- Lemmas, in specs/ since the ghost members of a link's implementations cite them: what the calls of a live card keep, one after another, and its moments, as its link tells them.
 use Rattle.std.proofs.Common.{◌≡◌, ◌≤◌, ◌∙◌, ℕ, Bool, true, false, List, length, drop, Option, Some, None, IfSome, IsTrue, refl, sym, subst, inl, inr, [], ◌∷◌, ap, arith}
 use Rattle.eeprom.specs.Chip.{Chip, Gives, Keeps, Still, Throughout}
 use Rattle.eeprom.specs.StoreOf.{image_size}
@@ -12,7 +12,7 @@ use Rattle.card.specs.Card.{Kept}
 use Rattle.card.specs.LiveCard.{Lasts, LastsOn, OnBench, IsReadyAt}
 use Rattle.card.specs.GivenMoments.{behind-same, behind-gives, behind-keeps, behind-both, gives-throughout, throughout-same}
 use Rattle.scql_model.specs.Opens.{Opens, OpensToOneOf}
-use Rattle.card.specs.Answering.{LeavesOneOf}
+use Rattle.record_table.specs.AtRest.{LeavesOneOf}
 use Rattle.card.specs.CardLaws.{IsReady-given, IsAt-given, Opens-at}
 
 if-working : (m : Machine) (t : Option Transaction) → IfSome t (IsValidWork m) → IfSome t (λ (t : Transaction). IsValid t.working)

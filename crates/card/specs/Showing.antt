@@ -4,7 +4,6 @@ use Rattle.eeprom.specs.Chip.{Chip}
 use Rattle.scql_model.specs.Accepting.{channel_named}
 use Rattle.scql_model.specs.Answering.{AreCommand}
 use Rattle.scql_model.specs.Machine.{Machine}
-use Rattle.scql_model.specs.Operations.{built_operations}
 use Rattle.scql_model.specs.ReadingCommands.{ReadingCommand}
 use Rattle.scql_model.specs.ReadingLaws.{IsReadingCommand, ReadsWhatIsShown}
 use Rattle.scql_model.specs.Replies.{Reply}
@@ -14,7 +13,7 @@ use Rattle.card.specs.Card.{Kept}
 
 -- octets are this reading command on a machine
 abbrev pub AreReading : Machine → List ℕ → ReadingCommand → Type 0
-AreReading m octets reading = AreCommand built_operations m octets (IsReadingCommand reading)
+AreReading m octets reading = AreCommand m octets (IsReadingCommand reading)
 
 -- The answer that is given reads what was shown to a channel: its reply follows from that, and so does what is shown to the channel at the machine where card
 -- and EEPROM are then. What is shown to all others stays.

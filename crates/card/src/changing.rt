@@ -18,7 +18,8 @@ ghost use Rattle.cursor.specs.Costs.{RisesBetween};
 ghost use Rattle.record_table.specs.Listed.{cells_marked, slots_of};
 ghost use Rattle.record_table.specs.Making.{IsHeld, Ends, GoesOn, is_stop_fault};
 ghost use Rattle.row_index.specs.Index.{Indexes, is_above};
-ghost use Rattle.card.specs.Card.{HoldsSome, IsAtRest};
+ghost use Rattle.record_table.specs.AtRest.{IsAtRest};
+ghost use Rattle.card.specs.Card.{HoldsSome};
 ghost use Rattle.card.specs.Acting.{acting};
 ghost use Rattle.card.specs.Changing.{IsChange, Changes, ConcludesWithin, goes_through_cursor};
 

@@ -26,7 +26,7 @@ ghost use Rattle.cursor.specs.Costs.{RisesBetween};
 ghost use Rattle.db_read.specs.Scan.{IsRightFor};
 ghost use Rattle.record_table.specs.Listed.{cells_marked, slots_of};
 ghost use Rattle.record_table.specs.Making.{IsHeld};
-ghost use Rattle.scql_model.specs.Operations.{IsBuilt, kind_of};
+ghost use Rattle.scql_model.specs.Operations.{kind_of};
 ghost use Rattle.scql_model.specs.WellFormed.{HasForm, FitsCard, IsWellFormed};
 ghost use Rattle.std.specs.Option.{option_flatten};
 
@@ -181,7 +181,6 @@ impl Engine {
         requires ready { IsReady self.old (B.chip bench.old) }
         requires empty { reply.old.body ≡ [] }
         requires formed { IsWellFormed command.now }
-        requires built { IsBuilt (kind_of command.now.operation) }
         requires fits { FitsCard self.old.store.row_limit command.now.operation }
         requires open { is_open self.old.sessions command.now.channel ≡ true }
         ensures performs { (m : machine.Machine) → IsAt self.old (B.chip bench.old) m
@@ -216,7 +215,6 @@ impl Engine {
         requires ready { StandsOver self.old (B.chip bench.old) }
         requires empty { reply.old.body ≡ [] }
         requires formed { IsWellFormed command.now }
-        requires built { IsBuilt (kind_of command.now.operation) }
         requires fits { FitsCard self.old.store.row_limit command.now.operation }
         requires other { reading.is_reading (kind_of command.now.operation) ≡ false }
         requires open { is_open self.old.sessions command.now.channel ≡ true }

@@ -1,6 +1,6 @@
 -- What the words ask for: a run over lines, a check, or a migration.
-use Rattle.std.proofs.Common.{◌≡◌, inl, inr, ℕ, ◌≤◌, List, [], ◌∷◌, Option, Some, None, true, false, sym, subst, ◌∙◌, arith}
-use Rattle.std.specs.Prelude.{◌||◌, nat_lt, IfSome, option_map, option_and_then, codes}
+use Rattle.std.proofs.Common.{◌≡◌, ◌⊎◌, inl, inr, ℕ, ◌≤◌, Bool, List, [], ◌∷◌, Option, Some, None, true, false, refl, sym, subst, ◌∙◌, arith}
+use Rattle.std.specs.Prelude.{◌||◌, ◌&&◌, nat_lt, IfSome, option_map, option_and_then, codes}
 use Rattle.std.specs.Str.{bytes_eq}
 use Rattle.std.proofs.lemmas.Bool.{cases_Bool, false≢true}
 use Rattle.std.proofs.lemmas.Bool.Decides.{nat_tests}
@@ -9,12 +9,12 @@ use Rattle.eeprom.specs.Chip.{Chip}
 use Rattle.eeprom.specs.Fault.{Rose}
 use Rattle.scql_model.specs.Database.{Database}
 use Rattle.card_cli.specs.declared.status.Status.{Status}
-use Rattle.card_cli.specs.declared.status.Status.TheVariants.{Done, Refused, Eeprom, ReadFault, WriteFault, TooLong}
+use Rattle.card_cli.specs.declared.status.Status.TheVariants.{Done, Refused, Usage, Eeprom, ReadFault, WriteFault, NotACard, NoMemory, TooLong, TooSmall}
 use Rattle.card_cli.specs.declared.words.Form.{Form}
-use Rattle.card_cli.specs.declared.words.Form.TheVariants.{New}
+use Rattle.card_cli.specs.declared.words.Form.TheVariants.{New, Apdu, Load}
 use Rattle.card_cli.specs.Beginning.{BeginsWith}
-use Rattle.card_cli.specs.Ends.{AllFaults, EndsBy, ends_opening, has_opened}
-use Rattle.card_cli.specs.Words.{decimal_in, form_in, in_limits, load_asked, answers_commands, IsWithinLimits}
+use Rattle.card_cli.specs.Ends.{AllFaults, EndsBy, ends_opened, ends_opening, has_opened, is_of_opened, may_end}
+use Rattle.card_cli.specs.Words.{decimal_in, form_in, in_limits, load_asked, answers_commands, carries_out_statements, makes_card, reads_input, IsWithinLimits}
 
 -- A card that is to be made has as many cells as one may have.
 limits-decimal : (number : Option ℕ) → IfSome (option_map New (option_and_then in_limits number)) IsWithinLimits
@@ -72,3 +72,57 @@ unopened TooLong opening opened = false≢true opening
 unopened ReadFault opening opened = false≢true opening
 unopened WriteFault opening opened = false≢true opening
 unopened status opening opened = false≢true opened
+
+-- How a run of a form may end: where its card wasn't opened,
+pub opening-may : (form : Form) (status : Status) → ends_opening status ≡ true → (status ≡ TooSmall → makes_card form ≡ true) → may_end form status ≡ true
+opening-may form TooSmall opening small = small refl
+opening-may form NotACard opening small = refl
+opening-may form NoMemory opening small = refl
+opening-may form Eeprom opening small = refl
+opening-may form Done opening small = refl
+opening-may form Refused opening small = absurd (false≢true opening)
+opening-may form Usage opening small = absurd (false≢true opening)
+opening-may form ReadFault opening small = absurd (false≢true opening)
+opening-may form WriteFault opening small = refl
+opening-may form TooLong opening small = absurd (false≢true opening)
+
+-- where it reads input,
+pub lines-may : (form : Form) (status : Status) → reads_input form ≡ true → is_of_opened status ≡ true → (status ≡ Refused → carries_out_statements form ≡ true) → may_end form status ≡ true
+lines-may form Done reads opened refused = refl
+lines-may form Refused reads opened refused = refused refl
+lines-may form Eeprom reads opened refused = refl
+lines-may form ReadFault reads opened refused = reads
+lines-may form WriteFault reads opened refused = refl
+lines-may form TooLong reads opened refused = reads
+lines-may form NotACard reads opened refused = refl
+lines-may form NoMemory reads opened refused = refl
+lines-may form Usage reads opened refused = absurd (false≢true opened)
+lines-may form TooSmall reads opened refused = absurd (false≢true opened)
+
+-- and where it says how
+pub opened-may : (form : Form) (status : Status) → ends_opened form status ≡ true → may_end form status ≡ true
+opened-may form status ends = first (may_end form status) ends
+  where
+    first : (may : Bool) → may && is_of_opened status ≡ true → may ≡ true
+    first true both = refl
+    first false both = absurd (false≢true both)
+
+-- memory isn't wanting then
+pub not-wanting : (form : Form) (status : Status) → ends_opened form status ≡ true → status ≡ NoMemory → ⊥
+not-wanting form status ends is = of (may_end form NoMemory) (subst (λ (s : Status). ends_opened form s ≡ true) is ends)
+  where
+    of : (may : Bool) → may && false ≡ true → ⊥
+    of true both = false≢true both
+    of false both = false≢true both
+
+pub lines-not-wanting : (status : Status) → is_of_opened status ≡ true → status ≡ NoMemory → ⊥
+lines-not-wanting status opened is = false≢true (subst (λ (s : Status). is_of_opened s ≡ true) is opened)
+
+-- commands are read
+pub commands-read : (form : Form) → ((n : ℕ) × (form ≡ New n)) ⊎ (form ≡ Apdu) → reads_input form ≡ true
+commands-read form (inl is) = subst (λ (f : Form). reads_input f ≡ true) (sym is.1) refl
+commands-read form (inr is) = subst (λ (f : Form). reads_input f ≡ true) (sym is) refl
+
+-- and a load reads nothing
+pub no-load : (form : Form) (rows seed : ℕ) → form ≡ Load rows seed → reads_input form ≡ true → ⊥
+no-load form rows seed is reads = false≢true (subst (λ (f : Form). reads_input f ≡ true) is reads)

@@ -14,7 +14,7 @@ use Rattle.card_cli.specs.declared.words.Form.{Form}
 use Rattle.card_cli.specs.declared.words.Form.TheVariants.{New}
 use Rattle.card_cli.specs.Behind.{run_cells}
 use Rattle.card_cli.proofs.Finishing.{front-cells}
-use Rattle.card_cli.proofs.Preparing.{IsThere}
+use Rattle.card_cli.proofs.Preparing.{IsFound}
 
 -- one call, and then another that speaks of as many cells
 pub behind-then : (first second : List ℕ → ℕ) (old mid new : Chip) → Becomes (λ was between. second between ≡ first was) old.image mid.image → KeepsBehind first old mid → KeepsBehind second mid new → KeepsBehind first old new
@@ -60,7 +60,7 @@ cells-new (Ok x) old new form n is many made = λ now told. of old.image made no
         (was, refl, subst (λ (f : Form). own_cells now ≡ run_cells f was) (sym is) (subst (λ (image : List ℕ). own_cells image ≡ n) same (made-cells was n many)))
 
 -- one that is there has its own
-pub cells-there : (form : Form) (image : Option (List ℕ)) → IsThere form → Becomes (λ was now. own_cells now ≡ run_cells form was) image image
+pub cells-there : (form : Form) (image : Option (List ℕ)) → IsFound form → Becomes (λ was now. own_cells now ≡ run_cells form was) image image
 cells-there form image (inl is) = λ now told. (now, told, subst (λ (f : Form). own_cells now ≡ run_cells f now) (sym is) refl)
 cells-there form image (inr (inl is)) = λ now told. (now, told, subst (λ (f : Form). own_cells now ≡ run_cells f now) (sym is) refl)
 cells-there form image (inr (inr (inl is))) = λ now told. (now, told, subst (λ (f : Form). own_cells now ≡ run_cells f now) (sym is) refl)

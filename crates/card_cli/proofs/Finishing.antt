@@ -29,7 +29,7 @@ use Rattle.card_cli.specs.declared.stop.FailedDevice.{FailedDevice}
 use Rattle.card_cli.specs.declared.stop.FailedDevice.TheVariants as stop
 use Rattle.card_cli.specs.StatusNumber.{status_of}
 use Rattle.card_cli.specs.RunState.{Prints}
-use Rattle.card_cli.specs.Ends.{AllFaults, EndsBy, ends_as, ends_input, ends_opening, longest_input, reads_all}
+use Rattle.card_cli.specs.Ends.{AllFaults, EndsBy, ends_as, is_of_opened, ends_opening, longest_input, reads_all}
 use Rattle.card_cli.specs.Extent.{Extent, to_end, stopped_in, EndsAt, Runs, RunsInput}
 use Rattle.card_cli.specs.Run.{IsQuiet, AnswersAll, RunsLines, TellsRefusals}
 use Rattle.card_cli.proofs.Asking.{eeprom-rose, limits-asked, unopened}
@@ -82,32 +82,30 @@ not_done status stop.Outlet whole is = false≢true (subst (λ (s : Status). rea
 not_done status stop.Both whole is = false≢true (subst (λ (s : Status). reads_all s ≡ true) is whole)
 
 -- a run that is done came to the end of its lines
-said-done : {S : Type 0} (L : Language S) (state : S) (status : Status) (taken : List (List ℕ)) (extent : Extent) (from to : ℕ) (old new : Chip) → reads_all status ≡ true → EndsAt extent status from to → Runs L state taken extent old new
-    → Prints (run_text L state taken) old.still.given new.still.given
-said-done L state status taken to_end from to old new whole ends runs = subst (λ (said : List ℕ). Prints said old.still.given new.still.given) runs.text.1 runs.text.2
-said-done L state status taken (stopped_in stop.Eeprom answered line) from to old new whole ends runs = absurd (not_done status stop.Eeprom whole ends.0)
-said-done L state status taken (stopped_in stop.Outlet answered line) from to old new whole ends runs = absurd (not_done status stop.Outlet whole ends.0)
-said-done L state status taken (stopped_in stop.Both answered line) from to old new whole ends runs = absurd (not_done status stop.Both whole ends.0)
+said-done : {S X : Type 0} (chip : X → Chip) (eeprom : X → ℕ) (L : Language S) (state : S) (status : Status) (taken : List (List ℕ)) (extent : Extent) (old new : X) → reads_all status ≡ true → EndsAt chip eeprom L state extent status old new → Runs L state taken extent (chip old) (chip new)
+    → Prints (run_text L state taken) (chip old).still.given (chip new).still.given
+said-done chip eeprom L state status taken to_end old new whole ends runs = subst (λ (said : List ℕ). Prints said (chip old).still.given (chip new).still.given) runs.text.1 runs.text.2
+said-done chip eeprom L state status taken (stopped_in stop answered line) old new whole ends runs = absurd (not_done status stop whole ends.0)
 
 -- and said the text of its whole input
-said-whole : {S : Type 0} (L : Language S) (state : S) (status : Status) (was now : AllFaults) (input left : List ℕ) (before old new : Chip) → before.still ≡ old.still → reads_all status ≡ true
-    → (ran : RunsInput L state status was.eeprom now.eeprom input left before new) → ran.taken ≡ lines input true → Prints (run_text L state (lines input true)) old.still.given new.still.given
-said-whole L state status was now input left before old new still whole ran taken_is =
-    subst (λ (s : Still). Prints (run_text L state (lines input true)) s.given new.still.given) still
-    (subst (λ (taken : List (List ℕ)). Prints (run_text L state taken) before.still.given new.still.given) taken_is
-    (said-done L state status ran.taken ran.extent was.eeprom now.eeprom before new whole ran.ends ran.runs))
+said-whole : {S X : Type 0} (chip : X → Chip) (eeprom : X → ℕ) (L : Language S) (state : S) (status : Status) (input left : List ℕ) (before : Still) (old new : X) → (chip old).still ≡ before → reads_all status ≡ true
+    → (ran : RunsInput chip eeprom L state status input left old new) → ran.taken ≡ lines input true → Prints (run_text L state (lines input true)) before.given (chip new).still.given
+said-whole chip eeprom L state status input left before old new still whole ran taken_is =
+    subst (λ (s : Still). Prints (run_text L state (lines input true)) s.given (chip new).still.given) still
+    (subst (λ (taken : List (List ℕ)). Prints (run_text L state taken) (chip old).still.given (chip new).still.given) taken_is
+    (said-done chip eeprom L state status ran.taken ran.extent old new whole ran.ends ran.runs))
 
 -- and so, without a fault, it answers all of its input
-answers_all : {S : Type 0} (L : Language S) (refused : S → Bool) (state : S) (status : Status) (was now : AllFaults) (input left : List ℕ) (before old new : Chip) → before.still ≡ old.still → ends_input status ≡ true → EndsBy status was now → IsQuiet was now
+answers_all : {S X : Type 0} (chip : X → Chip) (eeprom : X → ℕ) (L : Language S) (refused : S → Bool) (state : S) (status : Status) (was now : AllFaults) (input left : List ℕ) (before : Still) (old new : X) → (chip old).still ≡ before → is_of_opened status ≡ true → EndsBy status was now → IsQuiet was now
     → length input ≤ longest_input → (status ≡ TooLong → longest_input < length input) → (reads_all status ≡ true → status ≡ ends_as (refused (state_after L state (lines input true))))
-    → RunsInput L state status was.eeprom now.eeprom input left before new → AnswersAll (ends_as (refused (state_after L state (lines input true)))) status (run_text L state (lines input true)) old.still.given new.still.given
-answers_all L refused state Done was now input left before old new still over ends quiet short long closes ran = inl (closes refl, said-whole L state Done was now input left before old new still refl ran ran.are_taken)
-answers_all L refused state Refused was now input left before old new still over ends quiet short long closes ran = inl (closes refl, said-whole L state Refused was now input left before old new still refl ran ran.are_taken)
-answers_all L refused state TooLong was now input left before old new still over ends quiet short long closes ran = absurd (omega (arith, long refl, short))
-answers_all L refused state Eeprom was now input left before old new still over ends quiet short long closes ran = absurd (quiet.eeprom ends.0)
-answers_all L refused state ReadFault was now input left before old new still over ends quiet short long closes ran = absurd (quiet.source ends.0)
-answers_all L refused state WriteFault was now input left before old new still over ends quiet short long closes ran = absurd (quiet.outlet ends.0)
-answers_all L refused state status was now input left before old new still over ends quiet short long closes ran = absurd cc
+    → RunsInput chip eeprom L state status input left old new → AnswersAll (ends_as (refused (state_after L state (lines input true)))) status (run_text L state (lines input true)) before.given (chip new).still.given
+answers_all chip eeprom L refused state Done was now input left before old new still over ends quiet short long closes ran = inl (closes refl, said-whole chip eeprom L state Done input left before old new still refl ran ran.are_taken)
+answers_all chip eeprom L refused state Refused was now input left before old new still over ends quiet short long closes ran = inl (closes refl, said-whole chip eeprom L state Refused input left before old new still refl ran ran.are_taken)
+answers_all chip eeprom L refused state TooLong was now input left before old new still over ends quiet short long closes ran = absurd (omega (arith, long refl, short))
+answers_all chip eeprom L refused state Eeprom was now input left before old new still over ends quiet short long closes ran = absurd (quiet.eeprom ends.0)
+answers_all chip eeprom L refused state ReadFault was now input left before old new still over ends quiet short long closes ran = absurd (quiet.source ends.0)
+answers_all chip eeprom L refused state WriteFault was now input left before old new still over ends quiet short long closes ran = absurd (quiet.outlet ends.0)
+answers_all chip eeprom L refused state status was now input left before old new still over ends quiet short long closes ran = absurd cc
 
 -- a run whose card wasn't opened read nothing
 not_whole : (status : Status) → ends_opening status ≡ true → reads_all status ≡ true → ⊥
@@ -115,11 +113,24 @@ not_whole Done opening all = false≢true opening
 not_whole Refused opening all = false≢true opening
 not_whole status opening all = false≢true all
 
+-- of an input that it didn't read to its end it says that it is too long
+ends-longer : (status : Status) (was now : AllFaults) → is_of_opened status ≡ true → EndsBy status was now → IsQuiet was now → (reads_all status ≡ true → ⊥) → status ≡ TooLong
+ends-longer Done was now over ends quiet longer = absurd (longer refl)
+ends-longer Refused was now over ends quiet longer = absurd (longer refl)
+ends-longer TooLong was now over ends quiet longer = refl
+ends-longer Eeprom was now over ends quiet longer = absurd (quiet.eeprom ends.0)
+ends-longer ReadFault was now over ends quiet longer = absurd (quiet.source ends.0)
+ends-longer WriteFault was now over ends quiet longer = absurd (quiet.outlet ends.0)
+ends-longer status was now over ends quiet longer = absurd cc
+
+not-longer : (input : List ℕ) → length input ≤ longest_input → longest_input < length input → ⊥
+not-longer input short long = absurd (omega (arith, short, long))
+
 -- What a run over lines owes whose card wasn't opened,
-pub Lines-unopened : {S T : Type 0} (L : Language S) (refused : S → Bool) (first : Database → S) (form : Form) (status : Status) (source : T) (start end : Option (List ℕ)) (old new : Chip) (was now : AllFaults) → ends_opening status ≡ true
-    → ((db : Database) → Begins form old db → (status ≡ NoMemory) ⊎ (status ≡ Eeprom)) → EndsBy status was now → new.still ≡ old.still → LeavesUntilOpen form old new
-    → RunsLines L refused first form status source source start end old new was now
-Lines-unopened L refused first form status source start end old new was now opening stopped ends still leaves =
+pub Lines-unopened : {S T X : Type 0} (chip : X → Chip) (eeprom : X → ℕ) (L : Language S) (refused : S → Bool) (first : Database → S) (form : Form) (status : Status) (source : T) (start end : Option (List ℕ)) (old new : X) (was now : AllFaults) → ends_opening status ≡ true
+    → ((db : Database) → Begins form (chip old) db → (status ≡ NoMemory) ⊎ (status ≡ Eeprom)) → EndsBy status was now → (chip new).still ≡ (chip old).still → LeavesUntilOpen form (chip old) (chip new)
+    → RunsLines chip eeprom L refused first form status source source start end old new was now
+Lines-unopened chip eeprom L refused first form status source start end old new was now opening stopped ends still leaves =
     record {
       begins = λ opened told. absurd (unopened status opening opened);
       whole = λ all. absurd (not_whole status opening all);
@@ -128,30 +139,37 @@ Lines-unopened L refused first form status source start end old new was now open
         | inl none ↦ inr (none, ap (λ (s : Still). s.given) still)
         | inr failed ↦ absurd (quiet.eeprom (eeprom-rose status was now failed ends))
       ];
+      longer = λ db begins quiet input left from to long. elim (stopped db begins) [
+        | inl none ↦ inr none
+        | inr failed ↦ absurd (quiet.eeprom (eeprom-rose status was now failed ends))
+      ];
       refusals = λ db begins all. absurd (not_whole status opening all);
       runs = λ db begins. inl (record { opening = opening; source = refl; given = ap (λ (s : Still). s.given) still; leaves = leaves });
     }
 
 -- and whose card was opened, and then asked
-pub Lines-opened : {S T : Type 0} (L : Language S) (refused : S → Bool) (first : Database → S) (form : Form) (status : Status) (source after : T) (start end : Option (List ℕ)) (old mid new : Chip) (was now : AllFaults) → ends_input status ≡ true
-    → (IsSome old.image → (db : Database) × Begins form old db) → mid.still ≡ old.still → LeavesUntilOpen form old mid → ((db : Database) → Begins form old db → IfSome mid.image (λ image. Opens image db))
+pub Lines-opened : {S T X : Type 0} (chip : X → Chip) (eeprom : X → ℕ) (L : Language S) (refused : S → Bool) (first : Database → S) (form : Form) (status : Status) (source after : T) (start end : Option (List ℕ)) (old mid new : X) (was now : AllFaults) → is_of_opened status ≡ true
+    → (IsSome (chip old).image → (db : Database) × Begins form (chip old) db) → (chip mid).still ≡ (chip old).still → eeprom mid ≡ eeprom old → LeavesUntilOpen form (chip old) (chip mid)
+    → ((db : Database) → Begins form (chip old) db → IfSome (chip mid).image (λ image. Opens image db))
     → (reads_all status ≡ true → Becomes (λ input left. (left ≡ []) × (length input ≤ longest_input)) start end) → (status ≡ TooLong → Becomes (λ input left. longest_input < length input) start end) → EndsBy status was now
-    → ((db : Database) → Begins form old db → TellsRefusals L refused (first db) status start end)
-    → ((db : Database) → Begins form old db → Becomes (λ input left. RunsInput L (first db) status was.eeprom now.eeprom input left mid new) start end)
-    → RunsLines L refused first form status source after start end old new was now
-Lines-opened L refused first form status source after start end old mid new was now over begins still until opens whole long ends tells runs =
+    → ((db : Database) → Begins form (chip old) db → TellsRefusals L refused (first db) status start end)
+    → ((db : Database) → Begins form (chip old) db → Becomes (λ input left. RunsInput chip eeprom L (first db) status input left mid new) start end)
+    → RunsLines chip eeprom L refused first form status source after start end old new was now
+Lines-opened chip eeprom L refused first form status source after start end old mid new was now over begins still counted until opens whole long ends tells runs =
     record {
       begins = λ opened told. begins told;
       whole = whole;
       refusals = tells;
       too_long = long;
       text = λ db begins quiet input left from to short.
-          answers_all L refused (first db) status was now input left mid old new still over ends quiet short (λ is. becomes-at (λ (i l : List ℕ). longest_input < length i) start end input left from to (long is))
+          answers_all chip eeprom L refused (first db) status was now input left (chip old).still mid new still over ends quiet short (λ is. becomes-at (λ (i l : List ℕ). longest_input < length i) start end input left from to (long is))
           (λ all. becomes-at (λ (i l : List ℕ). status ≡ ends_as (refused (state_after L (first db) (lines i true)))) start end input left from to (tells db begins all))
-          (becomes-at (λ (i l : List ℕ). RunsInput L (first db) status was.eeprom now.eeprom i l mid new) start end input left from to (runs db begins));
+          (becomes-at (λ (i l : List ℕ). RunsInput chip eeprom L (first db) status i l mid new) start end input left from to (runs db begins));
+      longer = λ db begins quiet input left from to long.
+          inl (ends-longer status was now over ends quiet (λ all. not-longer input (becomes-at (λ (i l : List ℕ). (l ≡ []) × (length i ≤ longest_input)) start end input left from to (whole all)).1 long));
       runs = λ db begins. inr (λ left told.
           let last = runs db begins left told in
-          (last.0, last.1, record { opened = mid; still = still; opens = opens db begins; until = until; runs = last.2 }));
+          (last.0, last.1, record { opened = mid; still = still; quiet = counted; opens = opens db begins; until = until; runs = last.2 }));
     }
 
 -- the database of a run is valid
@@ -254,3 +272,18 @@ pub never-tells : {S : Type 0} (L : Language S) (state : S) (status : Status) (s
 never-tells L state Done start end never whole all = λ left told. let b = whole refl left told in (b.0, b.1, refl)
 never-tells L state Refused start end never whole all = absurd (never refl)
 never-tells L state status start end never whole all = absurd (false≢true all)
+
+-- A run over what has a bench is one over the bench.
+ends-through : {S X Y : Type 0} (bench : X → Y) (chip : Y → Chip) (eeprom : Y → ℕ) (L : Language S) (state : S) (extent : Extent) (status : Status) (old new : X)
+    → EndsAt (λ (x : X). chip (bench x)) (λ (x : X). eeprom (bench x)) L state extent status old new → EndsAt chip eeprom L state extent status (bench old) (bench new)
+ends-through bench chip eeprom L state to_end status old new ends = ends
+ends-through bench chip eeprom L state (stopped_in stop answered line) status old new ends =
+    let begins = ends.2 in (ends.0, bench ends.1, record { quiet = begins.quiet; text = begins.text; image = begins.image }, ends.3)
+
+pub runs-through : {S X Y : Type 0} (old new : X) (bench : X → Y) (chip : Y → Chip) (eeprom : Y → ℕ) (L : Language S) (state : S) (status : Status) (start end : Option (List ℕ))
+    → Becomes (λ (input left : List ℕ). RunsInput (λ (x : X). chip (bench x)) (λ (x : X). eeprom (bench x)) L state status input left old new) start end
+    → Becomes (λ (input left : List ℕ). RunsInput chip eeprom L state status input left (bench old) (bench new)) start end
+runs-through old new bench chip eeprom L state status start end runs = λ left told.
+    let last = runs left told in
+    let ran = last.2 in
+    (last.0, last.1, record { taken = ran.taken; are_taken = ran.are_taken; extent = ran.extent; ends = ends-through bench chip eeprom L state ran.extent status old new ran.ends; runs = ran.runs })

@@ -9,14 +9,18 @@ mod HexadecimalTexts
 mod InsertedRows
 mod Keeping
 mod LineEnds
+mod Living
 mod LoadedCards
 mod LoadedLines
 mod LongerRows
 mod Moving
 mod Preparing
 mod Selecting
+mod ShownLoads
+mod ShownRows
 mod Showing
 pub mod Sittings
 mod Stopping
 mod Streaming
 mod Taking
+mod Watching

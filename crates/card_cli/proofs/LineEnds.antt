@@ -42,12 +42,12 @@ Feeds-ended {S} L begun octets old new line lacks over before after answered emp
     Feeds-then L octets (10 ∷ []) old mid new (Feeds-others L begun octets old line lacks over before after) (Feeds-line_feed L 10 mid new refl answered empty)
 
 -- or a device fails in it
-pub Halts-ended : {S : Type 0} (L : Language S) (stop : FailedDevice) (begun octets : List ℕ) (old : RunState S) (now : Chip) (line : Option (List ℕ)) → LacksLineFeed octets → IsOver L old.at old.chip
+pub Halts-ended : {S X : Type 0} (chip : X → Chip) (eeprom : X → ℕ) (L : Language S) (stop : FailedDevice) (begun octets : List ℕ) (bench : X) (old : RunState S) (now : Chip) (line : Option (List ℕ)) → LacksLineFeed octets → chip bench ≡ old.chip → IsOver L old.at old.chip
     → old.line ≡ taken_line begun → line ≡ taken_line (begun ++ octets)
-    → ((at : S) → old.at at → Failed stop L at (L.effect at line) old.chip now) → Halts stop L (octets ++ 10 ∷ []) old now
-Halts-ended {S} L stop begun octets old now line lacks over before after failed =
+    → ((at : S) → old.at at → Failed stop L at (L.effect at line) old.chip now) → Halts chip eeprom stop L (octets ++ 10 ∷ []) (eeprom bench) old now
+Halts-ended {S} chip eeprom L stop begun octets bench old now line lacks same over before after failed =
     let mid : RunState S = record { at = old.at; line = line; chip = old.chip } in
-    Halts-within L stop octets (10 ∷ []) [] old mid now (Feeds-others L begun octets old line lacks over before after) (Halts-line_feed L stop 10 mid now refl failed)
+    Halts-within chip eeprom L stop octets (10 ∷ []) [] (eeprom bench) (eeprom bench) old mid now refl (Feeds-others L begun octets old line lacks over before after) (Halts-line_feed chip eeprom L stop 10 bench mid now refl same over failed)
 
 -- the same of what answering a line returns
 pub ended-feeds : {S : Type 0} (L : Language S) (result : Result (Unit {0}) FailedDevice) (begun octets : List ℕ) (old new : RunState S) (line : Option (List ℕ)) → LacksLineFeed octets → IsOver L old.at old.chip
@@ -56,11 +56,11 @@ pub ended-feeds : {S : Type 0} (L : Language S) (result : Result (Unit {0}) Fail
 ended-feeds L (Ok x) begun octets old new line lacks over before after answered empty = Feeds-ended L begun octets old new line lacks over before after answered empty
 ended-feeds L (Err stop) begun octets old new line lacks over before after answered empty = tt
 
-pub ended-halts : {S : Type 0} (L : Language S) (result : Result (Unit {0}) FailedDevice) (begun octets : List ℕ) (old : RunState S) (now : Chip) (line : Option (List ℕ)) → LacksLineFeed octets → IsOver L old.at old.chip
+pub ended-halts : {S X : Type 0} (chip : X → Chip) (eeprom : X → ℕ) (L : Language S) (result : Result (Unit {0}) FailedDevice) (begun octets : List ℕ) (bench : X) (old : RunState S) (now : Chip) (line : Option (List ℕ)) → LacksLineFeed octets → chip bench ≡ old.chip → IsOver L old.at old.chip
     → old.line ≡ taken_line begun → line ≡ taken_line (begun ++ octets)
-    → ((at : S) → old.at at → IfErr result (λ (stop : FailedDevice). Failed stop L at (L.effect at line) old.chip now)) → IfErr result (λ (stop : FailedDevice). Halts stop L (octets ++ 10 ∷ []) old now)
-ended-halts L (Ok x) begun octets old now line lacks over before after failed = tt
-ended-halts L (Err stop) begun octets old now line lacks over before after failed = Halts-ended L stop begun octets old now line lacks over before after failed
+    → ((at : S) → old.at at → IfErr result (λ (stop : FailedDevice). Failed stop L at (L.effect at line) old.chip now)) → IfErr result (λ (stop : FailedDevice). Halts chip eeprom stop L (octets ++ 10 ∷ []) (eeprom bench) old now)
+ended-halts chip eeprom L (Ok x) begun octets bench old now line lacks same over before after failed = tt
+ended-halts chip eeprom L (Err stop) begun octets bench old now line lacks same over before after failed = Halts-ended chip eeprom L stop begun octets bench old now line lacks same over before after failed
 
 -- octets are those before a line feed, the line feed, and those behind it
 pub cut_at : (octets : List ℕ) (end : ℕ) → end < length octets → get_or octets end 0 ≡ 10 → octets ≡ (take end octets ++ 10 ∷ []) ++ drop (end + 1) octets

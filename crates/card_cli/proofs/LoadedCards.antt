@@ -17,11 +17,12 @@ use Rattle.terminal.specs.Load.{counts_text, load_counts, load_script, load_text
 use Rattle.card_cli.specs.declared.status.Status.{Status}
 use Rattle.card_cli.specs.declared.status.Status.TheVariants as status
 use Rattle.card_cli.specs.declared.stop.FailedDevice.TheVariants.{Eeprom, Outlet}
+use Rattle.card_cli.specs.declared.words.Form.TheVariants.{Load}
 use Rattle.card_cli.specs.Answering.{Failed}
 use Rattle.card_cli.specs.Beginning.{IsOpenTo}
 use Rattle.card_cli.specs.CutOff.{IsCutShort}
-use Rattle.card_cli.specs.Ends.{AllFaults, EndsBy, ends_as, ends_opening}
-use Rattle.card_cli.specs.Loading.{CarriesOut, FailsAmong, IsIn, IsInLines, IsLoaded, Loader, Loads, LoadsTo, ends_load, script_effect, script_lines, script_refused}
+use Rattle.card_cli.specs.Ends.{AllFaults, EndsBy, ends_as, ends_opened, ends_opening}
+use Rattle.card_cli.specs.Loading.{CarriesOut, FailsAmong, IsIn, IsInLines, IsLoaded, Loader, Loads, LoadsTo, script_effect, script_lines, script_refused}
 use Rattle.card_cli.specs.Moments.{IfGiven, IsInAnswered}
 use Rattle.card_cli.specs.Run.{AnswersAll, IsQuiet}
 use Rattle.card_cli.specs.RunState.{Prints}
@@ -115,9 +116,9 @@ pub loads-as : (k seed : ℕ) (state : TerminalState) (from to : ℕ) (old new :
 loads-as k seed state from to old new true is was = (is, was)
 loads-as k seed state from to old new false is was = (is, was)
 
-pub ends-load : (refused : Bool) → ends_load (cond refused status.Refused status.Done) ≡ true
-ends-load true = refl
-ends-load false = refl
+pub ends-load : (k seed : ℕ) (refused : Bool) → ends_opened (Load k seed) (cond refused status.Refused status.Done) ≡ true
+ends-load k seed true = refl
+ends-load k seed false = refl
 
 pub ends-quietly : (refused : Bool) (was now : AllFaults) → now ≡ was → EndsBy (cond refused status.Refused status.Done) was now
 ends-quietly true was now same = same

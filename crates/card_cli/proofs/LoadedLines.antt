@@ -33,7 +33,7 @@ state-then : (state : TerminalState) (xs ys : List (List ℕ)) → state_after s
 state-then state [] ys = refl
 state-then state (line ∷ xs) ys = state-then (line_step statement_lines state line) xs ys
 
-closings-then : (state : TerminalState) (xs ys : List (List ℕ)) → closings state (xs ++ ys) ≡ closings state xs ++ closings (state_after statement_lines state xs) ys
+pub closings-then : (state : TerminalState) (xs ys : List (List ℕ)) → closings state (xs ++ ys) ≡ closings state xs ++ closings (state_after statement_lines state xs) ys
 closings-then state [] ys = refl
 closings-then state (line ∷ xs) ys = ap (λ (rest : List (Option Closing)). closing_in state (statement_of line) ∷ rest) (closings-then (line_step statement_lines state line) xs ys)
 

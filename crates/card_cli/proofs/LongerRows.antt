@@ -47,7 +47,7 @@ open-at card chip db ready at = of chip.image refl
     of (Some image) is = (image, is, Opens-at card chip (start db) ready at image is)
 
 -- a database whose rows are long already is the one with longer rows
-same-migrated : (db : Database) → IsValid db → (db.limit == 240) ≡ false → migrated db ≡ db
+pub same-migrated : (db : Database) → IsValid db → (db.limit == 240) ≡ false → migrated db ≡ db
 same-migrated db valid long = elim (limit-cases db.limit valid.limit) [
   | inl short ↦ absurd (false≢true (sym long ∙ rw short refl))
   | inr is ↦ ap (λ (limit : ℕ). let d : Database = record db { limit = limit } in d) (sym is)

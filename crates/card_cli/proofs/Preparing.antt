@@ -7,7 +7,8 @@ use Rattle.scql_model.specs.Database.{Database, fresh}
 use Rattle.scql_model.specs.Opens.{Opens}
 use Rattle.card_cli.specs.declared.words.Form.{Form}
 use Rattle.card_cli.specs.declared.words.Form.TheVariants.{New, Apdu, Term, Check, Load, Migrate}
-use Rattle.card_cli.specs.Beginning.{IsOpenTo, Begins, LeavesUntilOpen}
+use Rattle.card.specs.Making.{LeavesMade}
+use Rattle.card_cli.specs.Beginning.{IsOpenTo, IsThere, Begins, LeavesUntilOpen}
 use Rattle.card_cli.proofs.Finishing.{keeps_same}
 
 -- what was made of an image that was told is told, and opens to what all of it opens to
@@ -41,19 +42,32 @@ began-new (Ok x) too_small old new form n make is made small = λ db opens.
     )
 
 -- a form whose card is to be there
-abbrev pub IsThere : Form → Type 0
-IsThere form = (form ≡ Apdu) ⊎ ((form ≡ Term) ⊎ ((form ≡ Check) ⊎ ((form ≡ Migrate) ⊎ ((rows : ℕ) × (seed : ℕ) × (form ≡ Load rows seed)))))
+abbrev pub IsFound : Form → Type 0
+IsFound form = (form ≡ Apdu) ⊎ ((form ≡ Term) ⊎ ((form ≡ Check) ⊎ ((form ≡ Migrate) ⊎ ((rows : ℕ) × (seed : ℕ) × (form ≡ Load rows seed)))))
 
-pub begins-there : (form : Form) (chip : Chip) (db : Database) → IsThere form → IsOpenTo chip db → Begins form chip db
+pub begins-there : (form : Form) (chip : Chip) (db : Database) → IsFound form → IsOpenTo chip db → Begins form chip db
 begins-there form chip db (inl is) opens = subst (λ (f : Form). Begins f chip db) (sym is) opens
 begins-there form chip db (inr (inl is)) opens = subst (λ (f : Form). Begins f chip db) (sym is) opens
 begins-there form chip db (inr (inr (inl is))) opens = subst (λ (f : Form). Begins f chip db) (sym is) opens
 begins-there form chip db (inr (inr (inr (inl is)))) opens = subst (λ (f : Form). Begins f chip db) (sym is) opens
 begins-there form chip db (inr (inr (inr (inr is)))) opens = subst (λ (f : Form). Begins f chip db) (sym is.2) opens
 
-pub leaves-there : (form : Form) (chip : Chip) → IsThere form → LeavesUntilOpen form chip chip
+pub leaves-there : (form : Form) (chip : Chip) → IsFound form → LeavesUntilOpen form chip chip
 leaves-there form chip (inl is) = subst (λ (f : Form). LeavesUntilOpen f chip chip) (sym is) (keeps_same chip)
 leaves-there form chip (inr (inl is)) = subst (λ (f : Form). LeavesUntilOpen f chip chip) (sym is) (keeps_same chip)
 leaves-there form chip (inr (inr (inl is))) = subst (λ (f : Form). LeavesUntilOpen f chip chip) (sym is) (keeps_same chip)
 leaves-there form chip (inr (inr (inr (inl is)))) = subst (λ (f : Form). LeavesUntilOpen f chip chip) (sym is) (keeps_same chip)
 leaves-there form chip (inr (inr (inr (inr is)))) = subst (λ (f : Form). LeavesUntilOpen f chip chip) (sym is.2) (keeps_same chip)
+
+-- in which state of a bench it is there
+pub there-same : {X : Type 0} (chip : X → Chip) (form : Form) (bench : X) → IsFound form → IsThere chip form bench bench
+there-same chip form bench (inl is) = subst (λ (f : Form). IsThere chip f bench bench) (sym is) refl
+there-same chip form bench (inr (inl is)) = subst (λ (f : Form). IsThere chip f bench bench) (sym is) refl
+there-same chip form bench (inr (inr (inl is))) = subst (λ (f : Form). IsThere chip f bench bench) (sym is) refl
+there-same chip form bench (inr (inr (inr (inl is)))) = subst (λ (f : Form). IsThere chip f bench bench) (sym is) refl
+there-same chip form bench (inr (inr (inr (inr is)))) = subst (λ (f : Form). IsThere chip f bench bench) (sym is.2) refl
+
+pub there-new : {X E : Type 0} (chip : X → Chip) (result : Result (Unit {0}) E) (form : Form) (n : ℕ) (old new : X) → form ≡ New n → LeavesMade n (chip old) (chip new) → OnOk result (IfSome (chip new).image (λ (image : List ℕ). Opens image (fresh n)))
+    → OnOk result (IsThere chip form old new)
+there-new chip (Err e) form n old new is made opens = tt
+there-new chip (Ok x) form n old new is made opens = subst (λ (f : Form). IsThere chip f old new) (sym is) (made, opens)

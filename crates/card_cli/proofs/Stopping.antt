@@ -9,15 +9,15 @@ use Rattle.scql_model.specs.Opens.{Opens, OpensToOneOf}
 use Rattle.card_cli.specs.declared.stop.FailedDevice.{FailedDevice}
 use Rattle.card_cli.specs.declared.stop.FailedDevice.TheVariants.{Eeprom, Outlet, Both}
 use Rattle.card_cli.specs.Answering.{Failed}
-use Rattle.card_cli.specs.Extent.{stopped_in, carried_out, AreKept, Runs}
+use Rattle.card_cli.specs.Extent.{stopped_in, carried_out, AreKept, BegunAt, Runs}
 use Rattle.card_cli.specs.Running.{Running, from_state, begun_effect, after, text_of}
-use Rattle.card_cli.specs.RunState.{Prints, RunState, IsRunning, Feeds}
+use Rattle.card_cli.specs.RunState.{Prints, RunState, IsOver, IsRunning, Feeds}
 use Rattle.card_cli.specs.CutOff.{IsOneOf, FailsIn, IsCutShort}
 use Rattle.card_cli.specs.Line.{is_empty_line}
 use Rattle.card_cli.specs.Moments.{IsInStopped, IfGiven}
 use Rattle.card_cli.proofs.Moving.{until-line_feed, until-then, told-before}
 use Rattle.card_cli.specs.Halting.{FailsAt, HaltsAt, Halts}
-use Rattle.card_cli.proofs.Feeding.{Prints-then}
+use Rattle.card_cli.proofs.Feeding.{Prints-nothing, Prints-then}
 use Rattle.card_cli.proofs.Streaming.{open_end, text_of-lines, after-lines, after-append, text_of-append, lines-line_feed}
 
 -- where an outlet failed, the first octets that it gave of a text are a start of it
@@ -75,16 +75,43 @@ FailsIn-after L stop first text state does a b now printed fails = record {
   image = fails.image;
 }
 
+-- a line is begun where the run is
+begun-here : {S X : Type 0} (chip : X → Chip) (eeprom : X → ℕ) (L : Language S) (begun : X) (old : RunState S) (state : S) → chip begun ≡ old.chip → IsOver L old.at old.chip → old.at state → BegunAt chip eeprom L state [] (eeprom begun) old.chip.still.given begun
+begun-here chip eeprom L begun old state same over at = record {
+  quiet = refl;
+  text = subst (λ (c : Chip). Prints [] old.chip.still.given c.still.given) (sym same) (Prints-nothing old.chip.still.given);
+  image = λ image told. over state at image (ap (λ (c : Chip). c.image) (sym same) ∙ told);
+}
+
+-- or behind octets that were taken
+begun-then : {S X : Type 0} (chip : X → Chip) (eeprom : X → ℕ) (L : Language S) (xs ys : List ℕ) (r : Running S) (from mid : ℕ) (a b : Option (List ℕ)) (begun : X) → mid ≡ from → Prints (text_of L r xs) a b
+    → BegunAt chip eeprom L (after L (after L r xs) ys).state (text_of L (after L r xs) ys) mid b begun → BegunAt chip eeprom L (after L r (xs ++ ys)).state (text_of L r (xs ++ ys)) from a begun
+begun-then {S} chip eeprom L xs ys r from mid a b begun same printed begins = record {
+  quiet = begins.quiet ∙ same;
+  text = subst (λ (t : List ℕ). Prints t a (chip begun).still.given) (sym (text_of-append L xs ys r)) (Prints-then (text_of L r xs) (text_of L (after L r xs) ys) a b (chip begun).still.given printed begins.text);
+  image = λ image told. subst (λ (s : Running S). Opens image (committed_in L s.state)) (sym (after-append L xs ys r)) (begins.image image told);
+}
+
+-- and octet by octet that is behind the whole lines
+pub begun-lines : {S X : Type 0} (chip : X → Chip) (eeprom : X → ℕ) (L : Language S) (state : S) (octets : List ℕ) (from : ℕ) (given : Option (List ℕ)) (begun : X)
+    → BegunAt chip eeprom L (after L (from_state state) octets).state (text_of L (from_state state) octets) from given begun
+    → BegunAt chip eeprom L (state_after L state (lines octets false)) (run_text L state (lines octets false)) from given begun
+begun-lines {S} chip eeprom L state octets from given begun begins =
+    subst (λ (r : Running S). BegunAt chip eeprom L r.state (run_text L state (lines octets false)) from given begun) (after-lines L state octets)
+    (subst (λ (t : List ℕ). BegunAt chip eeprom L (after L (from_state state) octets).state t from given begun) (text_of-lines L state octets) begins)
+
 -- a device fails at a line feed
-pub Halts-line_feed : {S : Type 0} (L : Language S) (stop : FailedDevice) (octet : ℕ) (old : RunState S) (now : Chip) → octet ≡ 10
-    → ((at : S) → old.at at → Failed stop L at (L.effect at old.line) old.chip now) → Halts stop L (octet ∷ []) old now
-Halts-line_feed L stop octet old now is failed = λ r running.
+pub Halts-line_feed : {S X : Type 0} (chip : X → Chip) (eeprom : X → ℕ) (L : Language S) (stop : FailedDevice) (octet : ℕ) (begun : X) (old : RunState S) (now : Chip) → octet ≡ 10 → chip begun ≡ old.chip → IsOver L old.at old.chip
+    → ((at : S) → old.at at → Failed stop L at (L.effect at old.line) old.chip now) → Halts chip eeprom stop L (octet ∷ []) (eeprom begun) old now
+Halts-line_feed chip eeprom L stop octet begun old now is same over failed = λ r running.
     let here : Failed stop L r.state (begun_effect L r) old.chip now =
     subst (λ (l : Option (List ℕ)). Failed stop L r.state (L.effect r.state l) old.chip now) running.line (failed r.state running.at) in
     record {
       taken = [];
       rest = [];
       split = ap (λ (o : ℕ). o ∷ []) is;
+      begun = begun;
+      begins = begun-here chip eeprom L begun old r.state same over running.at;
       fails = here.fails;
       moments = λ told. until-line_feed L stop r old.chip now (here.moments told);
     }
@@ -106,8 +133,9 @@ last-moments L (Ok x) old now r running failed = tt
 last-moments L (Err stop) old now r running failed = (subst (λ (l : Option (List ℕ)). Failed stop L r.state (L.effect r.state l) old.chip now) running.line failed).moments
 
 -- after octets that were taken, and before others
-pub Halts-within : {S : Type 0} (L : Language S) (stop : FailedDevice) (xs ys zs : List ℕ) (a b : RunState S) (now : Chip) → Feeds L xs a b → Halts stop L ys b now → Halts stop L (xs ++ (ys ++ zs)) a now
-Halts-within {S} L stop xs ys zs a b now feeds halts = λ r running.
+pub Halts-within : {S X : Type 0} (chip : X → Chip) (eeprom : X → ℕ) (L : Language S) (stop : FailedDevice) (xs ys zs : List ℕ) (from mid : ℕ) (a b : RunState S) (now : Chip) → mid ≡ from → Feeds L xs a b
+    → Halts chip eeprom stop L ys mid b now → Halts chip eeprom stop L (xs ++ (ys ++ zs)) from a now
+Halts-within {S} chip eeprom L stop xs ys zs from mid a b now same feeds halts = λ r running.
     let first = feeds r running in
     let then = halts (after L r xs) first.running in
     let fails : FailsAt stop L (text_of L r xs ++ text_of L (after L r xs) then.taken) (after L (after L r xs) then.taken) a.chip.still.given now =
@@ -116,6 +144,8 @@ Halts-within {S} L stop xs ys zs a b now feeds halts = λ r running.
       taken = xs ++ then.taken;
       rest = then.rest ++ zs;
       split = ap (λ (x : List ℕ). xs ++ x) (ap (λ (x : List ℕ). x ++ zs) then.split ∙ append_assoc then.taken (10 ∷ then.rest) zs) ∙ sym (append_assoc xs then.taken (10 ∷ (then.rest ++ zs)));
+      begun = then.begun;
+      begins = begun-then chip eeprom L xs then.taken r from mid a.chip.still.given b.chip.still.given then.begun same first.text then.begins;
       fails = subst (λ (t : List ℕ). FailsAt stop L t (after L r (xs ++ then.taken)) a.chip.still.given now) (sym (text_of-append L xs then.taken r))
           (subst (λ (s : Running S). FailsAt stop L (text_of L r xs ++ text_of L (after L r xs) then.taken) s a.chip.still.given now) (sym (after-append L xs then.taken r)) fails);
       moments = λ told. until-then L stop xs then.taken r a.chip b.chip now
@@ -141,10 +171,10 @@ Runs-stopped L stop state all answered line rest old now split fails kept = reco
 }
 
 -- at a line feed of the input
-pub Runs-halted : {S : Type 0} (L : Language S) (stop : FailedDevice) (state : S) (input : List ℕ) (old now : Chip) (halts : HaltsAt stop L input (from_state state) old now)
+pub Runs-halted : {S X : Type 0} (chip : X → Chip) (eeprom : X → ℕ) (L : Language S) (stop : FailedDevice) (state : S) (input : List ℕ) (from : ℕ) (old now : Chip) (halts : HaltsAt chip eeprom stop L input (from_state state) from old now)
     → IfGiven now (AreKept L state (lines input true) (carried_out (stopped_in stop (lines halts.taken false) (open_end halts.taken)) (lines input true)) old now)
     → Runs L state (lines input true) (stopped_in stop (lines halts.taken false) (open_end halts.taken)) old now
-Runs-halted L stop state input old now halts kept =
+Runs-halted chip eeprom L stop state input from old now halts kept =
     Runs-stopped L stop state (lines input true) (lines halts.taken false) (open_end halts.taken) (lines halts.rest true) old now
     (ap (λ (x : List ℕ). lines x true) halts.split ∙ lines-line_feed halts.taken halts.rest true) (FailsIn-lines L stop state halts.taken old.still.given now halts.fails) kept
 

@@ -5,7 +5,6 @@ use Rattle.std.proofs.Math.Seq.{take-append_seam}
 use Rattle.eeprom.specs.Input.{TakesPiece}
 use Rattle.std.specs.Prelude.{IsSome}
 use Rattle.eeprom.specs.Chip.{Chip, Becomes, Throughout}
-use Rattle.eeprom.specs.Fault.{Rose}
 use Rattle.scql_model.specs.Lines.{Language, lines, run_text, state_after}
 use Rattle.scql_model.specs.Heard.{IsLawful, committed_in}
 use Rattle.scql_model.specs.Opens.{Opens}
@@ -18,13 +17,17 @@ use Rattle.card_cli.specs.RunState.{Prints, RunState, IsOver, IsRunning, Feeds, 
 use Rattle.card_cli.specs.Ends.{comes_to_its_end, ends_as, longest_input}
 use Rattle.card_cli.specs.Line.{is_empty_line}
 use Rattle.card_cli.specs.Moments.{IsInStopped, IsAtEnd, IfGiven}
-use Rattle.card_cli.specs.Extent.{AreKept, AreTaken, CountsAt, Runs, RunsInput, to_end, stopped_in}
+use Rattle.card_cli.specs.Extent.{AreKept, AreTaken, BegunAt, CountsAt, EndsAt, Runs, RunsInput, to_end, stopped_in}
 use Rattle.card_cli.proofs.Keeping.{kept-taken, kept-until, kept-ended, until-last}
 use Rattle.card_cli.proofs.Moving.{told-before}
 use Rattle.card_cli.specs.Halting.{FailsAt, HaltsAt, Halts}
-use Rattle.card_cli.proofs.Stopping.{Halts-within, Runs-halted, Runs-failing}
+use Rattle.card_cli.proofs.Stopping.{Halts-within, Runs-halted, Runs-failing, begun-lines}
 use Rattle.card_cli.proofs.Feeding.{Feeds-nothing, Feeds-then, Prints-then}
 use Rattle.card_cli.proofs.Streaming.{open_end, text_of-lines, after-lines, text_of-ended, after_end-lines, lines-open, lines-line_feed}
+
+-- a run over a bench, where this line has begun
+abbrev pub run_at : {S X : Type 0} → (X → S → Type 0) → (X → Chip) → X → Option (List ℕ) → RunState S
+run_at at chip bench line = record { at = at bench; line = line; chip = chip bench }
 
 -- what was taken of the input so far, so that so many octets may still come
 pub record HasTaken {S : Type 0} (L : Language S) (room : ℕ) (old new : RunState S) (input left : List ℕ) : Type 0 where
@@ -69,14 +72,20 @@ Runs-taken {S} L lawful state octets old mid over running feeds =
     (λ given. kept-taken L lawful state octets old.chip mid.chip (follows.passes given).moments)
 
 -- the source failed
-pub ends-read_fault : {S : Type 0} (L : Language S) (lawful : IsLawful L) (state : S) (from to : ℕ) (room : ℕ) (old mid : RunState S) (start before now : Option (List ℕ)) → IsOver L mid.at mid.chip → IsRunning old (from_state state)
-    → Becomes (HasTaken L room old mid) start before → now ≡ before → Becomes (λ (input left : List ℕ). RunsInput L state ReadFault from to input left old.chip mid.chip) start now
-ends-read_fault L lawful state from to room old mid start before now over running so_far same = λ left told.
+pub ends-read_fault : {S X : Type 0} (at : X → S → Type 0) (chip : X → Chip) (eeprom : X → ℕ) (L : Language S) (lawful : IsLawful L) (state : S) (room : ℕ) (old mid : X) (line : Option (List ℕ)) (start before now : Option (List ℕ)) → eeprom mid ≡ eeprom old → IsOver L (at mid) (chip mid)
+    → at old state → Becomes (HasTaken L room (run_at at chip old (Some [])) (run_at at chip mid line)) start before → now ≡ before → Becomes (λ (input left : List ℕ). RunsInput chip eeprom L state ReadFault input left old mid) start now
+ends-read_fault at chip eeprom L lawful state room old mid line start before now quiet over is so_far same = λ left told.
     let first = so_far left (sym same ∙ told) in
     let octets : List ℕ = first.2.taken in (
       first.0,
       first.1,
-      record { taken = lines octets false; are_taken = (octets, first.2.split, refl); extent = to_end; ends = refl; runs = Runs-taken L lawful state octets old mid over running first.2.feeds },
+      record {
+        taken = lines octets false;
+        are_taken = (octets, first.2.split, refl);
+        extent = to_end;
+        ends = (refl, quiet);
+        runs = Runs-taken L lawful state octets (run_at at chip old (Some [])) (run_at at chip mid line) over (record { at = is; line = refl }) first.2.feeds;
+      },
     )
 
 -- nothing is left, and all was taken
@@ -98,29 +107,29 @@ takes-all true input left = refl
 takes-all false input left = refl
 
 -- the last line was answered
-pub ends-done : {S : Type 0} (L : Language S) (lawful : IsLawful L) (state : S) (refused : Bool) (from to : ℕ) (room : ℕ) (piece : List ℕ) (old mid new : RunState S) (start before now : Option (List ℕ)) → IsRunning old (from_state state)
-    → Becomes (HasTaken L room old mid) start before → TakesPiece 0 piece before now → IsOver L new.at new.chip → ((r : Running S) → IsRunning mid r → new.at (after_end L r).state)
-    → ((r : Running S) → IsRunning mid r → Prints (end_text L r) mid.chip.still.given new.chip.still.given)
-    → ((r : Running S) → IsRunning mid r → IfGiven new.chip (Throughout mid.chip new.chip (IsAtEnd L r mid.chip.still.mark)))
-    → Becomes (λ (input left : List ℕ). RunsInput L state (ends_as refused) from to input left old.chip new.chip) start now
-ends-done {S} L lawful state refused from to room piece old mid new start before now running so_far takes over at text last = λ left told.
-    let found = taken_all L room piece old mid start before now so_far takes left told in
+pub ends-done : {S X : Type 0} (at : X → S → Type 0) (chip : X → Chip) (eeprom : X → ℕ) (L : Language S) (lawful : IsLawful L) (state : S) (refused : Bool) (room : ℕ) (piece : List ℕ) (old mid new : X) (line : Option (List ℕ)) (start before now : Option (List ℕ)) → eeprom new ≡ eeprom old → at old state
+    → Becomes (HasTaken L room (run_at at chip old (Some [])) (run_at at chip mid line)) start before → TakesPiece 0 piece before now → IsOver L (at new) (chip new) → ((r : Running S) → IsRunning (run_at at chip mid line) r → at new (after_end L r).state)
+    → ((r : Running S) → IsRunning (run_at at chip mid line) r → Prints (end_text L r) (chip mid).still.given (chip new).still.given)
+    → ((r : Running S) → IsRunning (run_at at chip mid line) r → IfGiven (chip new) (Throughout (chip mid) (chip new) (IsAtEnd L r (chip mid).still.mark)))
+    → Becomes (λ (input left : List ℕ). RunsInput chip eeprom L state (ends_as refused) input left old new) start now
+ends-done {S} at chip eeprom L lawful state refused room piece old mid new line start before now quiet is so_far takes over goes_on text last = λ left told.
+    let found = taken_all L room piece (run_at at chip old (Some [])) (run_at at chip mid line) start before now so_far takes left told in
     let input : List ℕ = found.0 in
     let r : Running S = after L (from_state state) input in
-    let follows = found.2 (from_state state) running in
-    let printed : Prints (end_text L r) mid.chip.still.given new.chip.still.given = text r follows.running in (
+    let follows = found.2 (from_state state) (record { at = is; line = refl }) in
+    let printed : Prints (end_text L r) (chip mid).still.given (chip new).still.given = text r follows.running in (
       input,
       found.1,
       record {
         taken = lines input true;
         are_taken = takes-all refused input left;
         extent = to_end;
-        ends = comes-to-end refused;
-        runs = Runs-ended L state (lines input true) old.chip new.chip
-            (subst (λ (t : List ℕ). Prints t old.chip.still.given new.chip.still.given) (text_of-ended L state input)
-            (Prints-then (text_of L (from_state state) input) (end_text L r) old.chip.still.given mid.chip.still.given new.chip.still.given follows.text printed))
-            (over (state_after L state (lines input true)) (subst new.at (after_end-lines L state input) (at r follows.running)))
-            (λ given. kept-ended L lawful state input old.chip mid.chip new.chip (follows.passes (told-before (end_text L r) mid.chip.still.given new.chip.still.given printed given)) (last r follows.running given));
+        ends = (comes-to-end refused, quiet);
+        runs = Runs-ended L state (lines input true) (chip old) (chip new)
+            (subst (λ (t : List ℕ). Prints t (chip old).still.given (chip new).still.given) (text_of-ended L state input)
+            (Prints-then (text_of L (from_state state) input) (end_text L r) (chip old).still.given (chip mid).still.given (chip new).still.given follows.text printed))
+            (over (state_after L state (lines input true)) (subst (at new) (after_end-lines L state input) (goes_on r follows.running)))
+            (λ given. kept-ended L lawful state input (chip old) (chip mid) (chip new) (follows.passes (told-before (end_text L r) (chip mid).still.given (chip new).still.given printed given)) (last r follows.running given));
       },
     )
 
@@ -177,13 +186,15 @@ looked_at-whole L room piece old mid input within seen =
     (split, ap (take longest_input) split ∙ (ap (λ (k : ℕ). take k (all ++ seen.rest)) (sym long) ∙ take-append_seam all seen.rest))
 
 -- more came than a run takes
-pub ends-too_long : {S : Type 0} (L : Language S) (lawful : IsLawful L) (state : S) (from to : ℕ) (room count : ℕ) (piece : List ℕ) (old mid new : RunState S) (start before now : Option (List ℕ)) → room ≤ count → count ≤ length piece
-    → IsOver L new.at new.chip → IsRunning old (from_state state) → Becomes (HasTaken L room old mid) start before → TakesPiece count piece before now → Feeds L (take room piece) mid new
-    → Becomes (λ (input left : List ℕ). RunsInput L state TooLong from to input left old.chip new.chip) start now
-ends-too_long L lawful state from to room count piece old mid new start before now longer within over running so_far takes feeds = λ left told.
-    let found = looks_at L room count room piece old mid start before now longer so_far takes left told in
+pub ends-too_long : {S X : Type 0} (at : X → S → Type 0) (chip : X → Chip) (eeprom : X → ℕ) (L : Language S) (lawful : IsLawful L) (state : S) (room count : ℕ) (piece : List ℕ) (old mid new : X) (line next : Option (List ℕ)) (start before now : Option (List ℕ)) → eeprom new ≡ eeprom old → room ≤ count
+    → count ≤ length piece → IsOver L (at new) (chip new) → at old state → Becomes (HasTaken L room (run_at at chip old (Some [])) (run_at at chip mid line)) start before → TakesPiece count piece before now
+    → Feeds L (take room piece) (run_at at chip mid line) (run_at at chip new next) → Becomes (λ (input left : List ℕ). RunsInput chip eeprom L state TooLong input left old new) start now
+ends-too_long {S} at chip eeprom L lawful state room count piece old mid new line next start before now quiet longer within over is so_far takes feeds = λ left told.
+    let began : RunState S = run_at at chip old (Some []) in
+    let so : RunState S = run_at at chip mid line in
+    let found = looks_at L room count room piece began so start before now longer so_far takes left told in
     let seen = found.2 in
-    let all = looked_at-whole L room piece old mid found.0 (omega (arith, longer, within)) seen in
+    let all = looked_at-whole L room piece began so found.0 (omega (arith, longer, within)) seen in
     let whole : List ℕ = seen.taken ++ take room piece in (
       found.0,
       found.1,
@@ -191,16 +202,27 @@ ends-too_long L lawful state from to room count piece old mid new start before n
         taken = lines whole false;
         are_taken = ap (λ (x : List ℕ). lines x false) (sym all.1);
         extent = to_end;
-        ends = refl;
-        runs = Runs-taken L lawful state whole old new over running (Feeds-then L seen.taken (take room piece) old mid new seen.feeds feeds);
+        ends = (refl, quiet);
+        runs = Runs-taken L lawful state whole began (run_at at chip new next) over (record { at = is; line = refl }) (Feeds-then L seen.taken (take room piece) began so (run_at at chip new next) seen.feeds feeds);
       },
     )
 
 -- at a stop the count is the one that the device tells
-pub counts-at : (stop : FailedDevice) (start : ℕ) (old new : Faults) → old.eeprom ≡ start → Causes {T = Unit {0}} old new (Err stop) → CountsAt stop start new.eeprom
-counts-at Eeprom start old new same causes = subst (λ (n : ℕ). Rose n new.eeprom) same (causes.eeprom refl)
-counts-at Outlet start old new same causes = causes.eeprom_stays refl ∙ same
-counts-at Both start old new same causes = subst (λ (n : ℕ). Rose n new.eeprom) same (causes.both refl).0
+pub counts-at : (stop : FailedDevice) (old new : Faults) → Causes {T = Unit {0}} old new (Err stop) → CountsAt stop old.eeprom new.eeprom
+counts-at Eeprom old new causes = causes.eeprom refl
+counts-at Outlet old new causes = causes.eeprom_stays refl
+counts-at Both old new causes = (causes.both refl).0
+
+-- and the line was begun at the count before
+stops-at : {S X : Type 0} (chip : X → Chip) (eeprom : X → ℕ) (L : Language S) (state : S) (stop : FailedDevice) (octets last : List ℕ) (old mid new begun : X) → eeprom mid ≡ eeprom old → CountsAt stop (eeprom mid) (eeprom new)
+    → BegunAt chip eeprom L (after L (from_state state) octets).state (text_of L (from_state state) octets) (eeprom old) (chip old).still.given begun
+    → EndsAt chip eeprom L state (stopped_in stop (lines octets false) last) (status_of stop) old new
+stops-at chip eeprom L state stop octets last old mid new begun quiet counts begins = (
+  refl,
+  begun,
+  begun-lines chip eeprom L state octets (eeprom old) (chip old).still.given begun begins,
+  subst (λ (from : ℕ). CountsAt stop from (eeprom new)) (quiet ∙ sym begins.quiet) counts,
+)
 
 -- a device's end is that of a run over all lines
 taken-stopped : (stop : FailedDevice) (input left : List ℕ) → AreTaken (status_of stop) input left (lines input true)
@@ -209,14 +231,17 @@ taken-stopped Outlet input left = refl
 taken-stopped Both input left = refl
 
 -- a device stopped the run among the octets of a piece, of which so many were looked at
-pub ends-halted : {S : Type 0} (L : Language S) (lawful : IsLawful L) (state : S) (stop : FailedDevice) (from to : ℕ) → CountsAt stop from to → (room count k : ℕ) (piece : List ℕ) (old mid : RunState S) (now : Chip) (start before behind : Option (List ℕ)) → k ≤ count
-    → IsRunning old (from_state state) → Becomes (HasTaken L room old mid) start before → TakesPiece count piece before behind → Halts stop L (take k piece) mid now
-    → Becomes (λ (input left : List ℕ). RunsInput L state (status_of stop) from to input left old.chip now) start behind
-ends-halted L lawful state stop from to counts room count k piece old mid now start before behind fits running so_far takes halts = λ left told.
-    let found = looks_at L room count k piece old mid start before behind fits so_far takes left told in
+pub ends-halted : {S X : Type 0} (at : X → S → Type 0) (chip : X → Chip) (eeprom : X → ℕ) (L : Language S) (lawful : IsLawful L) (state : S) (stop : FailedDevice) (room count k : ℕ) (piece : List ℕ) (old mid now : X) (line : Option (List ℕ)) (start before behind : Option (List ℕ)) → eeprom mid ≡ eeprom old
+    → CountsAt stop (eeprom mid) (eeprom now) → k ≤ count → at old state → Becomes (HasTaken L room (run_at at chip old (Some [])) (run_at at chip mid line)) start before → TakesPiece count piece before behind
+    → Halts chip eeprom stop L (take k piece) (eeprom mid) (run_at at chip mid line) (chip now) → Becomes (λ (input left : List ℕ). RunsInput chip eeprom L state (status_of stop) input left old now) start behind
+ends-halted {S} at chip eeprom L lawful state stop room count k piece old mid now line start before behind quiet counts fits is so_far takes halts = λ left told.
+    let began : RunState S = run_at at chip old (Some []) in
+    let so : RunState S = run_at at chip mid line in
+    let found = looks_at L room count k piece began so start before behind fits so_far takes left told in
     let seen = found.2 in
-    let halted : HaltsAt stop L found.0 (from_state state) old.chip now =
-    subst (λ (x : List ℕ). HaltsAt stop L x (from_state state) old.chip now) (sym seen.split) (Halts-within L stop seen.taken (take k piece) seen.rest old mid now seen.feeds halts (from_state state) running) in
+    let halted : HaltsAt chip eeprom stop L found.0 (from_state state) (eeprom old) (chip old) (chip now) =
+    subst (λ (x : List ℕ). HaltsAt chip eeprom stop L x (from_state state) (eeprom old) (chip old) (chip now)) (sym seen.split)
+    (Halts-within chip eeprom L stop seen.taken (take k piece) seen.rest (eeprom old) (eeprom mid) began so (chip now) quiet seen.feeds halts (from_state state) (record { at = is; line = refl })) in
     let cut : lines found.0 true ≡ lines halted.taken false ++ open_end halted.taken ∷ lines halted.rest true = ap (λ (x : List ℕ). lines x true) halted.split ∙ lines-line_feed halted.taken halted.rest true in (
       found.0,
       found.1,
@@ -224,20 +249,23 @@ ends-halted L lawful state stop from to counts room count k piece old mid now st
         taken = lines found.0 true;
         are_taken = taken-stopped stop found.0 left;
         extent = stopped_in stop (lines halted.taken false) (open_end halted.taken);
-        ends = (refl, counts);
-        runs = Runs-halted L stop state found.0 old.chip now halted
-            (λ given. kept-until L lawful stop state found.0 halted.taken (10 ∷ halted.rest) (lines halted.rest true) old.chip now halted.split cut (halted.moments given));
+        ends = stops-at chip eeprom L state stop halted.taken (open_end halted.taken) old mid now halted.begun quiet counts halted.begins;
+        runs = Runs-halted chip eeprom L stop state found.0 (eeprom old) (chip old) (chip now) halted
+            (λ given. kept-until L lawful stop state found.0 halted.taken (10 ∷ halted.rest) (lines halted.rest true) (chip old) (chip now) halted.split cut (halted.moments given));
       },
     )
 
 -- a device stopped the run in the last line
-pub ends-last : {S : Type 0} (L : Language S) (lawful : IsLawful L) (state : S) (stop : FailedDevice) (from to : ℕ) → CountsAt stop from to → (room : ℕ) (piece : List ℕ) (old mid : RunState S) (now : Chip) (start before behind : Option (List ℕ))
-    → IsRunning old (from_state state) → Becomes (HasTaken L room old mid) start before → TakesPiece 0 piece before behind
-    → ((r : Running S) → IsRunning mid r → (is_empty_line r.begun ≡ false) × FailsAt stop L [] r mid.chip.still.given now)
-    → ((r : Running S) → IsRunning mid r → IfGiven now (Throughout mid.chip now (IsInStopped stop L r.state (begun_effect L r) mid.chip.still.mark)))
-    → Becomes (λ (input left : List ℕ). RunsInput L state (status_of stop) from to input left old.chip now) start behind
-ends-last {S} L lawful state stop from to counts room piece old mid now start before behind running so_far takes ends last = λ left told.
-    let found = taken_all L room piece old mid start before behind so_far takes left told in
+pub ends-last : {S X : Type 0} (at : X → S → Type 0) (chip : X → Chip) (eeprom : X → ℕ) (L : Language S) (lawful : IsLawful L) (state : S) (stop : FailedDevice) (room : ℕ) (piece : List ℕ) (old mid now : X) (line : Option (List ℕ)) (start before behind : Option (List ℕ)) → eeprom mid ≡ eeprom old
+    → CountsAt stop (eeprom mid) (eeprom now) → IsOver L (at mid) (chip mid) → at old state → Becomes (HasTaken L room (run_at at chip old (Some [])) (run_at at chip mid line)) start before → TakesPiece 0 piece before behind
+    → ((r : Running S) → IsRunning (run_at at chip mid line) r → (is_empty_line r.begun ≡ false) × FailsAt stop L [] r (chip mid).still.given (chip now))
+    → ((r : Running S) → IsRunning (run_at at chip mid line) r → IfGiven (chip now) (Throughout (chip mid) (chip now) (IsInStopped stop L r.state (begun_effect L r) (chip mid).still.mark)))
+    → Becomes (λ (input left : List ℕ). RunsInput chip eeprom L state (status_of stop) input left old now) start behind
+ends-last {S} at chip eeprom L lawful state stop room piece old mid now line start before behind quiet counts over is so_far takes ends last = λ left told.
+    let began : RunState S = run_at at chip old (Some []) in
+    let so : RunState S = run_at at chip mid line in
+    let running : IsRunning began (from_state state) = record { at = is; line = refl } in
+    let found = taken_all L room piece began so start before behind so_far takes left told in
     let input : List ℕ = found.0 in
     let r : Running S = after L (from_state state) input in
     let follows = found.2 (from_state state) running in
@@ -249,10 +277,10 @@ ends-last {S} L lawful state stop from to counts room piece old mid now start be
         taken = lines input true;
         are_taken = taken-stopped stop input left;
         extent = stopped_in stop (lines input false) (open_end input);
-        ends = (refl, counts);
-        runs = Runs-failing L stop state input old mid now running found.2 cut (λ r running. (ends r running).1)
+        ends = stops-at chip eeprom L state stop input (open_end input) old mid now mid quiet counts (record { quiet = quiet; text = follows.text; image = λ image told. over r.state follows.running.at image told });
+        runs = Runs-failing L stop state input began so (chip now) running found.2 cut (λ r running. (ends r running).1)
             (λ given.
-            let given_before : IsSome mid.chip.still.given = told-before failing.1.said mid.chip.still.given now.still.given failing.1.given given in
-            kept-until L lawful stop state input input [] [] old.chip now (sym (append-nil input)) cut (until-last L stop input (from_state state) old.chip mid.chip now (follows.passes given_before) (last r follows.running given)));
+            let given_before : IsSome (chip mid).still.given = told-before failing.1.said (chip mid).still.given (chip now).still.given failing.1.given given in
+            kept-until L lawful stop state input input [] [] (chip old) (chip now) (sym (append-nil input)) cut (until-last L stop input (from_state state) (chip old) (chip mid) (chip now) (follows.passes given_before) (last r follows.running given)));
       },
     )

@@ -1,9 +1,10 @@
 -- With which database a run begins, and what a power loss leaves until its card is open.
-use Rattle.std.specs.Prelude.{◌≡◌, ℕ, true, List, Some, IsSome}
+use Rattle.std.specs.Prelude.{◌≡◌, ℕ, true, List, Option, Some, IsSome, IfSome}
 use Rattle.eeprom.specs.Chip.{Chip}
 use Rattle.eeprom.specs.Frame.{HasRoom}
 use Rattle.scql_model.specs.Database.{Database, fresh}
 use Rattle.scql_model.specs.Opens.{Opens}
+use Rattle.record_store.specs.Opening.{ReadsFront}
 use Rattle.record_store.specs.Recovery.{KeepsStore}
 use Rattle.card.specs.Making.{LeavesMade, OpensToNone}
 use Rattle.card_cli.specs.declared.words.Form.{Form}
@@ -43,6 +44,18 @@ pub record FindsNoCard (words : List (List ℕ)) (chip : Chip) : Type 0 where
 abbrev pub LeavesUntilOpen : Form → Chip → Chip → Type 0
 LeavesUntilOpen (New n) old opened = LeavesMade n old opened
 LeavesUntilOpen form old opened = KeepsStore old opened
+
+-- The card of a run of this form is there in this state of the bench: it was made, or it was there from the start.
+abbrev pub IsThere : {X : Type 0} → (X → Chip) → Form → X → X → Type 0
+IsThere chip (New n) old there = LeavesMade n (chip old) (chip there) × IfSome (chip there).image (λ image. Opens image (fresh n))
+IsThere chip form old there = there ≡ old
+
+-- There was no memory to open it: of the octets of the EEPROM, which the bench counts, no more were read than stand before the first record.
+pub record WantsMemory {X : Type 0} (chip : X → Chip) (octets_read : X → Option ℕ) (form : Form) (old new : X) : Type 0 where
+  pub there : X
+  pub is_there : IsThere chip form old there
+  pub cells : ℕ
+  pub front : ReadsFront cells (chip there).image (octets_read there) (octets_read new)
 
 -- A run of this form ended before it read a line, as one ends whose card wasn't opened: the source is as it was, nothing was given, and the EEPROM is as it may be until the card is open.
 pub record EndsUnread {T : Type 0} (form : Form) (status : Status) (before after : T) (old new : Chip) : Type 0 where

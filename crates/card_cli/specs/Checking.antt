@@ -1,5 +1,5 @@
 -- How a run of `check` ends.
-use Rattle.std.specs.Prelude.{◌≡◌, ℕ, Bool, true, false, List, Option, IsSome}
+use Rattle.std.specs.Prelude.{◌≡◌, ℕ, true, List, Option, IsSome}
 use Rattle.eeprom.specs.Chip.{Chip}
 use Rattle.record_store.specs.Recovery.{KeepsStore}
 use Rattle.scql_model.specs.Database.{Database}
@@ -20,13 +20,6 @@ Says WriteFault db from to before now = IsCutShort (check_text db) before now ×
 Says Eeprom db from to before now = now ≡ before
 Says NoMemory db from to before now = now ≡ before
 Says status db from to before now = ⊥
-
--- the ends of a check over a card that was opened
-abbrev pub ends_check : Status → Bool
-ends_check Done = true
-ends_check WriteFault = true
-ends_check Eeprom = true
-ends_check status = false
 
 -- What a run of `check` owes that ended so.
 pub record Checks {S : Type 0} (status : Status) (before after : S) (old new : Chip) (was now : AllFaults) : Type 0 where

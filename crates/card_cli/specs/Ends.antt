@@ -1,8 +1,10 @@
 -- How a run over its input ends.
-use Rattle.std.specs.Prelude.{◌≡◌, ◌≤◌, ℕ, Bool, true, false}
+use Rattle.std.specs.Prelude.{◌≡◌, ◌≤◌, ℕ, ◌&&◌, Bool, true, false}
 use Rattle.eeprom.specs.Fault.{Rose}
 use Rattle.card_cli.specs.declared.status.Status.{Status}
-use Rattle.card_cli.specs.declared.status.Status.TheVariants.{Done, Refused, Eeprom, ReadFault, WriteFault, NotACard, NoMemory, TooLong, TooSmall}
+use Rattle.card_cli.specs.declared.words.Form.{Form}
+use Rattle.card_cli.specs.Words.{carries_out_statements, makes_card, reads_input}
+use Rattle.card_cli.specs.declared.status.Status.TheVariants.{Done, Refused, Usage, Eeprom, ReadFault, WriteFault, NotACard, NoMemory, TooLong, TooSmall}
 
 -- how many octets of input a run takes
 abbrev pub longest_input : ℕ
@@ -21,15 +23,32 @@ EndsBy ReadFault old new = Rose old.source new.source × (new.eeprom ≡ old.eep
 EndsBy WriteFault old new = Rose old.outlet new.outlet × (new.source ≡ old.source) × (old.eeprom ≤ new.eeprom)
 EndsBy status old new = new ≡ old
 
--- the ends of a run over its input
-abbrev pub ends_input : Status → Bool
-ends_input Done = true
-ends_input Refused = true
-ends_input TooLong = true
-ends_input Eeprom = true
-ends_input ReadFault = true
-ends_input WriteFault = true
-ends_input status = false
+-- A run of this form may end so. An EEPROM that tells nothing may lose what is written to it, and so what was just made may be no card.
+abbrev pub may_end : Form → Status → Bool
+may_end form Done = true
+may_end form Refused = carries_out_statements form
+may_end form Usage = false
+may_end form Eeprom = true
+may_end form ReadFault = reads_input form
+may_end form WriteFault = true
+may_end form NotACard = true
+may_end form NoMemory = true
+may_end form TooLong = reads_input form
+may_end form TooSmall = makes_card form
+
+-- the ends of a run whose card was opened
+abbrev pub is_of_opened : Status → Bool
+is_of_opened Done = true
+is_of_opened Refused = true
+is_of_opened TooLong = true
+is_of_opened Eeprom = true
+is_of_opened ReadFault = true
+is_of_opened WriteFault = true
+is_of_opened status = false
+
+-- and so where its card was opened
+abbrev pub ends_opened : Form → Status → Bool
+ends_opened form status = may_end form status && is_of_opened status
 
 -- the ends of a run whose card didn't open
 abbrev pub ends_opening : Status → Bool

@@ -1,5 +1,5 @@
 -- How far a run of lines came, and what that says of its text, of its image and of each moment.
-use Rattle.std.specs.Prelude.{◌≡◌, ℕ, ◌+◌, true, false, List, ◌∷◌, ◌++◌, length, take, Some}
+use Rattle.std.specs.Prelude.{◌≡◌, ℕ, ◌+◌, true, false, List, ◌∷◌, ◌++◌, length, take, Option, Some}
 use Rattle.eeprom.specs.Chip.{Chip, Throughout}
 use Rattle.eeprom.specs.Fault.{Rose}
 use Rattle.scql_model.specs.Lines.{Language, lines, line_effect, run_text, state_after}
@@ -65,15 +65,23 @@ abbrev pub CountsAt : FailedDevice → ℕ → ℕ → Type 0
 CountsAt Outlet from to = to ≡ from
 CountsAt stop from to = Rose from to
 
--- a run that came so far ends so
-abbrev pub EndsAt : Extent → Status → ℕ → ℕ → Type 0
-EndsAt to_end status from to = comes_to_its_end status ≡ true
-EndsAt (stopped_in stop answered line) status from to = (status ≡ status_of stop) × CountsAt stop from to
+-- A line was begun at this state of a bench: the EEPROM's count of faults was this number, this text had been said behind what had been given before, and the image opened to the database of this state of the language.
+pub record BegunAt {S X : Type 0} (chip : X → Chip) (eeprom : X → ℕ) (language : Language S) (state : S) (said : List ℕ) (from : ℕ) (given : Option (List ℕ)) (begun : X) : Type 0 where
+  pub quiet : eeprom begun ≡ from
+  pub text : Prints said given (chip begun).still.given
+  pub image : (image : List ℕ) → (chip begun).image ≡ Some image → Opens image (committed_in language state)
 
--- A run over its input, of which this is left, ended so, while the EEPROM's count of faults went from one number to another.
-pub record RunsInput {S : Type 0} (language : Language S) (state : S) (status : Status) (from to : ℕ) (input left : List ℕ) (old new : Chip) : Type 0 where
+-- A run from a state of a bench to another that came so far ends so. Where no device stopped it the EEPROM's count of faults stayed; and else the count stayed up to where the line was begun in which a device failed, and tells from there on which one did.
+abbrev pub EndsAt : {S X : Type 0} → (X → Chip) → (X → ℕ) → Language S → S → Extent → Status → X → X → Type 0
+EndsAt chip eeprom language state to_end status old new = (comes_to_its_end status ≡ true) × (eeprom new ≡ eeprom old)
+EndsAt {S} {X} chip eeprom language state (stopped_in stop answered line) status old new =
+    (status ≡ status_of stop) × (begun : X)
+    × BegunAt chip eeprom language (state_after language state answered) (run_text language state answered) (eeprom old) (chip old).still.given begun × CountsAt stop (eeprom begun) (eeprom new)
+
+-- A run over its input, of which this is left, ended so, from a state of a bench to another, each of which tells its chip and its EEPROM's count of faults.
+pub record RunsInput {S X : Type 0} (chip : X → Chip) (eeprom : X → ℕ) (language : Language S) (state : S) (status : Status) (input left : List ℕ) (old new : X) : Type 0 where
   pub taken : List (List ℕ)
   pub are_taken : AreTaken status input left taken
   pub extent : Extent
-  pub ends : EndsAt extent status from to
-  pub runs : Runs language state taken extent old new
+  pub ends : EndsAt chip eeprom language state extent status old new
+  pub runs : Runs language state taken extent (chip old) (chip new)

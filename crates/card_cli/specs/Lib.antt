@@ -8,6 +8,7 @@ pub mod Ends
 pub mod Extent
 pub mod Halting
 pub mod Line
+pub mod Living
 pub mod Loading
 pub mod Migrating
 pub mod Moments
@@ -20,4 +21,5 @@ pub mod Showing
 pub mod SittingLaws
 pub mod Statements
 pub mod StatusNumber
+pub mod Watching
 pub mod Words

@@ -12,7 +12,7 @@ use Rattle.scql_model.specs.Opens.{Opens, OpensToOneOf}
 use Rattle.card.specs.LiveCard.{IsReadyAt, LastsOn, OnBench}
 use Rattle.planner.specs.StatementLines.{TerminalState, statement_lines}
 use Rattle.terminal.specs.Holding.{Holding, Sits, terminal_at}
-use Rattle.terminal.specs.Load.{closings, counts_text, is_refused, load_counts, load_script, load_text}
+use Rattle.terminal.specs.Load.{closings, is_refused, load_counts, load_script, load_text, script_text}
 use Rattle.card_cli.specs.declared.status.Status.{Status}
 use Rattle.card_cli.specs.declared.status.Status.TheVariants.{Done, Refused, Eeprom as EepromFault, WriteFault}
 use Rattle.card_cli.specs.declared.stop.FailedDevice.TheVariants.{Eeprom, Outlet}
@@ -69,7 +69,7 @@ pub record FailsAmong {B : Type 0} (chip : B → Chip) (faults : B → ℕ) (lin
 -- what it does
 abbrev pub script_effect : ℕ → ℕ → TerminalState → Effect TerminalState
 script_effect k seed state = record {
-  text = counts_text (load_counts state k seed);
+  text = script_text state k seed;
   next = state_after statement_lines state (load_script k seed);
   commits = commits_of statement_lines state (load_script k seed);
   faulty = [] ∷ [];
@@ -95,14 +95,6 @@ LoadsTo k seed Refused state from to old new = IsLoaded k seed state old new × 
 LoadsTo k seed WriteFault state from to old new = Failed Outlet (script_lines k seed) state (script_effect k seed state) old new × (to ≡ from)
 LoadsTo k seed EepromFault state from to old new = Failed Eeprom (script_lines k seed) state (script_effect k seed state) old new
 LoadsTo k seed status state from to old new = ⊥
-
--- the ends of a load over a card that was opened
-abbrev pub ends_load : Status → Bool
-ends_load Done = true
-ends_load Refused = true
-ends_load WriteFault = true
-ends_load EepromFault = true
-ends_load status = false
 
 -- The card was opened at this database, and loaded then.
 pub record OpensAndLoads (k seed : ℕ) (db : Database) (status : Status) (from to : ℕ) (old new : Chip) : Type 0 where

@@ -1,5 +1,5 @@
 -- How a run of `migrate` ends, and what a power loss leaves at any moment of it.
-use Rattle.std.specs.Prelude.{◌≡◌, ℕ, ◌+◌, ◌<◌, ◌≤◌, Bool, true, false, List, ◌∷◌, length, Option, Some, IsSome, IfSome}
+use Rattle.std.specs.Prelude.{◌≡◌, ℕ, ◌+◌, ◌<◌, ◌≤◌, true, false, List, ◌∷◌, length, Option, Some, IsSome, IfSome}
 use Rattle.eeprom.specs.Chip.{Chip, Throughout}
 use Rattle.eeprom.specs.StoreOf.{row_limit, is_gate_open}
 use Rattle.eeprom.specs.declared.layout.TheConstants.{MIGRATED_ROW_LIMIT}
@@ -39,13 +39,6 @@ MigratesTo WriteFault from to db before now = IsCutShort (migrate_text db) befor
 MigratesTo Eeprom from to db before now = (now.still.given ≡ before) × IfSome now.image (OpensToOneOf (db ∷ migrate_commits db))
 MigratesTo NoMemory from to db before now = (now.still.given ≡ before) × IfSome now.image (λ image. Opens image db)
 MigratesTo status from to db before now = ⊥
-
--- the ends of a migration over a card that was opened
-abbrev pub ends_migration : Status → Bool
-ends_migration Done = true
-ends_migration WriteFault = true
-ends_migration Eeprom = true
-ends_migration status = false
 
 -- Nothing is written: the EEPROM is as it was but for what went out, at each moment.
 pub record WritesNothing (old new : Chip) : Type 0 where

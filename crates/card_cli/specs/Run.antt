@@ -32,26 +32,29 @@ TellsRefusals language refused state status start end =
 abbrev pub IsWithoutCard : Status → Type 0
 IsWithoutCard status = (status ≡ NotACard) ⊎ ((status ≡ NoMemory) ⊎ (status ≡ Eeprom))
 
--- The card of this form was opened at this database, and from this state on its run over the input ended so. Until it was open a power loss leaves what it leaves in that form.
-pub record OpensAndRuns {S : Type 0} (language : Language S) (form : Form) (db : Database) (state : S) (status : Status) (from to : ℕ) (input left : List ℕ) (old new : Chip) : Type 0 where
-  pub opened : Chip
-  pub still : opened.still ≡ old.still
-  pub opens : IfSome opened.image (λ image. Opens image db)
-  pub until : LeavesUntilOpen form old opened
-  pub runs : RunsInput language state status from to input left opened new
+-- The card of this form was opened at this database, without a fault of the EEPROM, and from this state on its run over the input ended so. Until it was open a power loss leaves what it leaves in that form.
+pub record OpensAndRuns {S X : Type 0} (chip : X → Chip) (eeprom : X → ℕ) (language : Language S) (form : Form) (db : Database) (state : S) (status : Status) (input left : List ℕ) (old new : X) : Type 0 where
+  pub opened : X
+  pub still : (chip opened).still ≡ (chip old).still
+  pub quiet : eeprom opened ≡ eeprom old
+  pub opens : IfSome (chip opened).image (λ image. Opens image db)
+  pub until : LeavesUntilOpen form (chip old) (chip opened)
+  pub runs : RunsInput chip eeprom language state status input left opened new
 
--- What a run of this form owes over the lines of its input, from the first state of a database on, that ended so, where a state tells whether a line was refused so far. The source went from one state to another, and this was left in it before
--- and after.
-pub record RunsLines {S T : Type 0} (language : Language S) (refused : S → Bool) (first : Database → S) (form : Form) (status : Status) (source after : T) (start end : Option (List ℕ)) (old new : Chip) (was now : AllFaults) : Type 0 where
+-- What a run of this form owes over the lines of its input, from the first state of a database on, that ended so, where a state of the language tells whether a line was refused so far. The source went from one state to another, and this was left in it
+-- before and after; and so did the bench, a state of which tells its chip and its EEPROM's count of faults.
+pub record RunsLines {S T X : Type 0} (chip : X → Chip) (eeprom : X → ℕ) (language : Language S) (refused : S → Bool) (first : Database → S) (form : Form) (status : Status) (source after : T) (start end : Option (List ℕ)) (old new : X) (was now : AllFaults) : Type 0 where
   -- Where its card was opened, and the image is told, there was a database to begin with.
-  pub begins : has_opened status ≡ true → IsSome old.image → (db : Database) × Begins form old db
+  pub begins : has_opened status ≡ true → IsSome (chip old).image → (db : Database) × Begins form (chip old) db
   -- Its input was read to its end, or more came than a run takes.
   pub whole : reads_all status ≡ true → Becomes (λ input left. (left ≡ []) × (length input ≤ longest_input)) start end
   pub too_long : status ≡ TooLong → Becomes (λ input left. longest_input < length input) start end
   -- Without a fault the output is exactly the text of the lines, or memory was missing.
-  pub text : (db : Database) → Begins form old db → IsQuiet was now → (input left : List ℕ) → start ≡ Some input → end ≡ Some left → length input ≤ longest_input
-      → AnswersAll (ends_as (refused (state_after language (first db) (lines input true)))) status (run_text language (first db) (lines input true)) old.still.given new.still.given
-  pub refusals : (db : Database) → Begins form old db → TellsRefusals language refused (first db) status start end
-  -- It ended before it read a line. Or else the card was opened, and one extent says which of its lines were answered and in which a device failed; by it go the end, the text, the image, and what a power loss leaves at each moment.
-  pub runs : (db : Database) → Begins form old db → EndsUnread form status source after old new
-      ⊎ Becomes (λ input left. OpensAndRuns language form db (first db) status was.eeprom now.eeprom input left old new) start end
+  pub text : (db : Database) → Begins form (chip old) db → IsQuiet was now → (input left : List ℕ) → start ≡ Some input → end ≡ Some left → length input ≤ longest_input
+      → AnswersAll (ends_as (refused (state_after language (first db) (lines input true)))) status (run_text language (first db) (lines input true)) (chip old).still.given (chip new).still.given
+  -- Without one a longer input is too long, or memory was missing.
+  pub longer : (db : Database) → Begins form (chip old) db → IsQuiet was now → (input left : List ℕ) → start ≡ Some input → end ≡ Some left → longest_input < length input → (status ≡ TooLong) ⊎ (status ≡ NoMemory)
+  pub refusals : (db : Database) → Begins form (chip old) db → TellsRefusals language refused (first db) status start end
+  -- It ended before it read a line. Or else the card was opened, and one extent says which of its lines were answered and in which a device failed; by it go the end, the counts of faults, the text, the image, and what a power loss leaves at each moment.
+  pub runs : (db : Database) → Begins form (chip old) db → EndsUnread form status source after (chip old) (chip new)
+      ⊎ Becomes (λ input left. OpensAndRuns chip eeprom language form db (first db) status input left old new) start end

@@ -1,6 +1,6 @@
 -- What octets of input make of a run.
 use Rattle.std.specs.Prelude.{◌≡◌, ℕ, ◌≤◌, List, ◌++◌, Option, Some, Result, OnOk, IsErrOf}
-use Rattle.eeprom.specs.Chip.{Chip, Becomes}
+use Rattle.eeprom.specs.Chip.{Chip}
 use Rattle.eeprom.specs.Fault.{Rose}
 use Rattle.scql_model.specs.Lines.{Language}
 use Rattle.scql_model.specs.Heard.{committed_in}
@@ -9,10 +9,7 @@ use Rattle.card_cli.specs.declared.stop.FailedDevice.{FailedDevice}
 use Rattle.card_cli.specs.declared.stop.FailedDevice.TheVariants.{Eeprom, Outlet, Both}
 use Rattle.card_cli.specs.Running.{Running, after, text_of}
 use Rattle.card_cli.specs.Moments.{Passes, IfGiven}
-
--- a text follows what was given, where it is told
-abbrev pub Prints : List ℕ → Option (List ℕ) → Option (List ℕ) → Type 0
-Prints text old new = Becomes (λ before after. after ≡ before ++ text) old new
+pub use Rattle.eeprom.specs.Output.{Prints}
 
 -- at which state a run is, where that is told; the line that has begun; and what the EEPROM has become, the output included
 pub record RunState (S : Type 0) : Type 1 where

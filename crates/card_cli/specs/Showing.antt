@@ -4,7 +4,6 @@ use Rattle.scql_model.specs.Accepting.{channel_named}
 use Rattle.scql_model.specs.Answering.{AreCommand}
 use Rattle.scql_model.specs.Lines.{command, command_lines, content_of, line_step, line_text, reply_text, state_after, taken_line}
 use Rattle.scql_model.specs.Machine.{Machine}
-use Rattle.scql_model.specs.Operations.{built_operations}
 use Rattle.scql_model.specs.ReadingCommands.{ReadingCommand}
 use Rattle.scql_model.specs.ReadingLaws.{IsReadingCommand}
 use Rattle.scql_model.specs.Reads.{read_next, read_reply}
@@ -14,7 +13,7 @@ use Rattle.scql_model.specs.Shown.{shown_on}
 pub record IsReadingLine (m : Machine) (line : List ℕ) (channel : ℕ) (reading : ReadingCommand) : Type 0 where
   pub octets : List ℕ
   pub content : content_of (taken_line line) ≡ command octets
-  pub are : AreCommand built_operations m octets (IsReadingCommand reading)
+  pub are : AreCommand m octets (IsReadingCommand reading)
   pub named : channel ≡ channel_named octets
 
 -- Its text is the reply that follows from what is shown to the channel. What is shown to the channel after it follows from that too, and what is shown to all others stays.

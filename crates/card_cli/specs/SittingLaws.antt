@@ -1,4 +1,4 @@
--- The language of statements is lawful, and the image opens to the database of where a run of it is.
+-- Lemmas, no definitions: the language of statements is lawful, and the image opens to the database of where a run of it is. They stand here since the terminal with its card cites them, as ghost members of its trait.
 use Rattle.std.specs.Prelude.{◌≡◌, List, ℕ, Some}
 use Rattle.eeprom.specs.Chip.{Chip}
 use Rattle.scql_model.specs.Heard.{IsLawful, committed_in}

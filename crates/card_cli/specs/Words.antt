@@ -48,6 +48,24 @@ abbrev pub IsWithinLimits : Form → Type 0
 IsWithinLimits (New n) = (fewest_cells ≤ n) × (n ≤ most_cells)
 IsWithinLimits form = Unit {0}
 
+-- a card is made for the run of this form
+abbrev pub makes_card : Form → Bool
+makes_card (New n) = true
+makes_card form = false
+
+-- it reads lines of input
+abbrev pub reads_input : Form → Bool
+reads_input (New n) = true
+reads_input Apdu = true
+reads_input Term = true
+reads_input form = false
+
+-- it carries out statements, which may be refused
+abbrev pub carries_out_statements : Form → Bool
+carries_out_statements Term = true
+carries_out_statements (Load rows seed) = true
+carries_out_statements form = false
+
 -- the run of this form answers the lines of its input as commands
 abbrev pub answers_commands : Form → Bool
 answers_commands (New n) = true

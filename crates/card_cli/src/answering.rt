@@ -16,7 +16,7 @@ pub(crate) fn take_octets<R: Responder>(
     octets: &[u8],
 ) -> Result<(), FailedDevice>
     requires ready { R.is_ready responder.old }
-    ensures halts { IfErr result (λ stop. Halts stop R.language octets.now (record { at = R.is_at responder.old; line = line_octets line.old; chip = R.chip responder.old }) (R.chip responder.new)) }
+    ensures halts { IfErr result (λ stop. Halts R.chip (λ r. (R.faults r).eeprom) stop R.language octets.now (R.faults responder.old).eeprom (record { at = R.is_at responder.old; line = line_octets line.old; chip = R.chip responder.old }) (R.chip responder.new)) }
     ensures feeds { OnOk result (Feeds R.language octets.now (record { at = R.is_at responder.old; line = line_octets line.old; chip = R.chip responder.old }) (record { at = R.is_at responder.new; line = line_octets line.new; chip = R.chip responder.new })) }
     ensures ready { OnOk result (R.is_ready responder.new) }
     ensures causes { Causes (R.faults responder.old) (R.faults responder.new) result }
@@ -52,7 +52,7 @@ fn end_line<R: Responder>(
 ) -> Result<(), FailedDevice>
     requires ready { R.is_ready responder.old }
     requires last { LacksLineFeed octets.now }
-    ensures halts { IfErr result (λ stop. Halts stop R.language (octets.now ++ 10 ∷ []) (record { at = R.is_at responder.old; line = line_octets line.old; chip = R.chip responder.old }) (R.chip responder.new)) }
+    ensures halts { IfErr result (λ stop. Halts R.chip (λ r. (R.faults r).eeprom) stop R.language (octets.now ++ 10 ∷ []) (R.faults responder.old).eeprom (record { at = R.is_at responder.old; line = line_octets line.old; chip = R.chip responder.old }) (R.chip responder.new)) }
     ensures feeds { OnOk result (Feeds R.language (octets.now ++ 10 ∷ []) (record { at = R.is_at responder.old; line = line_octets line.old; chip = R.chip responder.old }) (record { at = R.is_at responder.new; line = line_octets line.new; chip = R.chip responder.new })) }
     ensures ready { OnOk result (R.is_ready responder.new) }
     ensures causes { Causes (R.faults responder.old) (R.faults responder.new) result }

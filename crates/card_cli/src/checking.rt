@@ -5,12 +5,13 @@ ghost use Rattle.scql_model.specs.Machine.{Machine};
 ghost use Rattle.card.specs.Behind.{KeepsBehind};
 ghost use Rattle.card.specs.Card.{IsReady, IsAt};
 ghost use Rattle.card.specs.Counting as model;
-ghost use Rattle.card_cli.specs.Checking.{Says, ends_check};
-ghost use Rattle.card_cli.specs.Ends.{AllFaults, EndsBy};
+ghost use Rattle.card_cli.specs.Checking.{Says};
+ghost use Rattle.card_cli.specs.Ends.{AllFaults, EndsBy, ends_opened};
 ghost use Rattle.card_cli.specs.Migrating.{WritesNothing};
 
 use crate::output::give;
 use crate::status::Status;
+use crate::words::Form;
 use arrayvec::ArrayVec;
 use card::{Card, Counts};
 use eeprom::Bench;
@@ -24,7 +25,7 @@ pub(crate) fn run_check<B: Bench>(card: &Card, bench: &mut B) -> Status
     requires { IsReady card.now (B.chip bench.old) }
     ensures says { (m : Machine) → IsAt card.now (B.chip bench.old) m → Says result m.committed (B.faults bench.old) (B.faults bench.new) (B.chip bench.old).still.given (B.chip bench.new).still.given }
     ensures nothing { WritesNothing (B.chip bench.old) (B.chip bench.new) }
-    ensures status { ends_check result ≡ true }
+    ensures status { ends_opened Form.Check result ≡ true }
     ensures ends { (source : ℕ) → EndsBy result
         (record { eeprom = B.faults bench.old; source = source; outlet = B.sink_faults bench.old })
         (record { eeprom = B.faults bench.new; source = source; outlet = B.sink_faults bench.new }) }

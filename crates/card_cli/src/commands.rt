@@ -11,7 +11,7 @@ ghost use Rattle.card_cli.specs.RunState.{Prints, Faults, Causes};
 ghost use Rattle.card_cli.specs.CutOff.{FailsIn};
 ghost use Rattle.card_cli.specs.Moments.{IsInStopped, IsAnswered, IfGiven};
 ghost use Rattle.eeprom.specs.Chip.{Becomes, Throughout};
-ghost use Rattle.card_cli.specs.Ends.{AllFaults, EndsBy, ends_input, longest_input, reads_all};
+ghost use Rattle.card_cli.specs.Ends.{AllFaults, EndsBy, is_of_opened, longest_input, reads_all};
 ghost use Rattle.card_cli.specs.Extent.{RunsInput};
 
 use crate::input::answer_input;
@@ -133,8 +133,8 @@ pub(crate) fn answer_commands<S: Source, B: Bench>(
 ) -> Status
     requires { IsReady card.old (B.chip bench.old) }
     ensures runs { (m : Machine) → IsAt card.old (B.chip bench.old) m
-        → Becomes (λ input left. RunsInput command_lines m result (B.faults bench.old) (B.faults bench.new) input left (B.chip bench.old) (B.chip bench.new)) (S.left source.old) (S.left source.new) }
-    ensures status { ends_input result ≡ true }
+        → Becomes (λ input left. RunsInput B.chip B.faults command_lines m result input left bench.old bench.new) (S.left source.old) (S.left source.new) }
+    ensures status { is_of_opened result ≡ true }
     ensures whole { reads_all result ≡ true → Becomes (λ input left. (left ≡ []) × (length input ≤ longest_input)) (S.left source.old) (S.left source.new) }
     ensures never_refused { ¬ result ≡ Status.Refused }
     ensures too_long { result ≡ Status.TooLong → Becomes (λ input left. longest_input < length input) (S.left source.old) (S.left source.new) }

@@ -8,7 +8,7 @@ ghost use Rattle.card_cli.specs.Running.{Running, begun_effect, end_text, after_
 ghost use Rattle.card_cli.specs.RunState.{Prints, IsRunning, Causes};
 ghost use Rattle.card_cli.specs.Halting.{FailsAt};
 ghost use Rattle.card_cli.specs.Moments.{IsInStopped, IsAtEnd, IfGiven};
-ghost use Rattle.card_cli.specs.Ends.{EndsBy, ends_as, ends_input, longest_input, reads_all};
+ghost use Rattle.card_cli.specs.Ends.{EndsBy, ends_as, is_of_opened, longest_input, reads_all};
 ghost use Rattle.card_cli.specs.Extent.{RunsInput};
 
 use crate::answering::take_octets;
@@ -28,9 +28,9 @@ const PIECE: usize = 4096;
 pub(crate) fn answer_input<S: Source, R: Responder>(responder: &mut R, source: &mut S) -> Status
     requires { R.is_ready responder.old }
     ensures runs { (state : R.State) → R.is_at responder.old state
-        → Becomes (λ input left. RunsInput R.language state result (R.faults responder.old).eeprom (R.faults responder.new).eeprom input left (R.chip responder.old) (R.chip responder.new))
+        → Becomes (λ input left. RunsInput R.chip (λ r. (R.faults r).eeprom) R.language state result input left responder.old responder.new)
         (S.left source.old) (S.left source.new) }
-    ensures status { ends_input result ≡ true }
+    ensures status { is_of_opened result ≡ true }
     ensures whole { reads_all result ≡ true → Becomes (λ input left. (left ≡ []) × (length input ≤ longest_input)) (S.left source.old) (S.left source.new) }
     // It tells whether a line was refused, and is at the state after all lines.
     ensures refusals { reads_all result ≡ true → result ≡ ends_as (R.has_refused responder.new) }

@@ -6,53 +6,56 @@ ghost use Rattle.scql_model.specs.Machine.{start};
 ghost use Rattle.script.specs.Line.{statement_of};
 ghost use Rattle.card.specs.Behind.{KeepsBehind};
 ghost use Rattle.card.specs.Card.{IsReady, IsAt};
-ghost use Rattle.planner.specs.StatementLines.{TerminalState};
+ghost use Rattle.planner.specs.StatementLines.{TerminalState, statement_lines};
 ghost use Rattle.terminal.specs.Holding.{terminal_at};
 ghost use Rattle.terminal.specs.Load as model;
 ghost use Rattle.terminal.specs.Load.{filling_lines, insert_lines, load_counts, load_script};
 ghost use Rattle.terminal.specs.Quiet.{closing_in};
 ghost use Rattle.card_cli.specs.Counted.{counts_of};
-ghost use Rattle.card_cli.specs.Ends.{AllFaults, EndsBy};
-ghost use Rattle.card_cli.specs.Loading.{CarriesOut, FailsAmong, IsIn, LoadsTo, ends_load};
+ghost use Rattle.card_cli.specs.Ends.{AllFaults, EndsBy, ends_opened};
+ghost use Rattle.card_cli.specs.Loading.{CarriesOut, FailsAmong, IsIn, LoadsTo};
+ghost use Rattle.card_cli.specs.Progress.{Reached, ShowsLoad};
+ghost use Rattle.card_cli.specs.Watching.{IsWhole, PassesLoad, PassesRows, PassesSome, none_yet};
 
 use crate::load_lines::{
     CHANGE, CREATE, DELETE, LoadCounts, PRESENT, SELECT, insert_line, next_number, text_of,
 };
 use crate::output::give;
-use crate::progress::{Progress, Watched};
+use crate::progress::{Person, Progress};
 use crate::status::Status;
 use crate::still_card::StillCard;
+use crate::words::Form;
 use card::{Card, LiveCard};
 use eeprom::{Bench, EepromFault};
 use planner::Closing;
 use terminal::{QuietEnd, Terminal};
 
-/// A terminal with its card, how many statements were refused so far, and what a person is told meanwhile.
+/// A terminal with its card, and how many statements were refused so far.
 #[derive(Drop)]
-struct Loader<'a, P: Watched, B: Bench> {
+struct Loader<'a, B: Bench> {
     terminal: Terminal,
     card: StillCard<'a, B>,
     refused: u32,
-    progress: Progress<'a, P>,
 }
 
-/// Runs the script of so many rows from a number, and says what came of it.
-pub(crate) fn run_load<P: Watched, B: Bench>(
+/// Runs the script of so many rows from a number, and says what came of it. Meanwhile a person is shown how far it has come.
+pub(crate) fn run_load<B: Bench, P: Person>(
     card: Card,
-    person: &P,
     bench: &mut B,
+    person: &mut P,
     rows: u16,
     seed: u16,
 ) -> Status
     requires { IsReady card (B.chip bench.old) }
     ensures loads { (db : Database) → IsAt card (B.chip bench.old) (start db)
         → LoadsTo rows seed result (terminal_at (start db) 0) (B.faults bench.old) (B.faults bench.new) (B.chip bench.old) (B.chip bench.new) }
-    ensures status { ends_load result ≡ true }
+    ensures status { ends_opened (Form.Load rows seed) result ≡ true }
     ensures ends { (source : ℕ) → EndsBy result
         (record { eeprom = B.faults bench.old; source = source; outlet = B.sink_faults bench.old })
         (record { eeprom = B.faults bench.new; source = source; outlet = B.sink_faults bench.new }) }
     // Nothing is written behind the card's image.
     ensures behind { KeepsBehind (λ was. card.store.chains.cells) (B.chip bench.old) (B.chip bench.new) }
+    ensures shows { ShowsLoad P.lost P.shown rows seed result (λ db. IsAt card (B.chip bench.old) (start db)) person.old person.new }
 {
     let mut loader = Loader {
         terminal: Terminal::new(),
@@ -60,10 +63,10 @@ pub(crate) fn run_load<P: Watched, B: Bench>(
             card: LiveCard::new(card, bench),
         },
         refused: 0,
-        progress: Progress::new(person),
     };
-    let counted = loader.run_script(rows, seed);
-    loader.progress.end();
+    let mut progress = Progress::new();
+    let counted = loader.run_script(rows, seed, &mut progress, person);
+    progress.end(person);
     let bench = loader.card.card.into_bench();
     let Ok(counts) = counted else {
         return Status::Eeprom;
@@ -85,11 +88,18 @@ fn status_of(refused: u32) -> Status
     }
 }
 
-impl<'a, P: Watched, B: Bench> Loader<'a, P, B> {
+impl<'a, B: Bench> Loader<'a, B> {
     // Runs the script.
-    fn run_script(&mut self, rows: u16, seed: u16) -> Result<LoadCounts, EepromFault>
+    fn run_script<P: Person>(
+        &mut self,
+        rows: u16,
+        seed: u16,
+        progress: &mut Progress,
+        person: &mut P,
+    ) -> Result<LoadCounts, EepromFault>
         requires live { IsTrue self.old.card.card.card.live }
         requires fresh { self.old.refused ≡ 0 }
+        requires unshown { progress.old ≡ none_yet }
         ensures carried { OnOk result (CarriesOut B.chip B.faults (load_script rows seed)
             (record { terminal = self.old.terminal; card = self.old.card.card; refused = self.old.refused })
             (record { terminal = self.new.terminal; card = self.new.card.card; refused = self.new.refused })) }
@@ -98,12 +108,14 @@ impl<'a, P: Watched, B: Bench> Loader<'a, P, B> {
         ensures failed { OnErr result (FailsAmong B.chip B.faults (load_script rows seed)
             (record { terminal = self.old.terminal; card = self.old.card.card; refused = self.old.refused })
             (record { terminal = self.new.terminal; card = self.new.card.card; refused = self.new.refused })) }
+        ensures shows { OnOk result ((reached : Reached) × PassesLoad P.lost P.shown rows seed (λ state. IsIn B.chip state (record { terminal = self.old.terminal; card = self.old.card.card; refused = self.old.refused })) progress.new person.old person.new reached × IsWhole rows reached) }
+        ensures shows_until { OnErr result ((reached : Reached) × PassesLoad P.lost P.shown rows seed (λ state. IsIn B.chip state (record { terminal = self.old.terminal; card = self.old.card.card; refused = self.old.refused })) progress.new person.old person.new reached) }
     {
-        self.fill(rows, seed)?;
+        self.fill(rows, seed, progress, person)?;
         let changed = self.carry_out(CHANGE)?;
-        self.progress.set_changed(changed);
+        progress.set_changed(changed, person);
         let deleted = self.carry_out(DELETE)?;
-        self.progress.set_deleted(deleted);
+        progress.set_deleted(deleted, person);
         let rows = self.carry_out(SELECT)?;
         Ok(LoadCounts {
             rows,
@@ -114,9 +126,16 @@ impl<'a, P: Watched, B: Bench> Loader<'a, P, B> {
     }
 
     // Makes the table and fills it.
-    fn fill(&mut self, rows: u16, seed: u16) -> Result<(), EepromFault>
+    fn fill<P: Person>(
+        &mut self,
+        rows: u16,
+        seed: u16,
+        progress: &mut Progress,
+        person: &mut P,
+    ) -> Result<(), EepromFault>
         requires live { IsTrue self.old.card.card.card.live }
         requires fresh { self.old.refused ≡ 0 }
+        requires unshown { progress.old ≡ none_yet }
         ensures carried { OnOk result (CarriesOut B.chip B.faults (filling_lines rows seed)
             (record { terminal = self.old.terminal; card = self.old.card.card; refused = self.old.refused })
             (record { terminal = self.new.terminal; card = self.new.card.card; refused = self.new.refused })) }
@@ -124,16 +143,25 @@ impl<'a, P: Watched, B: Bench> Loader<'a, P, B> {
         ensures failed { OnErr result (FailsAmong B.chip B.faults (filling_lines rows seed)
             (record { terminal = self.old.terminal; card = self.old.card.card; refused = self.old.refused })
             (record { terminal = self.new.terminal; card = self.new.card.card; refused = self.new.refused })) }
+        ensures shows { OnOk result (PassesRows P.lost P.shown seed rows (λ state. IsIn B.chip state (record { terminal = self.old.terminal; card = self.old.card.card; refused = self.old.refused })) progress.new person.old person.new) }
+        ensures shows_until { OnErr result (PassesSome P.lost P.shown seed rows (λ state. IsIn B.chip state (record { terminal = self.old.terminal; card = self.old.card.card; refused = self.old.refused })) progress.new person.old person.new) }
     {
         self.carry_out(PRESENT)?;
         self.carry_out(CREATE)?;
-        self.insert_rows(rows, seed)
+        self.insert_rows(rows, seed, progress, person)
     }
 
     // Inserts so many rows.
-    fn insert_rows(&mut self, rows: u16, seed: u16) -> Result<(), EepromFault>
+    fn insert_rows<P: Person>(
+        &mut self,
+        rows: u16,
+        seed: u16,
+        progress: &mut Progress,
+        person: &mut P,
+    ) -> Result<(), EepromFault>
         requires live { IsTrue self.old.card.card.card.live }
         requires few { self.old.refused ≤ 2 }
+        requires unshown { progress.old ≡ none_yet }
         ensures carried { OnOk result (CarriesOut B.chip B.faults (insert_lines rows 1 seed)
             (record { terminal = self.old.terminal; card = self.old.card.card; refused = self.old.refused })
             (record { terminal = self.new.terminal; card = self.new.card.card; refused = self.new.refused })) }
@@ -141,13 +169,15 @@ impl<'a, P: Watched, B: Bench> Loader<'a, P, B> {
         ensures failed { OnErr result (FailsAmong B.chip B.faults (insert_lines rows 1 seed)
             (record { terminal = self.old.terminal; card = self.old.card.card; refused = self.old.refused })
             (record { terminal = self.new.terminal; card = self.new.card.card; refused = self.new.refused })) }
+        ensures shows { OnOk result (PassesRows P.lost P.shown seed rows (λ state. IsIn B.chip (state_after statement_lines state (filling_lines 0 seed)) (record { terminal = self.old.terminal; card = self.old.card.card; refused = self.old.refused })) progress.new person.old person.new) }
+        ensures shows_until { OnErr result (PassesSome P.lost P.shown seed rows (λ state. IsIn B.chip (state_after statement_lines state (filling_lines 0 seed)) (record { terminal = self.old.terminal; card = self.old.card.card; refused = self.old.refused })) progress.new person.old person.new) }
     {
         let mut value = seed as u32;
         for row in 0..rows {
             value = next_number(value);
             let refused = self.refused;
             self.carry_out(&insert_line(row + 1, value))?;
-            self.progress.pass_row(row + 1, self.refused == refused);
+            progress.pass_row(refused < self.refused, person);
         }
         Ok(())
     }

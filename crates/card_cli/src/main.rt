@@ -6,6 +6,7 @@ mod checking;
 mod commands;
 mod ending;
 mod input;
+mod laws;
 mod line;
 mod load_lines;
 mod loading;
@@ -24,11 +25,11 @@ mod words;
 
 use ending::Ending;
 use file_bench::{FileBench, StdSource};
-use prompt::Prompted;
+use prompt::{Prompted, Watcher};
 use run::run_card;
 use status::Status;
 use std::fs::File;
-use std::io::IsTerminal;
+use std::io::{IsTerminal, Stderr};
 use std::process::ExitCode;
 use std::{env, fs, io};
 
@@ -74,13 +75,17 @@ fn run_over(rt: &HostRuntime, path: &str, words: &[String]) -> Result<Status, En
     let create = words.first().is_some_and(|word| word.as_str() == "new");
     let _streams = hold_streams(rt);
     let mut bench = FileBench::open(rt.clone()?, path, create)?;
-    let person = if is_typed(rt, words) || is_watched(rt, words) {
-        Some(rt.stderr())
-    } else {
-        None
-    };
-    let mut source = Prompted::new(StdSource::new(rt.clone()?), person);
-    Ok(run_card(rt.alloc(), words, &mut source, &mut bench))
+    let mut source = Prompted::new(
+        StdSource::new(rt.clone()?),
+        stderr_where(rt, is_typed(rt, words)),
+    );
+    let mut person = Watcher::new(stderr_where(rt, is_watched(rt, words)));
+    Ok(run_card(rt.alloc(), words, &mut source, &mut bench, &mut person))
+}
+
+// Standard error, where a person reads it.
+fn stderr_where(rt: &HostRuntime, is_read: bool) -> Option<Stderr> {
+    if is_read { Some(rt.stderr()) } else { None }
 }
 
 // Whether a person types statements, and reads what comes of them.

@@ -5,11 +5,12 @@ ghost use Rattle.eeprom.specs.StoreOf.{fewest_cells};
 ghost use Rattle.scql_model.specs.Database.{Database};
 ghost use Rattle.card.specs.Behind.{KeepsBehind, own_cells};
 ghost use Rattle.card_cli.specs.Beginning.{IsOpenTo};
-ghost use Rattle.card_cli.specs.Ends.{AllFaults, EndsBy};
-ghost use Rattle.card_cli.specs.Migrating.{KeepsOthers, LeavesLongRows, MigratesTo, StaysMigrating, ends_migration};
+ghost use Rattle.card_cli.specs.Ends.{AllFaults, EndsBy, ends_opened};
+ghost use Rattle.card_cli.specs.Migrating.{KeepsOthers, LeavesLongRows, MigratesTo, StaysMigrating};
 
 use crate::output::give;
 use crate::status::Status;
+use crate::words::Form;
 use eeprom::Bench;
 use migrate::migrate;
 
@@ -22,7 +23,7 @@ pub(crate) fn run_migration<B: Bench>(bench: &mut B) -> Status
     ensures already { LeavesLongRows (B.chip bench.old) (B.chip bench.new) }
     ensures others { KeepsOthers (B.chip bench.old) (B.chip bench.new) }
     ensures behind { KeepsBehind own_cells (B.chip bench.old) (B.chip bench.new) }
-    ensures status { ends_migration result ≡ true }
+    ensures status { ends_opened Form.Migrate result ≡ true }
     ensures ends { (source : ℕ) → EndsBy result
         (record { eeprom = B.faults bench.old; source = source; outlet = B.sink_faults bench.old })
         (record { eeprom = B.faults bench.new; source = source; outlet = B.sink_faults bench.new }) }

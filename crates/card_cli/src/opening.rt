@@ -11,7 +11,7 @@ ghost use Rattle.card.specs.Card.{IsReady, IsAt};
 ghost use Rattle.card.specs.Making.{OpensToNone};
 ghost use Rattle.card_cli.specs.Words.{IsWithinLimits};
 ghost use Rattle.card_cli.specs.Behind.{run_cells};
-ghost use Rattle.card_cli.specs.Beginning.{IsOpenTo, Begins, LacksCard, LeavesUntilOpen};
+ghost use Rattle.card_cli.specs.Beginning.{IsOpenTo, IsThere, Begins, LacksCard, LeavesUntilOpen, WantsMemory};
 ghost use Rattle.card_cli.specs.Ends.{AllFaults, EndsBy, ends_opening};
 ghost use Rattle.card_cli.specs.Run.{IsWithoutCard};
 
@@ -39,6 +39,7 @@ pub(crate) fn open_card<B: Bench>(alloc: Global, form: Form, bench: &mut B) -> R
     ensures not_a_card { IsErrOf result Status.NotACard → IsSome (B.chip bench.old).image → LacksCard form (B.chip bench.old) }
     ensures too_small { IsErrOf result Status.TooSmall ↔ ((n : ℕ) × (form ≡ Form.New n) × ((B.chip bench.old).still.size < image_size n)) }
     ensures unchanged { IsErrOf result Status.TooSmall → bench.new ≡ bench.old }
+    ensures no_memory { IsErrOf result Status.NoMemory → WantsMemory B.chip B.octets_read form bench.old bench.new }
     ensures leaves { LeavesUntilOpen form (B.chip bench.old) (B.chip bench.new) }
     ensures still { (B.chip bench.new).still ≡ (B.chip bench.old).still }
     ensures quiet { OnOk result (B.faults bench.new ≡ B.faults bench.old) }
@@ -65,6 +66,7 @@ fn prepare<B: Bench>(form: Form, bench: &mut B) -> Result<(), FormatRefusal>
     ensures begins { OnOk result ((db : Database) → Begins form (B.chip bench.old) db → IsOpenTo (B.chip bench.new) db) }
     ensures began { OnOk result ((db : Database) → IsOpenTo (B.chip bench.new) db → (first : Database) × Begins form (B.chip bench.old) first) }
     ensures told { OnOk result (IsSome (B.chip bench.old).image → IsSome (B.chip bench.new).image) }
+    ensures there { OnOk result (IsThere B.chip form bench.old bench.new) }
     ensures lacks { OnOk result (IsSome (B.chip bench.old).image → IfSome (B.chip bench.new).image OpensToNone → LacksCard form (B.chip bench.old)) }
     ensures leaves { LeavesUntilOpen form (B.chip bench.old) (B.chip bench.new) }
     ensures cells { OnOk result (Becomes (λ was now. own_cells now ≡ run_cells form was) (B.chip bench.old).image (B.chip bench.new).image) }

@@ -1,22 +1,23 @@
 // A person at the terminal, who types lines or watches a load.
 ghost use Rattle.std.specs.Prelude.{◌≡◌};
+ghost use Rattle.card_cli.specs.Progress.{lost_on, shown_on};
 
-use crate::progress::Watched;
+use crate::progress::Person;
 use eeprom::{Source, SourceFault};
 
-/// A source of lines. Where a person is there, a prompt is printed before each, and a load may be watched.
+/// A source of lines. Where a person is there who types them, a prompt is printed before each.
 #[derive(Drop)]
 pub(crate) struct Prompted<S: Source, P: Print + Drop> {
     source: S,
-    person: Option<P>,
+    screen: Option<P>,
 }
 
 impl<S: Source, P: Print + Drop> Prompted<S, P> {
-    pub(crate) fn new(source: S, person: Option<P>) -> Prompted<S, P>
+    pub(crate) fn new(source: S, screen: Option<P>) -> Prompted<S, P>
         ensures left { ⟦<Prompted<S, P> as Source>⟧.left result ≡ S.left source }
         ensures faults { ⟦<Prompted<S, P> as Source>⟧.source_faults result ≡ S.source_faults source }
     {
-        Prompted { source, person }
+        Prompted { source, screen }
     }
 }
 
@@ -26,19 +27,42 @@ impl<S: Source, P: Print + Drop> Source for Prompted<S, P> {
     ghost source_faults = { λ prompted. S.source_faults prompted.source };
 
     fn read(&mut self, into: &mut [u8]) -> Result<usize, SourceFault> {
-        if let Some(person) = &self.person {
+        if let Some(screen) = &self.screen {
             // Where the prompt can't be printed, the line is read all the same.
-            let _ = person.print("> ");
+            let _ = screen.print("> ");
         }
         self.source.read(into)
     }
 }
 
-impl<S: Source, P: Print + Drop> Watched for Prompted<S, P> {
-    fn show(&self, text: &[u8]) {
-        if let Some(person) = &self.person {
-            // Where the text can't be printed, the load goes on all the same.
-            let _ = person.write_all(text);
+/// A person who watches at a screen, or nobody.
+#[derive(Drop)]
+pub(crate) struct Watcher<P: Print + Drop> {
+    screen: Option<P>,
+    /// Something couldn't be printed.
+    lost: bool,
+}
+
+impl<P: Print + Drop> Watcher<P> {
+    pub(crate) fn new(screen: Option<P>) -> Watcher<P> {
+        Watcher {
+            screen,
+            lost: false,
+        }
+    }
+}
+
+impl<P: Print + Drop> Person for Watcher<P> {
+    ghost shown = { λ watcher. shown_on watcher.screen };
+
+    ghost lost = { λ watcher. lost_on watcher.screen watcher.lost };
+
+    fn show(&mut self, text: &[u8]) {
+        if self.lost {
+            return;
+        }
+        if let Some(screen) = &self.screen {
+            self.lost = screen.write_all(text).is_err();
         }
     }
 }

@@ -9,14 +9,15 @@ ghost use Rattle.record_store.specs.Recovery.{KeepsStore};
 ghost use Rattle.card.specs.Behind.{KeepsBehind};
 ghost use Rattle.card_cli.specs.Words.{answers_commands, form_in};
 ghost use Rattle.card_cli.specs.Behind.{run_cells};
-ghost use Rattle.card_cli.specs.Beginning.{BeginsWith, FindsNoCard, EndsUnread, IsOpenTo};
-ghost use Rattle.card_cli.specs.Ends.{AllFaults, EndsBy};
+ghost use Rattle.card_cli.specs.Beginning.{BeginsWith, FindsNoCard, EndsUnread, IsOpenTo, WantsMemory};
+ghost use Rattle.card_cli.specs.Ends.{AllFaults, EndsBy, may_end};
 ghost use Rattle.card_cli.specs.Run.{IsWithoutCard, RunsLines};
 ghost use Rattle.card_cli.specs.Selecting.{TermLinesSelectShown};
 ghost use Rattle.card_cli.specs.Showing.{LinesReadShown};
 ghost use Rattle.card_cli.specs.Migrating.{Migrates};
 ghost use Rattle.card_cli.specs.Checking.{Checks};
 ghost use Rattle.card_cli.specs.Loading.{Loads};
+ghost use Rattle.card_cli.specs.Progress.{ShowsLoad};
 ghost use Rattle.card_cli.specs.Statements.{opened, term_lines, was_refused};
 
 use crate::checking::run_check;
@@ -24,19 +25,20 @@ use crate::commands::answer_commands;
 use crate::loading::run_load;
 use crate::migration::run_migration;
 use crate::opening::open_card;
-use crate::progress::Watched;
+use crate::progress::Person;
 use crate::statements::answer_statements;
 use crate::status::Status;
 use crate::words::{Form, form_of};
 use eeprom::{Bench, Source};
 use std::alloc::Global;
 
-/// Runs the card of the bench by the words behind the file's name.
-pub fn run_card<S: Source + Watched, B: Bench>(
+/// Runs the card of the bench by the words behind the file's name. A person may be shown how far it has come.
+pub fn run_card<S: Source, B: Bench, P: Person>(
     alloc: Global,
     words: &[String],
     source: &mut S,
     bench: &mut B,
+    person: &mut P,
 ) -> Status
     // The words are of no form.
     ensures usage { (result ≡ Status.Usage) ↔ (form_in (map string_bytes words.now) ≡ None) }
@@ -52,20 +54,22 @@ pub fn run_card<S: Source + Watched, B: Bench>(
     // and then the run ends so, unless the EEPROM fails or there is no memory: nothing is read or given, and the image keeps what store it has.
     ensures no_card { FindsNoCard (map string_bytes words.now) (B.chip bench.old)
         → IsWithoutCard result × (source.new ≡ source.old) × KeepsStore (B.chip bench.old) (B.chip bench.new) }
-    // A statement can be refused in `term` and in `load` alone.
-    ensures refused { result ≡ Status.Refused → (form_in (map string_bytes words.now) ≡ Some Form.Term) ⊎ ((rows seed : ℕ) × (form_in (map string_bytes words.now) ≡ Some (Form.Load rows seed))) }
+    // Each form has its ends, whatever is told: a statement can be refused in `term` and in `load` alone, and only what reads input can end because of it.
+    ensures statuses { (form : Form) → form_in (map string_bytes words.now) ≡ Some form → may_end form result ≡ true }
+    // Memory is wanting only before the first record of the card is read.
+    ensures no_memory { (form : Form) → form_in (map string_bytes words.now) ≡ Some form → result ≡ Status.NoMemory → WantsMemory B.chip B.octets_read form bench.old bench.new }
     // Each fault has its cause, and without one the counts stay.
     ensures ends { EndsBy result
         (record { eeprom = B.faults bench.old; source = S.source_faults source.old; outlet = B.sink_faults bench.old })
         (record { eeprom = B.faults bench.new; source = S.source_faults source.new; outlet = B.sink_faults bench.new }) }
     // A run of `new` or `apdu` answers its lines as commands, from the start of the database with which it begins.
     ensures commands { (form : Form) → form_in (map string_bytes words.now) ≡ Some form → answers_commands form ≡ true
-        → RunsLines command_lines (λ m. false) start form result source.old source.new (S.left source.old) (S.left source.new) (B.chip bench.old) (B.chip bench.new)
+        → RunsLines B.chip B.faults command_lines (λ m. false) start form result source.old source.new (S.left source.old) (S.left source.new) bench.old bench.new
         (record { eeprom = B.faults bench.old; source = S.source_faults source.old; outlet = B.sink_faults bench.old })
         (record { eeprom = B.faults bench.new; source = S.source_faults source.new; outlet = B.sink_faults bench.new }) }
     // A run of `term` carries out its lines as statements, from a terminal on channel 0 on, and tells whether one was refused.
     ensures statements { form_in (map string_bytes words.now) ≡ Some Form.Term
-        → RunsLines term_lines was_refused opened Form.Term result source.old source.new (S.left source.old) (S.left source.new) (B.chip bench.old) (B.chip bench.new)
+        → RunsLines B.chip B.faults term_lines was_refused opened Form.Term result source.old source.new (S.left source.old) (S.left source.new) bench.old bench.new
         (record { eeprom = B.faults bench.old; source = S.source_faults source.old; outlet = B.sink_faults bench.old })
         (record { eeprom = B.faults bench.new; source = S.source_faults source.new; outlet = B.sink_faults bench.new }) }
     // Each line that is a reading command is answered by what is shown to its channel, and so does what is shown go on.
@@ -80,6 +84,11 @@ pub fn run_card<S: Source + Watched, B: Bench>(
     ensures load { (rows seed : ℕ) → form_in (map string_bytes words.now) ≡ Some (Form.Load rows seed) → Loads rows seed result source.old source.new (B.chip bench.old) (B.chip bench.new)
         (record { eeprom = B.faults bench.old; source = S.source_faults source.old; outlet = B.sink_faults bench.old })
         (record { eeprom = B.faults bench.new; source = S.source_faults source.new; outlet = B.sink_faults bench.new }) }
+    // Nothing is shown to a person but in a load,
+    ensures unwatched { ((rows seed : ℕ) → form_in (map string_bytes words.now) ≡ Some (Form.Load rows seed) → ⊥) → person.new ≡ person.old }
+    // and there how far it has come.
+    ensures watched { (rows seed : ℕ) → form_in (map string_bytes words.now) ≡ Some (Form.Load rows seed)
+        → ShowsLoad P.lost P.shown rows seed result (IsOpenTo (B.chip bench.old)) person.old person.new }
     // A run of `migrate` reads no line.
     ensures migrate { form_in (map string_bytes words.now) ≡ Some Form.Migrate → Migrates result source.old source.new (B.chip bench.old) (B.chip bench.new)
         (record { eeprom = B.faults bench.old; source = S.source_faults source.old; outlet = B.sink_faults bench.old })
@@ -95,7 +104,7 @@ pub fn run_card<S: Source + Watched, B: Bench>(
         Ok(mut card) => match form {
             Form::Check => run_check(&card, bench),
             Form::Migrate => run_migration(bench),
-            Form::Load { rows, seed } => run_load(card, source, bench, rows, seed),
+            Form::Load { rows, seed } => run_load(card, bench, person, rows, seed),
             Form::Term => answer_statements(card, source, bench),
             Form::New { .. } | Form::Apdu => answer_commands(&mut card, source, bench),
         },

@@ -9,7 +9,7 @@ ghost use Rattle.card.specs.Behind.{KeepsBehind};
 ghost use Rattle.card.specs.Card.{IsReady, IsAt};
 ghost use Rattle.card.specs.LiveCard.{IsReadyAt};
 ghost use Rattle.card_cli.specs.Answering.{Answered, Failed};
-ghost use Rattle.card_cli.specs.Ends.{AllFaults, EndsBy, ends_input, longest_input, reads_all};
+ghost use Rattle.card_cli.specs.Ends.{AllFaults, EndsBy, is_of_opened, longest_input, reads_all};
 ghost use Rattle.card_cli.specs.Extent.{RunsInput};
 ghost use Rattle.card_cli.specs.Run.{TellsRefusals};
 ghost use Rattle.card_cli.specs.RunState.{Causes, Faults};
@@ -81,8 +81,8 @@ pub(crate) fn answer_statements<S: Source, B: Bench>(
 ) -> Status
     requires { IsReady card (B.chip bench.old) }
     ensures runs { (db : Database) → IsAt card (B.chip bench.old) (start db)
-        → Becomes (λ input left. RunsInput term_lines (opened db) result (B.faults bench.old) (B.faults bench.new) input left (B.chip bench.old) (B.chip bench.new)) (S.left source.old) (S.left source.new) }
-    ensures status { ends_input result ≡ true }
+        → Becomes (λ input left. RunsInput B.chip B.faults term_lines (opened db) result input left bench.old bench.new) (S.left source.old) (S.left source.new) }
+    ensures status { is_of_opened result ≡ true }
     ensures whole { reads_all result ≡ true → Becomes (λ input left. (left ≡ []) × (length input ≤ longest_input)) (S.left source.old) (S.left source.new) }
     ensures refusals { (db : Database) → IsAt card (B.chip bench.old) (start db) → TellsRefusals term_lines was_refused (opened db) result (S.left source.old) (S.left source.new) }
     ensures too_long { result ≡ Status.TooLong → Becomes (λ input left. longest_input < length input) (S.left source.old) (S.left source.new) }

@@ -1,12 +1,16 @@
 // Worked rows over a bench in memory.
+mod cuts;
+mod faults;
+mod links;
 mod loading;
 mod migrating;
 mod opening;
 mod power_loss;
 mod reads;
+mod scripts;
 mod statements;
 
-use crate::progress::Watched;
+use crate::progress::Person;
 use crate::run::run_card;
 use crate::status::Status;
 use eeprom::{FaultPlan, MemBench, MemSource, SteadySource};
@@ -84,15 +88,18 @@ const FULL_CARD_ANSWERS: &str = "9000
 9000
 ";
 
-// Nobody watches.
-impl Watched for SteadySource {
-    fn show(&self, text: &[u8]) {
-        let _ = text;
-    }
-}
+/// Nobody, who is shown nothing.
+#[derive(Drop)]
+struct Nobody;
 
-impl Watched for MemSource {
-    fn show(&self, text: &[u8]) {
+impl Person for Nobody {
+    ghost use Rattle.std.specs.Prelude.{Some, true, []};
+
+    ghost shown = { λ nobody. Some [] };
+
+    ghost lost = { λ nobody. true };
+
+    fn show(&mut self, text: &[u8]) {
         let _ = text;
     }
 }
@@ -122,7 +129,7 @@ fn run_over(
     let words = words_of(alloc, words)?;
     let mut source = SteadySource::new(Vec::from_slice(alloc, input.as_bytes())?, 100);
     let mut bench = MemBench::new(alloc, Vec::from_slice(alloc, image)?, plan)?;
-    let status = run_card(alloc, &words, &mut source, &mut bench);
+    let status = run_card(alloc, &words, &mut source, &mut bench, &mut Nobody);
     Ok((status, bench))
 }
 
@@ -201,7 +208,7 @@ fn worked_rows(rt: HostRuntime) -> Result<(), Fail> {
         let words = words_of(alloc, words)?;
         let mut source = SteadySource::new(Vec::from_slice(alloc, input.as_bytes())?, 7);
         let mut bench = bench_of(alloc, 5000, 0xA5)?;
-        let found = run_card(alloc, &words, &mut source, &mut bench);
+        let found = run_card(alloc, &words, &mut source, &mut bench, &mut Nobody);
         assert!(rt; found == status, "{input}");
         assert_eq!(rt; bench.given(), output.as_bytes(), "{input}");
     }
@@ -214,14 +221,14 @@ fn least_size(rt: HostRuntime) -> Result<(), Fail> {
     let words = words_of(alloc, &["new", "16"])?;
     let mut source = SteadySource::new(Vec::new(alloc), 1);
     let mut small = bench_of(alloc, 1153, 0xA5)?;
-    let status = run_card(alloc, &words, &mut source, &mut small);
+    let status = run_card(alloc, &words, &mut source, &mut small, &mut Nobody);
     assert!(rt; status == Status::TooSmall, "too small");
     assert!(rt;
         small.image().iter().all(|octet| *octet == 0xA5),
         "the image stays"
     );
     let mut bench = bench_of(alloc, 1154, 0xA5)?;
-    let status = run_card(alloc, &words, &mut source, &mut bench);
+    let status = run_card(alloc, &words, &mut source, &mut bench, &mut Nobody);
     assert!(rt; status == Status::Done, "large enough");
     assert_eq!(rt;
         bench.image(),
@@ -250,7 +257,7 @@ fn committed_user(rt: HostRuntime) -> Result<(), Fail> {
     let input = b"0014008006054F574E4552\n001400810703414E4E010300\n".as_slice();
     let mut source = SteadySource::new(Vec::from_slice(alloc, input)?, 100);
     let mut bench = bench_of(alloc, 1154, 0xA5)?;
-    let status = run_card(alloc, &words, &mut source, &mut bench);
+    let status = run_card(alloc, &words, &mut source, &mut bench, &mut Nobody);
     assert!(rt; status == Status::Done);
     assert_eq!(rt; bench.given(), b"9000\n9000\n".as_slice());
     let mut image = fresh_card(alloc)?;
@@ -291,7 +298,7 @@ fn run_failing(
     }
     let mut source = MemSource::new(Vec::from_slice(alloc, input.as_bytes())?, 30, fails);
     let mut bench = MemBench::new(alloc, vec![in alloc; 0u8; 1154]?, plan)?;
-    let status = run_card(alloc, &words, &mut source, &mut bench);
+    let status = run_card(alloc, &words, &mut source, &mut bench, &mut Nobody);
     Ok((status, Vec::from_slice(alloc, bench.given())?))
 }
 
@@ -354,7 +361,7 @@ fn largest_card(rt: HostRuntime) -> Result<(), Fail> {
     let words = words_of(alloc, &["new", "2048"])?;
     let mut source = SteadySource::new(Vec::new(alloc), 1);
     let mut bench = bench_of(alloc, 143394, 0)?;
-    let status = run_card(alloc, &words, &mut source, &mut bench);
+    let status = run_card(alloc, &words, &mut source, &mut bench, &mut Nobody);
     assert!(rt; status == Status::Done);
     // Pieces of at least 1,024 octets, a last one, and the front.
     assert!(rt; bench.writes() <= 143390 / 1024 + 2);

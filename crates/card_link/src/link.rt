@@ -4,7 +4,6 @@ ghost use Rattle.eeprom.specs.Chip.{Chip};
 ghost use Rattle.eeprom.specs.Fault.{Rose};
 ghost use Rattle.scql_base.specs.Words.{memory_failure};
 ghost use Rattle.scql_model.specs.Machine as machine;
-ghost use Rattle.scql_model.specs.Operations.{operations};
 ghost use Rattle.scql_model.specs.Opens.{Opens};
 ghost use Rattle.scql_model.specs.Replies.{said};
 ghost use Rattle.scql_model.specs.Step as stepping;
@@ -45,14 +44,14 @@ pub trait CardLink: Drop {
     fn exchange(&mut self, command: &[u8], reply: &mut Reply) -> Outcome
         requires { IsTrue (is_live self.old) }
         ensures step { (m : machine.Machine) → is_at self.old m → result ≡ Outcome.Replied
-            → Answered is_at (stepping.step_by operations m command.now) reply.new self.new }
+            → Answered is_at (stepping.step m command.now) reply.new self.new }
         ensures replied { result ≡ Outcome.Replied → IsTrue (is_live self.new) × (faults self.new ≡ faults self.old) }
         ensures mute { result ≡ Outcome.Mute → (reply.new ≡ said memory_failure) × (is_live self.new ≡ false) }
         ensures cause { result ≡ Outcome.Mute → Rose (faults self.old) (faults self.new) }
         ensures never_falls { faults self.old ≤ faults self.new }
         ensures mark { mark self.new ≡ mark self.old }
         ensures moments { (m : machine.Machine) → is_at self.old m
-            → LeavesOpen (IsOneOf (mark self.old) (m.committed ∷ (stepping.step_by operations m command.now).commits)) (chip self.old) (chip self.new) }
+            → LeavesOpen (IsOneOf (mark self.old) (m.committed ∷ (stepping.step m command.now).commits)) (chip self.old) (chip self.new) }
         ensures rest { keeps self.old self.new }
         ensures goes_on { goes_on self.old self.new };
 

@@ -2,7 +2,7 @@
 ghost use Rattle.std.specs.Prelude.{◌≡◌};
 
 use crate::{Counter, Record};
-use cell_store::RecordOctets;
+use eeprom::RecordOctets;
 use row_codec::{number_and_rest, put_number};
 
 const MARK: u8 = Counter::MARK;

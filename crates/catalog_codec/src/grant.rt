@@ -3,7 +3,7 @@ ghost use Rattle.std.specs.Prelude.{◌≡◌};
 
 use crate::Record;
 use crate::fields::privileges_at;
-use cell_store::RecordOctets;
+use eeprom::RecordOctets;
 use row_codec::{number_and_rest, put_number};
 use scql_base::Grant;
 

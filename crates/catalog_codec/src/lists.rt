@@ -9,7 +9,7 @@ ghost use Rattle.catalog_codec.specs.Conditions.{condition};
 
 use crate::fields::{comparison_at, name_at, value_at};
 use crate::writing::put_text;
-use cell_store::RecordOctets;
+use eeprom::RecordOctets;
 use scql_base::{Condition, Conditions, NameList};
 
 pub(crate) fn columns_at(octets: &[u8]) -> Option<(NameList, &[u8])>

@@ -8,7 +8,7 @@ use crate::Record;
 use crate::fields::{name_at, subject_at};
 use crate::lists::{columns_at, conditions_at, put_columns, put_conditions};
 use crate::writing::put_text;
-use cell_store::RecordOctets;
+use eeprom::RecordOctets;
 use row_codec::{number_and_rest, put_number};
 use scql_base::{Object, ObjectKind};
 

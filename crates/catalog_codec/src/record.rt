@@ -2,7 +2,7 @@
 ghost use Rattle.std.specs.Prelude.{◌≡◌, Some, true, IfSome};
 ghost use Rattle.catalog_codec.specs.Kinds.{Kind, IsKind, read_as};
 
-use cell_store::RecordOctets;
+use eeprom::RecordOctets;
 
 /// A record that a slot of a store can have.
 pub trait Record: Drop {

@@ -2,7 +2,7 @@
 ghost use Rattle.std.specs.Prelude.{◌≡◌};
 
 use crate::Record;
-use cell_store::RecordOctets;
+use eeprom::RecordOctets;
 use scql_base::RowRecord;
 
 impl Record for RowRecord {

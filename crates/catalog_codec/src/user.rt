@@ -4,7 +4,7 @@ ghost use Rattle.std.specs.Prelude.{◌≡◌};
 use crate::Record;
 use crate::fields::{name_at, profile_at, secret_at, tries_at};
 use crate::writing::put_text;
-use cell_store::RecordOctets;
+use eeprom::RecordOctets;
 use row_codec::{number_and_rest, put_number};
 use scql_base::User;
 

@@ -3,7 +3,7 @@ ghost use Rattle.std.specs.Prelude.{◌≡◌, ◌≤◌, ◌+◌, ◌++◌, ◌
 ghost use Rattle.arrayvec.specs.ArrayVec.{array_vec_len};
 ghost use Rattle.eeprom.specs.StoreOf.{longest_record};
 
-use cell_store::RecordOctets;
+use eeprom::RecordOctets;
 use row_codec::put;
 
 // Puts a text behind others: its length in one octet, and its octets.

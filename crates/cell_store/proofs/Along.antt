@@ -6,7 +6,7 @@ use Rattle.std.specs.List.{flat_map}
 use Rattle.cell_store.specs.Chains.{IsRecordChain}
 use Rattle.cell_store.specs.Reading.{ReadsCells, ReadsRecord}
 use Rattle.cell_store.specs.Walk.{Walked, GoesAlong, CopiesRecord}
-use Rattle.cell_store.proofs.Chains.{record-some}
+use Rattle.cell_store.proofs.ReadRecord.{record-some}
 use Rattle.cell_store.proofs.Reading.{reads-end, reads-full, reads-record}
 use Rattle.cell_store.proofs.Walking.{walked-more, Walked-start, Walked-end, Walked-full}
 

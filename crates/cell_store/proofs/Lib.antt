@@ -1,7 +1,6 @@
 pub mod Along
 pub mod Among
 pub mod Cells
-pub mod Chains
 pub mod Claiming
 pub mod Counting
 pub mod FreeRuns
@@ -9,6 +8,7 @@ pub mod Freeing
 pub mod Linking
 pub mod Marking
 pub mod Placements
+pub mod ReadRecord
 pub mod Reading
 pub mod Runs
 pub mod SameChains

@@ -5,7 +5,7 @@ use Rattle.std.proofs.lemmas.Bool.Decides.{nat_tests}
 use Rattle.eeprom.specs.StoreOf.{chain_of, cell_place, number_at, longest_chain}
 use Rattle.cell_store.specs.Cells.{Cells, IsInRange, IsUsedChain, link_in}
 use Rattle.cell_store.specs.Chains.{AreLinked, link_of, steps}
-use Rattle.cell_store.proofs.Chains.{if-some, chain-cases}
+use Rattle.eeprom.proofs.Chains.{if-some, chain-cases}
 
 -- the cells of a chain are linked one to the next
 pub chain-linked : (image : List ℕ) (n most cell : ℕ) (chain : List ℕ) → chain_of image n most cell ≡ Some chain → AreLinked (link_of image n) (2 * n) cell chain

@@ -4,7 +4,7 @@ use Rattle.eeprom.specs.Chip.{Becomes, RisesAtMost, RisesBy}
 use Rattle.eeprom.specs.StoreOf.{chain_of, cells_of, slot_of, longest_chain}
 use Rattle.cell_store.specs.Reading.{ReadsCells, ReadsRecord}
 use Rattle.cell_store.specs.Walk.{Walked}
-use Rattle.cell_store.proofs.Chains.{cells-chain}
+use Rattle.eeprom.proofs.Chains.{cells-chain}
 use Rattle.cell_store.specs.Chains.{IsRecordChain}
 use Rattle.cell_store.proofs.Walking.{end-cell}
 

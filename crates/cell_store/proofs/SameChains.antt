@@ -4,7 +4,7 @@ use Rattle.std.specs.List.{AllByRecursion}
 use Rattle.std.proofs.lemmas.Bool.Decides.{nat_tests}
 use Rattle.eeprom.specs.StoreOf.{chain_of, chains_of, cell_place, payload_of, number_at, is_record, slot_of}
 use Rattle.cell_store.specs.Placed.{SameCell}
-use Rattle.cell_store.proofs.Chains.{chain-cases, chains-parts}
+use Rattle.eeprom.proofs.Chains.{chain-cases, chains-parts}
 
 abbrev pub SameChain : List ℕ → List ℕ → ℕ → List ℕ → Type 0
 SameChain left was n chain = AllByRecursion (SameCell left was n) chain

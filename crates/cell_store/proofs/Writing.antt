@@ -9,7 +9,7 @@ use Rattle.cell_store.specs.Chains.{AreLinked, link_of, IsRecordChain}
 use Rattle.cell_store.specs.Marks.{is_marked}
 use Rattle.cell_store.specs.Placed.{IsPlaced, IsLaid, IsTakenBefore}
 use Rattle.cell_store.specs.Writing.{IsWritten}
-use Rattle.cell_store.proofs.Chains.{length-payload}
+use Rattle.eeprom.proofs.Chains.{length-payload}
 use Rattle.cell_store.proofs.Freeing.{linked-within}
 use Rattle.cell_store.proofs.Linking.{chain-linked, linked-same, linked-one}
 

@@ -13,11 +13,9 @@ ghost use Rattle.cell_store.specs.Walk.{CopiesRecord, GoesAlong};
 use crate::layout::{LARGEST_PAYLOAD, LINK_SIZE, number_of};
 use arrayvec::ArrayVec;
 use eeprom::{
-    CELL_SIZE, Eeprom, EepromFault, LONGEST_CHAIN, LONGEST_RECORD, PIECE_SIZE, cell_place,
+    CELL_SIZE, Eeprom, EepromFault, LONGEST_CHAIN, LONGEST_RECORD, PIECE_SIZE, RecordOctets,
+    cell_place,
 };
-
-/// The octets of a record.
-pub type RecordOctets = ArrayVec<u8, LONGEST_RECORD>;
 
 /// The payload of one cell.
 type Piece = ArrayVec<u8, PIECE_SIZE>;

@@ -9,8 +9,7 @@ mod placing;
 mod refusal;
 mod store;
 
-pub use chain::RecordOctets;
-pub use eeprom::NO_CELL;
+pub use eeprom::{NO_CELL, RecordOctets};
 pub use layout::{number_of, octets_of};
 pub use refusal::{CellRefusal, ClaimRefusal};
 pub use store::{CellStore, cells_for};

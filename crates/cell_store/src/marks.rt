@@ -5,8 +5,8 @@ ghost use Rattle.cell_store.specs.Cells.{link_in};
 ghost use Rattle.cell_store.specs.Chains.{AreLinked, AreMarked, with_unmarked};
 ghost use Rattle.cell_store.specs.Marks.{is_marked, IsFreeRun, IsLongest, IsLongestFrom, StaysMarked, unmarked};
 
-use eeprom::LONGEST_CHAIN;
-use std::alloc::{AllocError, Global};
+use eeprom::{Heap, LONGEST_CHAIN};
+use std::alloc::AllocError;
 use std::marker::Model;
 
 /// Neighbouring cells, of which this is the first.
@@ -20,7 +20,7 @@ pub struct Run {
 /// behind all that are marked.
 #[derive(Drop)]
 pub struct Marks {
-    marks: Vec<bool>,
+    marks: Vec<bool, Heap>,
     free: u16,
     next: u16,
 }
@@ -38,7 +38,7 @@ impl Model for Marks {
 
 impl Marks {
     /// Marks of so many cells, of which none is marked.
-    pub fn with_room(alloc: Global, count: u16) -> Result<Marks, AllocError>
+    pub fn with_room(alloc: Heap, count: u16) -> Result<Marks, AllocError>
         requires few { count ≤ 4096 }
         ensures { IfOk result (λ marks. marks ≡ replicate count false) }
     {

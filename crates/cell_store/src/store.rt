@@ -14,13 +14,13 @@ ghost use Rattle.cell_store.specs.Placed.{KeepsMarked};
 ghost use Rattle.cell_store.specs.Reading.{ReadsCells, ReadsRecord};
 ghost use Rattle.cell_store.specs.Faults.{is_claim_fault, is_write_fault};
 
-use crate::chain::{Payload, RecordOctets, copy_record, read_record};
+use crate::chain::{Payload, copy_record, read_record};
 use crate::claims::claim_cells;
 use crate::marks::{Marks, unmark_chain};
 use crate::placing::{fill_payload, write_cells};
 use crate::{CellRefusal, ClaimRefusal};
-use eeprom::{Eeprom, EepromFault, LONGEST_CHAIN, NO_CELL, PIECE_SIZE};
-use std::alloc::{AllocError, Global};
+use eeprom::{Eeprom, EepromFault, Heap, LONGEST_CHAIN, NO_CELL, PIECE_SIZE, RecordOctets};
+use std::alloc::AllocError;
 use std::marker::Model;
 
 /// Cells, twice as many as records may have. Chains of them are used, and the others are free.
@@ -29,7 +29,7 @@ pub struct CellStore {
     cells: u16,
     used: Marks,
     /// The number of the next cell, for each cell that is used.
-    links: Vec<u16>,
+    links: Vec<u16, Heap>,
 }
 
 impl Model for CellStore {
@@ -44,7 +44,7 @@ impl Model for CellStore {
 
 impl CellStore {
     /// A store of cells of which none is used. All memory that it needs is taken here.
-    pub fn with_room(alloc: Global, cells: u16) -> Result<CellStore, AllocError>
+    pub fn with_room(alloc: Heap, cells: u16) -> Result<CellStore, AllocError>
         requires few { fewest_cells ≤ cells }
         requires many { cells ≤ most_cells }
         ensures { IfOk result (λ store. store ≡ all_free cells) }

@@ -15,12 +15,12 @@ use Rattle.scql_base.specs.declared.records.Grant.{Grant}
 use Rattle.scql_base.specs.declared.records.User.{User}
 use Rattle.scql_model.specs.Creating.{is_owned_by}
 use Rattle.scql_model.specs.Database.{Database, IsValid, is_db_o, user_named}
-use Rattle.scql_model.specs.Edits.{Edit, applied, edited, removing, takes_stamp, to_remove, touched}
+use Rattle.scql_model.specs.Edits.{Edit, applied, edited, removing, to_remove, touched}
 use Rattle.scql_model.specs.Opens.{Holds}
 use Rattle.scql_model.specs.Records.{of_grant, of_user, record_stamp}
 use Rattle.scql_model.specs.Users.{is_needed, removing_user, user_deleted}
 use Rattle.scql_model.proofs.KeepsUsers.{user_deleted-keeps}
-use Rattle.scql_model.proofs.Removing.{applied-removing_user}
+use Rattle.scql_model.proofs.Removing.{applied-removing_user, grants-take_none}
 use Rattle.catalog_codec.specs.Catalog.{grant_kind, row_kind, user_kind}
 use Rattle.catalog_codec.specs.CatalogLaws.{IsKind-grant, IsKind-row, IsKind-user, HaveOtherMarks-row-grant, HaveOtherMarks-row-user}
 use Rattle.catalog_codec.specs.KindLaws.{HaveOtherMarks-sym}
@@ -77,11 +77,7 @@ slots_without_user slot slots = set slots slot None
 abbrev slots_left : ℕ → ℕ → Slots → Slots
 slots_left slot stamp slots = all_without grant_kind (is_for stamp) (slots_without_user slot slots)
 
--- no stamp is taken, and the user and the grants to it are touched
-grants-take_none : (grants : List Grant) → takes_stamp (map (λ (g : Grant). removing (of_grant g)) grants) ≡ false
-grants-take_none [] = refl
-grants-take_none (g ∷ grants) = grants-take_none grants
-
+-- the user and the grants to it are touched
 count-touched : (db : Database) (u : User) → length (touched (removing_user db u)) ≡ 1 + length (filter (is_for u.stamp) db.grants)
 count-touched db u =
     let grants = filter (is_for u.stamp) db.grants in

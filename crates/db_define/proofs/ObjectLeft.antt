@@ -16,11 +16,11 @@ use Rattle.scql_base.specs.declared.records.Grant.{Grant}
 use Rattle.scql_base.specs.declared.records.Object.{Object}
 use Rattle.scql_model.specs.Database.{Database, IsValid}
 use Rattle.scql_model.specs.Defining.{removing_object, view_dropped}
-use Rattle.scql_model.specs.Edits.{Edit, edited, removing, takes_stamp, to_remove, touched}
+use Rattle.scql_model.specs.Edits.{Edit, edited, removing, to_remove, touched}
 use Rattle.scql_model.specs.Opens.{Holds}
 use Rattle.scql_model.specs.Records.{of_grant, of_object, record_stamp}
 use Rattle.scql_model.proofs.KeepsObjects.{view_dropped-keeps}
-use Rattle.scql_model.proofs.Removing.{applied-removing_object}
+use Rattle.scql_model.proofs.Removing.{applied-removing_object, grants-take_none}
 use Rattle.catalog_codec.specs.Catalog.{object_kind, grant_kind}
 use Rattle.catalog_codec.specs.CatalogLaws.{IsKind-object}
 use Rattle.record_table.specs.Changed.{IsEmptied, Rewrites}
@@ -97,11 +97,7 @@ granted-only old first mid chip slot stamp one only swept = go (slots_of old Wor
         ])
         (ChangesWhere-then (λ s. s == slot) (λ s. has_passing grant_kind (is_on stamp) (get_or left s None)) old first mid only more)
 
--- no stamp is taken, and the object and the grants on it are touched
-grants-take_none : (grants : List Grant) → takes_stamp (map (λ (g : Grant). removing (of_grant g)) grants) ≡ false
-grants-take_none [] = refl
-grants-take_none (g ∷ grants) = grants-take_none grants
-
+-- the object and the grants on it are touched
 pub count-touched_object : (db : Database) (o : Object) → length (touched (removing_object db o)) ≡ 1 + length (filter (is_on o.stamp) db.grants)
 count-touched_object db o =
     let grants = filter (is_on o.stamp) db.grants in

@@ -20,7 +20,7 @@ use Rattle.row_index.specs.Index.{HasRows}
 use Rattle.row_index.specs.Places.{is_in_table, place_of, place_slot, place_stamp, row_places}
 use Rattle.row_index.specs.declared.place.RowPlace.{RowPlace}
 use Rattle.row_index.proofs.ChangedPlaces.{filter-in_order_all}
-use Rattle.row_index.proofs.Scans.{lower_part, places_from, row_in, slots_from}
+use Rattle.row_index.proofs.Scans.{lower_part, places_from, row_in_slot, slots_from}
 use Rattle.db_define.specs.Dependent.{is_in}
 use Rattle.record_table.specs.Swept.{all_without, has_passing, without_passing}
 use Rattle.record_table.proofs.LeftRecords.{has-of}
@@ -85,7 +85,7 @@ any-in_table : (table slot first : ℕ) (slots : Slots)
 any-in_table table slot first [] = refl
 any-in_table table zero first (entry ∷ slots) =
     let same : first + 0 ≡ first = omega arith in
-    rw same (one (row_in entry) (none-lower table first (places_from (suc first) slots) (lower_part (suc first) (suc first + length slots) (places_from (suc first) slots) (slots_from (suc first) slots))))
+    rw same (one (row_in_slot entry) (none-lower table first (places_from (suc first) slots) (lower_part (suc first) (suc first + length slots) (places_from (suc first) slots) (slots_from (suc first) slots))))
   where
     one : (row : Option RowRecord) → list_any (λ place. is_in_table table place && has place_slot first place) (places_from (suc first) slots) ≡ false
         → list_any (λ place. is_in_table table place && has place_slot first place) (cons_option (option_map (place_of first) row) (places_from (suc first) slots)) ≡ option_map_or (is_in table) row false
@@ -93,7 +93,7 @@ any-in_table table zero first (entry ∷ slots) =
     one (Some row) none = rw (eq-eqb first first refl, none) (and-true (is_in table row))
 any-in_table table (suc slot) first (entry ∷ slots) =
     let same : suc first + slot ≡ first + suc slot = omega arith in
-    one (row_in entry) (subst (λ n. list_any (λ place. is_in_table table place && has place_slot n place) (places_from (suc first) slots) ≡ has_passing row_kind (is_in table) (get_or slots slot None)) same (any-in_table table slot (suc first) slots))
+    one (row_in_slot entry) (subst (λ n. list_any (λ place. is_in_table table place && has place_slot n place) (places_from (suc first) slots) ≡ has_passing row_kind (is_in table) (get_or slots slot None)) same (any-in_table table slot (suc first) slots))
   where
     one : (row : Option RowRecord) → list_any (λ place. is_in_table table place && has place_slot (first + suc slot) place) (places_from (suc first) slots) ≡ has_passing row_kind (is_in table) (get_or slots slot None)
         → list_any (λ place. is_in_table table place && has place_slot (first + suc slot) place) (cons_option (option_map (place_of first) row) (places_from (suc first) slots)) ≡ has_passing row_kind (is_in table) (get_or slots slot None)
@@ -121,9 +121,9 @@ slots-without_table table slots =
 -- of the places those are left that aren't of the table
 places-left : (table first : ℕ) (slots : Slots) → places_from first (all_without row_kind (is_in table) slots) ≡ filter (λ place. not (is_in_table table place)) (places_from first slots)
 places-left table first [] = refl
-places-left table first (entry ∷ slots) = one (row_in entry) refl (places-left table (suc first) slots)
+places-left table first (entry ∷ slots) = one (row_in_slot entry) refl (places-left table (suc first) slots)
   where
-    one : (row : Option RowRecord) → row_in entry ≡ row → places_from (suc first) (all_without row_kind (is_in table) slots) ≡ filter (λ place. not (is_in_table table place)) (places_from (suc first) slots)
+    one : (row : Option RowRecord) → row_in_slot entry ≡ row → places_from (suc first) (all_without row_kind (is_in table) slots) ≡ filter (λ place. not (is_in_table table place)) (places_from (suc first) slots)
         → places_from first (all_without row_kind (is_in table) (entry ∷ slots)) ≡ filter (λ place. not (is_in_table table place)) (places_from first (entry ∷ slots))
     one None is rest = rw is (rw is rest)
     one (Some row) is rest =
@@ -138,10 +138,10 @@ row_places-left table slots = ap (in_order place_stamp) (places-left table 0 slo
 -- as many places are of the table as slots have its rows
 count-places : (table first : ℕ) (slots : Slots) → count_by (is_in_table table) (places_from first slots) ≡ count_by (has_passing row_kind (is_in table)) slots
 count-places table first [] = refl
-count-places table first (entry ∷ slots) = one (row_in entry) refl (count-places table (suc first) slots)
+count-places table first (entry ∷ slots) = one (row_in_slot entry) refl (count-places table (suc first) slots)
   where
-    one : (row : Option RowRecord) → row_in entry ≡ row → count_by (is_in_table table) (places_from (suc first) slots) ≡ count_by (has_passing row_kind (is_in table)) slots
-        → count_by (is_in_table table) (cons_option (option_map (place_of first) (row_in entry)) (places_from (suc first) slots)) ≡ count_by (has_passing row_kind (is_in table)) (entry ∷ slots)
+    one : (row : Option RowRecord) → row_in_slot entry ≡ row → count_by (is_in_table table) (places_from (suc first) slots) ≡ count_by (has_passing row_kind (is_in table)) slots
+        → count_by (is_in_table table) (cons_option (option_map (place_of first) (row_in_slot entry)) (places_from (suc first) slots)) ≡ count_by (has_passing row_kind (is_in table)) (entry ∷ slots)
     one None is rest =
         ap (λ row. count_by (is_in_table table) (cons_option (option_map (place_of first) row) (places_from (suc first) slots))) is ∙ rest
         ∙ sym (count_by-cons (has_passing row_kind (is_in table)) entry slots ∙ ap (λ row. cond {A = ℕ} (option_map_or (is_in table) row false) 1 0 + count_by (has_passing row_kind (is_in table)) slots) is ∙ omega arith)

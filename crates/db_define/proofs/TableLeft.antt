@@ -1,5 +1,5 @@
 -- What is left where a table is dropped, with the grants on it and its rows.
-use Rattle.std.proofs.Common.{◌≡◌, ℕ, ◌+◌, ◌≤◌, false, not, ◌==◌, ◌||◌, List, [], ◌∷◌, ◌++◌, length, map, count_by, get_or, None, Some, Ok, refl, sym, ap, subst, ◌∙◌, arith}
+use Rattle.std.proofs.Common.{◌≡◌, ℕ, ◌+◌, ◌≤◌, false, not, ◌==◌, ◌||◌, List, ◌++◌, length, count_by, get_or, None, Some, Ok, sym, ap, subst, ◌∙◌, arith}
 use Rattle.std.specs.Prelude.{IfSome}
 use Rattle.std.specs.List.{filter, sum_by}
 use Rattle.std.proofs.lemmas.List.{length-append, length-map}
@@ -18,7 +18,7 @@ use Rattle.scql_model.specs.Edits.{Edit, applied, edited, removing, takes_stamp,
 use Rattle.scql_model.specs.Opens.{Holds}
 use Rattle.scql_model.specs.Records.{of_grant, of_object, of_row, record_stamp}
 use Rattle.scql_model.proofs.KeepsObjects.{table_dropped-keeps}
-use Rattle.scql_model.proofs.Removing.{applied-removing_table}
+use Rattle.scql_model.proofs.Removing.{applied-removing_table, grants-take_none, rows-take_none, takes_stamp-behind}
 use Rattle.catalog_codec.specs.Catalog.{object_kind, grant_kind, row_kind}
 use Rattle.record_table.specs.EditableLaws.{IsEditable-row}
 use Rattle.record_table.specs.Listed.{at_slot, slots_of}
@@ -40,16 +40,8 @@ abbrev pub slots_left : ℕ → ℕ → Slots → Slots
 slots_left slot stamp slots = all_without row_kind (is_in stamp) (slots_without_grants slot stamp slots)
 
 -- no stamp is taken
-grants-take_none : (grants : List Grant) (rest : List Edit) → takes_stamp (map (λ (g : Grant). removing (of_grant g)) grants ++ rest) ≡ takes_stamp rest
-grants-take_none [] rest = refl
-grants-take_none (g ∷ grants) rest = grants-take_none grants rest
-
-rows-take_none : (rows : List RowRecord) → takes_stamp (map (λ (r : RowRecord). removing (of_row r)) rows) ≡ false
-rows-take_none [] = refl
-rows-take_none (r ∷ rows) = rows-take_none rows
-
 takes_none : (db : Database) (o : Object) → takes_stamp (dropping_edits db o) ≡ false
-takes_none db o = grants-take_none (filter (λ (g : Grant). g.object == o.stamp) db.grants) (removing_rows db o) ∙ rows-take_none (filter (λ (r : RowRecord). r.table == o.stamp) db.rows)
+takes_none db o = takes_stamp-behind (removing_object db o) (removing_rows db o) (grants-take_none (filter (λ (g : Grant). g.object == o.stamp) db.grants)) ∙ rows-take_none (filter (λ (r : RowRecord). r.table == o.stamp) db.rows)
 
 -- as many records are touched: the table, the grants on it and its rows
 count-touched : (db : Database) (o : Object) → length (touched (dropping_edits db o)) ≡ 1 + length (filter (is_on o.stamp) db.grants) + length (filter (is_in o.stamp) db.rows)

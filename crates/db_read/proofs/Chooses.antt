@@ -31,9 +31,10 @@ use Rattle.record_table.specs.Listed.{slots_of}
 use Rattle.record_table.specs.Making.{IsHeld}
 use Rattle.search_cond.specs.Bound.{Binds}
 use Rattle.search_cond.specs.declared.placed.Placed.{Placed}
-use Rattle.views.specs.Resolved.{AreBound, AreKnown, ArePlaces, Resolves}
+use Rattle.scql_model.specs.Resolving.{AreKnown}
+use Rattle.views.specs.Resolved.{AreBound, ArePlaces, Resolves}
 use Rattle.views.specs.declared.resolving.Resolved.{Resolved}
-use Rattle.views.proofs.KnownNames.{IsKnown, IsKnown-resolved_of, among-within, names-valid}
+use Rattle.scql_model.proofs.KnownNames.{IsKnown, IsKnown-resolved_of, among-within, names-valid}
 use Rattle.db_read.specs.Answered.{AreCostsOf, Chooses, selectable}
 use Rattle.db_read.specs.Chosen.{are_rising, can_cut, can_show, chosen_rows, costs_shown, is_chosen, is_shown, rows_shown, shown_row}
 use Rattle.db_read.specs.Costs.{row_costs}

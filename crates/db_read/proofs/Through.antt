@@ -1,39 +1,26 @@
 -- The chosen rows of a table are what a cursor's object shows, whatever views stand between.
-use Rattle.std.proofs.Common.{◌≡◌, ℕ, zero, suc, ◌+◌, ◌<◌, ◌≤◌, ◌==◌, nat_le, nat_lt, Bool, true, false, not, ◌&&◌, ◌||◌, List, [], ◌∷◌, length, map, get_or, Some, refl, sym, ap, subst, ◌∙◌, inl, inr, arith}
+use Rattle.std.proofs.Common.{◌≡◌, ℕ, ◌<◌, ◌≤◌, ◌==◌, nat_le, nat_lt, true, ◌&&◌, List, [], ◌∷◌, length, map, Some, refl, sym, ap, ◌∙◌, inl, inr, arith}
 use Rattle.std.specs.Prelude.{position}
-use Rattle.std.specs.List.{AllByRecursion, filter, list_all, list_any}
+use Rattle.std.specs.List.{AllByRecursion, filter, list_all}
 use Rattle.std.specs.Str.{bytes_eq}
-use Rattle.std.proofs.lemmas.Bool.{and_parts, and_from, cases_Bool, false≢true, le-leb, lt-ltb, not-true, or_parts}
+use Rattle.std.proofs.lemmas.Bool.{and_from, cases_Bool, le-leb, lt-ltb}
 use Rattle.std.proofs.lemmas.List.{length-map}
-use Rattle.std.proofs.lemmas.List.Quantifiers.{position-Some}
-use Rattle.std.proofs.lemmas.List.Sums.{sum_by-cons}
-use Rattle.std.proofs.lemmas.Slice.Eq.{bytes_eq-Decides}
 use Rattle.eeprom.specs.Slots.{Rises}
 use Rattle.scql_base.specs.Row.{are_a_row, is_narrow, row_size}
 use Rattle.scql_base.specs.declared.condition.Condition.{Condition}
 use Rattle.scql_base.specs.declared.records.RowRecord.{RowRecord}
 use Rattle.scql_model.specs.Contents.{cut_to, of_table}
 use Rattle.scql_model.specs.Database.{are_among, are_different}
-use Rattle.scql_model.specs.Matching.{Columns, Values, value_of, matches}
+use Rattle.scql_model.specs.Matching.{Columns, Values, matches}
 use Rattle.scql_model.specs.Objects.{StampedRow}
 use Rattle.scql_model.specs.Resolving as model
 use Rattle.scql_model.specs.Resolving.{passes_filters}
-use Rattle.scql_model.proofs.LongerLists.{not_equal-sym}
+use Rattle.scql_model.proofs.CutRows.{narrow-cut, size-cut, value-placed}
 use Rattle.search_cond.specs.Bound.{Binds, passes}
 use Rattle.search_cond.specs.declared.placed.Placed.{Placed}
 use Rattle.views.specs.Resolved.{AreBound, ArePlaces}
 use Rattle.db_read.specs.Chosen.{are_rising, chosen_rows, is_shown, values_at}
 use Rattle.db_read.specs.declared.choosing.Chosen.{Chosen}
-
--- a row's value in a column is the one at the column's place
-value-index : (all : Columns) (values : Values) (name : List ℕ) (i : ℕ) → bytes_eq name (get_or all i []) ≡ true → ((k : ℕ) → k < i → bytes_eq name (get_or all k []) ≡ false) → i < length all → get_or values i [] ≡ value_of all values name
-value-index [] values name i hit misses within = absurd (omega arith)
-value-index (c ∷ all) [] name i hit misses within = refl
-value-index (c ∷ all) (v ∷ values) name zero hit misses within = rw hit refl
-value-index (c ∷ all) (v ∷ values) name (suc i) hit misses within = rw (misses 0 (omega arith)) (value-index all values name i hit (λ k less. misses (suc k) (omega arith)) (omega arith))
-
-value-at : (all : Columns) (values : Values) (name : List ℕ) (i : ℕ) → position (bytes_eq name) all ≡ Some i → get_or values i [] ≡ value_of all values name
-value-at all values name i found = (let there = position-Some (bytes_eq name) all i [] found in value-index all values name i there.1 there.2 there.0)
 
 pub values-placed : (places : List ℕ) (all wanted : Columns) (values : Values) → ArePlaces places all wanted → values_at places values ≡ cut_to all wanted values
 values-placed [] all [] values are = refl
@@ -42,7 +29,7 @@ values-placed (p ∷ places) all [] values are = absurd (cc)
 values-placed (p ∷ places) all (w ∷ wanted) values are =
     let first : Some p ≡ position (bytes_eq w) all = cc in
     let rest : map Some places ≡ map (λ (column : List ℕ). position (bytes_eq column) all) wanted = cc in
-    rw (value-at all values w p (sym first), values-placed places all wanted values rest) refl
+    rw (value-placed all values w p (sym first), values-placed places all wanted values rest) refl
 
 filters-match : (filters : List (List Placed)) (all : Columns) (lists : List (List Condition)) (values : Values) → AreBound filters all lists → list_all (passes values) filters ≡ list_all (λ (conditions : List Condition). matches all conditions values) lists
 filters-match [] all [] values are = refl
@@ -76,94 +63,6 @@ above-rising stamp (x ∷ rows) all = (let far : stamp < x.stamp = all.0 in rw (
 pub are_rising-rises : (rows : List RowRecord) → Rises (λ (x : RowRecord). x.stamp) rows → are_rising rows ≡ true
 are_rising-rises [] rises = refl
 are_rising-rises (x ∷ rows) rises = and_from (list_all (λ (s : RowRecord). nat_lt x.stamp s.stamp) rows) (are_rising rows) (above-rising x.stamp rows rises.0) (are_rising-rises rows rises.1)
-
--- A row that is cut to different columns is a row, and no longer.
-narrow-value : (all : Columns) (values : Values) (name : List ℕ) → list_all is_narrow values ≡ true → is_narrow (value_of all values name) ≡ true
-narrow-value [] values name narrow = refl
-narrow-value (c ∷ all) [] name narrow = refl
-narrow-value (c ∷ all) (v ∷ values) name narrow =
-    let parts = and_parts (is_narrow v) (list_all is_narrow values) narrow in
-    elim (cases_Bool (bytes_eq name c)) [
-      | inl t ↦ rw t parts.0
-      | inr f ↦ rw f (narrow-value all values name parts.1)
-    ]
-
-narrow-cut : (all wanted : Columns) (values : Values) → list_all is_narrow values ≡ true → list_all is_narrow (cut_to all wanted values) ≡ true
-narrow-cut all [] values narrow = refl
-narrow-cut all (w ∷ wanted) values narrow = rw (narrow-value all values w narrow) (narrow-cut all wanted values narrow)
-
--- the names but one
-abbrev but : List ℕ → Columns → Columns
-but c names = filter (λ (n : List ℕ). not (bytes_eq n c)) names
-
-abbrev size_of : Columns → Values → Columns → ℕ
-size_of all values wanted = row_size (cut_to all wanted values)
-
-size-cons : (all : Columns) (values : Values) (w : List ℕ) (wanted : Columns) → size_of all values (w ∷ wanted) ≡ length (value_of all values w) + 1 + size_of all values wanted
-size-cons all values w wanted = sum_by-cons (λ (v : List ℕ). length v + 1) (value_of all values w) (cut_to all wanted values)
-
--- where the first column isn't wanted
-size-none : (c : List ℕ) (all : Columns) (v : List ℕ) (values : Values) (wanted : Columns) → list_any (bytes_eq c) wanted ≡ false → size_of (c ∷ all) (v ∷ values) wanted ≡ size_of all values (but c wanted)
-size-none c all v values [] none = refl
-size-none c all v values (w ∷ wanted) none =
-    let parts = or_parts (bytes_eq c w) (list_any (bytes_eq c) wanted) none in
-    let other = not_equal-sym c w parts.0 in
-    size-cons (c ∷ all) (v ∷ values) w wanted ∙ rw (other, size-none c all v values wanted parts.1, size-cons all values w (but c wanted)) refl
-
--- the first column is wanted once at the most
-size-first : (c : List ℕ) (all : Columns) (v : List ℕ) (values : Values) (wanted : Columns) → are_different wanted ≡ true → size_of (c ∷ all) (v ∷ values) wanted ≤ length v + 1 + size_of all values (but c wanted)
-size-first c all v values [] different = omega arith
-size-first c all v values (w ∷ wanted) different =
-    let parts = and_parts (not (list_any (bytes_eq w) wanted)) (are_different wanted) different in
-    let whole = size-cons (c ∷ all) (v ∷ values) w wanted in
-    elim (cases_Bool (bytes_eq w c)) [
-      | inl t ↦ (let same : w ≡ c = (bytes_eq-Decides w c).0 t in
-          let none : list_any (bytes_eq c) wanted ≡ false = subst (λ (n : List ℕ). list_any (bytes_eq n) wanted ≡ false) same (not-true (list_any (bytes_eq w) wanted) parts.0) in
-          let rest = size-none c all v values wanted none in
-          let sum = rw t at whole in
-          rw t (omega (arith, sum, rest)))
-      | inr f ↦ (let rest = size-first c all v values wanted parts.1 in
-          let sum = rw f at whole in
-          let left = size-cons all values w (but c wanted) in
-          rw f (omega (arith, sum, rest, left)))
-    ]
-
-any-but : (q p : List ℕ → Bool) (names : Columns) → list_any q names ≡ false → list_any q (filter p names) ≡ false
-any-but q p [] none = refl
-any-but q p (n ∷ names) none =
-    let parts = or_parts (q n) (list_any q names) none in
-    elim (cases_Bool (p n)) [
-      | inl t ↦ rw (t, parts.0) (any-but q p names parts.1)
-      | inr f ↦ rw f (any-but q p names parts.1)
-    ]
-
-different-but : (c : List ℕ) (names : Columns) → are_different names ≡ true → are_different (but c names) ≡ true
-different-but c [] different = refl
-different-but c (n ∷ names) different =
-    let parts = and_parts (not (list_any (bytes_eq n) names)) (are_different names) different in
-    elim (cases_Bool (bytes_eq n c)) [
-      | inl t ↦ rw t (different-but c names parts.1)
-      | inr f ↦ rw (f, any-but (bytes_eq n) (λ (m : List ℕ). not (bytes_eq m c)) names (not-true (list_any (bytes_eq n) names) parts.0)) (different-but c names parts.1)
-    ]
-
-among-but : (c : List ℕ) (all names : Columns) → are_among names (c ∷ all) ≡ true → are_among (but c names) all ≡ true
-among-but c all [] among = refl
-among-but c all (n ∷ names) among =
-    let parts = and_parts (bytes_eq n c || list_any (bytes_eq n) all) (are_among names (c ∷ all)) among in
-    elim (cases_Bool (bytes_eq n c)) [
-      | inl t ↦ rw t (among-but c all names parts.1)
-      | inr f ↦ (let here = rw f at parts.0 in rw (f, here) (among-but c all names parts.1))
-    ]
-
-pub size-cut : (all wanted : Columns) (values : Values) → are_different wanted ≡ true → are_among wanted all ≡ true → length all ≡ length values → row_size (cut_to all wanted values) ≤ row_size values
-size-cut [] [] values different among long = omega arith
-size-cut [] (w ∷ wanted) values different among long = absurd (false≢true among)
-size-cut (c ∷ all) wanted [] different among long = absurd (omega arith)
-size-cut (c ∷ all) wanted (v ∷ values) different among long =
-    let first = size-first c all v values wanted different in
-    let rest = size-cut all (but c wanted) values (different-but c wanted different) (among-but c all wanted among) (omega arith) in
-    let sum = sum_by-cons (λ (x : List ℕ). length x + 1) v values in
-    omega (arith, first, rest, sum)
 
 -- a row of a table can be shown so
 pub cut-fits : (places : List ℕ) (all wanted : Columns) (values : Values) → ArePlaces places all wanted → length wanted ≤ 15 → are_different wanted ≡ true → are_among wanted all ≡ true → length all ≡ length values

@@ -26,7 +26,7 @@ use Rattle.scql_model.specs.Matching.{Columns, Values, matches}
 use Rattle.scql_model.specs.Moves.{row_at}
 use Rattle.scql_model.specs.Objects.{StampedRow, columns_of}
 use Rattle.scql_model.specs.Resolving as model
-use Rattle.scql_model.specs.Resolving.{passes_filters}
+use Rattle.scql_model.specs.Resolving.{AreKnown, passes_filters}
 use Rattle.scql_model.specs.Writing.{columns_of_row, record_at_cursor, row_at_place}
 use Rattle.scql_model.proofs.Keeping.{key-found}
 use Rattle.scql_model.proofs.LongerLists.{find-passes}
@@ -39,9 +39,9 @@ use Rattle.row_index.proofs.Scans.{find-agree, find-map}
 use Rattle.row_index.proofs.Tables.{find-filter}
 use Rattle.search_cond.specs.Bound.{Binds, passes}
 use Rattle.search_cond.specs.declared.placed.Placed.{Placed}
-use Rattle.views.specs.Resolved.{AreBound, AreKnown, Resolves}
+use Rattle.views.specs.Resolved.{AreBound, Resolves}
 use Rattle.views.specs.declared.resolving.Resolved.{Resolved}
-use Rattle.views.proofs.KnownNames.{IsKnown, IsKnown-resolved_of, among-within, names-valid}
+use Rattle.scql_model.proofs.KnownNames.{IsKnown, IsKnown-resolved_of, among-within, names-valid}
 use Rattle.db_write.specs.Reached.{RestsOn, is_reached, stamp_at, without_conditions}
 
 swap : (a b c : Bool) → (a && (b && c)) ≡ (c && (a && b))

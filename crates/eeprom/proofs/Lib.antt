@@ -1,3 +1,4 @@
+pub mod Chains
 mod ExampleImage
 pub mod InOrder
 pub mod Kept

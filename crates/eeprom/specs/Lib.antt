@@ -1,4 +1,5 @@
 pub mod Chip
+pub mod CutBench
 pub mod Fault
 pub mod Frame
 pub mod Image

@@ -2,22 +2,27 @@
 #![tactic(auto)]
 
 mod counting;
+mod cut_bench;
 mod device;
 mod entry;
 mod fault;
+mod heap;
 mod input;
 mod layout;
 mod mem_bench;
 mod output;
 mod plan;
+mod record_octets;
 mod recording;
 mod reserved;
 mod sources;
 mod steady_bench;
 
+pub use cut_bench::CutBench;
 pub use device::{Bench, Eeprom};
 pub use entry::Entry;
 pub use fault::{EepromFault, SinkFault, SourceFault};
+pub use heap::Heap;
 pub use input::Source;
 pub use layout::{
     CELL_SIZE, FEWEST_CELLS, GATE_PLACE, HEADER_SIZE, LARGEST_DIRECTORY, LONGEST_CHAIN,
@@ -27,6 +32,7 @@ pub use layout::{
 pub use mem_bench::MemBench;
 pub use output::Outlet;
 pub use plan::FaultPlan;
+pub use record_octets::RecordOctets;
 pub use sources::{MemSource, SteadySource};
 pub use steady_bench::SteadyBench;
 

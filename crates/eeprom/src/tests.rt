@@ -2,8 +2,8 @@
 ghost use Rattle.std.specs.Prelude.{◌≡◌, length, IfOk};
 
 use crate::{
-    Bench, Eeprom, EepromFault, FaultPlan, MemBench, MemSource, Outlet, SinkFault, Source,
-    SourceFault, SteadyBench, SteadySource,
+    Bench, CutBench, Eeprom, EepromFault, FaultPlan, MemBench, MemSource, Outlet, SinkFault,
+    Source, SourceFault, SteadyBench, SteadySource,
 };
 use std::alloc::{AllocError, Global};
 
@@ -72,6 +72,21 @@ fn steady_benches_go_on_without_room(rt: HostRuntime) -> Result<(), AllocError> 
     assert_eq!(rt; bench.give(&[70, 71]), Ok(()));
     assert_eq!(rt; bench.given(), [70, 71].as_slice());
     assert_eq!(rt; bench.give(&[80]), Ok(()));
+    Ok(())
+}
+
+#[test]
+fn cut_benches_fill_the_write_behind_the_last(rt: HostRuntime) -> Result<(), AllocError> {
+    let inner = SteadyBench::new(rt.alloc(), image(rt.alloc())?, 6, 0)?;
+    let mut bench = CutBench::new(inner, 1, 9);
+    let mut into = [0; 2];
+    assert_eq!(rt; bench.write(0, &[1, 2]), Ok(()));
+    assert_eq!(rt; bench.read(1, &mut into), Ok(()));
+    assert_eq!(rt; into, [2, 12]);
+    assert_eq!(rt; bench.write(2, &[3, 4, 5]), Err(EepromFault));
+    assert_eq!(rt; bench.read(0, &mut into), Err(EepromFault));
+    assert_eq!(rt; bench.write(0, &[6]), Err(EepromFault));
+    assert_eq!(rt; bench.inner().image(), [1, 2, 9, 9, 9, 15].as_slice());
     Ok(())
 }
 

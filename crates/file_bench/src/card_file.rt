@@ -4,7 +4,10 @@ ghost use Rattle.std.specs.Prelude.{◌+◌, ◌≤◌, length};
 use crate::file_bench::FILE_SIZE;
 use std::fs::{File, Files, OpenFile, OpenOptions};
 use std::io;
-use std::os::unix::fs::FileExt;
+use std::os::unix::fs::{FileExt, OpenOptionsExt};
+
+/// The permissions of a file that is made: its owner alone may read and write it.
+const OWNER_ALONE: u32 = 0o600;
 
 /// A file that nothing else changes.
 #[derive(Drop)]
@@ -15,12 +18,13 @@ pub struct CardFile {
 }
 
 impl CardFile {
-    /// Opens the file, which is made where it is missing and `create` says so.
+    /// Opens the file, which is made where it is missing and `create` says so. A file that is there keeps its permissions.
     pub fn open<R: Files<File = File>>(rt: &R, path: &str, create: bool) -> io::Result<CardFile> {
         let file = OpenOptions::new()
             .read(true)
             .write(true)
             .create(create)
+            .mode(OWNER_ALONE)
             .open(rt, path)?;
         let length = file.metadata()?.len();
         Ok(CardFile { file, length })

@@ -16,7 +16,7 @@ use Rattle.scql_model.specs.Form.{a_command, parts_of}
 use Rattle.scql_model.specs.Spelling.{IsTaken, octets_of, part_count, field_of, fits}
 use Rattle.scql_model.specs.ReadingCommands.{ReadingCommand, reading_command, Move}
 use Rattle.scql_model.specs.Moves.{move_of}
-use Rattle.scql_model.specs.Step.{Answer, stepped, step_by}
+use Rattle.scql_model.specs.Step.{Answer, stepped, step}
 use Rattle.scql_model.proofs.CommandsAgain.{command-again}
 use Rattle.scql_model.proofs.PartsAgain.{part-one, parts_some, parts_least}
 use Rattle.scql_model.proofs.LinesFound.{HasLine-operations}
@@ -72,14 +72,14 @@ one-part c alone fitting =
     omega (arith, parts_some (length (field_of c.operation)), parts_least (length (field_of c.operation)) 1 (omega arith) (omega (arith, small)))
 
 -- a command of one part is answered by one step
-pub answer-one : (m : Machine) (c : Command) → part_count c ≡ 1 → answer_to operations m c ≡ step_by operations m (octets_of c)
+pub answer-one : (m : Machine) (c : Command) → part_count c ≡ 1 → answer_to m c ≡ step m (octets_of c)
 unfolding answer_to
 answer-one m c one = rw (one, part-one c one) refl
 
 -- a command in one is read as it is, on an open channel
 pub answer-whole : (m : Machine) (c : Command) (s : Session) → IsSendable c → comes_in_parts (kind_of c.operation) ≡ false → IsTaken (has_secrets operations) m.committed.limit c.operation
-    → ((chain : Option Chain) → parts_of (kind_of c.operation) chain ≡ []) → session_of m c.channel ≡ Some s → answer_to operations m c ≡ stepped m (a_command c)
-unfolding step_by
+    → ((chain : Option Chain) → parts_of (kind_of c.operation) chain ≡ []) → session_of m c.channel ≡ Some s → answer_to m c ≡ stepped m (a_command c)
+unfolding step
 answer-whole m c s can alone taken parts there =
     answer-one m c (one-part c alone can.fitting)
     ∙ ap (stepped m) (command-again operations m.committed.limit c can.formed (HasLine-operations (kind_of c.operation)) taken
@@ -87,7 +87,7 @@ answer-whole m c s can alone taken parts there =
 
 -- the step of a reading command on an open channel
 answer-stepped : (m : Machine) (c : Command) (s : Session) (command : ReadingCommand) → IsSendable c → reading_command c.operation c.le ≡ Some command → session_of m c.channel ≡ Some s
-    → answer_to operations m c ≡ stepped m (a_command c)
+    → answer_to m c ≡ stepped m (a_command c)
 answer-stepped m c s command can is there =
     answer-whole m c s can (no-part c.operation c.le command is) (reading-taken c.operation c.le command (has_secrets operations) m.committed.limit is)
     (λ chain. no-parts c.operation c.le command chain is) there
@@ -111,7 +111,7 @@ moved_answer m channel s move = record { reply = move.reply; machine = in_sessio
 
 pub answer-read : (m : Machine) (c : Command) (s t : Session) (command : ReadingCommand) → IsSendable c → reading_command c.operation c.le ≡ Some command
     → session_of m c.channel ≡ Some s
-    → answer_to operations (in_session m c.channel t) c
+    → answer_to (in_session m c.channel t) c
     ≡ moved_answer m c.channel t (move_of (base m c.channel) (who m c.channel t) t.reading command)
 answer-read m c s t command can is there =
     let n : Machine = in_session m c.channel t in

@@ -18,7 +18,6 @@ use Rattle.scql_model.specs.Objects.{StampedRow}
 use Rattle.scql_model.specs.ReadingCommands.{open_cursor, or_stays}
 use Rattle.scql_model.specs.ReadingCommands.{next as forward}
 use Rattle.scql_model.specs.Moves.{rows_under, first_row, row_behind, went_to, move_of}
-use Rattle.scql_model.specs.Operations.{operations}
 use Rattle.scql_model.specs.Step.{Answer}
 use Rattle.script.specs.declared.statement.Statement.{Statement}
 use Rattle.script.specs.Commands.{asking, IsSendable}
@@ -27,7 +26,7 @@ use Rattle.planner.specs.declared.stage.Stage.{Stage}
 use Rattle.planner.specs.declared.stage.Stage.TheVariants.{Declaring, Opening, Changing, Moving}
 use Rattle.planner.specs.Words.{is_refusal}
 use Rattle.planner.specs.Meaning.{Changed, at_stamp, row_changed, once_changed, all_changed, answer_to}
-use Rattle.planner.specs.Planned.{Planned, Turn, next_of, started, asks, finishes, refuses, accepts, changes_row, begins_with}
+use Rattle.planner.specs.Planned.{Planned, next_of, asks, finishes, refuses, changes_row, begins_with}
 use Rattle.planner.specs.Planned as planned
 use Rattle.planner.specs.Running.{Ran}
 use Rattle.planner.proofs.Above.{stamp_of, above, behind-first, above-next, above-opened, listed}
@@ -106,14 +105,14 @@ module _ (m : Machine) (channel : ℕ) (s : Session) (near : channel ≤ 3) (the
             ∙ ap (λ few. if few then asks Changing operation (plan_at last (count + 1)) else finishes (plan_at last count)) (lt-ltb count 2048 room))
 
         is-answer : (result : Result Transaction StatusWord) → row_changed m.committed a operation (at_stamp r.stamp c) t ≡ result
-            → answer_to operations (machine_at t (at c (At r.stamp) [])) (asking channel operation) ≡ change_answer m channel s near there t (resting m channel s near there (at_stamp r.stamp c)) result
+            → answer_to (machine_at t (at c (At r.stamp) [])) (asking channel operation) ≡ change_answer m channel s near there t (resting m channel s near there (at_stamp r.stamp c)) result
         is-answer result is =
             answer-changed m channel s near there operation t (at_stamp r.stamp c) by.changes can stands.mine
             ∙ (ap (λ (a : Actor). change_answer m channel s near there t (resting m channel s near there (at_stamp r.stamp c)) (row_changed m.committed a operation (at_stamp r.stamp c) t)) stands.acts
             ∙ ap (change_answer m channel s near there t (resting m channel s near there (at_stamp r.stamp c))) is)
 
         goes-next : (next : Transaction) (rows : List StampedRow) → Stands next rows → above stamp_of r.stamp rows ≡ rest
-            → answer_to operations (machine_at next (at c (At r.stamp) [])) (asking channel Next)
+            → answer_to (machine_at next (at c (At r.stamp) [])) (asking channel Next)
             ≡ record { reply = (went_to c (first_row rest)).reply; machine = machine_at next (went_to c (first_row rest)).after; commits = [] }
         goes-next next rows stands is_above =
             answer-reads m channel s near there next (reads_so s (at c (At r.stamp) [])) Next forward stands.mine (asked-sent channel Next near refl refl tt refl) refl
@@ -154,7 +153,7 @@ module _ (m : Machine) (channel : ℕ) (s : Session) (near : channel ≤ 3) (the
         → Ends (machine_at t (at c NotOpen [])) (Some (said done)) (plan_at Declaring 0) (final (changed rows t))
     opened-run t rows own_t acts listed rises counts = go rows refl counts
       where
-        answer : answer_to operations (machine_at t (at c NotOpen [])) (asking channel OpenCursor)
+        answer : answer_to (machine_at t (at c NotOpen [])) (asking channel OpenCursor)
             ≡ record { reply = (went_to c (first_row rows)).reply; machine = machine_at t (went_to c (first_row rows)).after; commits = [] }
         answer =
             answer-reads m channel s near there t (reads_so s (at c NotOpen [])) OpenCursor open_cursor own_t (asked-sent channel OpenCursor near refl refl tt refl) refl

@@ -13,7 +13,7 @@ use Rattle.scql_model.specs.Operations.{operations, has_instruction, comes_in_pa
 use Rattle.scql_model.specs.Form.{refused, is_open, channel_asked, form_of}
 use Rattle.scql_model.specs.Spelling.{cla_of, apdu_by, field_of, octets_of}
 use Rattle.scql_model.specs.WellFormed.{IsWellFormed}
-use Rattle.scql_model.specs.Step.{Answer, stepped, step_by}
+use Rattle.scql_model.specs.Step.{Answer, stepped, step}
 use Rattle.scql_model.proofs.LinesFound.{HasLine-operations, has_instruction-found}
 use Rattle.scql_model.proofs.TakenFields.{Lined-field}
 use Rattle.script.specs.declared.statement.Statement.{Statement}
@@ -56,14 +56,14 @@ closed-form c channels chain limit formed closed =
 abbrev pub closed_answer : Machine → Answer
 closed_answer m = record { reply = said channel_not_supported; machine = m; commits = [] }
 
-pub answer-closed : (m : Machine) (c : Command) → IsSendable c → comes_in_parts (kind_of c.operation) ≡ false → is_channel_open m c.channel ≡ false → answer_to operations m c ≡ closed_answer m
-unfolding step_by
+pub answer-closed : (m : Machine) (c : Command) → IsSendable c → comes_in_parts (kind_of c.operation) ≡ false → is_channel_open m c.channel ≡ false → answer_to m c ≡ closed_answer m
+unfolding step
 answer-closed m c can alone closed =
     answer-one m c (one-part c alone can.fitting)
     ∙ ap (stepped m) (closed-form c (open_channels m) (command_chain m) m.committed.limit can.formed (closed-there m.sessions c.channel closed))
 
 pub closed-run : (m : Machine) (n channel : ℕ) (inside : Bool) (s : Statement) → IsOfRows s → CanBeSent channel s → is_channel_open m channel ≡ false
-    → run operations (suc (suc n)) m None (started s channel inside) ≡ shown (meaning operations m channel s)
+    → run (suc (suc n)) m None (started s channel inside) ≡ shown (meaning m channel s)
 unfolding meaning
 closed-run m n channel inside (Select object columns conditions) rows can closed =
     rw (answer-closed m (asking channel (DeclareCursor object columns conditions)) can.commands.0 refl closed, closed) refl

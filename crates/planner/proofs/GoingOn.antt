@@ -4,7 +4,6 @@ use Rattle.scql_base.specs.declared.words.StatusWord.{StatusWord}
 use Rattle.scql_base.specs.declared.operation.Operation.{Operation}
 use Rattle.scql_base.specs.Words.{channel_not_supported}
 use Rattle.scql_model.specs.Machine.{Machine, Transaction}
-use Rattle.scql_model.specs.Operations.{operations}
 use Rattle.scql_model.specs.Sessions.{is_channel_open}
 use Rattle.scql_model.specs.Transactions.{own_transaction}
 use Rattle.script.specs.declared.statement.Statement.{Statement}
@@ -38,7 +37,7 @@ selected-channel : (m : Machine) (channel : ℕ) (d : Result Declared StatusWord
 selected-channel m channel (Err word) = refl
 selected-channel m channel (Ok d) = refl
 
-pub goes-on : (m : Machine) (channel : ℕ) (s : Statement) → (meaning operations m channel s).channel ≡ channel_after s channel
+pub goes-on : (m : Machine) (channel : ℕ) (s : Statement) → (meaning m channel s).channel ≡ channel_after s channel
 unfolding meaning
 goes-on m channel (Select object columns conditions) = on-open-channel m channel _ (selected-channel m channel (declared m channel object columns conditions))
 goes-on m channel (UpdateRows object changes conditions) = on-open-channel m channel _ (changed-channel m channel _ (declared m channel object [] conditions) (own_transaction m.transaction channel))

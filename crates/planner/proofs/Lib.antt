@@ -18,6 +18,7 @@ pub mod Settled
 pub mod ShownRows
 pub mod Statements
 pub mod StatementsLawful
+pub mod StatementsSpare
 pub mod Stepping
 pub mod Transacted
 pub mod TransactionKnown

@@ -13,7 +13,7 @@ use Rattle.scql_model.specs.Sessions.{changing_session, command_chain, without_c
 use Rattle.scql_model.specs.Operations.{operations}
 use Rattle.scql_model.specs.Form.{a_command, parts_of}
 use Rattle.scql_model.specs.Spelling.{field_of, part_count, first_parts, part_at, part_octets}
-use Rattle.scql_model.specs.Step.{Answer, answered, carried_out, stepped, step_by}
+use Rattle.scql_model.specs.Step.{Answer, answered, carried_out, stepped, step}
 use Rattle.scql_model.specs.Writing.{Assignment}
 use Rattle.scql_model.proofs.PartsAgain.{part-read, last-read, first_parts-next, parts_some}
 use Rattle.scql_model.proofs.LinesFound.{HasLine-operations}
@@ -47,8 +47,8 @@ module _ (m : Machine) (channel : ℕ) (s : Session) (there : session_of m chann
   gone chain = changing_session-set without_chain m channel (Some (record { user = user; reading = record { cursor = cursor; pending = [] }; chain = chain }))
 
   part-stepped : (chain : Option Chain) (place : ℕ) → parts_of kind.Update chain ≡ first_parts place field → place + 1 < part_count command
-      → step_by operations (after_parts chain) (part_octets command place) ≡ record { reply = said done; machine = after_parts (longer chain (part_at place field)); commits = [] }
-  unfolding step_by
+      → step (after_parts chain) (part_octets command place) ≡ record { reply = said done; machine = after_parts (longer chain (part_at place field)); commits = [] }
+  unfolding step
   part-stepped chain place before more =
       let x : Session = record { user = user; reading = record { cursor = cursor; pending = [] }; chain = chain } in
       let add : Session → Session = with_part kind.Update (part_at place field) in
@@ -59,8 +59,8 @@ module _ (m : Machine) (channel : ℕ) (s : Session) (there : session_of m chann
       (ap (λ (n : Machine). changing_session without_pending n channel) (changing_session-set add m channel (Some x)) ∙ changing_session-set without_pending m channel (Some (add x)))
 
   last-stepped : (chain : Option Chain) (place : ℕ) → parts_of kind.Update chain ≡ first_parts place field → place + 1 ≡ part_count command
-      → step_by operations (after_parts chain) (part_octets command place) ≡ stepped (after_parts None) (a_command command)
-  unfolding step_by
+      → step (after_parts chain) (part_octets command place) ≡ stepped (after_parts None) (a_command command)
+  unfolding step
   last-stepped chain place before last =
       let x : Session = record { user = user; reading = record { cursor = cursor; pending = [] }; chain = chain } in
       ap (stepped (after_parts chain))
@@ -69,18 +69,18 @@ module _ (m : Machine) (channel : ℕ) (s : Session) (there : session_of m chann
       ∙ ap (λ (n : Machine). answered n (carried_out n command)) (gone chain ∙ sym (gone None))
 
   parts-stepped : (n place : ℕ) (chain : Option Chain) → parts_of kind.Update chain ≡ first_parts place field → place + 1 + n ≡ part_count command
-      → in_turn operations (after_parts chain) (part_octets command place) (parts_from (place + 1) n command) ≡ stepped (after_parts None) (a_command command)
+      → in_turn (after_parts chain) (part_octets command place) (parts_from (place + 1) n command) ≡ stepped (after_parts None) (a_command command)
   parts-stepped zero place chain before last = last-stepped chain place before (omega (arith, last))
   parts-stepped (suc n) place chain before more =
-      ap (λ (answer : Answer). followed_by answer (in_turn operations answer.machine (part_octets command (place + 1)) (parts_from (place + 1 + 1) n command)))
+      ap (λ (answer : Answer). followed_by answer (in_turn answer.machine (part_octets command (place + 1)) (parts_from (place + 1 + 1) n command)))
       (part-stepped chain place before (omega (arith, more)))
       ∙ parts-stepped n (place + 1) (longer chain (part_at place field))
       (ap (λ (parts : List (List ℕ)). parts ++ part_at place field ∷ []) before ∙ sym (first_parts-next place field)) (omega (arith, more))
 
-  pub answer-in_parts : answer_to operations (after_parts None) command ≡ stepped (after_parts None) (a_command command)
+  pub answer-in_parts : answer_to (after_parts None) command ≡ stepped (after_parts None) (a_command command)
   unfolding answer_to
   answer-in_parts = go (part_count command) refl
     where
-      go : (count : ℕ) → part_count command ≡ count → all_in_turn operations (after_parts None) (parts_from 0 count command) ≡ stepped (after_parts None) (a_command command)
+      go : (count : ℕ) → part_count command ≡ count → all_in_turn (after_parts None) (parts_from 0 count command) ≡ stepped (after_parts None) (a_command command)
       go zero is = absurd (omega (arith, is, parts_some (length field)))
       go (suc n) is = parts-stepped n 0 None refl (omega (arith, is))

@@ -8,7 +8,7 @@ use Rattle.scql_base.specs.declared.operation.Command.{Command}
 use Rattle.scql_base.specs.declared.operation.Operation.{Operation}
 use Rattle.scql_base.specs.declared.operation.Operation.TheVariants.{DeclareCursor, OpenCursor, Next, Fetch, FetchNext, GetResponse, Begin, Commit, Rollback}
 use Rattle.scql_model.specs.Machine.{Machine}
-use Rattle.scql_model.specs.Operations.{operations, kind_of}
+use Rattle.scql_model.specs.Operations.{kind_of}
 use Rattle.scql_model.specs.ReadingCommands.{reading_command}
 use Rattle.scql_model.specs.Replies.{Reply}
 use Rattle.script.specs.declared.statement.Statement.{Statement}
@@ -34,7 +34,7 @@ none-transacts FetchNext le reads = refl
 none-transacts GetResponse le reads = refl
 none-transacts operation le reads = absurd (false≢true reads)
 
-pub reading-kept : (m : Machine) (c : Command) → IsSendable c → IsReading c → transaction_channel (answer_to operations m c).machine ≡ transaction_channel m
+pub reading-kept : (m : Machine) (c : Command) → IsSendable c → IsReading c → transaction_channel (answer_to m c).machine ≡ transaction_channel m
 reading-kept m c can reads = answer-kept m c can (none-transacts c.operation c.le reads)
 
 -- the plan is one of a SELECT, in no transaction of its own

@@ -4,7 +4,6 @@ use Rattle.scql_base.specs.declared.condition.Condition.{Condition}
 use Rattle.scql_model.specs.Lines.{Effect, line_effect, line_step, line_text, state_after}
 use Rattle.scql_model.specs.Machine.{base}
 use Rattle.scql_model.specs.Matching.{Columns}
-use Rattle.scql_model.specs.Operations.{operations}
 use Rattle.scql_model.specs.Shown.{shown_on}
 use Rattle.scql_model.proofs.ReadingIsShown.{IsReadable-valid}
 use Rattle.scql_model.proofs.ValidSteps.{valid-base}
@@ -22,7 +21,7 @@ unfolding line_text line_step
 selects-line state line object columns conditions valid is =
     let readable = IsReadable-valid (base state.machine state.channel) (valid-base state.machine state.channel valid.machine).valid in
     let law = select-reads state.machine state.channel object columns conditions is.opened readable in
-    let same : line_effect statement_lines state line ≡ meant (meaning operations state.machine state.channel (Select object columns conditions)) =
+    let same : line_effect statement_lines state line ≡ meant (meaning state.machine state.channel (Select object columns conditions)) =
     ap (statement_effect state) is.taken ∙ ap (read_effect state) is.statement in
     record {
       text = ap (λ (effect : Effect TerminalState). effect.text) same ∙ law.text;

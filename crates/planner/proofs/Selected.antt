@@ -33,7 +33,6 @@ use Rattle.scql_model.specs.Contents.{Contents, contents_of, cut_to, narrowed}
 use Rattle.scql_model.specs.ReadingCommands.{declare, open_cursor, fetch, fetch_next, get_response, Move, or_stays, cut, rest_word, row_octets, wanted_of, named_among}
 use Rattle.scql_model.specs.ReadingLaws.{IsReadable}
 use Rattle.scql_model.specs.Moves.{selected, chosen, rows_under, first_row, row_behind, row_at, went_to, moved_to, move_of}
-use Rattle.scql_model.specs.Operations.{operations}
 use Rattle.scql_model.proofs.FoundAgain.{seen_stamped-named}
 use Rattle.scql_model.proofs.ContentsRise.{Rises-map, Rises-contents_of}
 use Rattle.scql_model.proofs.ChangedLists.{Rises-filter}
@@ -87,7 +86,7 @@ module _ (m : Machine) (channel : ℕ) (s : Session) (few : channel ≤ 3) (ther
     record After (place : Place) (count : ℕ) (whole : List ℕ) (ran : Ran) : Type 0 where
       reply : Reply
       next : Machine
-      answer : answer_to operations (machine_at (at c place [])) (wanting channel FetchNext) ≡ record { reply = reply; machine = next; commits = [] }
+      answer : answer_to (machine_at (at c place [])) (wanting channel FetchNext) ≡ record { reply = reply; machine = next; commits = [] }
       ends : Ends next (Some reply) (plan_at Fetching (count + 1) 0 whole) ran
 
     -- a piece of a row, and what comes of what is left behind it
@@ -178,7 +177,7 @@ module _ (m : Machine) (channel : ℕ) (s : Session) (few : channel ≤ 3) (ther
         → Ends (machine_at (at c NotOpen [])) (Some (said done)) (plan_at Declaring 0 0 []) (all_given rows (length rows))
     opened-run rises given most = go rows refl given most
       where
-        answer : answer_to operations (machine_at (at c NotOpen [])) (asking channel OpenCursor) ≡ moved_answer m channel (reads_so s (at c NotOpen [])) (went_to c (first_row rows))
+        answer : answer_to (machine_at (at c NotOpen [])) (asking channel OpenCursor) ≡ moved_answer m channel (reads_so s (at c NotOpen [])) (went_to c (first_row rows))
         answer =
             answer-read m (asking channel OpenCursor) s (reads_so s (at c NotOpen [])) open_cursor (asked-sent channel OpenCursor few refl refl tt refl) refl there
             ∙ ap (moved_answer m channel (reads_so s (at c NotOpen []))) (open-move db me c rows listed [])
@@ -300,9 +299,9 @@ module _ (m : Machine) (channel : ℕ) (s : Session) (there : session_of m chann
   asked = asking channel (DeclareCursor object columns conditions)
 
   asked-answer : (d : Result Declared StatusWord) → Declares (base m channel) (who m channel s) s.reading object columns conditions d
-      → answer_to operations m asked ≡ moved_answer m channel s (declares_so s.reading d)
+      → answer_to m asked ≡ moved_answer m channel s (declares_so s.reading d)
   asked-answer d declares =
-      ap (λ (n : Machine). answer_to operations n asked) (sym (in_session-same m channel s there))
+      ap (λ (n : Machine). answer_to n asked) (sym (in_session-same m channel s there))
       ∙ (answer-read m asked s s (declare object columns conditions) can.commands.0 refl there ∙ ap (moved_answer m channel s) declares.moves)
 
   changed-session : (change : Session → Session) → in_session m channel (change s) ≡ changing_session change m channel
@@ -330,25 +329,25 @@ module _ (m : Machine) (channel : ℕ) (s : Session) (there : session_of m chann
       (asked-answer (Ok d) declares)
       (opened-run m channel s can.within there object columns conditions d.cursor d.rows declares.is.0 declares.is.1 (given-all d.rows rows.formed) few)))
 
-  select-runs : AreRows (meaning operations m channel (Select object columns conditions)).rows
-      → Ends m None (started (Select object columns conditions) channel inside) (shown (meaning operations m channel (Select object columns conditions)))
+  select-runs : AreRows (meaning m channel (Select object columns conditions)).rows
+      → Ends m None (started (Select object columns conditions) channel inside) (shown (meaning m channel (Select object columns conditions)))
   unfolding meaning declared
   select-runs rows =
       let f : Actor → Result Declared StatusWord = λ a. declared_from (base m channel) a s.reading object columns conditions readable (seen_named (base m channel) a object) in
       let acts : actor m channel ≡ who m channel s = ap (λ (session : Option Session). option_map_or (actor_of (base m channel)) (option_and_then (λ (x : Session). x.user) session) Public) there in
       let P : Meaning → Type 0 = λ x. AreRows x.rows → Ends m None (started (Select object columns conditions) channel inside) (shown x) in
-      let is : meaning operations m channel (Select object columns conditions) ≡ selects_all m channel (f (who m channel s)) =
+      let is : meaning m channel (Select object columns conditions) ≡ selects_all m channel (f (who m channel s)) =
       ap (λ (session : Option Session). if is_some session then selects_all m channel (f (actor m channel)) else ended (Refused channel_not_supported) m channel) there
       ∙ ap (λ (a : Actor). selects_all m channel (f a)) acts in
       subst P (sym is) (declared-run (f (who m channel s)) (declares (base m channel) (who m channel s) s.reading object columns conditions readable)) rows
 
 -- the same, of a channel that is open
 pub select-open : (m : Machine) (channel : ℕ) (object : List ℕ) (columns : Columns) (conditions : List Condition) (inside : Bool) → is_channel_open m channel ≡ true
-    → CanBeSent channel (Select object columns conditions) → IsReadable (base m channel) → AreRows (meaning operations m channel (Select object columns conditions)).rows
-    → RunsTo m (started (Select object columns conditions) channel inside) (shown (meaning operations m channel (Select object columns conditions)))
+    → CanBeSent channel (Select object columns conditions) → IsReadable (base m channel) → AreRows (meaning m channel (Select object columns conditions)).rows
+    → RunsTo m (started (Select object columns conditions) channel inside) (shown (meaning m channel (Select object columns conditions)))
 select-open m channel object columns conditions inside is_open can readable rows = go (session_of m channel) refl is_open
   where
     go : (session : Option Session) → session_of m channel ≡ session → is_some session ≡ true
-        → RunsTo m (started (Select object columns conditions) channel inside) (shown (meaning operations m channel (Select object columns conditions)))
+        → RunsTo m (started (Select object columns conditions) channel inside) (shown (meaning m channel (Select object columns conditions)))
     go None there is = absurd (cc)
-    go (Some s) there is = runs-to m (started (Select object columns conditions) channel inside) (shown (meaning operations m channel (Select object columns conditions))) (select-runs m channel s there object columns conditions inside can readable rows)
+    go (Some s) there is = runs-to m (started (Select object columns conditions) channel inside) (shown (meaning m channel (Select object columns conditions))) (select-runs m channel s there object columns conditions inside can readable rows)

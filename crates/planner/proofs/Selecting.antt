@@ -19,7 +19,6 @@ use Rattle.scql_model.specs.Machine.{Machine, Reading}
 use Rattle.scql_model.specs.Objects.{StampedRow}
 use Rattle.scql_model.specs.ReadingCommands.{open_cursor, fetch, fetch_next, get_response, Move, or_stays, fitting, row_octets}
 use Rattle.scql_model.specs.Moves.{rows_under, first_row, row_behind, row_at, moved_to, giving, went_to, gave, gave_next, move_of}
-use Rattle.scql_model.specs.Operations.{operations}
 use Rattle.planner.specs.declared.closing.Closing.{Closing}
 use Rattle.planner.specs.declared.stage.Stage.TheVariants.{Fetching}
 use Rattle.planner.specs.declared.step.Step.TheVariants.{Send, Row, Done}
@@ -37,31 +36,31 @@ more (suc k) n = suc (more k n)
 -- a run ends so within some number of steps
 pub record Ends (m : Machine) (last : Option Reply) (p : Planned) (ran : Ran) : Type 0 where
   pub steps : ℕ
-  pub runs : (n : ℕ) → run operations (more steps n) m last p ≡ ran
+  pub runs : (n : ℕ) → run (more steps n) m last p ≡ ran
 
 pub sends-ends : (m next : Machine) (last : Option Reply) (reply : Reply) (p q : Planned) (c : Command) (ran : Ran) → next_of last p ≡ record { plan = q; step = Send c }
-    → answer_to operations m c ≡ record { reply = reply; machine = next; commits = [] } → Ends next (Some reply) q ran → Ends m last p ran
+    → answer_to m c ≡ record { reply = reply; machine = next; commits = [] } → Ends next (Some reply) q ran → Ends m last p ran
 sends-ends m next last reply p q c ran is-turn is-answer e = record {
   steps = suc e.steps;
   runs = λ n.
-      ap (λ (turn : Turn). taken operations (λ x r y. run operations (more e.steps n) x r y) m turn.plan turn.step) is-turn
-      ∙ (ap (answered_by (λ x r y. run operations (more e.steps n) x r y) q) is-answer ∙ e.runs n);
+      ap (λ (turn : Turn). taken (λ x r y. run (more e.steps n) x r y) m turn.plan turn.step) is-turn
+      ∙ (ap (answered_by (λ x r y. run (more e.steps n) x r y) q) is-answer ∙ e.runs n);
 }
 
 pub row-ends : (m next : Machine) (last : Option Reply) (reply : Reply) (p q : Planned) (c : Command) (ran : Ran) → next_of last p ≡ record { plan = q; step = Row c }
-    → answer_to operations m c ≡ record { reply = reply; machine = next; commits = [] } → Ends next (Some reply) q ran → Ends m last p (running.giving q.row ran)
+    → answer_to m c ≡ record { reply = reply; machine = next; commits = [] } → Ends next (Some reply) q ran → Ends m last p (running.giving q.row ran)
 row-ends m next last reply p q c ran is-turn is-answer e = record {
   steps = suc e.steps;
   runs = λ n.
-      ap (λ (turn : Turn). taken operations (λ x r y. run operations (more e.steps n) x r y) m turn.plan turn.step) is-turn
-      ∙ ap (running.giving q.row) (ap (answered_by (λ x r y. run operations (more e.steps n) x r y) q) is-answer ∙ e.runs n);
+      ap (λ (turn : Turn). taken (λ x r y. run (more e.steps n) x r y) m turn.plan turn.step) is-turn
+      ∙ ap (running.giving q.row) (ap (answered_by (λ x r y. run (more e.steps n) x r y) q) is-answer ∙ e.runs n);
 }
 
 pub done-ends : (m : Machine) (last : Option Reply) (p q : Planned) (closing : Closing) → next_of last p ≡ record { plan = q; step = Done closing }
     → Ends m last p (record { rows = []; closing = closing; machine = m; commits = [] })
 done-ends m last p q closing is-turn = record {
   steps = 1;
-  runs = λ n. ap (λ (turn : Turn). taken operations (λ x r y. run operations n x r y) m turn.plan turn.step) is-turn;
+  runs = λ n. ap (λ (turn : Turn). taken (λ x r y. run n x r y) m turn.plan turn.step) is-turn;
 }
 
 -- words

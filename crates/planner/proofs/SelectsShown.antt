@@ -29,7 +29,6 @@ use Rattle.scql_model.proofs.FoundAgain.{seen_stamped-named, name-seen_named, fi
 use Rattle.scql_model.proofs.Positions.{values_of}
 use Rattle.scql_model.proofs.ReadingSteps.{shown_on-other, ended-shown}
 use Rattle.script.specs.declared.statement.Statement.TheVariants.{Select}
-use Rattle.scql_model.specs.Operations.{operations}
 use Rattle.planner.specs.declared.closing.Closing.TheVariants.{Rows, Refused}
 use Rattle.planner.specs.Meaning.{Meaning, Declared, cursor_on, declared, standing, selects_all, ended, meaning}
 use Rattle.planner.specs.Selecting.{ShownRows, select_shown, rows_shown, cursor_behind, rows_text, shown_behind, read_select, select_next, SelectsWhatIsShown}
@@ -167,7 +166,7 @@ module _ (m : Machine) (channel : ℕ) (s : Session) (there : session_of m chann
       channel_stays = goes-on reads;
     }
 
-    session-selects : Selects (meaning operations m channel (Select object columns conditions))
+    session-selects : Selects (meaning m channel (Select object columns conditions))
     unfolding meaning declared
     session-selects =
         subst Selects
@@ -176,10 +175,10 @@ module _ (m : Machine) (channel : ℕ) (s : Session) (there : session_of m chann
 
 -- the law, on a channel that is open
 pub select-reads : (m : Machine) (channel : ℕ) (object : List ℕ) (columns : Columns) (conditions : List Condition) → is_channel_open m channel ≡ true → IsReadable (base m channel)
-    → SelectsWhatIsShown m channel object columns conditions (meaning operations m channel (Select object columns conditions))
+    → SelectsWhatIsShown m channel object columns conditions (meaning m channel (Select object columns conditions))
 select-reads m channel object columns conditions opened readable = go (session_of m channel) refl opened
   where
     go : (session : Option Session) → session_of m channel ≡ session → is_some session ≡ true
-        → SelectsWhatIsShown m channel object columns conditions (meaning operations m channel (Select object columns conditions))
+        → SelectsWhatIsShown m channel object columns conditions (meaning m channel (Select object columns conditions))
     go None there is = absurd cc
     go (Some s) there is = session-selects m channel s there object columns conditions readable

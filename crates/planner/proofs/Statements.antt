@@ -12,7 +12,6 @@ use Rattle.scql_model.specs.Sessions.{is_channel_open}
 use Rattle.scql_model.specs.Transactions.{own_transaction}
 use Rattle.scql_model.specs.Matching.{Columns}
 use Rattle.scql_model.specs.Objects.{StampedRow}
-use Rattle.scql_model.specs.Operations.{operations}
 use Rattle.scql_model.specs.Parameters.{are_chosen_columns}
 use Rattle.scql_model.proofs.ReadingIsShown.{IsReadable-valid}
 use Rattle.script.specs.declared.statement.Statement.{Statement}
@@ -96,7 +95,7 @@ module _ (m : Machine) (channel : ℕ) (s : Session) (near : channel ≤ 3) (the
 
 -- the rows of a SELECT
 pub select-rows : (m : Machine) (channel : ℕ) (object : List ℕ) (columns : Columns) (conditions : List Condition) → is_channel_open m channel ≡ true → IsValid (base m channel)
-    → are_chosen_columns columns ≡ true → AreRows (meaning operations m channel (Select object columns conditions)).rows
+    → are_chosen_columns columns ≡ true → AreRows (meaning m channel (Select object columns conditions)).rows
 unfolding meaning
 select-rows m channel object columns conditions is_open valid chosen =
     subst (λ (x : Meaning). AreRows x.rows)
@@ -113,12 +112,12 @@ module _ (m : Machine) (channel : ℕ) (valid : IsValid (base m channel)) where
 
   brief : (s : Statement) → IsBrief s → Meant s
   brief s is =
-      runs-to m (started s channel (is_some (own_transaction m.transaction channel))) (shown (meaning operations m channel s))
-      (record { steps = 2; runs = λ n. brief-runs operations n m channel (is_some (own_transaction m.transaction channel)) s is })
+      runs-to m (started s channel (is_some (own_transaction m.transaction channel))) (shown (meaning m channel s))
+      (record { steps = 2; runs = λ n. brief-runs n m channel (is_some (own_transaction m.transaction channel)) s is })
 
   closed : (s : Statement) → IsOfRows s → CanBeSent channel s → is_channel_open m channel ≡ false → Meant s
   closed s is can none =
-      runs-to m (started s channel (is_some (own_transaction m.transaction channel))) (shown (meaning operations m channel s))
+      runs-to m (started s channel (is_some (own_transaction m.transaction channel))) (shown (meaning m channel s))
       (record { steps = 2; runs = λ n. closed-run m n channel (is_some (own_transaction m.transaction channel)) s is can none })
 
   of-session : (s : Statement) (session : Option Session) → session_of m channel ≡ session → (is_some (session_of m channel) ≡ false → Meant s) → ((x : Session) → session_of m channel ≡ Some x → Meant s) → Meant s

@@ -11,11 +11,10 @@ use Rattle.scql_base.specs.Words.{channel_not_supported}
 use Rattle.scql_model.specs.Database.{Database}
 use Rattle.scql_model.specs.Heard.{IsLawful, after_commits}
 use Rattle.scql_model.specs.Machine.{Machine, Transaction}
-use Rattle.scql_model.specs.Operations.{operations}
 use Rattle.scql_model.specs.Sessions.{is_channel_open}
-use Rattle.scql_model.specs.Step.{Answer, step_by}
+use Rattle.scql_model.specs.Step.{Answer, step}
 use Rattle.scql_model.specs.Transactions.{own_transaction}
-use Rattle.scql_model.proofs.LastCommits.{last-step_by}
+use Rattle.scql_model.proofs.LastCommits.{last-step}
 use Rattle.script.specs.declared.fault.ScriptFault.{ScriptFault}
 use Rattle.script.specs.declared.statement.Statement.{Statement}
 use Rattle.script.specs.declared.statement.Statement.TheVariants.{Blank, Single, Select, UpdateRows, DeleteRows, OpenNumber, CloseNumber, UseNumber, Reset}
@@ -37,22 +36,22 @@ after-append db [] ys = refl
 after-append db (x ∷ xs) ys = after-append x xs ys
 
 -- The database after a command is the last that it committed.
-last-in_turn : (m : Machine) (octets : List ℕ) (rest : List (List ℕ)) → after_all m.committed (in_turn operations m octets rest).commits ≡ (in_turn operations m octets rest).machine.committed
-last-in_turn m octets [] = last-step_by operations m octets
-last-in_turn m octets (next ∷ rest) = go (is_done (step_by operations m octets).reply.word) (last-in_turn (step_by operations m octets).machine next rest)
+last-in_turn : (m : Machine) (octets : List ℕ) (rest : List (List ℕ)) → after_all m.committed (in_turn m octets rest).commits ≡ (in_turn m octets rest).machine.committed
+last-in_turn m octets [] = last-step m octets
+last-in_turn m octets (next ∷ rest) = go (is_done (step m octets).reply.word) (last-in_turn (step m octets).machine next rest)
   where
-    go : (done : Bool) → after_all (step_by operations m octets).machine.committed (in_turn operations (step_by operations m octets).machine next rest).commits ≡ (in_turn operations (step_by operations m octets).machine next rest).machine.committed
-        → (let a : Answer = if done then record (in_turn operations (step_by operations m octets).machine next rest) { commits = (step_by operations m octets).commits ++ (in_turn operations (step_by operations m octets).machine next rest).commits } else step_by operations m octets in after_all m.committed a.commits ≡ a.machine.committed)
-    go false last = last-step_by operations m octets
+    go : (done : Bool) → after_all (step m octets).machine.committed (in_turn (step m octets).machine next rest).commits ≡ (in_turn (step m octets).machine next rest).machine.committed
+        → (let a : Answer = if done then record (in_turn (step m octets).machine next rest) { commits = (step m octets).commits ++ (in_turn (step m octets).machine next rest).commits } else step m octets in after_all m.committed a.commits ≡ a.machine.committed)
+    go false last = last-step m octets
     go true last =
-        after-append m.committed (step_by operations m octets).commits (in_turn operations (step_by operations m octets).machine next rest).commits
-        ∙ (ap (λ (db : Database). after_all db (in_turn operations (step_by operations m octets).machine next rest).commits) (last-step_by operations m octets) ∙ last)
+        after-append m.committed (step m octets).commits (in_turn (step m octets).machine next rest).commits
+        ∙ (ap (λ (db : Database). after_all db (in_turn (step m octets).machine next rest).commits) (last-step m octets) ∙ last)
 
-last-all : (m : Machine) (parts : List (List ℕ)) → after_all m.committed (all_in_turn operations m parts).commits ≡ (all_in_turn operations m parts).machine.committed
+last-all : (m : Machine) (parts : List (List ℕ)) → after_all m.committed (all_in_turn m parts).commits ≡ (all_in_turn m parts).machine.committed
 last-all m [] = refl
 last-all m (octets ∷ rest) = last-in_turn m octets rest
 
-pub last-answer : (m : Machine) (c : Command) → after_all m.committed (answer_to operations m c).commits ≡ (answer_to operations m c).machine.committed
+pub last-answer : (m : Machine) (c : Command) → after_all m.committed (answer_to m c).commits ≡ (answer_to m c).machine.committed
 unfolding answer_to
 last-answer m c = last-all m (parts_of c)
 
@@ -85,7 +84,7 @@ last-changes m channel operation d None = outside m.transaction d
     outside None (Err word) = refl
     outside None (Ok d) = committed d (changed_in m channel operation d (begun m channel)) (changed_in m channel operation d (begun m channel)).refusal
 
-pub last-meaning : (m : Machine) (channel : ℕ) (s : Statement) → IsLast m (meaning operations m channel s)
+pub last-meaning : (m : Machine) (channel : ℕ) (s : Statement) → IsLast m (meaning m channel s)
 unfolding meaning
 last-meaning m channel Blank = refl
 last-meaning m channel (Single operation) = last-answer m (asking channel operation)
@@ -137,15 +136,15 @@ silent-changes m channel operation d None = outside m.transaction d
     outside None (Err word) = inr tt
     outside None (Ok d) = committed d (changed_in m channel operation d (begun m channel)) (changed_in m channel operation d (begun m channel)).refusal
 
-silent-meaning : (m : Machine) (channel : ℕ) (s : Statement) → IsSilent (meaning operations m channel s)
+silent-meaning : (m : Machine) (channel : ℕ) (s : Statement) → IsSilent (meaning m channel s)
 unfolding meaning
 silent-meaning m channel Blank = inl refl
-silent-meaning m channel (Single operation) = inr (said-single (answer_to operations m (asking channel operation)).reply.word)
+silent-meaning m channel (Single operation) = inr (said-single (answer_to m (asking channel operation)).reply.word)
 silent-meaning m channel (Select object columns conditions) = silent-open m channel _ (silent-selects m channel (declared m channel object columns conditions))
 silent-meaning m channel (UpdateRows object changes conditions) = silent-open m channel _ (silent-changes m channel (Update changes) (declared m channel object [] conditions) (own_transaction m.transaction channel))
 silent-meaning m channel (DeleteRows object conditions) = silent-open m channel _ (silent-changes m channel Delete (declared m channel object [] conditions) (own_transaction m.transaction channel))
-silent-meaning m channel (OpenNumber number) = inr (said-single (answer_to operations m (asking 0 (OpenChannel number))).reply.word)
-silent-meaning m channel (CloseNumber number) = inr (said-single (answer_to operations m (asking 0 (CloseChannel number))).reply.word)
+silent-meaning m channel (OpenNumber number) = inr (said-single (answer_to m (asking 0 (OpenChannel number))).reply.word)
+silent-meaning m channel (CloseNumber number) = inr (said-single (answer_to m (asking 0 (CloseChannel number))).reply.word)
 silent-meaning m channel (UseNumber number) = inl refl
 silent-meaning m channel Reset = inl refl
 
@@ -165,7 +164,7 @@ last-read state (Ok s) = last-meaning state.machine state.channel s
 
 silent-read : (state : TerminalState) (r : Result Statement ScriptFault) → (let does = read_effect state r in length does.text ≡ 0 → length does.commits ≡ 0)
 silent-read state (Err fault) none = refl
-silent-read state (Ok s) none = silent-text (meaning operations state.machine state.channel s) (silent-meaning state.machine state.channel s) none
+silent-read state (Ok s) none = silent-text (meaning state.machine state.channel s) (silent-meaning state.machine state.channel s) none
 
 last-line : (state : TerminalState) (line : Option (List ℕ)) → (let does = statement_effect state line in after_all state.machine.committed does.commits ≡ does.next.machine.committed)
 last-line state None = refl

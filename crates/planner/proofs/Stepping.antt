@@ -25,7 +25,7 @@ use Rattle.scql_model.specs.Edits.{Edit, with_edits}
 use Rattle.scql_model.specs.Changing.{edits_of, transaction_after}
 use Rattle.scql_model.specs.ReadingCommands.{ReadingCommand, reading_command}
 use Rattle.scql_model.specs.Moves.{move_of}
-use Rattle.scql_model.specs.Step.{Answer, answered, done_with, changed_to, changed, carried_out, stepped, step_by}
+use Rattle.scql_model.specs.Step.{Answer, answered, done_with, changed_to, changed, carried_out, stepped, step}
 use Rattle.scql_model.proofs.CommandsAgain.{command-again}
 use Rattle.scql_model.proofs.LinesFound.{HasLine-operations}
 use Rattle.scql_model.proofs.ChangingSessions.{changing_session-set}
@@ -67,8 +67,8 @@ module _ (m : Machine) (channel : ℕ) (s : Session) (near : channel ≤ 3) (the
 
   answer-alone : (operation : Operation) (t : Option Transaction) (x : Session) → comes_in_parts (kind_of operation) ≡ false → IsSendable (asking channel operation)
       → IsTaken (has_secrets operations) m.committed.limit operation → ((chain : Option Chain) → parts_of (kind_of operation) chain ≡ [])
-      → answer_to operations (machine_with t x) (asking channel operation) ≡ outcome operation t (without_chain x)
-  unfolding step_by
+      → answer_to (machine_with t x) (asking channel operation) ≡ outcome operation t (without_chain x)
+  unfolding step
   answer-alone operation t x alone can taken parts =
       let n : Machine = machine_with t x in
       let c : Command = asking channel operation in
@@ -84,19 +84,19 @@ module _ (m : Machine) (channel : ℕ) (s : Session) (near : channel ≤ 3) (the
 
   -- BEGIN
   pub answer-begun : (x : Session)
-      → answer_to operations (machine_with None x) (asking channel Begin) ≡ record { reply = said done; machine = machine_with (Some (begun m channel)) (without_pending (without_chain x)); commits = [] }
+      → answer_to (machine_with None x) (asking channel Begin) ≡ record { reply = said done; machine = machine_with (Some (begun m channel)) (without_pending (without_chain x)); commits = [] }
   answer-begun x =
       answer-alone Begin None x refl (asked-sent channel Begin near refl refl tt refl) tt (no-chain kind.Begin (λ other. refl))
       ∙ settled (Some (begun m channel)) (without_chain x) []
 
   pub answer-waits : (t : Transaction) (x : Session) → (t.channel == channel) ≡ false
-      → answer_to operations (machine_with (Some t) x) (asking channel Begin) ≡ record { reply = said conditions_not_satisfied; machine = machine_with (Some t) (without_chain x); commits = [] }
+      → answer_to (machine_with (Some t) x) (asking channel Begin) ≡ record { reply = said conditions_not_satisfied; machine = machine_with (Some t) (without_chain x); commits = [] }
   answer-waits t x other =
       answer-alone Begin (Some t) x refl (asked-sent channel Begin near refl refl tt refl) tt (no-chain kind.Begin (λ other. refl)) ∙ rw other refl
 
   -- COMMIT and ROLLBACK
   pub answer-committed : (t : Transaction) (x : Session) → (t.channel == channel) ≡ true
-      → answer_to operations (machine_with (Some t) x) (asking channel Commit)
+      → answer_to (machine_with (Some t) x) (asking channel Commit)
       ≡ record { reply = said done; machine = in_session (record m { committed = t.working; transaction = None }) channel (without_pending (without_chain x)); commits = t.working ∷ [] }
   answer-committed t x own =
       answer-alone Commit (Some t) x refl (asked-sent channel Commit near refl refl tt refl) tt (no-chain kind.Commit (λ other. refl))
@@ -107,7 +107,7 @@ module _ (m : Machine) (channel : ℕ) (s : Session) (near : channel ≤ 3) (the
       commits = rw own refl
 
   pub answer-rolled_back : (t : Transaction) (x : Session) → (t.channel == channel) ≡ true
-      → answer_to operations (machine_with (Some t) x) (asking channel Rollback) ≡ record { reply = said done; machine = machine_with None (without_cursor (without_chain x)); commits = [] }
+      → answer_to (machine_with (Some t) x) (asking channel Rollback) ≡ record { reply = said done; machine = machine_with None (without_cursor (without_chain x)); commits = [] }
   answer-rolled_back t x own =
       answer-alone Rollback (Some t) x refl (asked-sent channel Rollback near refl refl tt refl) tt (no-chain kind.Rollback (λ other. refl))
       ∙ (rolls ∙ (ap (λ (n : Machine). done_with n channel []) (changing_session-set without_cursor (record m { transaction = None }) channel (Some (without_chain x)))
@@ -119,7 +119,7 @@ module _ (m : Machine) (channel : ℕ) (s : Session) (near : channel ≤ 3) (the
   -- a reading command in the channel's transaction
   pub answer-reads : (t : Transaction) (x : Session) (operation : Operation) (command : ReadingCommand) → (t.channel == channel) ≡ true → IsSendable (asking channel operation)
       → reading_command operation None ≡ Some command
-      → answer_to operations (machine_with (Some t) x) (asking channel operation)
+      → answer_to (machine_with (Some t) x) (asking channel operation)
       ≡ moved_answer (record m { transaction = Some t }) channel x (move_of t.working (who_in t.working x) x.reading command)
   answer-reads t x operation command own can is =
       answer-read (record m { transaction = Some t }) (asking channel operation) s x command can is there
@@ -168,7 +168,7 @@ module _ (m : Machine) (channel : ℕ) (s : Session) (near : channel ≤ 3) (the
       made (Ok edits) = room edits (with_edits t.working edits)
 
   pub answer-changed : (operation : Operation) (t : Transaction) (c : Cursor) → ChangesRow operation → IsSendable (asking channel operation) → (t.channel == channel) ≡ true
-      → answer_to operations (machine_with (Some t) (resting c)) (asking channel operation) ≡ change_answer t (resting c) (row_changed m.committed (who_in t.working s) operation c t)
+      → answer_to (machine_with (Some t) (resting c)) (asking channel operation) ≡ change_answer t (resting c) (row_changed m.committed (who_in t.working s) operation c t)
   answer-changed (Update changes) t c is can own =
       answer-in_parts (record m { transaction = Some t }) channel s there s.user (Some c) changes can
       ∙ (ended-outcome (Update changes) (Some t) (resting c) ∙ (goes ∙ change-outcome (Update changes) t c own))

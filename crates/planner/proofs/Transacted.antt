@@ -19,7 +19,6 @@ use Rattle.scql_model.specs.Sessions.{with_session, changing_session, without_ch
 use Rattle.scql_model.specs.ReadingCommands.{declare}
 use Rattle.scql_model.specs.ReadingLaws.{IsReadable}
 use Rattle.scql_model.specs.Moves.{rows_under, move_of}
-use Rattle.scql_model.specs.Operations.{operations}
 use Rattle.script.specs.declared.statement.Statement.{Statement}
 use Rattle.script.specs.Commands.{asking, IsSendable}
 use Rattle.planner.specs.declared.closing.Closing.TheVariants.{Rows, Refused}
@@ -38,12 +37,12 @@ use Rattle.planner.proofs.Stepping.{who_in, machine_with, answer-begun, answer-w
 
 -- a command that commits
 commits-ends : (m next : Machine) (last : Option Reply) (reply : Reply) (commits : List Database) (p q : Planned) (c : Command) (ran : Ran) → next_of last p ≡ record { plan = q; step = Send c }
-    → answer_to operations m c ≡ record { reply = reply; machine = next; commits = commits } → Ends next (Some reply) q ran → Ends m last p (committing commits ran)
+    → answer_to m c ≡ record { reply = reply; machine = next; commits = commits } → Ends next (Some reply) q ran → Ends m last p (committing commits ran)
 commits-ends m next last reply commits p q c ran is-turn is-answer e = record {
   steps = suc e.steps;
   runs = λ n.
-      ap (λ (turn : Turn). taken operations (λ x r y. run operations (more e.steps n) x r y) m turn.plan turn.step) is-turn
-      ∙ (ap (answered_by (λ x r y. run operations (more e.steps n) x r y) q) is-answer ∙ ap (committing commits) (e.runs n));
+      ap (λ (turn : Turn). taken (λ x r y. run (more e.steps n) x r y) m turn.plan turn.step) is-turn
+      ∙ (ap (answered_by (λ x r y. run (more e.steps n) x r y) q) is-answer ∙ ap (committing commits) (e.runs n));
 }
 
 module _ (m : Machine) (channel : ℕ) (s : Session) (near : channel ≤ 3) (there : session_of m channel ≡ Some s)
@@ -75,7 +74,7 @@ module _ (m : Machine) (channel : ℕ) (s : Session) (near : channel ≤ 3) (the
 
   asked-answer : (t : Transaction) (reading : Reading) (chain : Option Chain) (d : Result Declared StatusWord) → (t.channel == channel) ≡ true → t.working ≡ base m channel
       → Declares (base m channel) me reading object [] conditions d
-      → answer_to operations (machine_with m channel s near there (Some t) (session_with reading chain)) (asking channel (DeclareCursor object [] conditions))
+      → answer_to (machine_with m channel s near there (Some t) (session_with reading chain)) (asking channel (DeclareCursor object [] conditions))
       ≡ record { reply = (declares_so reading d).reply; machine = machine_at m channel s near there statement object conditions operation by can false t (declares_so reading d).after; commits = [] }
   asked-answer t reading chain d own works d-is =
       answer-reads m channel s near there t (session_with reading chain) (DeclareCursor object [] conditions) (declare object [] conditions) own can_declare refl

@@ -27,7 +27,7 @@ use Rattle.scql_model.specs.ReadingCommands.{ReadingCommand, reading_command}
 use Rattle.scql_model.specs.Edits.{Edit}
 use Rattle.scql_model.specs.Changing.{edits_of, with_edits, transaction_after}
 use Rattle.scql_model.specs.Spelling.{IsTaken, field_of, part_count, part_octets, part_by}
-use Rattle.scql_model.specs.Step.{Answer, answered, reading_done, changed_to, changed, user_and_sessions_deleted, session_named, secret_right, secret_wrong, compared, verified, channel_opened, channel_closed, operated, carried_out, stepped, step_by}
+use Rattle.scql_model.specs.Step.{Answer, answered, reading_done, changed_to, changed, user_and_sessions_deleted, session_named, secret_right, secret_wrong, compared, verified, channel_opened, channel_closed, operated, carried_out, stepped, step}
 use Rattle.scql_model.proofs.FormedCommands.{bound, same_Ok}
 use Rattle.scql_model.proofs.LastCommits.{of_outcome}
 use Rattle.scql_model.proofs.LinesFound.{HasLine-operations}
@@ -141,34 +141,31 @@ kept-stepped m (a_command c) other =
     let ended : Machine = changing_session without_chain m c.channel in
     kept-answered m ended (carried_out ended c) refl (kept-carried_out ended c (other c refl))
 
-kept-part : (m : Machine) (c : Command) (place : ℕ) → IsSendable c → transacts (kind_of c.operation) ≡ false → IsKept m (step_by operations m (part_octets c place))
-unfolding step_by part_octets
+kept-part : (m : Machine) (c : Command) (place : ℕ) → IsSendable c → transacts (kind_of c.operation) ≡ false → IsKept m (step m (part_octets c place))
+unfolding step part_octets
 kept-part m c place can other =
     let lined = Lined-field c.operation c.le can.formed.form can.formed.wanted in
     rw lined.found
     (kept-stepped m (form_of operations (part_by lined.line c.channel c.le (field_of c.operation) place) (open_channels m) (command_chain m) m.committed.limit) (λ read is.
     ap transacts (kind-read lined.line _ _ _ (open_channels m) (command_chain m) m.committed.limit read (HasLine-operations (kind_of c.operation) lined.line lined.found) is ∙ lined.kind) ∙ other))
 
-kept-in_turn : (m : Machine) (c : Command) (n place : ℕ) → IsSendable c → transacts (kind_of c.operation) ≡ false → IsKept m (in_turn operations m (part_octets c place) (parts_from (place + 1) n c))
+kept-in_turn : (m : Machine) (c : Command) (n place : ℕ) → IsSendable c → transacts (kind_of c.operation) ≡ false → IsKept m (in_turn m (part_octets c place) (parts_from (place + 1) n c))
 kept-in_turn m c zero place can other = kept-part m c place can other
-kept-in_turn m c (suc n) place can other = go (is_done step.reply.word) (kept-in_turn step.machine c n (place + 1) can other)
+kept-in_turn m c (suc n) place can other = go (is_done first.reply.word) (kept-in_turn first.machine c n (place + 1) can other)
   where
-    step : Answer
-    step = step_by operations m (part_octets c place)
+    first : Answer
+    first = step m (part_octets c place)
 
-    next : Answer
-    next = in_turn operations (step_by operations m (part_octets c place)).machine (part_octets c (place + 1)) (parts_from (place + 1 + 1) n c)
-
-    go : (b : Bool) → IsKept (step_by operations m (part_octets c place)).machine (in_turn operations (step_by operations m (part_octets c place)).machine (part_octets c (place + 1)) (parts_from (place + 1 + 1) n c))
-        → IsKept m (if b then record (in_turn operations (step_by operations m (part_octets c place)).machine (part_octets c (place + 1)) (parts_from (place + 1 + 1) n c)) { commits = (step_by operations m (part_octets c place)).commits ++ (in_turn operations (step_by operations m (part_octets c place)).machine (part_octets c (place + 1)) (parts_from (place + 1 + 1) n c)).commits } else step_by operations m (part_octets c place))
+    go : (b : Bool) → IsKept (step m (part_octets c place)).machine (in_turn (step m (part_octets c place)).machine (part_octets c (place + 1)) (parts_from (place + 1 + 1) n c))
+        → IsKept m (if b then record (in_turn (step m (part_octets c place)).machine (part_octets c (place + 1)) (parts_from (place + 1 + 1) n c)) { commits = (step m (part_octets c place)).commits ++ (in_turn (step m (part_octets c place)).machine (part_octets c (place + 1)) (parts_from (place + 1 + 1) n c)).commits } else step m (part_octets c place))
     go true kept = kept ∙ kept-part m c place can other
     go false kept = kept-part m c place can other
 
-pub answer-kept : (m : Machine) (c : Command) → IsSendable c → transacts (kind_of c.operation) ≡ false → Keeps m (answer_to operations m c).machine
+pub answer-kept : (m : Machine) (c : Command) → IsSendable c → transacts (kind_of c.operation) ≡ false → Keeps m (answer_to m c).machine
 unfolding answer_to
 answer-kept m c can other = go (part_count c)
   where
-    go : (count : ℕ) → IsKept m (all_in_turn operations m (parts_from 0 count c))
+    go : (count : ℕ) → IsKept m (all_in_turn m (parts_from 0 count c))
     go zero = refl
     go (suc n) = kept-in_turn m c n 0 can other
 
@@ -203,10 +200,10 @@ told-rolled_back m channel (Some t) is = elim (cases_Bool (t.channel == channel)
 -- on a channel that isn't open they are refused
 told-alone : (m : Machine) (channel : ℕ) (operation : Operation) → IsSendable (asking channel operation) → comes_in_parts (kind_of operation) ≡ false → IsTaken (has_secrets operations) m.committed.limit operation
     → ((chain : Option Chain) → parts_of (kind_of operation) chain ≡ []) → Tells m channel operation (outcome_of (changing_session without_chain m channel) channel operation)
-    → Tells m channel operation (answer_to operations m (asking channel operation))
+    → Tells m channel operation (answer_to m (asking channel operation))
 told-alone m channel operation can alone taken parts tells = go (session_of m channel) refl
   where
-    go : (s : Option Session) → session_of m channel ≡ s → Tells m channel operation (answer_to operations m (asking channel operation))
+    go : (s : Option Session) → session_of m channel ≡ s → Tells m channel operation (answer_to m (asking channel operation))
     go (Some s) is = subst (Tells m channel operation) (sym (answer-whole m (asking channel operation) s can alone taken parts is)) tells
     go None is = subst (Tells m channel operation) (sym (answer-closed m (asking channel operation) can alone (ap (λ (s : Option Session). is_some s) is))) refl
 
@@ -221,11 +218,11 @@ held_when-same : (closing : Closing) (held : Option ℕ) → held_when closing h
 held_when-same Fine held = refl
 held_when-same closing held = refl
 
-told-single : (m : Machine) (channel : ℕ) (operation : Operation) → IsSendable (asking channel operation) → Tells m channel operation (answer_to operations m (asking channel operation))
+told-single : (m : Machine) (channel : ℕ) (operation : Operation) → IsSendable (asking channel operation) → Tells m channel operation (answer_to m (asking channel operation))
 told-single m channel Begin can = told-alone m channel Begin can refl tt (no-chain kind.Begin (λ other. refl)) (told-begun (changing_session without_chain m channel) channel m.transaction refl)
 told-single m channel Commit can = told-alone m channel Commit can refl tt (no-chain kind.Commit (λ other. refl)) (told-committed (changing_session without_chain m channel) channel m.transaction refl)
 told-single m channel Rollback can = told-alone m channel Rollback can refl tt (no-chain kind.Rollback (λ other. refl)) (told-rolled_back (changing_session without_chain m channel) channel m.transaction refl)
-told-single m channel operation can = answer-kept m (asking channel operation) can refl ∙ sym (held_when-same (closing_of (answer_to operations m (asking channel operation)).reply.word) (transaction_channel m))
+told-single m channel operation can = answer-kept m (asking channel operation) can refl ∙ sym (held_when-same (closing_of (answer_to m (asking channel operation)).reply.word) (transaction_channel m))
 
 -- UPDATE and DELETE FROM stay in their transaction.
 same-row : (committed : Database) (a : Actor) (operation : Operation) (c : Cursor) (t next : Transaction) → row_changed committed a operation c t ≡ Ok next → next.channel ≡ t.channel
@@ -274,16 +271,16 @@ kept-open m channel x kept = go (is_channel_open m channel)
 kept-told : (m : Machine) (x : Meaning) → Keeps m x.machine → transaction_channel x.machine ≡ held_when x.closing (transaction_channel m) (transaction_channel m)
 kept-told m x kept = kept ∙ sym (held_when-same x.closing (transaction_channel m))
 
-pub transaction-told : (m : Machine) (channel : ℕ) (s : Statement) → CanBeSent channel s → TellsWhoHolds m channel s (meaning operations m channel s)
+pub transaction-told : (m : Machine) (channel : ℕ) (s : Statement) → CanBeSent channel s → TellsWhoHolds m channel s (meaning m channel s)
 unfolding meaning
 transaction-told m channel Blank can = refl
 transaction-told m channel (Single operation) can = told-single m channel operation can.commands.0
-transaction-told m channel (Select object columns conditions) can = kept-told m (meaning operations m channel (Select object columns conditions)) (kept-open m channel _ (kept-selects m channel (declared m channel object columns conditions)))
+transaction-told m channel (Select object columns conditions) can = kept-told m (meaning m channel (Select object columns conditions)) (kept-open m channel _ (kept-selects m channel (declared m channel object columns conditions)))
 transaction-told m channel (UpdateRows object changes conditions) can =
-    kept-told m (meaning operations m channel (UpdateRows object changes conditions)) (kept-open m channel _ (kept-changes m channel (Update changes) (declared m channel object [] conditions) (own_transaction m.transaction channel) refl))
+    kept-told m (meaning m channel (UpdateRows object changes conditions)) (kept-open m channel _ (kept-changes m channel (Update changes) (declared m channel object [] conditions) (own_transaction m.transaction channel) refl))
 transaction-told m channel (DeleteRows object conditions) can =
-    kept-told m (meaning operations m channel (DeleteRows object conditions)) (kept-open m channel _ (kept-changes m channel Delete (declared m channel object [] conditions) (own_transaction m.transaction channel) refl))
-transaction-told m channel (OpenNumber number) can = kept-told m (meaning operations m channel (OpenNumber number)) (answer-kept m (asking 0 (OpenChannel number)) can.commands.0 refl)
-transaction-told m channel (CloseNumber number) can = kept-told m (meaning operations m channel (CloseNumber number)) (answer-kept m (asking 0 (CloseChannel number)) can.commands.0 refl)
+    kept-told m (meaning m channel (DeleteRows object conditions)) (kept-open m channel _ (kept-changes m channel Delete (declared m channel object [] conditions) (own_transaction m.transaction channel) refl))
+transaction-told m channel (OpenNumber number) can = kept-told m (meaning m channel (OpenNumber number)) (answer-kept m (asking 0 (OpenChannel number)) can.commands.0 refl)
+transaction-told m channel (CloseNumber number) can = kept-told m (meaning m channel (CloseNumber number)) (answer-kept m (asking 0 (CloseChannel number)) can.commands.0 refl)
 transaction-told m channel (UseNumber number) can = refl
 transaction-told m channel Reset can = refl

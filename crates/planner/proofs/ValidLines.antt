@@ -6,7 +6,6 @@ use Rattle.scql_base.specs.declared.operation.TheConstants.Command.{LAST_CHANNEL
 use Rattle.scql_model.specs.Database.{Database, IsValid}
 use Rattle.scql_model.specs.Lines.{line_step, state_after, taken_line}
 use Rattle.scql_model.specs.Machine.{Machine, start}
-use Rattle.scql_model.specs.Operations.{operations}
 use Rattle.scql_model.specs.Replies.{Reply}
 use Rattle.scql_model.specs.Step.{Answer}
 use Rattle.scql_model.specs.Transactions.{own_transaction}
@@ -44,21 +43,21 @@ valid-answered rest keeps p answer is =
     let ran = keeps answer.machine (Some answer.reply) p is.machine in
     record { machine = ran.machine; commits = all-both IsValid answer.commits (rest answer.machine (Some answer.reply) p).commits is.commits ran.commits }
 
-valid-taken : (rest : Rest) → RunsValid rest → (m : Machine) (p : Planned) (step : Step) → IsValidMachine m → IsValidRun (taken operations rest m p step)
-valid-taken rest keeps m p (Send command) valid = valid-answered rest keeps p (answer_to operations m command) (valid-answer m command valid)
+valid-taken : (rest : Rest) → RunsValid rest → (m : Machine) (p : Planned) (step : Step) → IsValidMachine m → IsValidRun (taken rest m p step)
+valid-taken rest keeps m p (Send command) valid = valid-answered rest keeps p (answer_to m command) (valid-answer m command valid)
 valid-taken rest keeps m p (Row command) valid =
-    let ran = valid-answered rest keeps p (answer_to operations m command) (valid-answer m command valid) in
+    let ran = valid-answered rest keeps p (answer_to m command) (valid-answer m command valid) in
     record { machine = ran.machine; commits = ran.commits }
 valid-taken rest keeps m p ResetCard valid = keeps (start m.committed) None p (IsValidMachine-start m.committed valid.committed)
 valid-taken rest keeps m p (Done closing) valid = record { machine = valid; commits = tt }
 
-valid-run : (turns : ℕ) → RunsValid (run operations turns)
+valid-run : (turns : ℕ) → RunsValid (run turns)
 valid-run zero m last p valid = record { machine = valid; commits = tt }
 valid-run (suc turns) m last p valid =
-    valid-taken (λ next reply q. run operations turns next reply q) (λ next reply q valid. valid-run turns next reply q valid) m (next_of last p).plan (next_of last p).step valid
+    valid-taken (λ next reply q. run turns next reply q) (λ next reply q valid. valid-run turns next reply q valid) m (next_of last p).plan (next_of last p).step valid
 
 -- So does a statement, which runs to its meaning.
-valid-meaning : (m : Machine) (channel : ℕ) (s : Statement) → IsValidMachine m → CanBeSent channel s → IsValidRun (shown (meaning operations m channel s))
+valid-meaning : (m : Machine) (channel : ℕ) (s : Statement) → IsValidMachine m → CanBeSent channel s → IsValidRun (shown (meaning m channel s))
 valid-meaning m channel s valid can =
     let p : Planned = started s channel (is_some (own_transaction m.transaction channel)) in
     subst IsValidRun ((statement-runs m channel (valid-base m channel valid).valid s can).runs (suc (turns_left p)) (omega arith)) (valid-run (suc (turns_left p)) m None p valid)

@@ -20,7 +20,7 @@ use Rattle.scql_model.specs.Parameters.{operation_in}
 use Rattle.scql_model.specs.Refusals.{or_refused, provided}
 use Rattle.scql_model.specs.Sessions.{command_chain}
 use Rattle.scql_model.specs.Spelling.{field_of, line_for, cla_of, with_length, le_octets, part_at, part_by, part_count, part_octets, parts_for}
-use Rattle.scql_model.specs.Step.{Answer, step_by}
+use Rattle.scql_model.specs.Step.{Answer, step}
 use Rattle.scql_model.specs.ValidMachine.{IsValidMachine}
 use Rattle.scql_model.specs.WellFormed.{HasForm, FitsCard}
 use Rattle.scql_model.proofs.FormedCommands.{both, read-operation, has_channel, wants_le, is_sound, same_Ok, bound, not_refused, on_channel, no_part, line-passes, sound-operations}
@@ -106,8 +106,8 @@ fields-read table cla ins p1 p2 field le channels chain limit c sound least few 
 most-limit : (m : Machine) → IsValidMachine m → m.committed.limit ≤ 1020
 most-limit m valid = leb-true m.committed.limit 1020 (within_largest m.committed m.committed.limit valid.committed (le-leb m.committed.limit m.committed.limit (omega arith)))
 
-valid-part : (m : Machine) (c : Command) (place : ℕ) → IsValidMachine m → IsValidAnswer (step_by operations m (part_octets c place))
-unfolding step_by part_octets form_of
+valid-part : (m : Machine) (c : Command) (place : ℕ) → IsValidMachine m → IsValidAnswer (step m (part_octets c place))
+unfolding step part_octets form_of
 valid-part m c place valid = go (line_for operations (kind_of c.operation))
   where
     field : List ℕ
@@ -116,7 +116,7 @@ valid-part m c place valid = go (line_for operations (kind_of c.operation))
     few : length field ≤ 255
     few = let front = length-take 255 (drop (255 * place) (field_of c.operation)) in omega (arith, front)
 
-    go : (line : Option Line) → IsValidAnswer (step_by operations m (option_map_or (λ (l : Line). part_by l c.channel c.le (field_of c.operation) place) line []))
+    go : (line : Option Line) → IsValidAnswer (step m (option_map_or (λ (l : Line). part_by l c.channel c.le (field_of c.operation) place) line []))
     go None = valid-stepped m (form_of operations [] (open_channels m) (command_chain m) m.committed.limit) valid (λ d is. absurd cc)
     go (Some l) =
         let more : Bool = nat_lt (place + 1) (parts_for (length (field_of c.operation))) in
@@ -137,17 +137,17 @@ valid-followed answer next first then' = go (is_done answer.reply.word)
     go true = record { machine = then'.machine; commits = all-both IsValid answer.commits next.commits first.commits then'.commits }
     go false = first
 
-valid-in_turn : (m : Machine) (c : Command) (place next count : ℕ) → IsValidMachine m → IsValidAnswer (in_turn operations m (part_octets c place) (parts_from next count c))
+valid-in_turn : (m : Machine) (c : Command) (place next count : ℕ) → IsValidMachine m → IsValidAnswer (in_turn m (part_octets c place) (parts_from next count c))
 valid-in_turn m c place next zero valid = valid-part m c place valid
 valid-in_turn m c place next (suc count) valid =
     let first = valid-part m c place valid in
-    let after : Machine = (step_by operations m (part_octets c place)).machine in
-    valid-followed (step_by operations m (part_octets c place)) (in_turn operations after (part_octets c next) (parts_from (next + 1) count c)) first (valid-in_turn after c next (next + 1) count first.machine)
+    let after : Machine = (step m (part_octets c place)).machine in
+    valid-followed (step m (part_octets c place)) (in_turn after (part_octets c next) (parts_from (next + 1) count c)) first (valid-in_turn after c next (next + 1) count first.machine)
 
-pub valid-answer : (m : Machine) (c : Command) → IsValidMachine m → IsValidAnswer (answer_to operations m c)
+pub valid-answer : (m : Machine) (c : Command) → IsValidMachine m → IsValidAnswer (answer_to m c)
 unfolding answer_to
 valid-answer m c valid = go (part_count c)
   where
-    go : (count : ℕ) → IsValidAnswer (all_in_turn operations m (parts_from 0 count c))
+    go : (count : ℕ) → IsValidAnswer (all_in_turn m (parts_from 0 count c))
     go zero = record { machine = valid; commits = tt }
     go (suc count) = valid-in_turn m c 0 (0 + 1) count valid

@@ -17,7 +17,7 @@ use Rattle.scql_model.specs.Database.{fresh}
 use Rattle.scql_model.specs.Machine.{start}
 use Rattle.scql_model.specs.Form.{form_of}
 use Rattle.scql_model.specs.Spelling.{part_octets}
-use Rattle.scql_model.specs.Step.{step_by}
+use Rattle.scql_model.specs.Step.{step}
 use Rattle.script.specs.Tokens.{closed, tokens_from, tokens_of}
 use Rattle.script.specs.Reading.{one, optional, the, more, listed}
 use Rattle.script.specs.Meanings.{undoubled}
@@ -30,7 +30,7 @@ use Rattle.planner.specs.StatementLines.{term_text}
 
 -- the text of lines on a fresh card of so many cells, with all operations and all definitions open
 unfoldable printed : ℕ → List (List ℕ) → List ℕ
-unfolding line_text line_step meaning answer_to declared row_changed step_by part_octets form_of params_of pieces_of edits_of move_of holds appears contents_of depth_of object_created view_created table_dropped view_dropped privileges_granted privileges_revoked row_inserted row_updated row_deleted user_deleted hex_on_literals digits closed tokens_from tokens_of undoubled one optional the more listed name literal with_name names columns with_condition conditions where_conditions with_literal literals with_change changes with_privilege privileges create_table create_view create_dictionary create_user create drop_table drop_view dropping grant revoke insert select update delete_rows delete_user delete present verify open_channel close_channel use_channel about_channels about_transactions about_users about_objects about_rows statement at_end whole decode_pairs
+unfolding line_text line_step meaning answer_to declared row_changed step part_octets form_of params_of pieces_of edits_of move_of holds appears contents_of depth_of object_created view_created table_dropped view_dropped privileges_granted privileges_revoked row_inserted row_updated row_deleted user_deleted hex_on_literals digits closed tokens_from tokens_of undoubled one optional the more listed name literal with_name names columns with_condition conditions where_conditions with_literal literals with_change changes with_privilege privileges create_table create_view create_dictionary create_user create drop_table drop_view dropping grant revoke insert select update delete_rows delete_user delete present verify open_channel close_channel use_channel about_channels about_transactions about_users about_objects about_rows statement at_end whole decode_pairs
 printed cells lines = term_text (start (fresh cells)) lines
 
 -- a table, a view on it, and a user who sees the view alone

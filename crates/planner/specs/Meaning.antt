@@ -7,7 +7,6 @@ use Rattle.scql_base.specs.declared.cursor.Cursor.{Cursor}
 use Rattle.scql_base.specs.declared.cursor.Place.{Place}
 use Rattle.scql_base.specs.declared.cursor.Place.TheVariants.{At, End}
 use Rattle.scql_base.specs.declared.operation.Command.{Command}
-use Rattle.scql_base.specs.declared.operation.Line.{Line}
 use Rattle.scql_base.specs.declared.operation.Operation.{Operation}
 use Rattle.scql_base.specs.declared.operation.Operation.TheVariants.{Update, Delete, OpenChannel, CloseChannel}
 use Rattle.scql_base.specs.Words.{done, channel_not_supported, conditions_not_satisfied, not_found}
@@ -26,7 +25,7 @@ use Rattle.scql_model.specs.ReadingCommands.{wanted_of, named_among}
 use Rattle.scql_model.specs.Edits.{with_edits}
 use Rattle.scql_model.specs.Changing.{edits_of, transaction_after}
 use Rattle.scql_model.specs.Spelling.{part_octets, part_count}
-use Rattle.scql_model.specs.Step.{Answer, step_by}
+use Rattle.scql_model.specs.Step.{Answer, step}
 use Rattle.script.specs.declared.statement.Statement.{Statement}
 use Rattle.script.specs.declared.statement.Statement.TheVariants.{Blank, Single, Select, UpdateRows, DeleteRows, OpenNumber, CloseNumber, UseNumber, Reset}
 use Rattle.script.specs.Commands.{asking}
@@ -58,22 +57,22 @@ parts_of c = parts_from 0 (part_count c) c
 abbrev pub followed_by : Answer → Answer → Answer
 followed_by answer next = if is_done answer.reply.word then record next { commits = answer.commits ++ next.commits } else answer
 
-abbrev pub in_turn : List Line → Machine → List ℕ → List (List ℕ) → Answer
-in_turn table m octets [] = step_by table m octets
-in_turn table m octets (next ∷ rest) = followed_by (step_by table m octets) (in_turn table (step_by table m octets).machine next rest)
+abbrev pub in_turn : Machine → List ℕ → List (List ℕ) → Answer
+in_turn m octets [] = step m octets
+in_turn m octets (next ∷ rest) = followed_by (step m octets) (in_turn (step m octets).machine next rest)
 
 -- each command has a part
-abbrev pub all_in_turn : List Line → Machine → List (List ℕ) → Answer
-all_in_turn table m [] = record { reply = said done; machine = m; commits = [] }
-all_in_turn table m (octets ∷ rest) = in_turn table m octets rest
+abbrev pub all_in_turn : Machine → List (List ℕ) → Answer
+all_in_turn m [] = record { reply = said done; machine = m; commits = [] }
+all_in_turn m (octets ∷ rest) = in_turn m octets rest
 
--- the answer to a command, by a table of operations
-unfoldable pub answer_to : List Line → Machine → Command → Answer
-answer_to table m c = all_in_turn table m (parts_of c)
+-- the answer to a command
+unfoldable pub answer_to : Machine → Command → Answer
+answer_to m c = all_in_turn m (parts_of c)
 
-abbrev pub single : List Line → Machine → ℕ → Command → Meaning
-single table m channel c =
-    let answer = answer_to table m c in
+abbrev pub single : Machine → ℕ → Command → Meaning
+single m channel c =
+    let answer = answer_to m c in
     record { rows = []; closing = closing_of answer.reply.word; machine = answer.machine; commits = answer.commits; channel = channel }
 
 -- A cursor is declared: the cursor, and the rows under it in rising order of their stamps, or the first refusal that applies.
@@ -177,14 +176,14 @@ changes_all m channel operation d = changed_by m channel operation d (own_transa
 abbrev pub on_open : Machine → ℕ → Meaning → Meaning
 on_open m channel meaning = if is_channel_open m channel then meaning else ended (Refused channel_not_supported) m channel
 
--- The meaning of a statement on a channel of the machine, by a table of operations.
-unfoldable pub meaning : List Line → Machine → ℕ → Statement → Meaning
-meaning table m channel Blank = ended Nothing m channel
-meaning table m channel (Single operation) = single table m channel (asking channel operation)
-meaning table m channel (Select object columns conditions) = on_open m channel (selects_all m channel (declared m channel object columns conditions))
-meaning table m channel (UpdateRows object changes conditions) = on_open m channel (changes_all m channel (Update changes) (declared m channel object [] conditions))
-meaning table m channel (DeleteRows object conditions) = on_open m channel (changes_all m channel Delete (declared m channel object [] conditions))
-meaning table m channel (OpenNumber number) = single table m channel (asking 0 (OpenChannel number))
-meaning table m channel (CloseNumber number) = single table m channel (asking 0 (CloseChannel number))
-meaning table m channel (UseNumber number) = ended Fine m number
-meaning table m channel Reset = ended Fine (reset m) 0
+-- The meaning of a statement on a channel of the machine.
+unfoldable pub meaning : Machine → ℕ → Statement → Meaning
+meaning m channel Blank = ended Nothing m channel
+meaning m channel (Single operation) = single m channel (asking channel operation)
+meaning m channel (Select object columns conditions) = on_open m channel (selects_all m channel (declared m channel object columns conditions))
+meaning m channel (UpdateRows object changes conditions) = on_open m channel (changes_all m channel (Update changes) (declared m channel object [] conditions))
+meaning m channel (DeleteRows object conditions) = on_open m channel (changes_all m channel Delete (declared m channel object [] conditions))
+meaning m channel (OpenNumber number) = single m channel (asking 0 (OpenChannel number))
+meaning m channel (CloseNumber number) = single m channel (asking 0 (CloseChannel number))
+meaning m channel (UseNumber number) = ended Fine m number
+meaning m channel Reset = ended Fine (reset m) 0

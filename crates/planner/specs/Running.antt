@@ -1,14 +1,12 @@
 -- A plan over a machine: each command is answered by the steps of its parts in turn, and the plan goes on by that answer.
 use Rattle.std.specs.Prelude.{◌≡◌, ℕ, zero, suc, ◌<◌, ◌≤◌, true, List, [], ◌∷◌, ◌++◌, length, map, Option, Some, None, is_some}
 use Rattle.std.specs.List.{AllByRecursion}
-use Rattle.scql_base.specs.declared.operation.Line.{Line}
 use Rattle.scql_model.specs.Replies.{Reply}
 use Rattle.scql_model.specs.Database.{Database}
 use Rattle.scql_model.specs.Machine.{Machine, reset}
 use Rattle.scql_model.specs.Records.{is_row}
 use Rattle.scql_model.specs.Matching.{Values}
 use Rattle.scql_model.specs.ReadingCommands.{row_octets}
-use Rattle.scql_model.specs.Operations.{operations}
 use Rattle.scql_model.specs.Step.{Answer}
 use Rattle.scql_model.specs.Transactions.{own_transaction}
 use Rattle.script.specs.declared.statement.Statement.{Statement}
@@ -41,21 +39,21 @@ Rest = Machine → Option Reply → Planned → Ran
 abbrev pub answered_by : Rest → Planned → Answer → Ran
 answered_by rest p answer = committing answer.commits (rest answer.machine (Some answer.reply) p)
 
-abbrev pub taken : List Line → Rest → Machine → Planned → Step → Ran
-taken table rest m p (Send command) = answered_by rest p (answer_to table m command)
-taken table rest m p (Row command) = giving p.row (answered_by rest p (answer_to table m command))
-taken table rest m p ResetCard = rest (reset m) None p
-taken table rest m p (Done closing) = record { rows = []; closing = closing; machine = m; commits = [] }
+abbrev pub taken : Rest → Machine → Planned → Step → Ran
+taken rest m p (Send command) = answered_by rest p (answer_to m command)
+taken rest m p (Row command) = giving p.row (answered_by rest p (answer_to m command))
+taken rest m p ResetCard = rest (reset m) None p
+taken rest m p (Done closing) = record { rows = []; closing = closing; machine = m; commits = [] }
 
 abbrev pub unfinished : Rest
 unfinished m last p = record { rows = []; closing = Nothing; machine = m; commits = [] }
 
 -- so many steps of a plan
-abbrev pub run : List Line → ℕ → Rest
-run table zero m last p = unfinished m last p
-run table (suc n) m last p =
+abbrev pub run : ℕ → Rest
+run zero m last p = unfinished m last p
+run (suc n) m last p =
     let turn = next_of last p in
-    taken table (λ next reply q. run table n next reply q) m turn.plan turn.step
+    taken (λ next reply q. run n next reply q) m turn.plan turn.step
 
 -- a meaning as a run shows it
 abbrev pub shown : Meaning → Ran
@@ -78,11 +76,11 @@ pub record AreRows (rows : List Values) : Type 0 where
 
 -- a plan that was started on a machine runs so, in as many steps as it may take
 pub record RunsTo (m : Machine) (p : Planned) (ran : Ran) : Type 0 where
-  pub runs : (turns : ℕ) → turns_left p < turns → run operations turns m None p ≡ ran
+  pub runs : (turns : ℕ) → turns_left p < turns → run turns m None p ≡ ran
 
 -- a statement's plan, which knows whether its channel has the open transaction, runs to the statement's meaning
 abbrev pub RunsToMeaning : Machine → ℕ → Statement → Type 0
-RunsToMeaning m channel s = RunsTo m (started s channel (is_some (own_transaction m.transaction channel))) (shown (meaning operations m channel s))
+RunsToMeaning m channel s = RunsTo m (started s channel (is_some (own_transaction m.transaction channel))) (shown (meaning m channel s))
 
 -- a statement of rows
 abbrev pub IsOfRows : Statement → Type 0

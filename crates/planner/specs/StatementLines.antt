@@ -2,7 +2,6 @@
 use Rattle.std.specs.Prelude.{ℕ, List, [], ◌∷◌, ◌++◌, map, Option, Some, None, Result, Ok, Err, codes}
 use Rattle.scql_model.specs.Machine.{Machine}
 use Rattle.scql_model.specs.Lines.{Effect, Language, run_text}
-use Rattle.scql_model.specs.Operations.{operations}
 use Rattle.script.specs.declared.fault.ScriptFault.{ScriptFault}
 use Rattle.script.specs.declared.statement.Statement.{Statement}
 use Rattle.script.specs.Line.{statement_of}
@@ -29,7 +28,7 @@ meant x = record { text = meaning_text x; next = record { machine = x.machine; c
 
 abbrev pub read_effect : TerminalState → Result Statement ScriptFault → Effect TerminalState
 read_effect state (Err fault) = unread state (fault_text fault)
-read_effect state (Ok statement) = meant (meaning operations state.machine state.channel statement)
+read_effect state (Ok statement) = meant (meaning state.machine state.channel statement)
 
 abbrev pub statement_effect : TerminalState → Option (List ℕ) → Effect TerminalState
 statement_effect state None = unread state (codes "error line too long\n")

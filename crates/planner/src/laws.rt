@@ -1,15 +1,14 @@
 // Laws over the plans of statements. Each is the contract of a function that does nothing.
 ghost use Rattle.std.specs.Prelude.{◌≡◌, ◌<◌, ℕ, suc, Bool, true, false, List, Option, None};
 ghost use Rattle.scql_base.specs.declared.condition.Condition.{Condition};
-ghost use Rattle.scql_base.specs.declared.operation.Line.{Line};
 ghost use Rattle.scql_model.specs.Database.{Database, IsValid};
 ghost use Rattle.scql_model.specs.Heard.{IsLawful};
 ghost use Rattle.scql_model.specs.Lines.{state_after};
 ghost use Rattle.scql_model.specs.Machine.{Machine, base, start};
-ghost use Rattle.scql_model.specs.Operations.{operations};
 ghost use Rattle.scql_model.specs.ReadingLaws.{IsReadable};
 ghost use Rattle.scql_model.specs.Replies.{Reply};
 ghost use Rattle.scql_model.specs.Sessions.{is_channel_open};
+ghost use Rattle.scql_model.specs.Tries.{SparesTries};
 ghost use Rattle.script.specs.declared.statement.Statement.{Statement};
 ghost use Rattle.script.specs.declared.statement.Statement.TheVariants.{Select};
 ghost use Rattle.script.specs.Commands.{CanBeSent};
@@ -27,8 +26,8 @@ ghost use Rattle.planner.specs.ValidStates.{IsValidState, KeepsValid};
 /// A statement of one command, or of none, runs to its meaning: its command, answered by the steps of the machine, gives no row, ends as the
 /// statement does, and leaves the same machine and commits.
 pub fn brief_statements_run_to_their_meaning()
-    ensures { (table : List Line) (n : ℕ) (m : Machine) (channel : ℕ) (inside : Bool) (s : Statement) → IsBrief s
-        → run table (suc (suc n)) m None (started s channel inside) ≡ shown (meaning table m channel s) }
+    ensures { (n : ℕ) (m : Machine) (channel : ℕ) (inside : Bool) (s : Statement) → IsBrief s
+        → run (suc (suc n)) m None (started s channel inside) ≡ shown (meaning m channel s) }
 {}
 
 /// A SELECT on an open channel runs to its meaning: its commands, answered by the steps of the machine in turn, give the rows that match, each
@@ -36,8 +35,8 @@ pub fn brief_statements_run_to_their_meaning()
 pub fn a_select_runs_to_its_meaning()
     ensures { (m : Machine) (channel : ℕ) (object : List ℕ) (columns : List (List ℕ)) (conditions : List Condition) (inside : Bool)
         → (let s : Statement = Select object columns conditions in
-        is_channel_open m channel ≡ true → CanBeSent channel s → IsReadable (base m channel) → AreRows (meaning operations m channel s).rows
-        → RunsTo m (started s channel inside) (shown (meaning operations m channel s))) }
+        is_channel_open m channel ≡ true → CanBeSent channel s → IsReadable (base m channel) → AreRows (meaning m channel s).rows
+        → RunsTo m (started s channel inside) (shown (meaning m channel s))) }
 {}
 
 /// A SELECT on an open channel prints what follows from what is shown to the channel, and so does what is shown to it afterwards: its cursor is at
@@ -45,7 +44,7 @@ pub fn a_select_runs_to_its_meaning()
 pub fn a_select_reads_what_is_shown()
     ensures { (m : Machine) (channel : ℕ) (object : List ℕ) (columns : List (List ℕ)) (conditions : List Condition)
         → is_channel_open m channel ≡ true → IsReadable (base m channel)
-        → SelectsWhatIsShown m channel object columns conditions (meaning operations m channel (Select object columns conditions)) }
+        → SelectsWhatIsShown m channel object columns conditions (meaning m channel (Select object columns conditions)) }
 {}
 
 /// Whatever a plan of a SELECT is answered, it sends reading commands alone.
@@ -61,7 +60,7 @@ pub fn a_plan_comes_to_its_end()
 /// On a channel that isn't open a statement of rows runs to its meaning: it is refused.
 pub fn a_closed_channel_refuses_statements_of_rows()
     ensures { (m : Machine) (n channel : ℕ) (inside : Bool) (s : Statement) → IsOfRows s → CanBeSent channel s → is_channel_open m channel ≡ false
-        → run operations (suc (suc n)) m None (started s channel inside) ≡ shown (meaning operations m channel s) }
+        → run (suc (suc n)) m None (started s channel inside) ≡ shown (meaning m channel s) }
 {}
 
 /// Every statement runs to its meaning where its channel reads a valid database: its commands, answered by the steps of the machine in turn, give
@@ -75,9 +74,15 @@ pub fn statements_are_lines()
     ensures { IsLawful statement_lines }
 {}
 
+/// A line of statements restores a user's tries, or leaves the user no more to lose than before: no line lowers them more often than the user
+/// has tries left, whether in a transaction or outside of one.
+pub fn statements_spare_tries()
+    ensures { SparesTries statement_lines }
+{}
+
 /// After every statement it is told from how it closed which channel has the open transaction.
 pub fn a_closing_tells_of_the_transaction()
-    ensures { (m : Machine) (channel : ℕ) (s : Statement) → CanBeSent channel s → TellsWhoHolds m channel s (meaning operations m channel s) }
+    ensures { (m : Machine) (channel : ℕ) (s : Statement) → CanBeSent channel s → TellsWhoHolds m channel s (meaning m channel s) }
 {}
 
 /// A terminal that begins on channel 0 of a card that was opened with a valid database is on a valid machine. Each line of statements leaves it on

@@ -11,7 +11,7 @@ use Rattle.cell_store.specs.Cells.{Cells, IsInRange, all_free, link_in, AreLinke
 use Rattle.cell_store.specs.Chains.{AreLinked, AreFree, link_of, is_among, with_marked}
 use Rattle.cell_store.specs.Marks.{is_marked}
 use Rattle.cell_store.proofs.Among.{among-append, distinct-join}
-use Rattle.cell_store.proofs.Chains.{chains-parts}
+use Rattle.eeprom.proofs.Chains.{chains-parts}
 use Rattle.cell_store.proofs.Claiming.{free-parts, free-join}
 use Rattle.cell_store.proofs.Linking.{chain-linked, linked-inside}
 use Rattle.cell_store.proofs.Marking.{marked-with, with_marked-append, length-with_marked}

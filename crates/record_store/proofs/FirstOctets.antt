@@ -9,7 +9,7 @@ use Rattle.eeprom.specs.StoreOf.{no_cell, Slots, chain_of, chains_of, slot_of, s
 use Rattle.cell_store.specs.Cells.{link_in}
 use Rattle.cell_store.specs.Chains.{AreLinked, AreFree, is_among}
 use Rattle.cell_store.specs.Marks.{is_marked}
-use Rattle.cell_store.proofs.Chains.{chains-parts}
+use Rattle.eeprom.proofs.Chains.{chains-parts}
 use Rattle.record_store.specs.Held.{Held, StandsFor, firsts, contents, record_at, first_octet, kept_octet, AreKept}
 use Rattle.record_store.specs.Opening.{slot_with, with_octet}
 use Rattle.record_store.specs.Sound.{AreChains, IsSound, cells_in}

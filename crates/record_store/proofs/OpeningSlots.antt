@@ -10,7 +10,7 @@ use Rattle.eeprom.specs.StoreOf.{Slots, Stored, chain_of, chains_of, is_record, 
 use Rattle.cell_store.specs.Cells.{Cells, AreLinkedIn, all_free}
 use Rattle.cell_store.specs.Chains.{AreFree, IsRecordChain, is_among}
 use Rattle.cell_store.specs.Claims.{TakesChain, HasRecord, HasNoRecord}
-use Rattle.cell_store.proofs.Chains.{chain-empty, chains-push, chains-take}
+use Rattle.eeprom.proofs.Chains.{chain-empty, chains-push, chains-take}
 use Rattle.cell_store.proofs.Placements.{nowhere}
 use Rattle.record_store.specs.Header.{IsHeaderOf}
 use Rattle.record_store.specs.declared.header.Header.{Header}

@@ -15,7 +15,7 @@ use Rattle.cell_store.specs.Placed.{Keeping, KeepsMarked}
 use Rattle.cell_store.specs.Writing.{IsWritten}
 use Rattle.cell_store.proofs.Among.{among-append}
 use Rattle.cell_store.proofs.Cells.{Keeping-same}
-use Rattle.cell_store.proofs.Chains.{cells-chain, chains-parts}
+use Rattle.eeprom.proofs.Chains.{cells-chain, chains-parts}
 use Rattle.cell_store.proofs.Linking.{steps-end}
 use Rattle.cell_store.proofs.Marking.{marked-all, unmarked-set}
 use Rattle.cell_store.proofs.Placements.{nowhere}

@@ -7,7 +7,7 @@ use Rattle.eeprom.specs.Chip.{Becomes}
 use Rattle.eeprom.specs.StoreOf.{Slots, are_apart, chain_of, chains_of, is_record, no_cell, slot_of, slots_at}
 use Rattle.cell_store.specs.Chains.{IsRecordChain}
 use Rattle.cell_store.specs.Reading.{ReadsRecord}
-use Rattle.cell_store.proofs.Chains.{chains-parts, chain-empty, chain-nowhere}
+use Rattle.eeprom.proofs.Chains.{chains-parts, chain-empty, chain-nowhere}
 use Rattle.record_store.specs.declared.side.Side.{Side}
 use Rattle.record_store.specs.declared.side.Side.TheVariants.{Committed, Working}
 use Rattle.record_store.specs.Held.{AreKept, Held, StandsFor, contents, first_octet, firsts, record_at}

@@ -5,7 +5,7 @@ use Rattle.std.proofs.lemmas.Bool.{and_parts}
 use Rattle.eeprom.specs.StoreOf.{Slots, chain_of, chains_of, is_record, slot_of}
 use Rattle.cell_store.specs.Marks.{is_marked}
 use Rattle.cell_store.specs.Placed.{Keeping}
-use Rattle.cell_store.proofs.Chains.{chains-parts}
+use Rattle.eeprom.proofs.Chains.{chains-parts}
 use Rattle.cell_store.proofs.SameChains.{SameChain, chain-same, chains-same, record-same, slot-same}
 use Rattle.record_store.specs.Sound.{cells_in}
 use Rattle.record_store.proofs.SameSlots.{records-same, map-same}

@@ -8,7 +8,7 @@ use Rattle.eeprom.specs.StoreOf.{longest_chain, Slots, Stored, store_of, has_ver
 use Rattle.cell_store.specs.Cells.{cells_from, link_in, AreLinkedIn}
 use Rattle.cell_store.specs.Chains.{AreLinked, link_of, steps}
 use Rattle.cell_store.specs.Marks.{is_marked}
-use Rattle.cell_store.proofs.Chains.{cells-chain, chains-parts}
+use Rattle.eeprom.proofs.Chains.{cells-chain, chains-parts}
 use Rattle.cell_store.proofs.Linking.{linked-chain, linked-same, steps-linked}
 use Rattle.record_store.specs.Held.{Held, BeginsAs, StandsFor, firsts, contents, stored, with_limit}
 use Rattle.record_store.specs.Slots.{steps_without}

@@ -7,10 +7,16 @@ ghost use Rattle.eeprom.specs.StoreOf.{is_entry, with_entries};
 ghost use Rattle.record_store.specs.Slots.{AreFirsts, changed};
 ghost use Rattle.record_store.specs.Touched.{AreInOrder, AreSlots, SameOutside};
 
+use eeprom::Heap;
 use journal::Entry;
 
 /// Takes an entry for each of these slots in which another chain begins now, in their order. In all other slots the chains are the same.
-pub fn take_entries(entries: &mut Vec<Entry>, slots: &[u16], committed: &[u16], working: &[u16])
+pub fn take_entries(
+    entries: &mut Vec<Entry, Heap>,
+    slots: &[u16],
+    committed: &[u16],
+    working: &[u16],
+)
     requires slots { AreSlots (length committed.now) slots.now }
     requires count { length working.now ≡ length committed.now }
     requires others { SameOutside slots.now working.now committed.now }

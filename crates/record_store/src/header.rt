@@ -10,10 +10,10 @@ use crate::OpenRefusal;
 use crate::layout::FORMAT;
 use cell_store::{number_of, octets_of};
 use eeprom::{
-    Eeprom, FEWEST_CELLS, HEADER_SIZE, LARGEST_DIRECTORY, MIGRATED_ROW_LIMIT, MOST_CELLS,
+    Eeprom, FEWEST_CELLS, HEADER_SIZE, Heap, LARGEST_DIRECTORY, MIGRATED_ROW_LIMIT, MOST_CELLS,
     ROW_LIMIT, image_size,
 };
-use std::alloc::{AllocError, Global};
+use std::alloc::AllocError;
 
 /// How many octets of an image say whether it has a store, of which size and with which rows.
 const FRONT: usize = 11;
@@ -96,10 +96,10 @@ fn row_limit_of(version: u8, limit: [u8; 2]) -> Option<u16>
 
 /// Reads the directory of an image.
 pub fn read_directory<B: Eeprom>(
-    alloc: Global,
+    alloc: Heap,
     bench: &mut B,
     header: Header,
-) -> Result<Vec<u16>, OpenRefusal>
+) -> Result<Vec<u16, Heap>, OpenRefusal>
     requires header { IsHeader (B.chip bench.old).still.size header }
     ensures directory { IfOk result (λ firsts. IfSome (B.chip bench.old).image
         (λ image. firsts.items ≡ written_directory image header.cells)) }
@@ -116,7 +116,7 @@ pub fn read_directory<B: Eeprom>(
 }
 
 /// The numbers of a directory's octets.
-fn numbers_of(alloc: Global, octets: &[u8], count: u16) -> Result<Vec<u16>, AllocError>
+fn numbers_of(alloc: Heap, octets: &[u8], count: u16) -> Result<Vec<u16, Heap>, AllocError>
     requires size { length octets.now ≡ 2 * count }
     ensures numbers { IfOk result (λ firsts. firsts.items ≡ numbers_at octets.now 0 count) }
     ensures count { IfOk result (λ firsts. length firsts.items ≡ count) }

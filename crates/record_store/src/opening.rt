@@ -19,9 +19,8 @@ use crate::header::{Header, read_directory, read_header};
 use crate::row_runs::RowRuns;
 use crate::touched::Touched;
 use cell_store::{CellStore, ClaimRefusal, RecordOctets};
-use eeprom::{Eeprom, NO_CELL};
+use eeprom::{Eeprom, Heap, NO_CELL};
 use journal::{Entry, Journal};
-use std::alloc::Global;
 use std::marker::Model;
 
 /// A store that is being opened. Its slots are claimed one after another, each with its record. A refusal ends it.
@@ -30,13 +29,13 @@ pub struct Opening {
     pub(crate) chains: CellStore,
     /// How many octets a row may have.
     pub(crate) row_limit: u16,
-    pub(crate) committed: Vec<u16>,
-    pub(crate) working: Vec<u16>,
+    pub(crate) committed: Vec<u16, Heap>,
+    pub(crate) working: Vec<u16, Heap>,
     /// For each cell that the chain of a claimed slot begins at, the first octet of its record.
-    pub(crate) first_octets: Vec<u8>,
+    pub(crate) first_octets: Vec<u8, Heap>,
     /// The memory of transactions.
     pub(crate) touched: Touched,
-    pub(crate) entries: Vec<Entry>,
+    pub(crate) entries: Vec<Entry, Heap>,
     /// The memory of searches.
     pub(crate) row_runs: RowRuns,
     /// How many slots were claimed, and how many cells their chains have.
@@ -59,7 +58,7 @@ impl Model for Opening {
 
 impl Opening {
     /// Begins to open the store of an image. A journal behind an open gate is replayed. All memory of the store is taken here.
-    pub fn new<B: Eeprom>(alloc: Global, bench: &mut B) -> Result<Opening, OpenRefusal>
+    pub fn new<B: Eeprom>(alloc: Heap, bench: &mut B) -> Result<Opening, OpenRefusal>
         ensures begins { IfOk result (λ opening. opening.claimed ≡ 0) }
         ensures weight { IfOk result (λ opening. opening.weight ≡ 0) }
         ensures over { IfOk result (λ opening. IsOverSoFar opening (B.chip bench.new)) }

@@ -3,8 +3,8 @@ ghost use Rattle.std.specs.Prelude.{◌≡◌, ◌<◌, ◌≤◌, ◌⊎◌, �
 ghost use Rattle.eeprom.specs.StoreOf.{most_cells, no_cell};
 ghost use Rattle.record_store.specs.RowRuns.{AreEnds, Passes, PassesRows, row_octet};
 
-use eeprom::NO_CELL;
-use std::alloc::{AllocError, Global};
+use eeprom::{Heap, NO_CELL};
+use std::alloc::AllocError;
 use std::marker::Model;
 
 /// The first octet of a row's record.
@@ -14,7 +14,7 @@ const ROW: u8 = 6;
 /// have another record.
 #[derive(Drop)]
 pub struct RowRuns {
-    ends: Vec<u16>,
+    ends: Vec<u16, Heap>,
 }
 
 impl Model for RowRuns {
@@ -30,7 +30,7 @@ impl Model for RowRuns {
 
 impl RowRuns {
     /// One run of so many slots. All memory that is needed is taken here.
-    pub fn with_room(alloc: Global, size: u16) -> Result<RowRuns, AllocError>
+    pub fn with_room(alloc: Heap, size: u16) -> Result<RowRuns, AllocError>
         ensures { IfOk result (λ runs. length runs ≡ size) }
     {
         Ok(RowRuns {
@@ -67,7 +67,7 @@ impl RowRuns {
 }
 
 /// No search passes over this slot any more.
-fn stop_at(ends: &mut Vec<u16>, slot: u16)
+fn stop_at(ends: &mut Vec<u16, Heap>, slot: u16)
     requires inside { slot < length ends.old.items }
     requires few { length ends.old.items ≤ most_cells }
     requires ends { AreEnds ends.old.items }

@@ -7,7 +7,7 @@ ghost use Rattle.record_store.specs.Slots.{AreUsedChains, AreReplaced};
 ghost use Rattle.record_store.specs.Touched.{AreSlots, SameOutside};
 
 use cell_store::CellStore;
-use eeprom::NO_CELL;
+use eeprom::{Heap, NO_CELL};
 
 /// Frees the chains of these slots in whose place others are kept. In all other slots the chains are the same.
 pub fn free_replaced(cells: &mut CellStore, slots: &[u16], replaced: &[u16], kept: &[u16])
@@ -32,7 +32,7 @@ pub fn free_replaced(cells: &mut CellStore, slots: &[u16], replaced: &[u16], kep
 }
 
 /// Copies the first cells of these slots. In all other slots they are the same.
-pub fn copy_slots(slots: &[u16], from: &[u16], to: &mut Vec<u16>)
+pub fn copy_slots(slots: &[u16], from: &[u16], to: &mut Vec<u16, Heap>)
     requires slots { AreSlots (length from.now) slots.now }
     requires count { length to.old.items ≡ length from.now }
     requires others { SameOutside slots.now to.old.items from.now }

@@ -26,9 +26,8 @@ use crate::slots::{copy_slots, free_replaced, named_or_empty, search_from, slots
 use crate::touched::Touched;
 use crate::{OpenRefusal, Side, StoreRefusal};
 use cell_store::{CellRefusal, CellStore, RecordOctets, cells_for};
-use eeprom::{Eeprom, EepromFault, NO_CELL};
+use eeprom::{Eeprom, EepromFault, Heap, NO_CELL};
 use journal::{Entry, Journal};
-use std::alloc::Global;
 use std::marker::Model;
 
 #[derive(Drop)]
@@ -36,11 +35,11 @@ pub struct Store {
     chains: CellStore,
     /// How many octets a row may have.
     row_limit: u16,
-    committed: Vec<u16>,
-    working: Vec<u16>,
+    committed: Vec<u16, Heap>,
+    working: Vec<u16, Heap>,
     begun: bool,
     /// For each cell that the chain of a record begins at, the first octet of the record.
-    first_octets: Vec<u8>,
+    first_octets: Vec<u8, Heap>,
     /// How many cells the records of each side have.
     committed_weight: u16,
     working_weight: u16,
@@ -53,7 +52,7 @@ pub struct Store {
     /// The slots that a transaction touched: in all others both sides have the same chains.
     touched: Touched,
     /// The entries of a commit, of which only the memory is kept.
-    entries: Vec<Entry>,
+    entries: Vec<Entry, Heap>,
 }
 
 impl Model for Store {
@@ -103,7 +102,7 @@ impl Opening {
 impl Store {
     /// Opens the store of an image, where it has one. A journal behind an open gate is replayed first. As many octets are read as
     /// begin the image, and as the cells of the records have.
-    pub fn open<B: Eeprom>(alloc: Global, bench: &mut B) -> Result<Store, OpenRefusal>
+    pub fn open<B: Eeprom>(alloc: Heap, bench: &mut B) -> Result<Store, OpenRefusal>
         ensures over { IfOk result (λ store. IsOver store (B.chip bench.new)) }
         ensures opened { IfOk result (λ store. IfSome (B.chip bench.new).image (λ image. store_of image ≡ stored store Committed image)) }
         ensures told { OnOk result (is_some (B.chip bench.new).image ≡ is_some (B.chip bench.old).image) }

@@ -6,15 +6,16 @@ ghost use Rattle.cell_store.specs.Chains.{is_among};
 ghost use Rattle.cell_store.specs.Marks.{is_marked};
 ghost use Rattle.record_store.specs.Touched.{none_touched, with_touched, AreSlots};
 
-use std::alloc::{AllocError, Global};
+use eeprom::Heap;
+use std::alloc::AllocError;
 use std::marker::Model;
 
 /// Slots of a store, each once.
 #[derive(Drop)]
 pub struct Touched {
-    slots: Vec<u16>,
+    slots: Vec<u16, Heap>,
     /// Of each slot of the store whether it is one of them.
-    marks: Vec<bool>,
+    marks: Vec<bool, Heap>,
 }
 
 impl Model for Touched {
@@ -31,7 +32,7 @@ impl Model for Touched {
 
 impl Touched {
     /// None of so many slots. All memory that is needed is taken here.
-    pub fn with_room(alloc: Global, size: u16) -> Result<Touched, AllocError>
+    pub fn with_room(alloc: Heap, size: u16) -> Result<Touched, AllocError>
         requires few { size ≤ most_cells }
         ensures { IfOk result (λ touched. touched ≡ none_touched size) }
     {
@@ -82,7 +83,7 @@ impl Touched {
 }
 
 /// Marks these slots no more, which are all that are marked.
-fn unmark(slots: &[u16], marks: &mut Vec<bool>)
+fn unmark(slots: &[u16], marks: &mut Vec<bool, Heap>)
     requires marked { (slot : ℕ) → is_marked marks.old.items slot ≡ is_among slot slots.now }
     ensures none { (slot : ℕ) → is_marked marks.new.items slot ≡ false }
     ensures count { length marks.new.items ≡ length marks.old.items }

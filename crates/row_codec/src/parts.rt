@@ -5,7 +5,7 @@ ghost use Rattle.arrayvec.specs.ArrayVec.{array_vec_len};
 ghost use Rattle.eeprom.specs.StoreOf.{longest_record};
 ghost use Rattle.scql_model.specs.Fields as fields;
 
-use cell_store::RecordOctets;
+use eeprom::RecordOctets;
 
 /// A number in four octets, the highest first, and the octets behind it.
 pub fn number_and_rest(octets: &[u8]) -> Option<(u32, &[u8])>

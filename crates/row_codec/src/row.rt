@@ -2,11 +2,10 @@
 ghost use Rattle.std.specs.Prelude.{◌≡◌, ◌≤◌, Some, true, [], IfSome, length, option_map};
 ghost use Rattle.eeprom.specs.StoreOf.{longest_record};
 ghost use Rattle.scql_base.specs.declared.records.RowRecord.{RowRecord};
-ghost use Rattle.scql_model.specs.Records.{row_record, values_to_the_end};
-ghost use Rattle.row_codec.specs.Rows as rows;
+ghost use Rattle.scql_model.specs.Records.{row_in, row_record, values_to_the_end};
 
 use crate::{number_and_rest, put, put_number};
-use cell_store::RecordOctets;
+use eeprom::RecordOctets;
 use scql_base::{Row, RowRecord};
 
 const MARK: u8 = RowRecord::MARK;
@@ -27,7 +26,7 @@ pub fn encode(row: &RowRecord, out: &mut RecordOctets)
 pub fn decode(octets: &[u8]) -> Option<RowRecord>
     ensures found { IfSome result (λ row. (row_record.fits row ≡ true) × (octets.now ≡ row_record.spell row)) }
     ensures only { (row : RowRecord) → row_record.fits row ≡ true → octets.now ≡ row_record.spell row → result ≡ Some row }
-    ensures exact { result ≡ rows.row_in octets.now }
+    ensures exact { result ≡ row_in octets.now }
 {
     let mut row = RowRecord {
         stamp: 0,
@@ -42,13 +41,13 @@ pub fn decode(octets: &[u8]) -> Option<RowRecord>
 pub fn decode_into(octets: &[u8], row: &mut RowRecord) -> Option<()>
     ensures found { IfSome result (λ _. (row_record.fits row.new ≡ true) × (octets.now ≡ row_record.spell row.new)) }
     ensures only { (of : RowRecord) → row_record.fits of ≡ true → octets.now ≡ row_record.spell of → option_map (λ _. row.new) result ≡ Some of }
-    ensures exact { option_map (λ _. row.new) result ≡ rows.row_in octets.now }
+    ensures exact { option_map (λ _. row.new) result ≡ row_in octets.now }
 {
     read_into(octets, row)
 }
 
 fn read_into(octets: &[u8], row: &mut RowRecord) -> Option<()>
-    ensures { option_map (λ _. row.new) result ≡ rows.row_in octets.now }
+    ensures { option_map (λ _. row.new) result ≡ row_in octets.now }
 {
     let [MARK, octets @ ..] = octets else {
         return None;

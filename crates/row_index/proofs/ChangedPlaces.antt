@@ -18,7 +18,7 @@ use Rattle.row_index.specs.Index.{HasRows, Index, is_above, may_add}
 use Rattle.row_index.specs.Places.{place_in, place_of, place_slot, place_stamp, row_places}
 use Rattle.row_index.specs.declared.place.RowPlace.{RowPlace}
 use Rattle.row_index.proofs.Changes.{length-in_order}
-use Rattle.row_index.proofs.Scans.{row_in, places_from, slots_from, none_lower, lower_part}
+use Rattle.row_index.proofs.Scans.{row_in_slot, places_from, slots_from, none_lower, lower_part}
 
 -- The places before a slot, and those behind it: what the slot has stands between.
 record Split (slot : ℕ) (first : ℕ) (entry : Option (List ℕ)) (slots : Slots) : Type 0 where
@@ -64,7 +64,7 @@ places-same slot entry slots within same =
     zero_more n = omega arith
 
 -- an empty slot is given a row of a stamp above all others
-pub places-added : (slot : ℕ) (entry : Option (List ℕ)) (row : RowRecord) (slots : Slots) → slot < length slots → get_or slots slot None ≡ None → row_in entry ≡ Some row
+pub places-added : (slot : ℕ) (entry : Option (List ℕ)) (row : RowRecord) (slots : Slots) → slot < length slots → get_or slots slot None ≡ None → row_in_slot entry ≡ Some row
     → AllByRecursion (λ place. place_stamp place < row.stamp) (row_places slots) → row_places (set slots slot entry) ≡ row_places slots ++ place_of slot row ∷ []
 places-added slot entry row slots within none reads below =
     let s = split_at slot 0 entry slots within in
@@ -156,8 +156,8 @@ places_from-emptied : (slot first : ℕ) (slots : Slots) → slot < length slots
 places_from-emptied slot first [] within = absurd (omega arith)
 places_from-emptied zero first (entry ∷ slots) within =
     let same : first + 0 ≡ first = omega arith in
-    subst (λ n. places_from (suc first) slots ≡ without place_slot n (cons_option (option_map (place_of first) (row_in entry)) (places_from (suc first) slots))) (sym same)
-    (one (row_in entry) (without-none place_slot first (places_from (suc first) slots) (none_before (suc first) first slots (omega arith))))
+    subst (λ n. places_from (suc first) slots ≡ without place_slot n (cons_option (option_map (place_of first) (row_in_slot entry)) (places_from (suc first) slots))) (sym same)
+    (one (row_in_slot entry) (without-none place_slot first (places_from (suc first) slots) (none_before (suc first) first slots (omega arith))))
   where
     one : (row : Option RowRecord) → without place_slot first (places_from (suc first) slots) ≡ places_from (suc first) slots
         → places_from (suc first) slots ≡ without place_slot first (cons_option (option_map (place_of first) row) (places_from (suc first) slots))
@@ -165,7 +165,7 @@ places_from-emptied zero first (entry ∷ slots) within =
     one (Some row) none = rw (eq-eqb first first refl) (sym none)
 places_from-emptied (suc slot) first (entry ∷ slots) within =
     let same : suc first + slot ≡ first + suc slot = omega arith in
-    one (row_in entry) (subst (λ n. places_from (suc first) (set slots slot None) ≡ without place_slot n (places_from (suc first) slots)) same (places_from-emptied slot (suc first) slots (omega arith)))
+    one (row_in_slot entry) (subst (λ n. places_from (suc first) (set slots slot None) ≡ without place_slot n (places_from (suc first) slots)) same (places_from-emptied slot (suc first) slots (omega arith)))
   where
     one : (row : Option RowRecord) → places_from (suc first) (set slots slot None) ≡ without place_slot (first + suc slot) (places_from (suc first) slots)
         → cons_option (option_map (place_of first) row) (places_from (suc first) (set slots slot None)) ≡ without place_slot (first + suc slot) (cons_option (option_map (place_of first) row) (places_from (suc first) slots))
@@ -175,7 +175,7 @@ places_from-emptied (suc slot) first (entry ∷ slots) within =
 -- there are no more places than slots, and fewer where a slot is empty
 most_places : (first : ℕ) (slots : Slots) → length (places_from first slots) ≤ length slots
 most_places first [] = omega arith
-most_places first (entry ∷ slots) = one (row_in entry) (most_places (suc first) slots)
+most_places first (entry ∷ slots) = one (row_in_slot entry) (most_places (suc first) slots)
   where
     one : (row : Option RowRecord) → length (places_from (suc first) slots) ≤ length slots → length (cons_option (option_map (place_of first) row) (places_from (suc first) slots)) ≤ suc (length slots)
     one None most = omega arith
@@ -184,7 +184,7 @@ most_places first (entry ∷ slots) = one (row_in entry) (most_places (suc first
 fewer_places : (slot first : ℕ) (slots : Slots) → slot < length slots → get_or slots slot None ≡ None → length (places_from first slots) < length slots
 fewer_places slot first [] within none = absurd (omega arith)
 fewer_places zero first (entry ∷ slots) within none = rw none (let m = most_places (suc first) slots in omega arith)
-fewer_places (suc slot) first (entry ∷ slots) within none = one (row_in entry) (fewer_places slot (suc first) slots (omega arith) none)
+fewer_places (suc slot) first (entry ∷ slots) within none = one (row_in_slot entry) (fewer_places slot (suc first) slots (omega arith) none)
   where
     one : (row : Option RowRecord) → length (places_from (suc first) slots) < length slots → length (cons_option (option_map (place_of first) row) (places_from (suc first) slots)) < suc (length slots)
     one None few = omega arith
@@ -206,7 +206,7 @@ free_slot zero first (entry ∷ slots) none =
     rw none (subst (λ n. list_any (has place_slot n) (places_from (suc first) slots) ≡ false) (sym same) (any-none (has place_slot first) (places_from (suc first) slots) (none_before (suc first) first slots (omega arith))))
 free_slot (suc slot) first (entry ∷ slots) none =
     let same : suc first + slot ≡ first + suc slot = omega arith in
-    one (row_in entry) (subst (λ n. list_any (has place_slot n) (places_from (suc first) slots) ≡ false) same (free_slot slot (suc first) slots none))
+    one (row_in_slot entry) (subst (λ n. list_any (has place_slot n) (places_from (suc first) slots) ≡ false) same (free_slot slot (suc first) slots none))
   where
     one : (row : Option RowRecord) → list_any (has place_slot (first + suc slot)) (places_from (suc first) slots) ≡ false
         → list_any (has place_slot (first + suc slot)) (cons_option (option_map (place_of first) row) (places_from (suc first) slots)) ≡ false

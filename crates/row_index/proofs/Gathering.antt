@@ -17,7 +17,7 @@ use Rattle.row_index.specs.Places.{place_in, place_of, place_slot, place_stamp, 
 use Rattle.row_index.specs.declared.place.RowPlace.{RowPlace}
 use Rattle.row_index.proofs.Changes.{length-put_in_order}
 use Rattle.row_index.proofs.Kept.{ArePlaces-put}
-use Rattle.row_index.proofs.Scans.{row_in, places_from}
+use Rattle.row_index.proofs.Scans.{row_in_slot, places_from}
 use Rattle.row_index.proofs.Tables.{all-put_in_order}
 
 -- the places of a slot and of those behind it
@@ -39,20 +39,20 @@ split_places (suc n) first (entry ∷ slots) =
     ap (cons_option (place_in (first, entry))) (subst (λ k. places_from (suc first) slots ≡ places_from (suc first) (take n slots) ++ places_from k (drop n slots)) same (split_places n (suc first) slots))
     ∙ cons_option-append (place_in (first, entry)) (places_from (suc first) (take n slots)) (places_from (first + suc n) (drop n slots))
 
-one_more_slot : (n first : ℕ) (slots : Slots) → places_from first (take (suc n) slots) ≡ places_from first (take n slots) ++ cons_option (option_map (place_of (first + n)) (row_in (get_or slots n None))) []
+one_more_slot : (n first : ℕ) (slots : Slots) → places_from first (take (suc n) slots) ≡ places_from first (take n slots) ++ cons_option (option_map (place_of (first + n)) (row_in_slot (get_or slots n None))) []
 one_more_slot n first [] = none n
   where
     none : (n : ℕ) → places_from first (take (suc n) []) ≡ places_from first (take n []) ++ []
     none zero = refl
     none (suc n) = refl
-one_more_slot zero first (entry ∷ slots) = ap (λ k. cons_option (option_map (place_of k) (row_in entry)) []) (more first)
+one_more_slot zero first (entry ∷ slots) = ap (λ k. cons_option (option_map (place_of k) (row_in_slot entry)) []) (more first)
   where
     more : (k : ℕ) → k ≡ k + 0
     more k = omega arith
 one_more_slot (suc n) first (entry ∷ slots) =
     let same : suc first + n ≡ first + suc n = omega arith in
     ap (cons_option (place_in (first, entry)))
-    (subst (λ k. places_from (suc first) (take (suc n) slots) ≡ places_from (suc first) (take n slots) ++ cons_option (option_map (place_of k) (row_in (get_or slots n None))) []) same (one_more_slot n (suc first) slots))
+    (subst (λ k. places_from (suc first) (take (suc n) slots) ≡ places_from (suc first) (take n slots) ++ cons_option (option_map (place_of k) (row_in_slot (get_or slots n None))) []) same (one_more_slot n (suc first) slots))
     ∙ cons_option-append (place_in (first, entry)) (places_from (suc first) (take n slots)) _
 
 none_left : (n first : ℕ) (slots : Slots) → AreEmptyFrom n slots → places_from first (drop n slots) ≡ []

@@ -21,7 +21,7 @@ use Rattle.row_index.specs.Index.{HasRows, Index, Indexes, may_add}
 use Rattle.row_index.specs.Places.{place_of, place_stamp}
 use Rattle.row_index.specs.declared.place.RowPlace.{RowPlace}
 use Rattle.row_index.proofs.ChangedPlaces.{HasRows-added, may_add-told}
-use Rattle.row_index.proofs.Scans.{places_from, row_in}
+use Rattle.row_index.proofs.Scans.{places_from, row_in_slot}
 
 -- slots that have the same rows have the same places of rows
 same_places : (first : ℕ) (old new : Slots) → length new ≡ length old → ((slot : ℕ) → at_slot row_kind slot new ≡ at_slot row_kind slot old) → places_from first new ≡ places_from first old
@@ -30,7 +30,7 @@ same_places first [] (y ∷ ys) many same = absurd (omega (arith, many))
 same_places first (x ∷ xs) [] many same = absurd (omega (arith, many))
 same_places first (x ∷ xs) (y ∷ ys) many same =
     ap (λ row. cons_option (option_map (place_of first) row) (places_from (suc first) ys)) (same 0)
-    ∙ ap (cons_option (option_map (place_of first) (row_in x))) (same_places (suc first) xs ys (omega (arith, many)) (λ slot. same (suc slot)))
+    ∙ ap (cons_option (option_map (place_of first) (row_in_slot x))) (same_places (suc first) xs ys (omega (arith, many)) (λ slot. same (suc slot)))
 
 HasRows-same : (cells : ℕ) (places : List RowPlace) (old new : Slots) → HasRows cells places old → length new ≡ cells → ((slot : ℕ) → at_slot row_kind slot new ≡ at_slot row_kind slot old) → HasRows cells places new
 HasRows-same cells places old new has_rows many same =

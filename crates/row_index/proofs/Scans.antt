@@ -14,8 +14,9 @@ use Rattle.row_index.specs.Places.{numbered, place_in, place_of, place_slot, pla
 use Rattle.row_index.specs.declared.place.RowPlace.{RowPlace}
 use Rattle.row_index.proofs.Tables.{all-in_order}
 
-abbrev pub row_in : Option (List ℕ) → Option RowRecord
-row_in = in_slot (read_as row_kind)
+-- the row in a slot
+abbrev pub row_in_slot : Option (List ℕ) → Option RowRecord
+row_in_slot = in_slot (read_as row_kind)
 
 -- the places of the rows of slots from a number on, as the slots have them
 abbrev pub places_from : ℕ → Slots → List RowPlace
@@ -24,7 +25,7 @@ places_from slot slots = filter_map place_in (numbered slot slots)
 -- the rows with their slots
 abbrev pub pairs_from : ℕ → Slots → List (ℕ × RowRecord)
 pairs_from slot [] = []
-pairs_from slot (entry ∷ slots) = cons_option (option_map (λ (row : RowRecord). (slot, row)) (row_in entry)) (pairs_from (suc slot) slots)
+pairs_from slot (entry ∷ slots) = cons_option (option_map (λ (row : RowRecord). (slot, row)) (row_in_slot entry)) (pairs_from (suc slot) slots)
 
 abbrev pub pair_key : ℕ × RowRecord → ℕ
 pair_key pair = pair.1.stamp
@@ -55,19 +56,19 @@ find-map f p (x ∷ xs) =
 
 places-pairs : (slot : ℕ) (slots : Slots) → places_from slot slots ≡ map pair_place (pairs_from slot slots)
 places-pairs slot [] = refl
-places-pairs slot (entry ∷ slots) = one (row_in entry) (places-pairs (suc slot) slots)
+places-pairs slot (entry ∷ slots) = one (row_in_slot entry) (places-pairs (suc slot) slots)
   where
     one : (row : Option RowRecord) → places_from (suc slot) slots ≡ map pair_place (pairs_from (suc slot) slots)
         → cons_option (option_map (place_of slot) row) (places_from (suc slot) slots) ≡ map pair_place (cons_option (option_map (λ (row : RowRecord). (slot, row)) row) (pairs_from (suc slot) slots))
     one None rest = rest
     one (Some row) rest = ap (λ places. place_of slot row ∷ places) rest
 
-rows-pairs : (slot : ℕ) (slots : Slots) → filter_map row_in slots ≡ map (λ (pair : ℕ × RowRecord). pair.1) (pairs_from slot slots)
+rows-pairs : (slot : ℕ) (slots : Slots) → filter_map row_in_slot slots ≡ map (λ (pair : ℕ × RowRecord). pair.1) (pairs_from slot slots)
 rows-pairs slot [] = refl
-rows-pairs slot (entry ∷ slots) = one (row_in entry) (rows-pairs (suc slot) slots)
+rows-pairs slot (entry ∷ slots) = one (row_in_slot entry) (rows-pairs (suc slot) slots)
   where
-    one : (row : Option RowRecord) → filter_map row_in slots ≡ map (λ (pair : ℕ × RowRecord). pair.1) (pairs_from (suc slot) slots)
-        → cons_option row (filter_map row_in slots) ≡ map (λ (pair : ℕ × RowRecord). pair.1) (cons_option (option_map (λ (row : RowRecord). (slot, row)) row) (pairs_from (suc slot) slots))
+    one : (row : Option RowRecord) → filter_map row_in_slot slots ≡ map (λ (pair : ℕ × RowRecord). pair.1) (pairs_from (suc slot) slots)
+        → cons_option row (filter_map row_in_slot slots) ≡ map (λ (pair : ℕ × RowRecord). pair.1) (cons_option (option_map (λ (row : RowRecord). (slot, row)) row) (pairs_from (suc slot) slots))
     one None rest = rest
     one (Some row) rest = ap (λ rows. row ∷ rows) rest
 
@@ -83,18 +84,18 @@ listed-pairs slots = ap (in_order row_kind.key) (rows-pairs 0 slots) ∙ map-in_
 
 -- each pair has a slot of these, with the row
 abbrev pub IsThere : ℕ → Slots → ℕ × RowRecord → Type 0
-IsThere first slots pair = (at : ℕ) × (pair.0 ≡ first + at) × (at < length slots) × (row_in (get_or slots at None) ≡ Some pair.1)
+IsThere first slots pair = (at : ℕ) × (pair.0 ≡ first + at) × (at < length slots) × (row_in_slot (get_or slots at None) ≡ Some pair.1)
 
 are_there : (first : ℕ) (slots : Slots) → AllByRecursion (IsThere first slots) (pairs_from first slots)
 are_there first [] = tt
 are_there first (entry ∷ slots) =
-    one (row_in entry) refl (weaker (pairs_from (suc first) slots) (are_there (suc first) slots))
+    one (row_in_slot entry) refl (weaker (pairs_from (suc first) slots) (are_there (suc first) slots))
   where
     weaker : (xs : List (ℕ × RowRecord)) → AllByRecursion (IsThere (suc first) slots) xs → AllByRecursion (IsThere first (entry ∷ slots)) xs
     weaker [] all = tt
     weaker (x ∷ xs) all = ((suc all.0.0, omega (arith, all.0.1), omega (arith, all.0.2), all.0.3), weaker xs all.1)
 
-    one : (row : Option RowRecord) → row_in entry ≡ row → AllByRecursion (IsThere first (entry ∷ slots)) (pairs_from (suc first) slots)
+    one : (row : Option RowRecord) → row_in_slot entry ≡ row → AllByRecursion (IsThere first (entry ∷ slots)) (pairs_from (suc first) slots)
         → AllByRecursion (IsThere first (entry ∷ slots)) (cons_option (option_map (λ (row : RowRecord). (first, row)) row) (pairs_from (suc first) slots))
     one None is rest = rest
     one (Some row) is rest = ((0, omega arith, omega arith, is), rest)
@@ -157,7 +158,7 @@ places-below stamp slots below =
 -- the slots of places from a number on are no lesser numbers
 pub slots_from : (first : ℕ) (slots : Slots) → AllByRecursion (λ place. (first ≤ place_slot place) × (place_slot place < first + length slots)) (places_from first slots)
 slots_from first [] = tt
-slots_from first (entry ∷ slots) = one (row_in entry) (weaker (places_from (suc first) slots) (slots_from (suc first) slots))
+slots_from first (entry ∷ slots) = one (row_in_slot entry) (weaker (places_from (suc first) slots) (slots_from (suc first) slots))
   where
     weaker : (xs : List RowPlace) → AllByRecursion (λ place. (suc first ≤ place_slot place) × (place_slot place < suc first + length slots)) xs
         → AllByRecursion (λ place. (first ≤ place_slot place) × (place_slot place < first + suc (length slots))) xs
@@ -194,7 +195,7 @@ slot_count first at [] = omega arith
 slot_count first zero (entry ∷ slots) =
     let none : count_by (has place_slot first) (places_from (suc first) slots) ≡ 0 =
     none_lower (suc first) first (places_from (suc first) slots) (omega arith) (lower_part (suc first) (suc first + length slots) (places_from (suc first) slots) (slots_from (suc first) slots)) in
-    one (row_in entry) none
+    one (row_in_slot entry) none
   where
     one : (row : Option RowRecord) → count_by (has place_slot first) (places_from (suc first) slots) ≡ 0
         → count_by (has place_slot (first + 0)) (cons_option (option_map (place_of first) row) (places_from (suc first) slots)) ≤ 1
@@ -203,7 +204,7 @@ slot_count first zero (entry ∷ slots) =
 slot_count first (suc at) (entry ∷ slots) =
     let rest = slot_count (suc first) at slots in
     let same : suc first + at ≡ first + suc at = omega arith in
-    one (row_in entry) (subst (λ k. count_by (has place_slot k) (places_from (suc first) slots) ≤ 1) same rest)
+    one (row_in_slot entry) (subst (λ k. count_by (has place_slot k) (places_from (suc first) slots) ≤ 1) same rest)
   where
     one : (row : Option RowRecord) → count_by (has place_slot (first + suc at)) (places_from (suc first) slots) ≤ 1
         → count_by (has place_slot (first + suc at)) (cons_option (option_map (place_of first) row) (places_from (suc first) slots)) ≤ 1

@@ -2,7 +2,7 @@
 use Rattle.std.proofs.Common.{◌≡◌, ℕ, List, Bool, false, Option, Some, None, length, refl, sym, ap, ◌∙◌, subst}
 use Rattle.std.proofs.lemmas.Option.{none-some, same_Some}
 use Rattle.std.specs.Prelude.{IfSome, IsSome, MatchOption, option_and_then, if◌then◌else◌}
-use Rattle.cell_store.proofs.Chains.{length-slots_at}
+use Rattle.eeprom.proofs.Chains.{length-slots_at}
 use Rattle.eeprom.proofs.Places.{length-numbers_at}
 use Rattle.eeprom.specs.Chip.{Becomes, Chip}
 use Rattle.eeprom.specs.Slots.{AreApart}

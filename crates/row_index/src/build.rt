@@ -14,16 +14,15 @@ ghost use Rattle.row_index.specs.Places.{place_stamp, row_places};
 
 use crate::ordered::OrderedPlaces;
 use crate::{BuildRefusal, RowIndex, RowPlace};
-use eeprom::{Eeprom, EepromFault};
+use eeprom::{Eeprom, EepromFault, Heap};
 use record_store::{RecordOctets, Side, Store};
 use record_table::read_entry;
 use scql_base::RowRecord;
-use std::alloc::Global;
 
 impl RowIndex {
     /// The index of a store. Each row is read once, and no other record.
     pub fn build<B: Eeprom>(
-        alloc: Global,
+        alloc: Heap,
         store: &Store,
         bench: &mut B,
     ) -> Result<RowIndex, BuildRefusal>

@@ -19,9 +19,9 @@ use crate::RowPlace;
 use crate::build::gather;
 use crate::done::Done;
 use crate::ordered::OrderedPlaces;
-use eeprom::{Eeprom, EepromFault};
+use eeprom::{Eeprom, EepromFault, Heap};
 use record_store::{Side, Store};
-use std::alloc::{AllocError, Global};
+use std::alloc::AllocError;
 use std::marker::Model;
 
 /// Where the rows of both sides of a store stand. Only making one takes memory.
@@ -46,7 +46,7 @@ impl Model for RowIndex {
 impl RowIndex {
     /// An index of no rows, with room for those of a store of so many cells: for each cell 12 octets on each side, as many by tables, and one
     /// that says whether the slot has a row. That is 102,400 octets for 2,048 cells.
-    pub fn with_room(alloc: Global, cells: u16) -> Result<RowIndex, AllocError>
+    pub fn with_room(alloc: Heap, cells: u16) -> Result<RowIndex, AllocError>
         ensures none { IfOk result (λ index. index ≡ record { cells = cells; begun = false; committed = []; working = [] }) }
     {
         Ok(RowIndex {

@@ -7,6 +7,7 @@ ghost use Rattle.row_index.specs.Places.{key_of, place_stamp};
 ghost use Rattle.row_index.specs.Places as places;
 
 use crate::RowPlace;
+use eeprom::Heap;
 
 /// By what places are in order.
 #[derive(Clone, Copy)]
@@ -64,7 +65,7 @@ pub(crate) fn count_up_to_near(places: &[RowPlace], order: Order, key: u64, near
 }
 
 // Puts a place before the first of a greater key. There is room for it, so no memory is taken.
-pub(crate) fn put(places: &mut Vec<RowPlace>, order: Order, place: RowPlace)
+pub(crate) fn put(places: &mut Vec<RowPlace, Heap>, order: Order, place: RowPlace)
     requires rises { Rises (key_of order) places.old.items }
     requires room { vec_len places.old < vec_capacity places.old }
     ensures placed { places.new.items ≡ put_in_order (key_of order) place places.old.items }
@@ -77,7 +78,7 @@ pub(crate) fn put(places: &mut Vec<RowPlace>, order: Order, place: RowPlace)
 }
 
 // Has these places in the place of its own. There is room for them, so no memory is taken.
-pub(crate) fn refill(places: &mut Vec<RowPlace>, from: &[RowPlace])
+pub(crate) fn refill(places: &mut Vec<RowPlace, Heap>, from: &[RowPlace])
     requires room { length from.now ≤ vec_capacity places.old }
     ensures same { places.new.items ≡ from.now }
     ensures room { vec_capacity places.old ≤ vec_capacity places.new }

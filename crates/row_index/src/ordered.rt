@@ -9,16 +9,17 @@ ghost use Rattle.row_index.specs.Places.{IsOneMore, if_in_table, is_in_table, is
 
 use crate::RowPlace;
 use crate::order::{Order, count_below, count_up_to, count_up_to_near, key_in_table, put, refill};
-use std::alloc::{AllocError, Global};
+use eeprom::Heap;
+use std::alloc::AllocError;
 use std::marker::Model;
 
 #[derive(Drop)]
 pub(crate) struct OrderedPlaces {
     cells: u16,
-    by_stamp: Vec<RowPlace>,
-    by_table: Vec<RowPlace>,
+    by_stamp: Vec<RowPlace, Heap>,
+    by_table: Vec<RowPlace, Heap>,
     /// Of each slot of the store whether it has a row.
-    taken: Vec<bool>,
+    taken: Vec<bool, Heap>,
 }
 
 impl Model for OrderedPlaces {
@@ -34,7 +35,7 @@ impl Model for OrderedPlaces {
 
 impl OrderedPlaces {
     // None yet, with room for as many as there are cells.
-    pub(crate) fn with_room(alloc: Global, cells: u16) -> Result<OrderedPlaces, AllocError>
+    pub(crate) fn with_room(alloc: Heap, cells: u16) -> Result<OrderedPlaces, AllocError>
         ensures none { IfOk result (λ ordered. ordered ≡ record { cells = cells; places = [] }) }
     {
         Ok(OrderedPlaces {
@@ -204,7 +205,7 @@ fn place_in_table(places: &[RowPlace], at: usize, table: u32) -> Option<RowPlace
 }
 
 // Marks the slots of some places, or marks them no more.
-fn mark(taken: &mut Vec<bool>, places: &[RowPlace], has_row: bool)
+fn mark(taken: &mut Vec<bool, Heap>, places: &[RowPlace], has_row: bool)
     requires within { AllByRecursion (λ place. place_slot place < length taken.old.items) places.now }
     ensures marked { (slot : ℕ) → is_marked taken.new.items slot ≡ (if list_any (has place_slot slot) places.now then has_row else is_marked taken.old.items slot) }
     ensures many { length taken.new.items ≡ length taken.old.items }

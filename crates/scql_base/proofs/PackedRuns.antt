@@ -6,7 +6,7 @@ use Rattle.std.proofs.lemmas.Grind.{flat_map-append}
 use Rattle.std.proofs.lemmas.List.{map-append, take-append-drop, take_more}
 use Rattle.std.proofs.lemmas.List.Folds.{list_all-append}
 use Rattle.std.proofs.lemmas.Option.{none-some, same_Some}
-use Rattle.scql_base.specs.Changes.{ArePacked, change_octets, pairs_of, two_strings}
+use Rattle.scql_base.specs.Changes.{ArePacked, change_octets, change_strings, pairs_of}
 use Rattle.scql_base.specs.declared.changes.Change as declared
 use Rattle.scql_base.specs.Lists.{AreChanges}
 use Rattle.scql_base.specs.Name.{is_name}
@@ -25,14 +25,14 @@ Pair = declared.Change
 abbrev pairs : List Pair → List Change
 pairs items = map (λ (change : Pair). change.pair) items
 
-pairs_of-strings : (changes : List Change) → pairs_of (flat_map two_strings changes) ≡ changes
+pairs_of-strings : (changes : List Change) → pairs_of (flat_map change_strings changes) ≡ changes
 unfolding pairs_of
 pairs_of-strings [] = refl
 pairs_of-strings (change ∷ changes) = ap (λ (rest : List Change). change ∷ rest) (pairs_of-strings changes)
 
 -- the octets of changes split into the changes
 pub changes-again : (changes : List Change) → pairs_of (strings_of (change_octets changes)) ≡ changes
-changes-again changes = ap pairs_of (strings_of-spelled (flat_map two_strings changes)) ∙ pairs_of-strings changes
+changes-again changes = ap pairs_of (strings_of-spelled (flat_map change_strings changes)) ∙ pairs_of-strings changes
 
 pub changes-empty : (octets : List ℕ) → octets ≡ [] → pairs_of (strings_of octets) ≡ []
 changes-empty octets is = ap (λ (o : List ℕ). pairs_of (strings_of o)) is ∙ changes-again []
@@ -40,8 +40,8 @@ changes-empty octets is = ap (λ (o : List ℕ). pairs_of (strings_of o)) is ∙
 -- the octets with those of one change more
 pub change_octets-longer : (changes : List Change) (column value : List ℕ) → change_octets (changes ++ (column, value) ∷ []) ≡ (change_octets changes ++ spelled column) ++ spelled value
 change_octets-longer changes column value =
-    ap (flat_map spelled) (flat_map-append two_strings changes ((column, value) ∷ []))
-    ∙ (flat_map-append spelled (flat_map two_strings changes) (column ∷ value ∷ [])
+    ap (flat_map spelled) (flat_map-append change_strings changes ((column, value) ∷ []))
+    ∙ (flat_map-append spelled (flat_map change_strings changes) (column ∷ value ∷ [])
     ∙ (ap (λ (back : List ℕ). change_octets changes ++ (spelled column ++ back)) (append-nil (spelled value))
     ∙ sym (append_assoc (change_octets changes) (spelled column) (spelled value))))
 
@@ -83,15 +83,15 @@ pub record IsFirst (changes : List Change) (column value behind : List ℕ) : Ty
   pub is : changes ≡ (column, value) ∷ more
   pub octets : behind ≡ change_octets more
 
-split-changes : (octets : List ℕ) (changes : List Change) → octets ≡ change_octets changes → params_of octets ≡ Some (flat_map two_strings changes)
-split-changes octets changes is = ap params_of is ∙ params_of-again (flat_map two_strings changes)
+split-changes : (octets : List ℕ) (changes : List Change) → octets ≡ change_octets changes → params_of octets ≡ Some (flat_map change_strings changes)
+split-changes octets changes is = ap params_of is ∙ params_of-again (flat_map change_strings changes)
 
-first-strings : (changes : List Change) (column value behind : List ℕ) (more : List (List ℕ)) → flat_map two_strings changes ≡ column ∷ value ∷ more → behind ≡ flat_map spelled more → IsFirst changes column value behind
+first-strings : (changes : List Change) (column value behind : List ℕ) (more : List (List ℕ)) → flat_map change_strings changes ≡ column ∷ value ∷ more → behind ≡ flat_map spelled more → IsFirst changes column value behind
 first-strings [] column value behind more is octets = absurd (let wrong : [] ≡ column ∷ value ∷ more = is in cc)
 first-strings (change ∷ changes) column value behind more is octets =
     let one : change.0 ≡ column = cc in
     let two : change.1 ≡ value = cc in
-    let rest : flat_map two_strings changes ≡ more = cc in
+    let rest : flat_map change_strings changes ≡ more = cc in
     record { more = changes; is = rw (← one, ← two) refl; octets = octets ∙ ap (flat_map spelled) (sym rest) }
 
 pub first-change : (octets column value rest behind : List ℕ) (changes : List Change) → octets ≡ change_octets changes → params_of octets ≡ with_string column (params_of rest)
@@ -107,9 +107,9 @@ first-change octets column value rest behind changes is one two = of (params_of 
 pub no-change : (octets : List ℕ) (changes : List Change) → octets ≡ change_octets changes → params_of octets ≡ (if length octets == 0 then Some [] else None) → changes ≡ []
 no-change octets changes is none = of (length octets == 0) refl
   where
-    empty : (changes : List Change) → flat_map two_strings changes ≡ [] → changes ≡ []
+    empty : (changes : List Change) → flat_map change_strings changes ≡ [] → changes ≡ []
     empty [] is = refl
-    empty (change ∷ changes) is = absurd (let wrong : change.0 ∷ change.1 ∷ flat_map two_strings changes ≡ [] = is in cc)
+    empty (change ∷ changes) is = absurd (let wrong : change.0 ∷ change.1 ∷ flat_map change_strings changes ≡ [] = is in cc)
 
     of : (test : Bool) → (length octets == 0) ≡ test → changes ≡ []
     of true at = empty changes (same_Some _ _ (sym (split-changes octets changes is) ∙ (none ∙ rw at refl)))
@@ -119,12 +119,12 @@ pub no-half : (octets column rest : List ℕ) (changes : List Change) → octets
     → params_of rest ≡ (if length rest == 0 then Some [] else None) → ⊥
 no-half octets column rest changes is one none = of (length rest == 0) refl
   where
-    odd : (changes : List Change) → flat_map two_strings changes ≡ column ∷ [] → ⊥
+    odd : (changes : List Change) → flat_map change_strings changes ≡ column ∷ [] → ⊥
     odd [] is = let wrong : [] ≡ column ∷ [] = is in cc
-    odd (change ∷ changes) is = let wrong : change.0 ∷ change.1 ∷ flat_map two_strings changes ≡ column ∷ [] = is in cc
+    odd (change ∷ changes) is = let wrong : change.0 ∷ change.1 ∷ flat_map change_strings changes ≡ column ∷ [] = is in cc
 
     split : Option (List (List ℕ))
-    split = Some (flat_map two_strings changes)
+    split = Some (flat_map change_strings changes)
 
     of : (test : Bool) → (length rest == 0) ≡ test → ⊥
     of true at =
@@ -146,7 +146,7 @@ AreChanges-rest change changes are = record {
 pub ArePacked-front : (changes more : List Change) → AreChanges (changes ++ more) → length (change_octets (changes ++ more)) ≤ 1275 → ArePacked changes
 ArePacked-front changes more are fits =
     let octets : change_octets (changes ++ more) ≡ change_octets changes ++ change_octets more =
-    ap (flat_map spelled) (flat_map-append two_strings changes more) ∙ flat_map-append spelled (flat_map two_strings changes) (flat_map two_strings more) in
+    ap (flat_map spelled) (flat_map-append change_strings changes more) ∙ flat_map-append spelled (flat_map change_strings changes) (flat_map change_strings more) in
     record {
       list = record {
         count = omega (arith, length-append changes more, are.count);

@@ -1,4 +1,6 @@
 // What a session keeps: its user, and where it reads.
+ghost use Rattle.std.specs.Prelude.{◌≡◌};
+
 use crate::{Conditions, NameList};
 
 /// Where a cursor stands: before its first opening, at the row of a stamp, or past the last row.
@@ -16,6 +18,20 @@ pub struct Cursor {
     pub columns: NameList,
     pub conditions: Conditions,
     pub place: Place,
+}
+
+impl Cursor {
+    /// The same cursor once more.
+    pub fn copy(&self) -> Cursor
+        ensures { result ≡ self.now }
+    {
+        Cursor {
+            object: self.object,
+            columns: self.columns.copy(),
+            conditions: self.conditions.copy(),
+            place: self.place,
+        }
+    }
 }
 
 /// A user who was presented, by the stamp of its record, and whether that user is proved.

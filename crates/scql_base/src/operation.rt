@@ -119,7 +119,7 @@ pub enum Takes {
     LeAlone,
 }
 
-/// A line of the table of operations: INS, P1 and P2, the operation that they ask for, what it takes, and whether it is built.
+/// A line of the table of operations: INS, P1 and P2, the operation that they ask for, and what it takes.
 #[derive(Clone, Copy, PartialEq, Eq, Debug)]
 pub struct Line {
     pub ins: u8,
@@ -127,7 +127,6 @@ pub struct Line {
     pub p2: u8,
     pub kind: OperationKind,
     pub takes: Takes,
-    pub is_built: bool,
 }
 
 /// A command on a logical channel, 0 to 3. Le is the greatest number of octets wanted, 1 to 256.

@@ -1,5 +1,7 @@
 // The records of a database, of each kind. Stamps number users, objects, grants and rows in the order in which they were made;
 // an owner, a base, an object and a grantee are stamps of others.
+ghost use Rattle.std.specs.Prelude.{◌≡◌};
+
 use crate::{Conditions, Name, NameList, Octets, Privileges, Profile, Row, Subject};
 
 /// A user. Without a secret there are always three tries.
@@ -27,6 +29,20 @@ impl User {
 
     /// How often a secret may be presented after one that was right.
     pub const ALL_TRIES: u8 = 3;
+
+    /// The same user once more.
+    pub fn copy(&self) -> User
+        ensures { result ≡ self.now }
+    {
+        User {
+            stamp: self.stamp,
+            name: self.name.copy(),
+            profile: self.profile,
+            owner: self.owner,
+            secret: self.secret.copy(),
+            tries: self.tries,
+        }
+    }
 }
 
 /// What an object is.
@@ -44,6 +60,29 @@ pub enum ObjectKind {
     Dictionary {
         subject: Subject,
     },
+}
+
+impl ObjectKind {
+    /// The same kind once more.
+    pub fn copy(&self) -> ObjectKind
+        ensures { result ≡ self.now }
+    {
+        match self {
+            ObjectKind::Table { columns } => ObjectKind::Table {
+                columns: columns.copy(),
+            },
+            ObjectKind::View {
+                base,
+                columns,
+                conditions,
+            } => ObjectKind::View {
+                base: *base,
+                columns: columns.copy(),
+                conditions: conditions.copy(),
+            },
+            ObjectKind::Dictionary { subject } => ObjectKind::Dictionary { subject: *subject },
+        }
+    }
 }
 
 /// A table, a view or a dictionary.
@@ -65,10 +104,22 @@ impl Object {
 
     /// The octets of the longest record of an object.
     pub const LONGEST: usize = 512;
+
+    /// The same object once more.
+    pub fn copy(&self) -> Object
+        ensures { result ≡ self.now }
+    {
+        Object {
+            stamp: self.stamp,
+            name: self.name.copy(),
+            owner: self.owner,
+            kind: self.kind.copy(),
+        }
+    }
 }
 
 /// What a user may do with an object.
-#[derive(Drop)]
+#[derive(Clone, Copy)]
 pub struct Grant {
     pub stamp: u32,
     pub object: u32,
@@ -96,4 +147,15 @@ impl RowRecord {
 
     /// The octets of the longest record of a row: its mark, two stamps and the row.
     pub const LONGEST: usize = 9 + Row::LARGEST;
+
+    /// The same row once more.
+    pub fn copy(&self) -> RowRecord
+        ensures { result ≡ self.now }
+    {
+        RowRecord {
+            stamp: self.stamp,
+            table: self.table,
+            row: self.row.copy(),
+        }
+    }
 }

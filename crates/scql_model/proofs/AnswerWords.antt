@@ -13,7 +13,6 @@ use Rattle.scql_base.specs.declared.cursor.PresentedUser.{PresentedUser}
 use Rattle.scql_base.specs.declared.cursor.Place.TheVariants.{NotOpen, At, End}
 use Rattle.scql_base.specs.declared.records.User.{User}
 use Rattle.scql_base.specs.declared.operation.Command.{Command}
-use Rattle.scql_base.specs.declared.operation.Line.{Line}
 use Rattle.scql_base.specs.declared.operation.Operation.{Operation}
 use Rattle.scql_base.specs.declared.operation.Operation.TheVariants.{DeleteUser, Begin, Commit, Rollback, PresentUser, Verify, OpenChannel, CloseChannel}
 use Rattle.scql_base.specs.Words.{end_reached, tries_left, authentication_blocked, conditions_not_satisfied, not_found, record_not_found}
@@ -23,14 +22,14 @@ use Rattle.scql_model.specs.Database.{Database, user_stamped}
 use Rattle.scql_model.specs.Machine.{Machine, Session, Reading, Transaction, open_channels, base, actor, session_of}
 use Rattle.scql_model.specs.Sessions.{with_session, changing_session, command_chain, reading_of, reading_so, without_chain, user_of}
 use Rattle.scql_model.specs.Transactions.{own_transaction, waits, is_kept_waiting}
-use Rattle.scql_model.specs.Operations.{kind_of}
+use Rattle.scql_model.specs.Operations.{kind_of, operations}
 use Rattle.scql_model.specs.Form.{Form, refused, refused_on, part_on, a_command, form_of}
 use Rattle.scql_model.specs.Objects.{StampedRow}
 use Rattle.scql_model.specs.ReadingCommands.{ReadingCommand, declare, open_cursor, next, fetch, fetch_next, get_response, reading_command, Move, or_stays, fitting, row_octets, named_among}
 use Rattle.scql_model.specs.Moves.{selected, is_opened, opened, rows_under, first_row, row_behind, row_at, moved_to, went_to, gave_next, gave, gave_more, moved, move_of}
 use Rattle.scql_model.specs.Rights.{seen_named}
 use Rattle.scql_model.specs.Accepting.{channel_named, ended_at, EndsCursor, CostsTry}
-use Rattle.scql_model.specs.Step.{Answer, answered, reading_done, changed, session_named, secret_right, secret_wrong, verified, operated, carried_out, stepped, step_by}
+use Rattle.scql_model.specs.Step.{Answer, answered, reading_done, changed, session_named, secret_right, secret_wrong, verified, operated, carried_out, stepped, step}
 use Rattle.scql_model.proofs.ChangingSessions.{changing_session-set}
 use Rattle.scql_model.proofs.FormedCommands.{refused-not, not_refused, not_unless}
 use Rattle.scql_model.proofs.FormedParts.{read_on, IfSome-read_on-named}
@@ -270,52 +269,52 @@ answers-stepped m (part_on number kind part) is = inl plain-done
 answers-stepped m (a_command c) is =
     inr (c, (refl, answers-answered m (changing_session without_chain m c.channel) c (carried_out (changing_session without_chain m c.channel) c) (answers-carried_out m c)))
 
-module _ (table : List Line) (m : Machine) (octets : List ℕ) where
+module _ (m : Machine) (octets : List ℕ) where
   abbrev form : Form
-  form = form_of table octets (open_channels m) (command_chain m) m.committed.limit
+  form = form_of operations octets (open_channels m) (command_chain m) m.committed.limit
 
-  answers-step_by : AnswersTo m form (step_by table m octets)
-  unfolding step_by
-  answers-step_by = answers-stepped m form (refused-form_of table octets (open_channels m) (command_chain m) m.committed.limit)
+  answers-step : AnswersTo m form (step m octets)
+  unfolding step
+  answers-step = answers-stepped m form (refused-form_of operations octets (open_channels m) (command_chain m) m.committed.limit)
 
   on_channel : (c : Command) → form ≡ a_command c → c.channel ≡ channel_named octets
-  on_channel c read = subst (λ (form : Form). IfSome (read_on form) (λ channel. channel ≡ channel_named octets)) read (IfSome-read_on-named table octets (open_channels m) (command_chain m) m.committed.limit)
+  on_channel c read = subst (λ (form : Form). IfSome (read_on form) (λ channel. channel ≡ channel_named octets)) read (IfSome-read_on-named operations octets (open_channels m) (command_chain m) m.committed.limit)
 
   -- 6282, and why it came
-  step-came : (step_by table m octets).reply.word ≡ end_reached → (c : Command) × ((form ≡ a_command c) × (ComesToEnd m c × EndsCursor m c.channel (step_by table m octets)))
-  step-came is = go answers-step_by
+  step-came : (step m octets).reply.word ≡ end_reached → (c : Command) × ((form ≡ a_command c) × (ComesToEnd m c × EndsCursor m c.channel (step m octets)))
+  step-came is = go answers-step
     where
-      go : AnswersTo m form (step_by table m octets) → (c : Command) × ((form ≡ a_command c) × (ComesToEnd m c × EndsCursor m c.channel (step_by table m octets)))
+      go : AnswersTo m form (step m octets) → (c : Command) × ((form ≡ a_command c) × (ComesToEnd m c × EndsCursor m c.channel (step m octets)))
       go (inl plain) = absurd (plain.0 is)
       go (inr (c, (read, inl plain))) = absurd (plain.0 is)
       go (inr (c, (read, inr (inl ends)))) = (c, (read, ends))
       go (inr (c, (read, inr (inr costs)))) = absurd (end-not_try (costs.1.user.tries - 1) (sym is ∙ ap (λ (reply : Reply). reply.word) costs.1.reply))
 
-  pub step-ends : (step_by table m octets).reply.word ≡ end_reached → EndsCursor m (channel_named octets) (step_by table m octets)
+  pub step-ends : (step m octets).reply.word ≡ end_reached → EndsCursor m (channel_named octets) (step m octets)
   step-ends is =
       let came = step-came is in
-      subst (λ (channel : ℕ). EndsCursor m channel (step_by table m octets)) (on_channel came.0 came.1.0) came.1.1.1
+      subst (λ (channel : ℕ). EndsCursor m channel (step m octets)) (on_channel came.0 came.1.0) came.1.1.1
 
   -- 63CX, and why it came
-  step-tried : (n : ℕ) → (step_by table m octets).reply.word ≡ tries_left n → (c : Command) × ((form ≡ a_command c) × (ComparesWrong m c × CostsTry m c.channel (step_by table m octets)))
-  step-tried n is = go answers-step_by
+  step-tried : (n : ℕ) → (step m octets).reply.word ≡ tries_left n → (c : Command) × ((form ≡ a_command c) × (ComparesWrong m c × CostsTry m c.channel (step m octets)))
+  step-tried n is = go answers-step
     where
-      go : AnswersTo m form (step_by table m octets) → (c : Command) × ((form ≡ a_command c) × (ComparesWrong m c × CostsTry m c.channel (step_by table m octets)))
+      go : AnswersTo m form (step m octets) → (c : Command) × ((form ≡ a_command c) × (ComparesWrong m c × CostsTry m c.channel (step m octets)))
       go (inl plain) = absurd (plain.1 n is)
       go (inr (c, (read, inl plain))) = absurd (plain.1 n is)
       go (inr (c, (read, inr (inl ends)))) = absurd (end-not_try n (sym (ap (λ (reply : Reply). reply.word) ends.1.reply) ∙ is))
       go (inr (c, (read, inr (inr costs)))) = (c, (read, costs))
 
-  pub step-costs : (n : ℕ) → (step_by table m octets).reply.word ≡ tries_left n → CostsTry m (channel_named octets) (step_by table m octets)
+  pub step-costs : (n : ℕ) → (step m octets).reply.word ≡ tries_left n → CostsTry m (channel_named octets) (step m octets)
   step-costs n is =
       let tried = step-tried n is in
-      subst (λ (channel : ℕ). CostsTry m channel (step_by table m octets)) (on_channel tried.0 tried.1.0) tried.1.1.1
+      subst (λ (channel : ℕ). CostsTry m channel (step m octets)) (on_channel tried.0 tried.1.0) tried.1.1.1
 
   -- and nothing else has these answers
-  pub step-comes_to_end : (step_by table m octets).reply.word ≡ end_reached → AreCommand table m octets ComesToEnd
+  pub step-comes_to_end : (step m octets).reply.word ≡ end_reached → AreCommand m octets ComesToEnd
   step-comes_to_end is = let came = step-came is in record { command = came.0; read = came.1.0; is = came.1.1.0 }
 
-  pub step-compares_wrong : IsTriesLeft (step_by table m octets).reply.word → AreCommand table m octets ComparesWrong
+  pub step-compares_wrong : IsTriesLeft (step m octets).reply.word → AreCommand m octets ComparesWrong
   step-compares_wrong (n, is) = let tried = step-tried n is in record { command = tried.0; read = tried.1.0; is = tried.1.1.0 }
 
 -- The other way: a command that comes to the end, or compares a wrong secret, is answered so.
@@ -350,10 +349,10 @@ stepped-compares_wrong m c wrong =
     compares : verified (ended m c) c.channel wrong.secret ≡ Ok (secret_wrong (ended m c) wrong.user)
     compares = rw (ended-user m c.channel, wrong.presented, wrong.unproved, wrong.stored, left, wrong.wrong) refl
 
-pub end-step : (table : List Line) (m : Machine) (octets : List ℕ) → AreCommand table m octets ComesToEnd → (step_by table m octets).reply.word ≡ end_reached
-unfolding step_by
-end-step table m octets are = ap (λ (form : Form). (stepped m form).reply.word) are.read ∙ stepped-comes_to_end m are.command are.is
+pub end-step : (m : Machine) (octets : List ℕ) → AreCommand m octets ComesToEnd → (step m octets).reply.word ≡ end_reached
+unfolding step
+end-step m octets are = ap (λ (form : Form). (stepped m form).reply.word) are.read ∙ stepped-comes_to_end m are.command are.is
 
-pub try-step : (table : List Line) (m : Machine) (octets : List ℕ) → AreCommand table m octets ComparesWrong → IsTriesLeft (step_by table m octets).reply.word
-unfolding step_by
-try-step table m octets are = (are.is.user.tries - 1, ap (λ (form : Form). (stepped m form).reply.word) are.read ∙ stepped-compares_wrong m are.command are.is)
+pub try-step : (m : Machine) (octets : List ℕ) → AreCommand m octets ComparesWrong → IsTriesLeft (step m octets).reply.word
+unfolding step
+try-step m octets are = (are.is.user.tries - 1, ap (λ (form : Form). (stepped m form).reply.word) are.read ∙ stepped-compares_wrong m are.command are.is)

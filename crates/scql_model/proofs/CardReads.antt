@@ -4,16 +4,15 @@ use Rattle.std.specs.Prelude.{IfSome, slice_get}
 use Rattle.std.specs.Option.{option_flatten}
 use Rattle.std.proofs.lemmas.Option.{none-some}
 use Rattle.scql_base.specs.declared.operation.Command.{Command}
-use Rattle.scql_base.specs.declared.operation.Line.{Line}
 use Rattle.scql_model.specs.Accepting.{channel_named}
 use Rattle.scql_model.specs.Answering.{AreCommand}
-use Rattle.scql_model.specs.Operations.{built_operations}
+use Rattle.scql_model.specs.Operations.{operations}
 use Rattle.scql_model.specs.Machine.{Machine, Session, session_of, open_channels, base}
 use Rattle.scql_model.specs.Sessions.{command_chain}
 use Rattle.scql_model.specs.Form.{Form, a_command, form_of}
 use Rattle.scql_model.specs.ReadingCommands.{ReadingCommand, reading_command}
 use Rattle.scql_model.specs.ReadingLaws.{IsReadable, IsReadingCommand, ReadsWhatIsShown}
-use Rattle.scql_model.specs.Step.{Answer, stepped, step_by, step}
+use Rattle.scql_model.specs.Step.{Answer, stepped, step}
 use Rattle.scql_model.specs.ValidMachine.{IsValidMachine}
 use Rattle.scql_model.proofs.FormedParts.{read_on, IfSome-read_on, IfSome-read_on-named}
 use Rattle.scql_model.proofs.ReadingIsShown.{IsReadable-valid}
@@ -42,25 +41,19 @@ reads-command m c s reading is there readable =
       commits = ap (λ (answer : Answer). answer.commits) same;
     }
 
--- what octets read, by a table
-reads-step_by : (table : List Line) (m : Machine) (octets : List ℕ) (reading : ReadingCommand) → IsValidMachine m → AreCommand table m octets (IsReadingCommand reading)
-    → ReadsWhatIsShown m (channel_named octets) reading (step_by table m octets)
-unfolding step_by
-reads-step_by table m octets reading valid are =
-    let form : Form = form_of table octets (open_channels m) (command_chain m) m.committed.limit in
+-- what octets read
+pub reads-step : (m : Machine) (octets : List ℕ) (reading : ReadingCommand) → IsValidMachine m → AreCommand m octets (IsReadingCommand reading)
+    → ReadsWhatIsShown m (channel_named octets) reading (step m octets)
+unfolding step
+reads-step m octets reading valid are =
+    let form : Form = form_of operations octets (open_channels m) (command_chain m) m.committed.limit in
     let c : Command = are.command in
     let opened = subst (λ (form : Form). IfSome (read_on form) (λ channel. slice_get (open_channels m) channel ≡ Some true)) are.read
-    (IfSome-read_on table octets (open_channels m) (command_chain m) m.committed.limit) in
+    (IfSome-read_on operations octets (open_channels m) (command_chain m) m.committed.limit) in
     let named = subst (λ (form : Form). IfSome (read_on form) (λ channel. channel ≡ channel_named octets)) are.read
-    (IfSome-read_on-named table octets (open_channels m) (command_chain m) m.committed.limit) in
+    (IfSome-read_on-named operations octets (open_channels m) (command_chain m) m.committed.limit) in
     let session = has-session m.sessions c.channel opened in
     let readable = IsReadable-valid (base m c.channel) (valid-base m c.channel valid).valid in
     subst (λ (form : Form). ReadsWhatIsShown m (channel_named octets) reading (stepped m form)) (sym are.read)
     (subst (λ (channel : ℕ). ReadsWhatIsShown m channel reading (stepped m (a_command c))) named
     (reads-command m c session.0 reading are.is session.1 readable))
-
--- by that of today's card
-pub reads-step : (m : Machine) (octets : List ℕ) (reading : ReadingCommand) → IsValidMachine m → AreCommand built_operations m octets (IsReadingCommand reading)
-    → ReadsWhatIsShown m (channel_named octets) reading (step m octets)
-unfolding step
-reads-step m octets reading valid are = reads-step_by built_operations m octets reading valid are

@@ -11,7 +11,7 @@ use Rattle.eeprom.specs.Slots.{Rises, replaced, without}
 use Rattle.eeprom.proofs.InOrder.{all-filter}
 
 -- what stands in a place then has the key of what stood there
-key-replaced : {X : Type 0} (key : X → ℕ) (x y : X) → key (if eqb (key y) (key x) then x else y) ≡ key y
+pub key-replaced : {X : Type 0} (key : X → ℕ) (x y : X) → key (if eqb (key y) (key x) then x else y) ≡ key y
 key-replaced key x y = elim (cases_Bool (eqb (key y) (key x))) [ inl t ↦ rw t (sym (eqb-true (key y) (key x) t)) | inr e ↦ rw e refl ]
 
 -- so what is said of keys alone stays

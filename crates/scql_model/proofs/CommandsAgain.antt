@@ -8,7 +8,11 @@ use Rattle.scql_base.specs.declared.operation.OperationKind.{OperationKind}
 use Rattle.scql_model.specs.Machine.{Chain}
 use Rattle.scql_model.specs.Operations.{has_instruction, has_secrets, line_of, is_for_channel, kind_of}
 use Rattle.scql_model.specs.WellFormed.{IsWellFormed}
-use Rattle.scql_model.specs.Form.{is_chained, takes_case, is_case_3, channel_asked, line_on, parts_of, a_command, formed, part_in, form_of}
+use Rattle.scql_model.specs.Form.{Form, is_chained, takes_case, is_case_3, channel_asked, line_on, parts_of, a_command, formed, part_in, form_of, formed_on, refused_on}
+use Rattle.scql_model.specs.Refusals.{◌>>=◌, or_refused}
+use Rattle.scql_model.specs.Parameters.{operation_in}
+use Rattle.scql_base.specs.Words.{wrong_data}
+use Rattle.scql_base.specs.declared.operation.Operation.{Operation}
 use Rattle.scql_model.specs.Spelling.{field_of, cla_of, apdu_by, octets_of, HasLine, IsTaken, ReadsAs}
 use Rattle.scql_model.proofs.FieldsAgain.{operation-again}
 use Rattle.scql_model.proofs.TailsAgain.{tail, tail-again, data-again}
@@ -61,23 +65,33 @@ part-again table l channel asked octets channels chain limit near found same clo
       same,
     ) refl
 
-pub last-again : (table : List Line) (l : Line) (c : Command) (octets : List ℕ) (channels : List Bool) (chain : ℕ → Option Chain) (limit : ℕ)
+-- what a command's whole field is read as
+abbrev pub read_as : Command → Option Operation → Form
+read_as c None = refused_on c.channel wrong_data
+read_as c (Some operation) = a_command (record { channel = c.channel; operation = operation; le = c.le })
+
+formed-read : (c : Command) (found : Option Operation)
+    → formed_on c.channel (or_refused found wrong_data >>= (λ (operation : Operation). Ok (a_command (record { channel = c.channel; operation = operation; le = c.le })))) ≡ read_as c found
+formed-read c None = refl
+formed-read c (Some operation) = refl
+
+pub last-again : (table : List Line) (l : Line) (c : Command) (octets : List ℕ) (channels : List Bool) (chain : ℕ → Option Chain) (limit : ℕ) (found : Option Operation)
     → IsWellFormed c → line_of table l.ins l.p1 l.p2 ≡ Some l → l.kind ≡ kind_of c.operation → takes_case l.takes (tail octets c.le) ≡ true → slice_get channels c.channel ≡ Some true
-    → IsTaken (has_secrets table) limit c.operation → concat (parts_of (kind_of c.operation) (chain c.channel)) ++ octets ≡ field_of c.operation
-    → form_of table (apdu_by l (cla_of c.channel false) octets c.le) channels chain limit ≡ a_command c
+    → operation_in (has_secrets table) (kind_of c.operation) limit (field_of c.operation) ≡ found → concat (parts_of (kind_of c.operation) (chain c.channel)) ++ octets ≡ field_of c.operation
+    → form_of table (apdu_by l (cla_of c.channel false) octets c.le) channels chain limit ≡ read_as c found
 unfolding form_of
-last-again table l c octets channels chain limit formed' found same takes open' taken joined =
+last-again table l c octets channels chain limit found formed' line same takes open' is joined =
     rw (
-      channel-again table l.ins channels c.channel false formed'.channel (has_instruction-found table l.ins l.p1 l.p2 l found) open',
-      line-again table c.channel l (kind_of c.operation) found same formed'.closed,
+      channel-again table l.ins channels c.channel false formed'.channel (has_instruction-found table l.ins l.p1 l.p2 l line) open',
+      line-again table c.channel l (kind_of c.operation) line same formed'.closed,
       chained-again c.channel false formed'.channel,
       tail-again octets c.le formed'.le,
       takes,
       same,
       data-again octets c.le,
       joined,
-      operation-again (has_secrets table) limit c.operation formed'.form taken,
-    ) refl
+      is,
+    ) (formed-read c found)
 
 -- A command in one.
 pub command-again : (table : List Line) (limit : ℕ) (c : Command) → IsWellFormed c → HasLine table (kind_of c.operation) → IsTaken (has_secrets table) limit c.operation
@@ -86,4 +100,4 @@ unfolding octets_of
 command-again table limit c formed' has taken channels chain open' none =
     let lined = Lined-field c.operation c.le formed'.form formed'.wanted in
     rw lined.found
-    (last-again table lined.line c (field_of c.operation) channels chain limit formed' (has lined.line lined.found) lined.kind lined.takes open' taken (ap (λ (parts : List (List ℕ)). concat parts ++ field_of c.operation) none))
+    (last-again table lined.line c (field_of c.operation) channels chain limit (Some c.operation) formed' (has lined.line lined.found) lined.kind lined.takes open' (operation-again (has_secrets table) limit c.operation formed'.form taken) (ap (λ (parts : List (List ℕ)). concat parts ++ field_of c.operation) none))

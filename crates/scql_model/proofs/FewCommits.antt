@@ -14,12 +14,12 @@ use Rattle.scql_model.specs.Database.{Database, user_named, user_stamped}
 use Rattle.scql_model.specs.Machine.{Machine, Transaction, open_channels, base, actor}
 use Rattle.scql_model.specs.Sessions.{changing_session, command_chain, cursor_of, without_chain, user_of, is_channel_open, least_closed}
 use Rattle.scql_model.specs.Transactions.{own_transaction, waits, is_kept_waiting}
-use Rattle.scql_model.specs.Operations.{kind_of, built_operations}
+use Rattle.scql_model.specs.Operations.{kind_of, operations}
 use Rattle.scql_model.specs.Form.{Form, refused, refused_on, part_on, a_command, form_of}
 use Rattle.scql_model.specs.ReadingCommands.{ReadingCommand, reading_command}
 use Rattle.scql_model.specs.Edits.{Edit}
 use Rattle.scql_model.specs.Changing.{edits_of, with_edits}
-use Rattle.scql_model.specs.Step.{Answer, answered, reading_done, changed_to, changed, session_named, compared, secret_right, secret_wrong, verified, channel_opened, channel_closed, operated, carried_out, stepped, step_by, step}
+use Rattle.scql_model.specs.Step.{Answer, answered, reading_done, changed_to, changed, session_named, compared, secret_right, secret_wrong, verified, channel_opened, channel_closed, operated, carried_out, stepped, step}
 use Rattle.scql_model.proofs.LastCommits.{of_outcome}
 
 -- an answer that commits at most one, and at most two
@@ -128,5 +128,5 @@ two-stepped m (a_command c) =
     go m (Err word) two = lit≤ tt
 
 pub two-step : (m : Machine) (octets : List ℕ) → CommitsTwo (step m octets)
-unfolding step step_by
-two-step m octets = two-stepped m (form_of built_operations octets (open_channels m) (command_chain m) m.committed.limit)
+unfolding step
+two-step m octets = two-stepped m (form_of operations octets (open_channels m) (command_chain m) m.committed.limit)

@@ -1,7 +1,7 @@
 -- The data field of an operation is read back as that operation.
-use Rattle.std.proofs.Common.{◌≡◌, ℕ, nat_le, ◌&&◌, Bool, true, List, [], ◌∷◌, ◌++◌, length, Option, Some, refl, ap, ◌∙◌, arith, length-append}
+use Rattle.std.proofs.Common.{◌≡◌, ℕ, nat_le, ◌&&◌, Bool, true, false, List, [], ◌∷◌, ◌++◌, length, Option, Some, None, refl, ap, ◌∙◌, arith, length-append}
 use Rattle.std.specs.List.{flat_map, list_all}
-use Rattle.std.proofs.lemmas.Bool.{and_parts, and_from, le-leb}
+use Rattle.std.proofs.lemmas.Bool.{and_parts, and_from, and_right, le-leb}
 use Rattle.std.proofs.Math.Seq.{take-append_seam, drop-append_seam}
 use Rattle.scql_base.specs.declared.condition.Condition.{Condition}
 use Rattle.scql_base.specs.declared.words.Comparison.{Comparison}
@@ -12,14 +12,16 @@ use Rattle.scql_base.specs.declared.words.Profile.{Profile}
 use Rattle.scql_base.specs.declared.words.Profile.TheVariants.{DbO, Dboo, Dbbu}
 use Rattle.scql_base.specs.declared.operation.Operation.{Operation}
 use Rattle.scql_base.specs.declared.operation.Operation.TheVariants.{CreateTable, CreateView, CreateDictionary, DropTable, DropView, Grant, Revoke, DeclareCursor, OpenCursor, Next, Fetch, FetchNext, Insert, Update, Delete, Begin, Commit, Rollback, PresentUser, CreateUser, DeleteUser, Verify, OpenChannel, CloseChannel, GetResponse}
+use Rattle.scql_base.specs.Changes.{change_strings}
 use Rattle.scql_base.specs.Row.{is_narrow, row_size}
 use Rattle.scql_base.specs.Strings.{spelled, params_of}
 use Rattle.scql_base.proofs.Splitting.{params_of-again}
 use Rattle.scql_model.specs.Operations.{kind_of}
 use Rattle.scql_model.specs.Records.{comparison_code, comparison_of, subject_code, subject_of, profile_code, is_row_within, is_count_of_columns}
+use Rattle.scql_base.specs.Name.{is_name}
 use Rattle.scql_model.specs.Parameters.{◌>>=◌, are_chosen_columns, are_conditions, conditions_in, choice_in, changes_in, create_table_in, create_view_in, create_dictionary_in, named_in, granted_in, declare_cursor_in, insert_in, update_in, made_profile_of, create_user_in, operation_in}
 use Rattle.scql_model.specs.WellFormed.{HasForm}
-use Rattle.scql_model.specs.Spelling.{condition_strings, choice_strings, change_strings, field_of, IsTaken}
+use Rattle.scql_model.specs.Spelling.{condition_strings, choice_strings, field_of, IsTaken}
 
 -- what spells strings is read as what they are read as
 of_strings : (strings : List (List ℕ)) (f : List (List ℕ) → Option Operation) → (params_of (flat_map spelled strings) >>= f) ≡ f strings
@@ -71,6 +73,13 @@ row-again : (values : List (List ℕ)) (most limit : ℕ) → is_row_within most
 row-again values most limit row fits =
     let parts = and_parts (is_count_of_columns (length values) && list_all is_narrow values) (nat_le (row_size values) most) row in
     and_from (is_count_of_columns (length values) && list_all is_narrow values) (nat_le (row_size values) limit) parts.0 fits
+
+-- a row beyond the limit
+pub row-beyond : (secrets : Bool) (limit : ℕ) (table : List ℕ) (values : List (List ℕ)) → nat_le (row_size values) limit ≡ false
+    → operation_in secrets (kind_of (Insert table values)) limit (field_of (Insert table values)) ≡ None
+row-beyond secrets limit table values long =
+    of_strings (table ∷ values) (insert_in limit)
+    ∙ rw (and_right (is_name table) (is_row_within limit values) (and_right (is_count_of_columns (length values) && list_all is_narrow values) (nat_le (row_size values) limit) long)) refl
 
 pub operation-again : (secrets : Bool) (limit : ℕ) (operation : Operation) → HasForm operation → IsTaken secrets limit operation
     → operation_in secrets (kind_of operation) limit (field_of operation) ≡ Some operation

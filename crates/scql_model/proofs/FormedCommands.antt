@@ -22,9 +22,9 @@ use Rattle.scql_model.specs.Machine.{Chain}
 use Rattle.scql_base.specs.declared.operation.Line.{Line}
 use Rattle.scql_base.specs.declared.operation.Takes.{Takes}
 use Rattle.scql_base.specs.declared.operation.Takes.TheVariants.{Nothing, DataField, LeAlone}
-use Rattle.scql_model.specs.Operations.{is_le_alone, WantsLe, operations, built_operations, has_instruction, has_secrets, is_for_channel, line_of, comes_in_parts, kind_of}
+use Rattle.scql_model.specs.Operations.{is_le_alone, WantsLe, operations, has_instruction, has_secrets, is_for_channel, line_of, comes_in_parts, kind_of}
 use Rattle.scql_model.specs.Parameters as parameters
-use Rattle.scql_model.specs.Parameters.{only_where, are_columns, are_chosen_columns, are_conditions, are_changes, Choice, conditions_in, choice_in, changes_in, create_table_in, create_view_in, create_dictionary_in, named_in, granted_in, declare_cursor_in, insert_in, update_in, made_profile_of, is_new_secret, create_user_in, is_verified_secret, operation_in}
+use Rattle.scql_model.specs.Parameters.{only_where, are_chosen_columns, are_conditions, are_changes, Choice, conditions_in, choice_in, changes_in, create_table_in, create_view_in, create_dictionary_in, named_in, granted_in, declare_cursor_in, insert_in, update_in, made_profile_of, is_new_secret, create_user_in, is_verified_secret, operation_in}
 use Rattle.scql_model.specs.WellFormed.{HasForm, IsWellFormed}
 use Rattle.scql_model.specs.Refusals.{◌>>=◌, or_refused, provided}
 use Rattle.scql_model.specs.Form.{class_of, is_chained, is_open, channel_of, Tail, le_of, data_of, tail_of, takes_case, is_case_3, data_in, channel_asked, line_on, taken_in, parts_of, Form, refused, refused_on, part_on, a_command, as_command, formed_on, formed, part_in, command_in, form_of}
@@ -393,12 +393,9 @@ IsWellFormed-as_command table octets channels chain limit (Ok c) sound are least
     go (refused_on channel word) is = refused-not word c (sym is)
     go (part_on channel asked part) is = refused-not chaining_not_supported c (sym is)
 
--- the table of all operations, and that of those which are built
+-- the table of operations
 pub sound-operations : list_all is_sound operations ≡ true
 sound-operations = refl
-
-pub sound-built_operations : list_all is_sound built_operations ≡ true
-sound-built_operations = refl
 
 -- A line that is found passes each test that all lines of its table pass, and its operation is one of the table.
 pub line-passes : (q : Line → Bool) (table : List Line) (channel ins p1 p2 : ℕ) (line : Line) → list_all q table ≡ true → line_on table channel ins p1 p2 ≡ Ok line → q line ≡ true

@@ -19,7 +19,7 @@ after_commits-first db [] ys (suc k) within = absurd (omega arith)
 after_commits-first db (x ∷ xs) ys zero within = refl
 after_commits-first db (x ∷ xs) ys (suc k) within = after_commits-first x xs ys k (omega arith)
 
-after_commits-behind : (db : Database) (xs ys : List Database) (k : ℕ) → after_commits db (xs ++ ys) (length xs + k) ≡ after_commits (after_commits db xs (length xs)) ys k
+pub after_commits-behind : (db : Database) (xs ys : List Database) (k : ℕ) → after_commits db (xs ++ ys) (length xs + k) ≡ after_commits (after_commits db xs (length xs)) ys k
 after_commits-behind db [] ys k =
     let all : 0 + k ≡ k = omega arith in
     ap (after_commits db ys) all

@@ -14,14 +14,13 @@ use Rattle.scql_model.specs.Database.{Database, user_named, user_stamped}
 use Rattle.scql_model.specs.Machine.{Machine, Transaction, open_channels, base, actor}
 use Rattle.scql_model.specs.Sessions.{changing_session, command_chain, cursor_of, without_chain, user_of, is_channel_open, least_closed}
 use Rattle.scql_model.specs.Transactions.{own_transaction, waits, is_kept_waiting}
-use Rattle.scql_base.specs.declared.operation.Line.{Line}
-use Rattle.scql_model.specs.Operations.{kind_of, built_operations}
+use Rattle.scql_model.specs.Operations.{kind_of, operations}
 use Rattle.scql_model.specs.Form.{Form, refused, refused_on, part_on, a_command, form_of}
 use Rattle.scql_model.specs.ReadingCommands.{ReadingCommand, reading_command}
 use Rattle.scql_model.specs.Edits.{Edit}
 use Rattle.scql_model.specs.Changing.{edits_of, with_edits}
 use Rattle.scql_model.specs.Heard.{after_commits}
-use Rattle.scql_model.specs.Step.{Answer, answered, reading_done, changed_to, changed, user_and_sessions_deleted, session_named, secret_right, secret_wrong, compared, verified, channel_opened, channel_closed, operated, carried_out, stepped, step_by, step}
+use Rattle.scql_model.specs.Step.{Answer, answered, reading_done, changed_to, changed, user_and_sessions_deleted, session_named, secret_right, secret_wrong, compared, verified, channel_opened, channel_closed, operated, carried_out, stepped, step}
 
 abbrev pub IsLast : Database → Answer → Type 0
 IsLast db answer = after_commits db answer.commits (length answer.commits) ≡ answer.machine.committed
@@ -106,10 +105,6 @@ last-stepped m (a_command c) =
     let ended : Machine = changing_session without_chain m c.channel in
     last-answered ended (carried_out ended c) (last-carried_out ended c)
 
-pub last-step_by : (table : List Line) (m : Machine) (octets : List ℕ) → IsLast m.committed (step_by table m octets)
-unfolding step_by
-last-step_by table m octets = last-stepped m (form_of table octets (open_channels m) (command_chain m) m.committed.limit)
-
-pub last-step : (m : Machine) (octets : List ℕ) → after_commits m.committed (step m octets).commits (length (step m octets).commits) ≡ (step m octets).machine.committed
+pub last-step : (m : Machine) (octets : List ℕ) → IsLast m.committed (step m octets)
 unfolding step
-last-step m octets = last-step_by built_operations m octets
+last-step m octets = last-stepped m (form_of operations octets (open_channels m) (command_chain m) m.committed.limit)

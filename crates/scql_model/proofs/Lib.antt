@@ -25,6 +25,7 @@ pub mod CommandsAgain
 pub mod ContentsRise
 pub mod Creating
 pub mod CursorsStand
+pub mod CutRows
 pub mod Depths
 pub mod EditLaws
 pub mod FewCommits
@@ -32,11 +33,15 @@ pub mod FewerObjects
 pub mod FewerUsers
 pub mod FieldLaws
 pub mod FieldsAgain
+pub mod Folding
 pub mod FormedCommands
 pub mod FormedParts
 pub mod FoundAgain
+pub mod FoundUsers
+pub mod FourCommits
 pub mod FreshCard
 pub mod Hearing
+pub mod JoinedLives
 pub mod Keeping
 pub mod KeepsGrants
 pub mod KeepsObjects
@@ -45,8 +50,10 @@ pub mod KeepsUsers
 pub mod KeepsValid
 pub mod KeepsViews
 pub mod KindsApart
+pub mod KnownNames
 pub mod LastCommits
 pub mod LinesFound
+pub mod LivesRestore
 pub mod LongerLists
 pub mod Migrating
 pub mod NameOrder
@@ -67,6 +74,8 @@ pub mod Removing
 pub mod RightEdits
 pub mod Room
 pub mod SeenThrough
+pub mod SparingEdits
+pub mod SparingSteps
 pub mod SpellingLengths
 pub mod Spellings
 pub mod Stored
@@ -75,3 +84,4 @@ pub mod TakenFields
 pub mod Touching
 pub mod UsersFollow
 pub mod ValidSteps
+pub mod WrongSecrets

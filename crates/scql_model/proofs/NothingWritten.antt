@@ -6,7 +6,6 @@ use Rattle.std.proofs.lemmas.Option.{none-some}
 use Rattle.scql_base.specs.declared.words.StatusWord.{StatusWord}
 use Rattle.scql_base.specs.declared.records.User.{User}
 use Rattle.scql_base.specs.declared.operation.Command.{Command}
-use Rattle.scql_base.specs.declared.operation.Line.{Line}
 use Rattle.scql_base.specs.declared.operation.Operation.{Operation}
 use Rattle.scql_base.specs.declared.operation.Operation.TheVariants.{DeclareCursor, OpenCursor, Next, Fetch, FetchNext, GetResponse, DeleteUser, Begin, Commit, Rollback, PresentUser, Verify, OpenChannel, CloseChannel}
 use Rattle.scql_base.specs.declared.cursor.PresentedUser.{PresentedUser}
@@ -16,15 +15,15 @@ use Rattle.scql_model.specs.Database.{Database, user_named, user_stamped}
 use Rattle.scql_model.specs.Machine.{Machine, Transaction, open_channels, base, actor}
 use Rattle.scql_model.specs.Sessions.{changing_session, command_chain, cursor_of, without_chain, without_user, user_of}
 use Rattle.scql_model.specs.Transactions.{own_transaction, waits, is_kept_waiting}
-use Rattle.scql_model.specs.Operations.{kind_of}
+use Rattle.scql_model.specs.Operations.{kind_of, operations}
 use Rattle.scql_model.specs.Form.{Form, refused, refused_on, part_on, a_command, form_of}
 use Rattle.scql_model.specs.ReadingCommands.{ReadingCommand, reading_command}
 use Rattle.scql_model.specs.Edits.{Edit, of_user, changing, octets_for}
 use Rattle.scql_model.specs.Changing.{edits_of, with_edits}
 use Rattle.scql_model.specs.Users.{user_deleted}
 use Rattle.scql_model.specs.Accepting.{Accepts}
-use Rattle.scql_model.specs.Step.{Answer, answered, reading_done, changed_to, changed, user_and_sessions_deleted, verified, operated, carried_out, stepped, step_by}
-use Rattle.scql_model.specs.Bound.{octets_for_change, octets_changed, octets_verified, octets_operated, octets_carried_out, or_nothing, octets_stepped, octets_bound_by}
+use Rattle.scql_model.specs.Step.{Answer, answered, reading_done, changed_to, changed, user_and_sessions_deleted, verified, operated, carried_out, stepped, step}
+use Rattle.scql_model.specs.Bound.{octets_for_change, octets_changed, octets_verified, octets_operated, octets_carried_out, or_nothing, octets_stepped, octets_bound}
 use Rattle.scql_model.proofs.Refusing.{Accepted, accepted-operated}
 
 -- so many octets for an outcome: none for a refusal, and none where there is no transaction and nothing is committed
@@ -166,14 +165,14 @@ accepts-stepped m (a_command c) =
     (accepts-outcome ended (operated ended c.channel c.operation) (or_nothing (octets_operated ended c.channel c.operation)) (none-operated ended c.channel c.operation) (accepted-operated ended c.channel c.operation))
 
 -- Outside of a transaction nothing is written for what commits nothing.
-pub octets_bound_by-none : (table : List Line) (m : Machine) (octets : List ℕ) → m.transaction ≡ None → (step_by table m octets).commits ≡ [] → octets_bound_by table m octets ≡ 0
-unfolding step_by octets_bound_by
-octets_bound_by-none table m octets outside empty = none-stepped m (form_of table octets (open_channels m) (command_chain m) m.committed.limit) outside empty
+pub octets_bound-none : (m : Machine) (octets : List ℕ) → m.transaction ≡ None → (step m octets).commits ≡ [] → octets_bound m octets ≡ 0
+unfolding step octets_bound
+octets_bound-none m octets outside empty = none-stepped m (form_of operations octets (open_channels m) (command_chain m) m.committed.limit) outside empty
 
 -- Nothing is written for what isn't accepted.
-pub octets_bound_by-accepts : (table : List Line) (m : Machine) (octets : List ℕ) → AcceptsOrNone (step_by table m octets) (octets_bound_by table m octets)
-unfolding step_by octets_bound_by
-octets_bound_by-accepts table m octets = accepts-stepped m (form_of table octets (open_channels m) (command_chain m) m.committed.limit)
+pub octets_bound-accepts : (m : Machine) (octets : List ℕ) → AcceptsOrNone (step m octets) (octets_bound m octets)
+unfolding step octets_bound
+octets_bound-accepts m octets = accepts-stepped m (form_of operations octets (open_channels m) (command_chain m) m.committed.limit)
 
 -- And nothing for what reads.
 pub octets_stepped-reading : (m : Machine) (c : Command) (command : ReadingCommand) → reading_command c.operation c.le ≡ Some command → octets_stepped m (a_command c) ≡ 0

@@ -1,5 +1,5 @@
 -- The parts of a command are read back one by one, and the last with those before it as that command.
-use Rattle.std.proofs.Common.{◌≡◌, ◌≤◌, ◌<◌, ℕ, zero, suc, ◌+◌, ◌*◌, ◌==◌, nat_le, Bool, true, false, List, [], ◌∷◌, ◌++◌, length, take, drop, None, if◌then◌else◌, refl, ap, subst, sym, ◌∙◌, arith, length-take-le, length-drop, append_assoc, take-append-drop, add-one, ◌-◌}
+use Rattle.std.proofs.Common.{◌≡◌, ◌≤◌, ◌<◌, ℕ, zero, suc, ◌+◌, ◌*◌, ◌==◌, nat_le, Bool, true, false, List, [], ◌∷◌, ◌++◌, length, take, drop, Option, None, Some, if◌then◌else◌, refl, ap, subst, sym, ◌∙◌, arith, length-take-le, length-drop, append_assoc, take-append-drop, add-one, ◌-◌}
 use Rattle.std.specs.List.{concat}
 use Rattle.std.proofs.lemmas.Bool.{leb-true, lt-ltb, le-ltb, ne_eqb, and_from}
 use Rattle.std.proofs.lemmas.List.{drop-drop, take_all}
@@ -8,11 +8,17 @@ use Rattle.scql_base.specs.declared.operation.Line.{Line}
 use Rattle.scql_base.specs.declared.operation.OperationKind.{OperationKind}
 use Rattle.scql_model.specs.Operations.{has_secrets, comes_in_parts, kind_of}
 use Rattle.scql_model.specs.WellFormed.{IsWellFormed}
-use Rattle.scql_model.specs.Form.{takes_case, is_case_3, a_command, part_on, parts_of}
+use Rattle.scql_model.specs.Form.{takes_case, is_case_3, a_command, part_on, parts_of, refused_on}
 use Rattle.scql_model.specs.Spelling.{field_of, fits, parts_for, part_count, first_parts, part_at, goes_on_after, part_octets, octets_of, HasLine, IsTaken, ReadsAs}
 use Rattle.scql_model.proofs.TailsAgain.{tail, data-again}
 use Rattle.scql_model.proofs.TakenFields.{Lined, Lined-field, Lined-piece}
-use Rattle.scql_model.proofs.CommandsAgain.{part-again, last-again}
+use Rattle.scql_model.specs.Parameters.{operation_in}
+use Rattle.scql_base.specs.Row.{row_size}
+use Rattle.scql_base.specs.Words.{wrong_data}
+use Rattle.scql_base.specs.declared.operation.Operation.{Operation}
+use Rattle.scql_base.specs.declared.operation.Operation.TheVariants.{Insert}
+use Rattle.scql_model.proofs.FieldsAgain.{operation-again, row-beyond}
+use Rattle.scql_model.proofs.CommandsAgain.{part-again, last-again, read_as}
 
 -- Cutting.
 length-first_parts : (count : ℕ) (octets : List ℕ) → length (first_parts count octets) ≡ count
@@ -25,7 +31,7 @@ drop-behind count octets =
     drop-drop (255 * count) 255 octets ∙ ap (λ (n : ℕ). drop n octets) sum
 
 -- the parts joined, and what is behind them
-joined-first_parts : (count : ℕ) (octets : List ℕ) → concat (first_parts count octets) ++ drop (255 * count) octets ≡ octets
+pub joined-first_parts : (count : ℕ) (octets : List ℕ) → concat (first_parts count octets) ++ drop (255 * count) octets ≡ octets
 joined-first_parts zero octets = refl
 joined-first_parts (suc count) octets =
     append_assoc (take 255 octets) (concat (first_parts count (drop 255 octets))) (drop (255 * suc count) octets)
@@ -76,7 +82,7 @@ parts_least size n some enough = omega (arith, some, enough)
 length-part : (place : ℕ) (field : List ℕ) → 255 * place + 255 < length field → length (part_at place field) ≡ 255
 length-part place field more = length-take-le 255 (drop (255 * place) field) (omega (arith, length-drop (255 * place) field, more))
 
-part-whole : (place : ℕ) (field : List ℕ) → length field ≤ 255 * place + 255 → part_at place field ≡ drop (255 * place) field
+pub part-whole : (place : ℕ) (field : List ℕ) → length field ≤ 255 * place + 255 → part_at place field ≡ drop (255 * place) field
 part-whole place field last = take_all 255 (drop (255 * place) field) (omega (arith, length-drop (255 * place) field, last))
 
 case_3 : (octets : List ℕ) → 1 ≤ length octets → is_case_3 (tail octets None) ≡ true
@@ -114,17 +120,28 @@ Lined-last c (suc place) formed' fit last =
     let size : length (part_at (suc place) field) ≡ length field - 255 * suc place = ap length whole ∙ length-drop (255 * suc place) field in
     Lined-piece c.operation (part_at (suc place) field) c.le (comes-long (comes_in_parts (kind_of c.operation)) (length field) fit (omega (arith, long))) (omega (arith, size, long))
 
-pub last-read : (table : List Line) (limit : ℕ) (c : Command) (place : ℕ) → IsWellFormed c → fits c ≡ true → place + 1 ≡ part_count c → HasLine table (kind_of c.operation)
-    → IsTaken (has_secrets table) limit c.operation → ReadsAs table limit c (first_parts place (field_of c.operation)) (part_octets c place) (a_command c)
+-- the last part is read as what its operation's whole field is read as
+last-as : (table : List Line) (limit : ℕ) (c : Command) (place : ℕ) (found : Option Operation) → IsWellFormed c → fits c ≡ true → place + 1 ≡ part_count c → HasLine table (kind_of c.operation)
+    → operation_in (has_secrets table) (kind_of c.operation) limit (field_of c.operation) ≡ found → ReadsAs table limit c (first_parts place (field_of c.operation)) (part_octets c place) (read_as c found)
 unfolding part_octets
-last-read table limit c place formed' fit last has taken channels chain open' before =
+last-as table limit c place found formed' fit last has is channels chain open' before =
     let field : List ℕ = field_of c.operation in
     let lined = Lined-last c place formed' fit last in
     let goes : goes_on_after c place ≡ false = le-ltb (place + 1) (part_count c) (omega (arith, last)) in
     let joined : concat (parts_of (kind_of c.operation) (chain c.channel)) ++ part_at place field ≡ field
     = ap (λ (parts : List (List ℕ)). concat parts ++ part_at place field) before
     ∙ (ap (λ (back : List ℕ). concat (first_parts place field) ++ back) (part-whole place field (at_last (length field) place last)) ∙ joined-first_parts place field) in
-    rw (lined.found, goes) (last-again table lined.line c (part_at place field) channels chain limit formed' (has lined.line lined.found) lined.kind lined.takes open' taken joined)
+    rw (lined.found, goes) (last-again table lined.line c (part_at place field) channels chain limit found formed' (has lined.line lined.found) lined.kind lined.takes open' is joined)
+
+pub last-read : (table : List Line) (limit : ℕ) (c : Command) (place : ℕ) → IsWellFormed c → fits c ≡ true → place + 1 ≡ part_count c → HasLine table (kind_of c.operation)
+    → IsTaken (has_secrets table) limit c.operation → ReadsAs table limit c (first_parts place (field_of c.operation)) (part_octets c place) (a_command c)
+last-read table limit c place formed' fit last has taken = last-as table limit c place (Some c.operation) formed' fit last has (operation-again (has_secrets table) limit c.operation formed'.form taken)
+
+-- a row beyond the limit is refused at the last part
+pub last-refused : (table : List Line) (limit : ℕ) (c : Command) (place : ℕ) (name : List ℕ) (values : List (List ℕ)) → c.operation ≡ Insert name values → IsWellFormed c → fits c ≡ true → place + 1 ≡ part_count c
+    → HasLine table (kind_of c.operation) → nat_le (row_size values) limit ≡ false → ReadsAs table limit c (first_parts place (field_of c.operation)) (part_octets c place) (refused_on c.channel wrong_data)
+last-refused table limit c place name values is formed' fit last has long =
+    last-as table limit c place None formed' fit last has (subst (λ (o : Operation). operation_in (has_secrets table) (kind_of o) limit (field_of o) ≡ None) (sym is) (row-beyond (has_secrets table) limit name values long))
 
 -- a command of one part is that part
 pub part-one : (c : Command) → part_count c ≡ 1 → part_octets c 0 ≡ octets_of c

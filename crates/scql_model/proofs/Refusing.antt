@@ -19,8 +19,7 @@ use Rattle.scql_model.specs.Rules.{user_named, user_stamped}
 use Rattle.scql_model.specs.Machine.{Machine, Session, Reading, Transaction, open_channels, base, actor, session_of, no_reading}
 use Rattle.scql_model.specs.Sessions.{changing_session, command_chain, cursor_of, reading_of, reading_so, without_chain, user_of, is_channel_open, least_closed, without_user}
 use Rattle.scql_model.specs.Transactions.{own_transaction, waits, is_kept_waiting}
-use Rattle.scql_base.specs.declared.operation.Line.{Line}
-use Rattle.scql_model.specs.Operations.{kind_of}
+use Rattle.scql_model.specs.Operations.{kind_of, operations}
 use Rattle.scql_model.specs.Form.{Form, refused, refused_on, part_on, a_command, form_of}
 use Rattle.scql_model.specs.Objects.{StampedRow}
 use Rattle.scql_model.specs.ReadingCommands.{ReadingCommand, declare, open_cursor, next, fetch, fetch_next, get_response, reading_command, Move, or_stays, rest_word, fitting, row_octets, named_among}
@@ -29,7 +28,7 @@ use Rattle.scql_model.specs.Rights.{seen_named}
 use Rattle.scql_model.specs.Edits.{Edit}
 use Rattle.scql_model.specs.Changing.{edits_of, with_edits}
 use Rattle.scql_model.specs.Accepting.{Accepts, is_done, at_its_end, has_more, costs_a_try, channel_named, AcceptsOrLeaves}
-use Rattle.scql_model.specs.Step.{Answer, answered, reading_done, changed_to, changed, user_and_sessions_deleted, session_named, secret_right, secret_wrong, verified, channel_opened, channel_closed, operated, carried_out, stepped, step_by}
+use Rattle.scql_model.specs.Step.{Answer, answered, reading_done, changed_to, changed, user_and_sessions_deleted, session_named, secret_right, secret_wrong, verified, channel_opened, channel_closed, operated, carried_out, stepped, step}
 use Rattle.scql_model.proofs.ChangingSessions.{changing_session-same}
 use Rattle.scql_model.proofs.FormedParts.{read_on, IfSome-read_on-named}
 use Rattle.scql_model.proofs.LastCommits.{of_outcome}
@@ -189,8 +188,8 @@ leaves-stepped m octets (a_command c) named =
     let ended : Machine = changing_session without_chain m c.channel in
     leaves-ended m octets c.channel (answered ended (carried_out ended c)) named (stays-answered ended (carried_out ended c) (stays-carried_out ended c))
 
-pub step-accepts_or_leaves : (table : List Line) (m : Machine) (octets : List ℕ) → AcceptsOrLeaves m octets (step_by table m octets)
-unfolding step_by
-step-accepts_or_leaves table m octets =
-    leaves-stepped m octets (form_of table octets (open_channels m) (command_chain m) m.committed.limit)
-    (IfSome-read_on-named table octets (open_channels m) (command_chain m) m.committed.limit)
+pub step-accepts_or_leaves : (m : Machine) (octets : List ℕ) → AcceptsOrLeaves m octets (step m octets)
+unfolding step
+step-accepts_or_leaves m octets =
+    leaves-stepped m octets (form_of operations octets (open_channels m) (command_chain m) m.committed.limit)
+    (IfSome-read_on-named operations octets (open_channels m) (command_chain m) m.committed.limit)

@@ -2,13 +2,14 @@
 use Rattle.std.proofs.Common.{◌≡◌, ℕ, ◌<◌, ◌==◌, Bool, true, false, not, ◌&&◌, ◌||◌, List, [], ◌∷◌, ◌++◌, map, refl, ap, sym, ◌∙◌, inl, inr, arith}
 use Rattle.std.specs.List.{list_any, filter, AllByRecursion}
 use Rattle.std.proofs.lemmas.Bool.{cases_Bool, eq-eqb, ne_eqb}
+use Rattle.std.proofs.lemmas.List.Folds.{list_any-append}
 use Rattle.eeprom.specs.Slots.{Rises, without}
 use Rattle.scql_base.specs.declared.records.User.{User}
 use Rattle.scql_base.specs.declared.records.Object.{Object}
 use Rattle.scql_base.specs.declared.records.Grant.{Grant}
 use Rattle.scql_base.specs.declared.records.RowRecord.{RowRecord}
 use Rattle.scql_model.specs.Database.{Database}
-use Rattle.scql_model.specs.Edits.{of_grant, of_row, removing, applied}
+use Rattle.scql_model.specs.Edits.{Edit, is_counter, of_grant, of_row, removing, applied, takes_stamp}
 use Rattle.scql_model.specs.Defining.{removing_object, removing_rows}
 use Rattle.scql_model.specs.Users.{removing_user}
 use Rattle.scql_model.proofs.EditLaws.{applied-append}
@@ -144,3 +145,16 @@ pub applied-removing_user : (db : Database) (u : User) → Rises grant_stamp db.
 applied-removing_user db u rises =
     applied-grants (record db { users = without user_stamp u.stamp db.users }) (filter (λ (g : Grant). g.grantee == u.stamp) db.grants)
     ∙ ap (λ grants. record db { users = without user_stamp u.stamp db.users; grants = grants }) (without_all-passing grant_stamp (λ (g : Grant). g.grantee == u.stamp) db.grants rises)
+
+-- what is removed takes no stamp
+pub grants-take_none : (grants : List Grant) → takes_stamp (map (λ (g : Grant). removing (of_grant g)) grants) ≡ false
+grants-take_none [] = refl
+grants-take_none (g ∷ grants) = grants-take_none grants
+
+pub rows-take_none : (rows : List RowRecord) → takes_stamp (map (λ (r : RowRecord). removing (of_row r)) rows) ≡ false
+rows-take_none [] = refl
+rows-take_none (r ∷ rows) = rows-take_none rows
+
+-- and edits behind such take one where they do
+pub takes_stamp-behind : (first rest : List Edit) → takes_stamp first ≡ false → takes_stamp (first ++ rest) ≡ takes_stamp rest
+takes_stamp-behind first rest none = rw (list_any-append (λ (e : Edit). is_counter e.entry) first rest, none) refl

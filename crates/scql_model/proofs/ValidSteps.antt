@@ -1,7 +1,7 @@
 -- A step keeps a machine valid, and each database that it commits is valid.
 use Rattle.std.proofs.Common.{◌≡◌, ℕ, zero, suc, ◌-◌, ◌<◌, ◌≤◌, ◌^◌, ◌==◌, ◌&&◌, Bool, true, false, not, List, [], ◌∷◌, length, map, Option, Some, None, option_map, is_some, Result, Ok, Err, if◌then◌else◌, refl, ap, sym, subst, ◌∙◌, inl, inr, arith}
 use Rattle.std.specs.Prelude.{IfOk, IfSome, nat_lt, option_and_then, slice_get, slice_set}
-use Rattle.std.specs.List.{list_all, AllByRecursion}
+use Rattle.std.specs.List.{AllByRecursion}
 use Rattle.std.specs.Option.{option_flatten, option_map_or}
 use Rattle.std.specs.Str.{bytes_eq}
 use Rattle.std.proofs.lemmas.Bool.{cases_Bool, and_parts, eqb-true, false≢true, ne_eqb, not-true, le-leb, leb-true}
@@ -20,8 +20,7 @@ use Rattle.scql_model.specs.Database.{Database, IsValid, public_name, user_named
 use Rattle.scql_model.specs.Machine.{Machine, Session, Transaction, no_reading, new_session, session_for, session_of, open_channels, base_of, base, actor, start}
 use Rattle.scql_model.specs.Sessions.{with_session, changing_session, command_chain, cursor_of, without_chain, without_pending, without_cursor, proving, presented, reading_of, user_of, reading_so, with_part, is_of_user, left_by, without_user, is_channel_open, least_closed}
 use Rattle.scql_model.specs.Transactions.{own_transaction, waits, for_others, for_any, is_kept_waiting}
-use Rattle.scql_base.specs.declared.operation.Line.{Line}
-use Rattle.scql_model.specs.Operations.{built_operations, kind_of}
+use Rattle.scql_model.specs.Operations.{operations, kind_of}
 use Rattle.scql_model.specs.Form.{Form, refused, refused_on, part_on, a_command, form_of}
 use Rattle.scql_model.specs.ReadingCommands.{ReadingCommand, reading_command}
 use Rattle.scql_model.specs.Edits.{Edit}
@@ -30,14 +29,14 @@ use Rattle.scql_model.specs.WellFormed.{HasForm, FitsCard}
 use Rattle.scql_model.specs.Moves.{move_of}
 use Rattle.scql_model.specs.Cursors.{IsCursorOf, StandsOn, Follows}
 use Rattle.scql_model.specs.ValidMachine.{HasSecret, IsPresentedIn, ArePresentedIn, IsReadingOf, IsValidWork, IsValidMachine}
-use Rattle.scql_model.specs.Step.{Answer, answered, done_with, reading_done, changed_to, changed, user_and_sessions_deleted, session_named, with_tries, secret_right, secret_wrong, verified, channel_opened, channel_closed, operated, carried_out, stepped, step_by, step}
+use Rattle.scql_model.specs.Step.{Answer, answered, done_with, reading_done, changed_to, changed, user_and_sessions_deleted, session_named, with_tries, secret_right, secret_wrong, verified, channel_opened, channel_closed, operated, carried_out, stepped, step}
 use Rattle.scql_model.proofs.Acting.{IsActorOf-actor}
 use Rattle.scql_model.proofs.AddedUser.{users_below}
 use Rattle.scql_model.proofs.ChangeLaws.{AreMade-with_edits}
 use Rattle.scql_model.proofs.ChangedLists.{each-weaker, found-each}
 use Rattle.scql_model.proofs.ChangedUsers.{IsValid-with_tries}
 use Rattle.scql_model.proofs.FieldLaws.{AreOctets}
-use Rattle.scql_model.proofs.FormedCommands.{not_refused, not_unless, is_sound, sound-built_operations, IsWellFormed-form_of}
+use Rattle.scql_model.proofs.FormedCommands.{not_refused, not_unless, sound-operations, IsWellFormed-form_of}
 use Rattle.scql_model.proofs.Keeping.{key-found}
 use Rattle.scql_model.proofs.KeepsRows.{within_largest}
 use Rattle.scql_model.proofs.KeepsValid.{IsValid-edits_of}
@@ -180,12 +179,12 @@ valid-reading m channel command chosen valid = record {
 }
 
 -- what comes of a value comes of an outcome
-bound-ok : {A B : Type 0} (P : B → Type 0) (r : Result A StatusWord) (f : A → Result B StatusWord) → ((x : A) → r ≡ Ok x → IfOk (f x) P) → IfOk (r >>= f) P
+pub bound-ok : {A B : Type 0} (P : B → Type 0) (r : Result A StatusWord) (f : A → Result B StatusWord) → ((x : A) → r ≡ Ok x → IfOk (f x) P) → IfOk (r >>= f) P
 bound-ok P (Ok x) f each = each x refl
 bound-ok P (Err word) f each = tt
 
 -- what waits for the transactions of others, or for any
-no_other : (t : Option Transaction) (channel : ℕ) → own_transaction t channel ≡ None → is_kept_waiting for_others t channel ≡ false → t ≡ None
+pub no_other : (t : Option Transaction) (channel : ℕ) → own_transaction t channel ≡ None → is_kept_waiting for_others t channel ≡ false → t ≡ None
 no_other None channel own free = refl
 no_other (Some t) channel own free =
     elim (cases_Bool (t.channel == channel)) [
@@ -193,11 +192,11 @@ no_other (Some t) channel own free =
       | inr f ↦ absurd (let wrong : true ≡ false = rw f at free in cc)
     ]
 
-none_open : (t : Option Transaction) (channel : ℕ) → is_kept_waiting for_any t channel ≡ false → t ≡ None
+pub none_open : (t : Option Transaction) (channel : ℕ) → is_kept_waiting for_any t channel ≡ false → t ≡ None
 none_open None channel free = refl
 none_open (Some t) channel free = absurd cc
 
-others-any : (t : Option Transaction) (channel : ℕ) → is_kept_waiting for_any t channel ≡ false → is_kept_waiting for_others t channel ≡ false
+pub others-any : (t : Option Transaction) (channel : ℕ) → is_kept_waiting for_any t channel ≡ false → is_kept_waiting for_others t channel ≡ false
 others-any None channel free = refl
 others-any (Some t) channel free = absurd cc
 
@@ -209,7 +208,7 @@ reading-committed m db none follows valid =
     (subst (λ (t : Option Transaction). AreReading (base_of t m.committed) m.sessions) none valid.readings))
 
 -- an open one is its channel's own
-own-parts : (o : Option Transaction) (channel : ℕ) (t : Transaction) → own_transaction o channel ≡ Some t → (o ≡ Some t) × ((t.channel == channel) ≡ true)
+pub own-parts : (o : Option Transaction) (channel : ℕ) (t : Transaction) → own_transaction o channel ≡ Some t → (o ≡ Some t) × ((t.channel == channel) ≡ true)
 own-parts None channel t own = absurd (none-some t own)
 own-parts (Some other) channel t own =
     elim (cases_Bool (other.channel == channel)) [
@@ -218,7 +217,7 @@ own-parts (Some other) channel t own =
     ]
 
 -- its channel reads what it works on
-base-own : (m : Machine) (channel : ℕ) (t : Transaction) → own_transaction m.transaction channel ≡ Some t → base m channel ≡ t.working
+pub base-own : (m : Machine) (channel : ℕ) (t : Transaction) → own_transaction m.transaction channel ≡ Some t → base m channel ≡ t.working
 base-own m channel t own = let parts = own-parts m.transaction channel t own in rw (parts.0, parts.1) refl
 
 -- where it goes on, its channel alone reads another database
@@ -254,7 +253,7 @@ valid-changed m channel operation valid form fits free =
         users : ArePresentedIn db m.sessions
         users = are_presented-in (base m channel) db m.sessions
             (λ p is. subst (λ (db : Database). IsPresentedIn db p) (sym (AreMade-with_edits (base m channel) edits db ok).is)
-            (presented-edits_of (base m channel) (actor m channel) (cursor_of m channel) operation edits p before.valid made is)) before.presented
+            (presented-edits_of (base m channel) (actor m channel) (cursor_of m channel) operation edits p made is)) before.presented
 
         follows : Follows (base m channel) db
         follows = subst (Follows (base m channel)) (sym (AreMade-with_edits (base m channel) edits db ok).is) (Follows-edits_of (base m channel) (actor m channel) (cursor_of m channel) operation edits made)
@@ -539,22 +538,17 @@ valid-stepped m (a_command c) valid right =
     let fields = right c refl in
     valid-answered ended (carried_out ended c) (valid-ended m c.channel valid) (valid-carried_out ended c (valid-ended m c.channel valid) fields.0 fields.1)
 
--- A step, by a table whose lines are those of operations.
-pub IsValidAnswer-step_by : (table : List Line) (m : Machine) (octets : List ℕ) → list_all is_sound table ≡ true → AreOctets octets → IsValidMachine m → IsValidAnswer (step_by table m octets)
-unfolding step_by
-IsValidAnswer-step_by table m octets sound are valid =
-    valid-stepped m (form_of table octets (open_channels m) (command_chain m) m.committed.limit) valid (λ c read. (
-      (IsWellFormed-form_of table octets (open_channels m) (command_chain m) m.committed.limit c sound are most read).form,
-      FitsCard-form_of table octets (open_channels m) (command_chain m) m.committed.limit c sound are most read,
+-- A step.
+pub IsValidAnswer-step : (m : Machine) (octets : List ℕ) → AreOctets octets → IsValidMachine m → IsValidAnswer (step m octets)
+unfolding step
+IsValidAnswer-step m octets are valid =
+    valid-stepped m (form_of operations octets (open_channels m) (command_chain m) m.committed.limit) valid (λ c read. (
+      (IsWellFormed-form_of operations octets (open_channels m) (command_chain m) m.committed.limit c sound-operations are most read).form,
+      FitsCard-form_of operations octets (open_channels m) (command_chain m) m.committed.limit c sound-operations are most read,
     ))
   where
     most : m.committed.limit ≤ 1020
     most = leb-true m.committed.limit 1020 (within_largest m.committed m.committed.limit valid.committed (le-leb m.committed.limit m.committed.limit (omega arith)))
-
--- the step of today's card
-pub IsValidAnswer-step : (m : Machine) (octets : List ℕ) → AreOctets octets → IsValidMachine m → IsValidAnswer (step m octets)
-unfolding step
-IsValidAnswer-step m octets are valid = IsValidAnswer-step_by built_operations m octets sound-built_operations are valid
 
 -- the machine with which a card begins
 pub IsValidMachine-start : (db : Database) → IsValid db → IsValidMachine (start db)

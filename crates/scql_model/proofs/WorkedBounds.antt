@@ -12,15 +12,14 @@ use Rattle.scql_model.specs.Writing.{row_inserted, row_updated, row_deleted}
 use Rattle.scql_model.specs.Users.{user_deleted}
 use Rattle.scql_model.specs.Changing.{edits_of}
 use Rattle.scql_model.specs.Machine.{Machine}
-use Rattle.scql_model.specs.Operations.{operations}
 use Rattle.scql_model.specs.Form.{form_of}
-use Rattle.scql_model.specs.Bound.{octets_bound_by}
+use Rattle.scql_model.specs.Bound.{octets_bound}
 use Rattle.scql_model.proofs.WorkedMachine.{hexadecimal, opened, after, card, owner_card, with_table, with_row, with_bob}
 
 -- for one command on a machine, in hexadecimal digits
 unfoldable bound_on : Machine → List ℕ → ℕ
-unfolding octets_bound_by form_of params_of pieces_of edits_of move_of holds appears contents_of depth_of object_created view_created table_dropped view_dropped privileges_granted privileges_revoked row_inserted row_updated row_deleted user_deleted
-bound_on m digits = octets_bound_by operations m (hexadecimal digits)
+unfolding octets_bound form_of params_of pieces_of edits_of move_of holds appears contents_of depth_of object_created view_created table_dropped view_dropped privileges_granted privileges_revoked row_inserted row_updated row_deleted user_deleted
+bound_on m digits = octets_bound m (hexadecimal digits)
 
 -- BEGIN, and a row
 abbrev in_transaction : Machine

@@ -16,9 +16,8 @@ use Rattle.scql_model.specs.Users.{user_deleted}
 use Rattle.scql_model.specs.Changing.{edits_of}
 use Rattle.scql_model.specs.Database.{fresh}
 use Rattle.scql_model.specs.Machine.{Machine, start}
-use Rattle.scql_model.specs.Operations.{operations}
 use Rattle.scql_model.specs.Form.{form_of}
-use Rattle.scql_model.specs.Step.{Answer, step_by}
+use Rattle.scql_model.specs.Step.{Answer, step}
 use Rattle.scql_model.specs.Lines.{reply_octets}
 
 -- octets from hexadecimal digits
@@ -32,8 +31,8 @@ hexadecimal digits = digits_of (decode_of digits)
 
 -- a step with all operations and all definitions open
 unfoldable pub opened : Machine → List ℕ → Answer
-unfolding step_by form_of params_of pieces_of edits_of move_of holds appears contents_of depth_of object_created view_created table_dropped view_dropped privileges_granted privileges_revoked row_inserted row_updated row_deleted user_deleted
-opened m octets = step_by operations m octets
+unfolding step form_of params_of pieces_of edits_of move_of holds appears contents_of depth_of object_created view_created table_dropped view_dropped privileges_granted privileges_revoked row_inserted row_updated row_deleted user_deleted
+opened m octets = step m octets
 
 -- the answers to commands, each in hexadecimal digits and a line of its own; and the machine after them
 abbrev answers : Machine → List (List ℕ) → List ℕ

@@ -1,4 +1,4 @@
--- Exactly when 6282 and 63CX are answered (ISO/IEC 7816-4, status words).
+-- Exactly when 6282 and 63CX are answered (ISO/IEC 7816-4, status words), and when VERIFY has the right secret.
 use Rattle.std.specs.Prelude.{◌≡◌, ◌≢◌, ℕ, false, true, List, [], Some, None, Ok}
 use Rattle.std.specs.Str.{bytes_eq}
 use Rattle.scql_base.specs.declared.cursor.Cursor.{Cursor}
@@ -7,12 +7,12 @@ use Rattle.scql_base.specs.declared.cursor.Place.TheVariants.{End}
 use Rattle.scql_base.specs.declared.cursor.PresentedUser.{PresentedUser}
 use Rattle.scql_base.specs.declared.records.User.{User}
 use Rattle.scql_base.specs.declared.operation.Command.{Command}
-use Rattle.scql_base.specs.declared.operation.Line.{Line}
 use Rattle.scql_base.specs.declared.operation.Operation.TheVariants.{Verify}
 use Rattle.scql_base.specs.declared.words.StatusWord.{StatusWord}
 use Rattle.scql_base.specs.Words.{tries_left}
 use Rattle.scql_model.specs.Database.{user_stamped}
 use Rattle.scql_model.specs.Machine.{Machine, open_channels, base, actor}
+use Rattle.scql_model.specs.Operations.{operations}
 use Rattle.scql_model.specs.Sessions.{command_chain, cursor_of, user_of}
 use Rattle.scql_model.specs.Form.{a_command, form_of}
 use Rattle.scql_model.specs.Objects.{StampedRow}
@@ -24,9 +24,9 @@ abbrev pub IsTriesLeft : StatusWord → Type 0
 IsTriesLeft word = (n : ℕ) × (word ≡ tries_left n)
 
 -- octets are a command on a machine, of which this is so
-pub record AreCommand (table : List Line) (m : Machine) (octets : List ℕ) (IsSo : Machine → Command → Type 0) : Type 0 where
+pub record AreCommand (m : Machine) (octets : List ℕ) (IsSo : Machine → Command → Type 0) : Type 0 where
   pub command : Command
-  pub read : form_of table octets (open_channels m) (command_chain m) m.committed.limit ≡ a_command command
+  pub read : form_of operations octets (open_channels m) (command_chain m) m.committed.limit ≡ a_command command
   pub is : IsSo m command
 
 -- an opened cursor at a place has no row behind it
@@ -67,3 +67,18 @@ pub record ComparesWrong (m : Machine) (c : Command) : Type 0 where
   pub stored : user_stamped m.committed.users who.stamp ≡ Some user
   pub had_tries : user.tries ≢ 0
   pub wrong : bytes_eq secret user.secret ≡ false
+
+-- A command is VERIFY outside of every transaction, the user of a stamp is presented on its channel who isn't proved yet and has tries left,
+-- and the secret is the user's.
+pub record ComparesRight (stamp : ℕ) (m : Machine) (c : Command) : Type 0 where
+  pub secret : List ℕ
+  pub verifies : c.operation ≡ Verify secret
+  pub outside : m.transaction ≡ None
+  pub who : PresentedUser
+  pub presented : user_of m c.channel ≡ Some who
+  pub stamped : who.stamp ≡ stamp
+  pub unproved : who.proved ≡ false
+  pub user : User
+  pub stored : user_stamped m.committed.users who.stamp ≡ Some user
+  pub had_tries : user.tries ≢ 0
+  pub right : bytes_eq secret user.secret ≡ true

@@ -3,7 +3,6 @@
 use Rattle.std.specs.Prelude.{ℕ, ◌*◌, not, List, [], ◌∷◌, length, Option, Some, None, Result, Ok, Err}
 use Rattle.scql_base.specs.declared.words.StatusWord.{StatusWord}
 use Rattle.scql_base.specs.declared.operation.Command.{Command}
-use Rattle.scql_base.specs.declared.operation.Line.{Line}
 use Rattle.scql_base.specs.declared.operation.Operation.{Operation}
 use Rattle.scql_base.specs.declared.operation.Operation.TheVariants.{Commit, Verify}
 use Rattle.scql_base.specs.Words.{conditions_not_satisfied}
@@ -12,7 +11,7 @@ use Rattle.scql_model.specs.Database.{user_stamped}
 use Rattle.scql_model.specs.Machine.{Machine, Transaction, open_channels, base, actor}
 use Rattle.scql_model.specs.Sessions.{changing_session, command_chain, without_chain, cursor_of, user_of}
 use Rattle.scql_model.specs.Transactions.{own_transaction, waits, is_kept_waiting}
-use Rattle.scql_model.specs.Operations.{built_operations, kind_of}
+use Rattle.scql_model.specs.Operations.{operations, kind_of}
 use Rattle.scql_model.specs.Form.{Form, refused, refused_on, part_on, a_command, form_of}
 use Rattle.scql_model.specs.Edits.{Edit, of_user, changing, cells_written, octets_for_cells, octets_for_commit, octets_for}
 use Rattle.scql_model.specs.Changing.{edits_of, with_edits}
@@ -68,10 +67,6 @@ octets_stepped m (refused_on channel word) = 0
 octets_stepped m (part_on channel kind octets) = 0
 octets_stepped m (a_command c) = or_nothing (octets_carried_out (changing_session without_chain m c.channel) c)
 
--- At most so many octets are written in the step to octets, by a table of operations.
-unfoldable pub octets_bound_by : List Line → Machine → List ℕ → ℕ
-octets_bound_by table m octets = octets_stepped m (form_of table octets (open_channels m) (command_chain m) m.committed.limit)
-
--- at most so many octets are written by today's card
+-- At most so many octets are written in the step to octets.
 unfoldable pub octets_bound : Machine → List ℕ → ℕ
-octets_bound m octets = octets_bound_by built_operations m octets
+octets_bound m octets = octets_stepped m (form_of operations octets (open_channels m) (command_chain m) m.committed.limit)

@@ -13,7 +13,9 @@ pub mod Fields
 pub mod Form
 pub mod Granting
 pub mod Heard
+pub mod Joining
 pub mod Lines
+pub mod Lives
 pub mod Machine
 pub mod Matching
 pub mod Migrating
@@ -38,6 +40,7 @@ pub mod Spelling
 pub mod Step
 pub mod Stored
 pub mod Transactions
+pub mod Tries
 pub mod Users
 pub mod ValidMachine
 pub mod WellFormed

@@ -9,57 +9,48 @@ use Rattle.scql_base.specs.declared.operation.Takes.TheVariants.{Nothing, DataFi
 use Rattle.scql_base.specs.declared.operation.OperationKind.{OperationKind}
 use Rattle.scql_base.specs.declared.operation.OperationKind.TheVariants.{CreateTable, CreateView, CreateDictionary, DropTable, DropView, Grant, Revoke, DeclareCursor, OpenCursor, Next, Fetch, FetchNext, Insert, Update, Delete, Begin, Commit, Rollback, PresentUser, CreateUser, DeleteUser, Verify, OpenChannel, CloseChannel, GetResponse}
 
--- a line of an operation that the card has
-abbrev built : ℕ → ℕ → ℕ → OperationKind → Takes → Line
-built ins p1 p2 kind takes = record { ins = ins; p1 = p1; p2 = p2; kind = kind; takes = takes; is_built = true }
+abbrev a_line : ℕ → ℕ → ℕ → OperationKind → Takes → Line
+a_line ins p1 p2 kind takes = record { ins = ins; p1 = p1; p2 = p2; kind = kind; takes = takes }
 
 -- all operations; the number of a channel to open or to close is P2
 abbrev pub operations : List Line
 operations =
-    built 0x10 0x00 0x80 CreateTable DataField
-    ∷ built 0x10 0x00 0x81 CreateView DataField
-    ∷ built 0x10 0x00 0x82 CreateDictionary DataField
-    ∷ built 0x10 0x00 0x83 DropTable DataField
-    ∷ built 0x10 0x00 0x84 DropView DataField
-    ∷ built 0x10 0x00 0x85 Grant DataField
-    ∷ built 0x10 0x00 0x86 Revoke DataField
-    ∷ built 0x10 0x00 0x87 DeclareCursor DataField
-    ∷ built 0x10 0x00 0x88 OpenCursor Nothing
-    ∷ built 0x10 0x00 0x89 Next Nothing
-    ∷ built 0x10 0x00 0x8A Fetch LeAlone
-    ∷ built 0x10 0x00 0x8B FetchNext LeAlone
-    ∷ built 0x10 0x00 0x8C Insert DataField
-    ∷ built 0x10 0x00 0x8D Update DataField
-    ∷ built 0x10 0x00 0x8E Delete Nothing
-    ∷ built 0x12 0x00 0x80 Begin Nothing
-    ∷ built 0x12 0x00 0x81 Commit Nothing
-    ∷ built 0x12 0x00 0x82 Rollback Nothing
-    ∷ built 0x14 0x00 0x80 PresentUser DataField
-    ∷ built 0x14 0x00 0x81 CreateUser DataField
-    ∷ built 0x14 0x00 0x82 DeleteUser DataField
-    ∷ built 0x20 0x00 0x00 Verify DataField
-    ∷ built 0x70 0x00 0x00 (OpenChannel 0) LeAlone
-    ∷ built 0x70 0x00 0x01 (OpenChannel 1) Nothing
-    ∷ built 0x70 0x00 0x02 (OpenChannel 2) Nothing
-    ∷ built 0x70 0x00 0x03 (OpenChannel 3) Nothing
-    ∷ built 0x70 0x80 0x00 (CloseChannel 0) Nothing
-    ∷ built 0x70 0x80 0x01 (CloseChannel 1) Nothing
-    ∷ built 0x70 0x80 0x02 (CloseChannel 2) Nothing
-    ∷ built 0x70 0x80 0x03 (CloseChannel 3) Nothing
-    ∷ built 0xC0 0x00 0x00 GetResponse LeAlone
+    a_line 0x10 0x00 0x80 CreateTable DataField
+    ∷ a_line 0x10 0x00 0x81 CreateView DataField
+    ∷ a_line 0x10 0x00 0x82 CreateDictionary DataField
+    ∷ a_line 0x10 0x00 0x83 DropTable DataField
+    ∷ a_line 0x10 0x00 0x84 DropView DataField
+    ∷ a_line 0x10 0x00 0x85 Grant DataField
+    ∷ a_line 0x10 0x00 0x86 Revoke DataField
+    ∷ a_line 0x10 0x00 0x87 DeclareCursor DataField
+    ∷ a_line 0x10 0x00 0x88 OpenCursor Nothing
+    ∷ a_line 0x10 0x00 0x89 Next Nothing
+    ∷ a_line 0x10 0x00 0x8A Fetch LeAlone
+    ∷ a_line 0x10 0x00 0x8B FetchNext LeAlone
+    ∷ a_line 0x10 0x00 0x8C Insert DataField
+    ∷ a_line 0x10 0x00 0x8D Update DataField
+    ∷ a_line 0x10 0x00 0x8E Delete Nothing
+    ∷ a_line 0x12 0x00 0x80 Begin Nothing
+    ∷ a_line 0x12 0x00 0x81 Commit Nothing
+    ∷ a_line 0x12 0x00 0x82 Rollback Nothing
+    ∷ a_line 0x14 0x00 0x80 PresentUser DataField
+    ∷ a_line 0x14 0x00 0x81 CreateUser DataField
+    ∷ a_line 0x14 0x00 0x82 DeleteUser DataField
+    ∷ a_line 0x20 0x00 0x00 Verify DataField
+    ∷ a_line 0x70 0x00 0x00 (OpenChannel 0) LeAlone
+    ∷ a_line 0x70 0x00 0x01 (OpenChannel 1) Nothing
+    ∷ a_line 0x70 0x00 0x02 (OpenChannel 2) Nothing
+    ∷ a_line 0x70 0x00 0x03 (OpenChannel 3) Nothing
+    ∷ a_line 0x70 0x80 0x00 (CloseChannel 0) Nothing
+    ∷ a_line 0x70 0x80 0x01 (CloseChannel 1) Nothing
+    ∷ a_line 0x70 0x80 0x02 (CloseChannel 2) Nothing
+    ∷ a_line 0x70 0x80 0x03 (CloseChannel 3) Nothing
+    ∷ a_line 0xC0 0x00 0x00 GetResponse LeAlone
     ∷ []
 
--- the lines of a table that are built
-abbrev pub built_lines : List Line → List Line
-built_lines table = filter (λ (l : Line). l.is_built) table
-
--- the operations that the card has today
-abbrev pub built_operations : List Line
-built_operations = built_lines operations
-
--- an operation is built: it is that of a line which is
-abbrev pub IsBuilt : OperationKind → Type 0
-IsBuilt kind = Contains (map (λ (l : Line). l.kind) built_operations) kind
+-- an operation is one of the table
+abbrev pub IsOperation : OperationKind → Type 0
+IsOperation kind = Contains (map (λ (l : Line). l.kind) operations) kind
 
 -- the operations whose commands have Le alone
 abbrev pub is_le_alone : Takes → Bool

@@ -18,6 +18,10 @@ pub record Resolved : Type 0 where
   pub columns : Columns
   pub filters : List (List Condition)
 
+-- conditions are on columns that are among all
+abbrev pub AreKnown : Columns → List Condition → Bool
+AreKnown all conditions = are_among (map (λ (c : Condition). c.column) conditions) all
+
 -- a view is resolved as its base is, with its own columns and one filter more
 abbrev pub resolved_over : (ℕ → Option Resolved) → Object → ObjectKind → Option Resolved
 resolved_over resolved o (Table columns) = Some (record { table = o.stamp; all = columns; columns = columns; filters = [] })

@@ -10,6 +10,7 @@ use Rattle.scql_base.specs.declared.operation.Operation.{Operation}
 use Rattle.scql_base.specs.declared.operation.Operation.TheVariants.{CreateTable, CreateView, CreateDictionary, DropTable, DropView, Grant, Revoke, DeclareCursor, Insert, Update, PresentUser, CreateUser, DeleteUser, Verify}
 use Rattle.scql_base.specs.declared.operation.OperationKind.{OperationKind}
 use Rattle.scql_base.specs.contracts.operation.OperationKindPartialEq.TheImpl.{ghosts}
+use Rattle.scql_base.specs.Changes.{change_strings}
 use Rattle.scql_base.specs.Row.{row_size}
 use Rattle.scql_base.specs.Strings.{spelled}
 use Rattle.scql_model.specs.Form.{Form, parts_of, form_of}
@@ -25,10 +26,6 @@ condition_strings c = c.column ∷ (comparison_code c.comparison ∷ []) ∷ c.v
 -- the number of columns in one octet, their names, and conditions
 abbrev pub choice_strings : List (List ℕ) → List Condition → List (List ℕ)
 choice_strings columns conditions = (length columns ∷ []) ∷ (columns ++ flat_map condition_strings conditions)
-
--- a change is two parameters: a name and a value
-abbrev pub change_strings : List ℕ × List ℕ → List (List ℕ)
-change_strings change = change.0 ∷ change.1 ∷ []
 
 -- the parameters of an operation
 abbrev pub parameters_of : Operation → List (List ℕ)

@@ -15,8 +15,7 @@ use Rattle.scql_model.specs.Database.{Database, public_name, user_named, user_st
 use Rattle.scql_model.specs.Machine.{Machine, Session, Transaction, new_session, session_for, open_channels, base, actor}
 use Rattle.scql_model.specs.Sessions.{with_session, changing_session, command_chain, without_chain, with_part, reading_of, cursor_of, reading_so, without_pending, without_cursor, user_of, presented, proving, without_user, is_channel_open, least_closed}
 use Rattle.scql_model.specs.Transactions.{own_transaction, waits, is_kept_waiting}
-use Rattle.scql_base.specs.declared.operation.Line.{Line}
-use Rattle.scql_model.specs.Operations.{built_operations, kind_of}
+use Rattle.scql_model.specs.Operations.{operations, kind_of}
 use Rattle.scql_model.specs.Form.{Form, refused, refused_on, part_on, a_command, form_of}
 use Rattle.scql_model.specs.ReadingCommands.{ReadingCommand, reading_command}
 use Rattle.scql_model.specs.Moves.{move_of}
@@ -162,10 +161,6 @@ stepped m (a_command c) =
     let ended = changing_session without_chain m c.channel in
     answered ended (carried_out ended c)
 
--- the step to octets, by a table of operations
-unfoldable pub step_by : List Line → Machine → List ℕ → Answer
-step_by table m octets = stepped m (form_of table octets (open_channels m) (command_chain m) m.committed.limit)
-
--- the step of today's card
+-- the step to octets
 unfoldable pub step : Machine → List ℕ → Answer
-step m octets = step_by built_operations m octets
+step m octets = stepped m (form_of operations octets (open_channels m) (command_chain m) m.committed.limit)

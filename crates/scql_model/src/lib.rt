@@ -9,9 +9,10 @@ pub use laws::answers::{
     an_answer_says_what_it_changes, nothing_is_written_without_a_change,
 };
 pub use laws::changes::{a_change_keeps_a_database_valid, a_step_keeps_a_machine_valid};
+pub use laws::lives::{a_life_is_a_fold, no_four_commits_of_a_life_lower_a_user_unrestored};
 pub use laws::reading::{
-    a_step_reads_what_is_shown, equal_shown_gives_equal_replies, objects_are_shown_by_their_names,
-    reading_is_of_what_is_shown,
+    a_card_reads_what_is_shown, a_step_reads_what_is_shown, equal_shown_gives_equal_replies,
+    objects_are_shown_by_their_names, reading_is_of_what_is_shown,
 };
 pub use laws::views::{
     contents_are_those_of_the_kind, depth_is_one_more_than_the_base_has, views_are_seen_through,

@@ -4,7 +4,7 @@ ghost use Rattle.scql_base.specs.declared.operation.Command.{Command};
 ghost use Rattle.scql_base.specs.declared.operation.Line.{Line};
 ghost use Rattle.scql_base.specs.declared.operation.OperationKind.{OperationKind};
 ghost use Rattle.scql_model.specs.Form.{a_command, part_on};
-ghost use Rattle.scql_model.specs.Operations.{IsBuilt, built_operations, has_secrets, kind_of, operations};
+ghost use Rattle.scql_model.specs.Operations.{has_secrets, kind_of, operations};
 ghost use Rattle.scql_model.specs.Spelling.{HasLine, IsTaken, ReadsAs, first_parts, field_of, fits, octets_of, part_at, part_count, part_octets, parts_for};
 ghost use Rattle.scql_model.specs.WellFormed.{IsWellFormed};
 
@@ -38,8 +38,7 @@ pub fn parts_are_the_least()
     ensures least { (size n : ℕ) → 1 ≤ n → size ≤ 255 * n → parts_for size ≤ n }
 {}
 
-/// The table of all operations has the line of each, and that of those which are built the line of each that is.
+/// The table has the line of each operation.
 pub fn operations_have_their_lines()
-    ensures all { (kind : OperationKind) → HasLine operations kind }
-    ensures built { (kind : OperationKind) → IsBuilt kind → HasLine built_operations kind }
+    ensures { (kind : OperationKind) → HasLine operations kind }
 {}

@@ -2,7 +2,8 @@
 use Rattle.std.proofs.Common.{◌≡◌, ℕ, zero, suc, ◌-◌, ◌≤◌, ◌==◌, Bool, true, false, List, [], ◌∷◌, length, take, drop, if◌then◌else◌, refl, sym, ◌∙◌, ap, arith}
 use Rattle.std.proofs.lemmas.Bool.{ne_eqb}
 use Rattle.std.proofs.lemmas.List.Sums.{take_while-cons}
-use Rattle.script.specs.Tokens.{Token, is_blank, token_len, longest_len, token_at, tokens_from, tokens_of, after_blanks}
+use Rattle.scql_model.specs.Lines.{is_blank}
+use Rattle.script.specs.Tokens.{Token, token_len, longest_len, token_at, tokens_from, tokens_of, after_blanks}
 use Rattle.script.specs.Reading.{is_end, octets_of, behind, left_of}
 
 or_whole-some : (size longest : ℕ) → 1 ≤ size → 1 ≤ (if longest == 0 then size else longest)

@@ -5,10 +5,7 @@ use Rattle.std.specs.Prelude.{nat_eq}
 use Rattle.std.specs.Char.{is_ascii_uppercase, is_ascii_digit}
 use Rattle.hex.specs.Hex.{is_hex_digit}
 use Rattle.scql_base.specs.Name.{is_name_octet}
-
--- a space, a tab or a carriage return
-abbrev pub is_blank : ℕ → Bool
-is_blank octet = octet == 0x20 || octet == 0x09 || octet == 0x0D
+use Rattle.scql_model.specs.Lines.{is_blank}
 
 abbrev pub is_quote : ℕ → Bool
 is_quote octet = octet == 0x27

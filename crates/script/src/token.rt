@@ -1,6 +1,7 @@
 // How long a token is.
 ghost use Rattle.std.specs.Prelude.{◌≡◌, ◌≤◌, false, length, option_map, ◌+◌, unwrap_or};
 ghost use Rattle.scql_base.specs.Name.{is_name_octet};
+ghost use Rattle.scql_model.specs.Lines.{is_blank};
 ghost use Rattle.script.specs.Tokens as tokens;
 
 /// How many octets of a line are its first token, which begins with the line's first octet.
@@ -19,7 +20,7 @@ pub(crate) fn token_len(line: &[u8]) -> usize
 
 /// Is this a space, a tab or a carriage return?
 pub(crate) fn is_blank(octet: u8) -> bool
-    ensures { result ≡ tokens.is_blank octet }
+    ensures { result ≡ is_blank octet }
 {
     octet == b' ' || octet == b'\t' || octet == b'\r'
 }

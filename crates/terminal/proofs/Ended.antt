@@ -17,7 +17,6 @@ use Rattle.scql_model.specs.Matching.{Columns, Values}
 use Rattle.scql_model.specs.Records as records
 use Rattle.scql_model.specs.Records.{is_row}
 use Rattle.scql_model.specs.ReadingCommands.{row_octets}
-use Rattle.scql_model.specs.Operations.{operations}
 use Rattle.scql_model.specs.Transactions.{own_transaction}
 use Rattle.card_link.specs.Link.{IsOneOf, IsOver as IsOverValid}
 use Rattle.script.specs.declared.statement.Statement.{Statement}
@@ -38,7 +37,7 @@ use Rattle.planner.proofs.TransactionKnown.{transaction-told}
 use Rattle.terminal.specs.declared.failure.Failure.TheVariants.{Card, Outlet}
 use Rattle.terminal.specs.declared.line_end.LineEnd.{LineEnd}
 use Rattle.terminal.specs.declared.line_end.LineEnd.TheVariants as ends
-use Rattle.terminal.specs.Going.{printed_row, rows_text, ran_text, after_all, Prints, IsAmong, IsInRun, IsMute, IsCut, IsOver, FailsSo}
+use Rattle.terminal.specs.Going.{printed_row, rows_text, ran_text, after_all, IsAmong, IsInRun, IsMute, IsCut, IsOver, FailsSo}
 use Rattle.terminal.specs.Holding.{Holding, Knows, Sits, terminal_at, holding_after}
 use Rattle.terminal.specs.Line.{IsAnswered, IsCutOff, IsCutShort, EndsSo, EndsBy, ClosesSo, IsMoment, is_refusal, refuses, rows_in}
 use Rattle.terminal.specs.Stays.{Works}
@@ -46,6 +45,7 @@ use Rattle.terminal.proofs.Meant.{base-valid}
 use Rattle.terminal.proofs.Sent.{among-last}
 use Rattle.terminal.proofs.Went.{prints-both, works-both}
 use Rattle.eeprom.specs.Fault.{Rose}
+use Rattle.eeprom.specs.Output.{Prints}
 
 -- What a meaning gives: rows that are rows, and either these or commits.
 pub record IsSound (x : Meaning) : Type 0 where
@@ -77,7 +77,7 @@ on-open-rows m channel x none = go (is_channel_open m channel)
     go false = refl
 
 select-sound : (m : Machine) (channel : ℕ) (object : List ℕ) (columns : Columns) (conditions : List Condition) → IsValid (base m channel) → CanBeSent channel (Select object columns conditions)
-    → IsSound (meaning operations m channel (Select object columns conditions))
+    → IsSound (meaning m channel (Select object columns conditions))
 unfolding meaning
 select-sound m channel object columns conditions valid can = go (is_channel_open m channel) refl
   where
@@ -101,7 +101,7 @@ select-sound m channel object columns conditions valid can = go (is_channel_open
     go b is = record { formed = formed b is; either = inl (commits (is_channel_open m channel)) }
 
 -- a SELECT alone gives rows
-select-or-none : (m : Machine) (channel : ℕ) (s : Statement) → IsSelect s ⊎ ((meaning operations m channel s).rows ≡ [])
+select-or-none : (m : Machine) (channel : ℕ) (s : Statement) → IsSelect s ⊎ ((meaning m channel s).rows ≡ [])
 unfolding meaning
 select-or-none m channel (Select object columns conditions) = inl tt
 select-or-none m channel (UpdateRows object changes conditions) = inr (on-open-rows m channel _ (changed-rows m channel _ (declared m channel object [] conditions) (own_transaction m.transaction channel)))
@@ -113,16 +113,16 @@ select-or-none m channel (CloseNumber number) = inr refl
 select-or-none m channel (UseNumber number) = inr refl
 select-or-none m channel Reset = inr refl
 
-pub sound : (m : Machine) (channel : ℕ) (s : Statement) → IsOverValid m → CanBeSent channel s → IsSound (meaning operations m channel s)
+pub sound : (m : Machine) (channel : ℕ) (s : Statement) → IsOverValid m → CanBeSent channel s → IsSound (meaning m channel s)
 sound m channel s over can = go (select-or-none m channel s)
   where
-    select : (s : Statement) → IsSelect s → CanBeSent channel s → IsSound (meaning operations m channel s)
+    select : (s : Statement) → IsSelect s → CanBeSent channel s → IsSound (meaning m channel s)
     select (Select object columns conditions) is can = select-sound m channel object columns conditions (base-valid m channel over) can
     select s is can = absurd is
 
-    go : IsSelect s ⊎ ((meaning operations m channel s).rows ≡ []) → IsSound (meaning operations m channel s)
+    go : IsSelect s ⊎ ((meaning m channel s).rows ≡ []) → IsSound (meaning m channel s)
     go (inl is) = select s is can
-    go (inr none) = no-rows (meaning operations m channel s) none
+    go (inr none) = no-rows (meaning m channel s) none
 
 -- The text of rows.
 row-again : (values : Values) → is_row values ≡ true → printed_row (row_octets values) ≡ row_text values
@@ -174,10 +174,10 @@ none-first : (xs ys : List Database) → xs ++ ys ≡ [] → xs ≡ []
 none-first [] ys none = refl
 none-first (x ∷ xs) ys none = absurd cc
 
-cut-short : {L : Type 0} (is_at : L → Machine → Type 0) (given : L → Option (List ℕ)) (m : Machine) (channel : ℕ) (s : Statement) (holding : Holding) (old new : L) → IsSound (meaning operations m channel s)
-    → Knows holding.transaction m → IsCut is_at given m (IsSelect s) (shown (meaning operations m channel s)) old new → IsCutShort is_at given m (read_effect (terminal_at m channel) (Ok s)) holding old new
+cut-short : {L : Type 0} (is_at : L → Machine → Type 0) (given : L → Option (List ℕ)) (m : Machine) (channel : ℕ) (s : Statement) (holding : Holding) (old new : L) → IsSound (meaning m channel s)
+    → Knows holding.transaction m → IsCut is_at given m (IsSelect s) (shown (meaning m channel s)) old new → IsCutShort is_at given m (read_effect (terminal_at m channel) (Ok s)) holding old new
 cut-short is_at given m channel s holding old new is knows cut =
-    let x : Meaning = meaning operations m channel s in
+    let x : Meaning = meaning m channel s in
     record {
       said = cut.said;
       rest = cut.rest;
@@ -189,21 +189,21 @@ cut-short is_at given m channel s holding old new is knows cut =
       knows = knows ∙ sym (kept (select-or-none m channel s));
     }
   where
-    go : ((meaning operations m channel s).commits ≡ []) ⊎ ((meaning operations m channel s).rows ≡ []) → after_all m.committed cut.committed.0 ≡ after_all m.committed (meaning operations m channel s).commits
+    go : ((meaning m channel s).commits ≡ []) ⊎ ((meaning m channel s).rows ≡ []) → after_all m.committed cut.committed.0 ≡ after_all m.committed (meaning m channel s).commits
     go (inl none) = ap (after_all m.committed) (none-first cut.committed.0 cut.committed.1 (sym cut.committed.2 ∙ none)) ∙ ap (after_all m.committed) (sym none)
     go (inr none) = absurd (cut.in_row (ap (map row_octets) none))
 
-    kept : IsSelect s ⊎ ((meaning operations m channel s).rows ≡ []) → transaction_channel cut.machine ≡ transaction_channel m
+    kept : IsSelect s ⊎ ((meaning m channel s).rows ≡ []) → transaction_channel cut.machine ≡ transaction_channel m
     kept (inl select) = cut.kept select
     kept (inr none) = absurd (cut.in_row (ap (map row_octets) none))
 
 pub failure-ends : {L : Type 0} (is_at : L → Machine → Type 0) (given : L → Option (List ℕ)) (m : Machine) (channel : ℕ) (s : Statement) (holding : Holding) (old new : L) → IsOverValid m → CanBeSent channel s
     → Knows holding.transaction m
-    → (FailsSo is_at given m (IsSelect s) (shown (meaning operations m channel s)) Card old new → IsCutOff given (meaning operations m channel s).rows old new)
-    × (FailsSo is_at given m (IsSelect s) (shown (meaning operations m channel s)) Outlet old new → IsCutShort is_at given m (read_effect (terminal_at m channel) (Ok s)) holding old new)
+    → (FailsSo is_at given m (IsSelect s) (shown (meaning m channel s)) Card old new → IsCutOff given (meaning m channel s).rows old new)
+    × (FailsSo is_at given m (IsSelect s) (shown (meaning m channel s)) Outlet old new → IsCutShort is_at given m (read_effect (terminal_at m channel) (Ok s)) holding old new)
 failure-ends is_at given m channel s holding old new over can knows =
     let is = sound m channel s over can in
-    ((λ mute. cut-off given (meaning operations m channel s) old new is mute), (λ cut. cut-short is_at given m channel s holding old new is knows cut))
+    ((λ mute. cut-off given (meaning m channel s) old new is mute), (λ cut. cut-short is_at given m channel s holding old new is knows cut))
 
 -- Whether the channel has the open transaction.
 pub inside-known : (m : Machine) (channel : ℕ) (held : Option ℕ) → Knows held m → option_map_or (λ (n : ℕ). n == channel) held false ≡ is_some (own_transaction m.transaction channel)
@@ -239,21 +239,21 @@ run-moment mark g m x left is within = go is.either within.among
     go (inl none) (inl among) = last-moment mark g m.committed x.commits left within.above (among ∙ ap (after_all m.committed) (sym none))
     go (inl none) (inr among) = absurd (subst (λ (commits : List Database). IsAmong commits left) none among)
 
-pub run-moments : (mark g : ℕ) (m : Machine) (channel : ℕ) (s : Statement) (left : Database) → IsOverValid m → CanBeSent channel s → IsInRun mark m (shown (meaning operations m channel s)) g left
-    → IsMoment mark m.committed (meaning operations m channel s).commits g left
-run-moments mark g m channel s left over can within = run-moment mark g m (meaning operations m channel s) left (sound m channel s over can) within
+pub run-moments : (mark g : ℕ) (m : Machine) (channel : ℕ) (s : Statement) (left : Database) → IsOverValid m → CanBeSent channel s → IsInRun mark m (shown (meaning m channel s)) g left
+    → IsMoment mark m.committed (meaning m channel s).commits g left
+run-moments mark g m channel s left over can within = run-moment mark g m (meaning m channel s) left (sound m channel s over can) within
 
 -- The closing line.
 -- What is held after a statement.
 knows-after : (m : Machine) (before : Holding) (s : Statement) (closing : Closing) (after : Holding) → CanBeSent before.channel s → Knows before.transaction m
-    → after ≡ holding_after s closing before → closing ≡ (meaning operations m before.channel s).closing → Knows after.transaction (meaning operations m before.channel s).machine
+    → after ≡ holding_after s closing before → closing ≡ (meaning m before.channel s).closing → Knows after.transaction (meaning m before.channel s).machine
 knows-after m before s closing after can knows holds closes =
     ap (λ (h : Holding). h.transaction) holds
     ∙ (ap (λ (held : Option ℕ). held_when closing (held_after s before.channel held) held) knows
     ∙ (ap (λ (c : Closing). held_when c (held_after s before.channel (transaction_channel m)) (transaction_channel m)) closes ∙ sym (transaction-told m before.channel s can)))
 
 pub sits-after : {L : Type 0} (is_at : L → Machine → Type 0) (m : Machine) (before : Holding) (s : Statement) (closing : Closing) (after : Holding) (new : L) → CanBeSent before.channel s → Knows before.transaction m
-    → after ≡ holding_after s closing before → closing ≡ (meaning operations m before.channel s).closing → is_at new (meaning operations m before.channel s).machine
+    → after ≡ holding_after s closing before → closing ≡ (meaning m before.channel s).closing → is_at new (meaning m before.channel s).machine
     → Sits is_at (read_effect (terminal_at m before.channel) (Ok s)).next after new
 sits-after is_at m before s closing after new can knows holds closes at = record {
   at = at;
@@ -263,18 +263,18 @@ sits-after is_at m before s closing after new can knows holds closes at = record
 
 pub closes-ends : {L : Type 0} (is_at : L → Machine → Type 0) (given : L → Option (List ℕ)) (is_live : L → Bool) (faults sink_faults mark : L → ℕ) (m : Machine) (before : Holding) (s : Statement) (closing : Closing) (after : Holding) (result : LineEnd) (old mid new : L)
     → IsOverValid m → CanBeSent before.channel s → Knows before.transaction m → after ≡ holding_after s closing before
-    → IsOver is_at given mark m (shown (meaning operations m before.channel s)) closing old mid
-    → ClosesSo given is_live faults sink_faults (closing_text closing) (is_refusal closing) result mid new → is_at new (meaning operations m before.channel s).machine
+    → IsOver is_at given mark m (shown (meaning m before.channel s)) closing old mid
+    → ClosesSo given is_live faults sink_faults (closing_text closing) (is_refusal closing) result mid new → is_at new (meaning m before.channel s).machine
     → EndsSo is_at given m (read_effect (terminal_at m before.channel) (Ok s)) (rows_in (terminal_at m before.channel) (Ok s)) (refuses (terminal_at m before.channel) (Ok s)) after result old new
 closes-ends is_at given is_live faults sink_faults mark m before s closing after result old mid new over can knows holds o closes at = go result closes
   where
-    whole : (text : List ℕ) → text ≡ closing_text closing → rows_text (shown (meaning operations m before.channel s)).rows ++ text ≡ meaning_text (meaning operations m before.channel s)
-    whole text is = ap (λ rest. rows_text (shown (meaning operations m before.channel s)).rows ++ rest) (is ∙ ap closing_text o.closes) ∙ sym (text-again (meaning operations m before.channel s) (sound m before.channel s over can))
+    whole : (text : List ℕ) → text ≡ closing_text closing → rows_text (shown (meaning m before.channel s)).rows ++ text ≡ meaning_text (meaning m before.channel s)
+    whole text is = ap (λ rest. rows_text (shown (meaning m before.channel s)).rows ++ rest) (is ∙ ap closing_text o.closes) ∙ sym (text-again (meaning m before.channel s) (sound m before.channel s over can))
 
     answered : Prints (closing_text closing) (given mid) (given new) → IsAnswered is_at given (read_effect (terminal_at m before.channel) (Ok s)) after old new
     answered printed = record {
       sits = sits-after is_at m before s closing after new can knows holds o.closes at;
-      text = subst (λ (text : List ℕ). Prints text (given old) (given new)) (whole (closing_text closing) refl) (prints-both (rows_text (shown (meaning operations m before.channel s)).rows) (closing_text closing) (given old) (given mid) (given new) o.printed printed);
+      text = subst (λ (text : List ℕ). Prints text (given old) (given new)) (whole (closing_text closing) refl) (prints-both (rows_text (shown (meaning m before.channel s)).rows) (closing_text closing) (given old) (given mid) (given new) o.printed printed);
     }
 
     go : (result : LineEnd) → ClosesSo given is_live faults sink_faults (closing_text closing) (is_refusal closing) result mid new
@@ -283,13 +283,13 @@ closes-ends is_at given is_live faults sink_faults mark m before s closing after
     go ends.Refused c = (answered c.1, ap is_refusal (sym o.closes) ∙ c.0)
     go ends.Mute c = absurd c
     go ends.SinkFault c = record {
-      said = rows_text (shown (meaning operations m before.channel s)).rows ++ c.0.said;
+      said = rows_text (shown (meaning m before.channel s)).rows ++ c.0.said;
       rest = c.0.rest;
       start =
-          sym (whole (closing_text closing) refl) ∙ (ap (λ rest. rows_text (shown (meaning operations m before.channel s)).rows ++ rest) c.0.start
-          ∙ sym (append_assoc (rows_text (shown (meaning operations m before.channel s)).rows) c.0.said c.0.rest));
-      printed = prints-both (rows_text (shown (meaning operations m before.channel s)).rows) c.0.said (given old) (given mid) (given new) o.printed c.0.printed;
-      machine = (meaning operations m before.channel s).machine;
+          sym (whole (closing_text closing) refl) ∙ (ap (λ rest. rows_text (shown (meaning m before.channel s)).rows ++ rest) c.0.start
+          ∙ sym (append_assoc (rows_text (shown (meaning m before.channel s)).rows) c.0.said c.0.rest));
+      printed = prints-both (rows_text (shown (meaning m before.channel s)).rows) c.0.said (given old) (given mid) (given new) o.printed c.0.printed;
+      machine = (meaning m before.channel s).machine;
       at = at;
       committed = o.committed;
       knows = knows-after m before s closing after can knows holds o.closes;

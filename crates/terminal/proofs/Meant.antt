@@ -4,7 +4,6 @@ use Rattle.std.specs.Prelude.{IfSome}
 use Rattle.std.specs.Option.{option_map_or}
 use Rattle.scql_model.specs.Database.{IsValid}
 use Rattle.scql_model.specs.Machine.{Machine, Transaction, base, base_of}
-use Rattle.scql_model.specs.Operations.{operations}
 use Rattle.scql_model.specs.Transactions.{own_transaction}
 use Rattle.card_link.specs.Link.{IsOver}
 use Rattle.script.specs.declared.statement.Statement.{Statement}
@@ -30,11 +29,11 @@ base-valid m channel over = go m.transaction over.transaction
     go (Some t) valid = mine t (t.channel == channel) valid
 
 pub run-meant : (m : Machine) (channel : ℕ) (s : Statement) (inside : Bool) → IsOver m → CanBeSent channel s → inside ≡ is_some (own_transaction m.transaction channel)
-    → run_of m (started s channel inside) ≡ shown (meaning operations m channel s)
+    → run_of m (started s channel inside) ≡ shown (meaning m channel s)
 run-meant m channel s inside over can is =
     let p : Planned = started s channel inside in
-    let runs : RunsTo m p (shown (meaning operations m channel s)) =
-    subst (λ (inside : Bool). RunsTo m (started s channel inside) (shown (meaning operations m channel s))) (sym is) (statement-runs m channel (base-valid m channel over) s can) in
+    let runs : RunsTo m p (shown (meaning m channel s)) =
+    subst (λ (inside : Bool). RunsTo m (started s channel inside) (shown (meaning m channel s))) (sym is) (statement-runs m channel (base-valid m channel over) s can) in
     sym (whole-step m None p) ∙ runs.runs (suc (turns_left p)) (omega arith)
 
 -- a terminal that knows the open transaction's channel knows whether it is its own
@@ -48,7 +47,7 @@ inside-known (Some t) channel = own (t.channel == channel)
 
 -- a plan that is at its start on a terminal's channel runs to the meaning of its statement
 pub started-meant : (m : Machine) (holding : Holding) (plan : Planned) → IsOver m → CanBeSent holding.channel plan.statement → IsStarted holding plan → Knows holding.transaction m
-    → run_of m plan ≡ shown (meaning operations m holding.channel plan.statement)
+    → run_of m plan ≡ shown (meaning m holding.channel plan.statement)
 started-meant m holding plan over can starts knows =
     ap (run_of m) starts
     ∙ run-meant m holding.channel plan.statement (option_map_or (λ own. own == holding.channel) holding.transaction false) over can

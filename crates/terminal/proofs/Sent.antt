@@ -8,11 +8,10 @@ use Rattle.eeprom.proofs.Moments.{throughout-then, throughout-weaker}
 use Rattle.scql_model.specs.Database.{Database}
 use Rattle.scql_model.specs.Machine.{Machine}
 use Rattle.scql_model.specs.Opens.{Opens}
-use Rattle.scql_model.specs.Operations.{operations}
 use Rattle.scql_model.specs.Replies.{Reply}
 use Rattle.scql_model.specs.Spelling.{field_of, part_count, part_octets}
-use Rattle.scql_model.specs.Step.{Answer, step_by}
-use Rattle.scql_model.proofs.LastCommits.{last-step_by}
+use Rattle.scql_model.specs.Step.{Answer, step}
+use Rattle.scql_model.proofs.LastCommits.{last-step}
 use Rattle.scql_model.proofs.PartsAgain.{parts_some}
 use Rattle.planner.specs.Words.{is_done}
 use Rattle.planner.proofs.StatementsLawful.{after-append}
@@ -64,7 +63,7 @@ leaves-none chip mark P l db marks opens holds = record {
 
 -- What is left of a command at a part.
 abbrev pub part_from : Machine → Command → ℕ → Answer
-part_from m c place = in_turn operations m (part_octets c place) (parts_from (place + 1) (part_count c - (place + 1)) c)
+part_from m c place = in_turn m (part_octets c place) (parts_from (place + 1) (part_count c - (place + 1)) c)
 
 abbrev pub answering : List Database → Answer → Answer
 answering commits answer = record answer { commits = commits ++ answer.commits }
@@ -73,97 +72,97 @@ pub record HasSent {L : Type 0} (is_at : L → Machine → Type 0) (m : Machine)
   pub machine : Machine
   pub commits : List Database
   pub at : is_at now machine
-  pub left : answer_to operations m c ≡ answering commits (part_from machine c place)
+  pub left : answer_to m c ≡ answering commits (part_from machine c place)
   pub committed : machine.committed ≡ after_all m.committed commits
 
-all-parts : (m : Machine) (c : Command) → answer_to operations m c ≡ part_from m c 0
+all-parts : (m : Machine) (c : Command) → answer_to m c ≡ part_from m c 0
 unfolding answer_to
 all-parts m c = go (part_count c) refl
   where
-    go : (count : ℕ) → part_count c ≡ count → all_in_turn operations m (parts_from 0 count c) ≡ in_turn operations m (part_octets c 0) (parts_from 1 (count - 1) c)
+    go : (count : ℕ) → part_count c ≡ count → all_in_turn m (parts_from 0 count c) ≡ in_turn m (part_octets c 0) (parts_from 1 (count - 1) c)
     go zero is = absurd (omega (arith, is, parts_some (length (field_of c.operation))))
-    go (suc n) is = ap (λ (k : ℕ). in_turn operations m (part_octets c 0) (parts_from 1 k c)) (omega arith)
+    go (suc n) is = ap (λ (k : ℕ). in_turn m (part_octets c 0) (parts_from 1 k c)) (omega arith)
 
 pub nothing-sent : {L : Type 0} (is_at : L → Machine → Type 0) (m : Machine) (c : Command) (now : L) → is_at now m → HasSent is_at m c 0 now
 nothing-sent is_at m c now at = record { machine = m; commits = []; at = at; left = all-parts m c; committed = refl }
 
 -- the last part, and one with further parts behind it
-at-last : (m : Machine) (c : Command) (place : ℕ) → part_count c ≤ place + 1 → part_from m c place ≡ step_by operations m (part_octets c place)
-at-last m c place last = ap (λ (n : ℕ). in_turn operations m (part_octets c place) (parts_from (place + 1) n c)) (let none : part_count c - (place + 1) ≡ 0 = omega (arith, last) in none)
+at-last : (m : Machine) (c : Command) (place : ℕ) → part_count c ≤ place + 1 → part_from m c place ≡ step m (part_octets c place)
+at-last m c place last = ap (λ (n : ℕ). in_turn m (part_octets c place) (parts_from (place + 1) n c)) (let none : part_count c - (place + 1) ≡ 0 = omega (arith, last) in none)
 
 before-last : (m : Machine) (c : Command) (place : ℕ) → place + 1 < part_count c
-    → part_from m c place ≡ followed_by (step_by operations m (part_octets c place)) (part_from (step_by operations m (part_octets c place)).machine c (place + 1))
+    → part_from m c place ≡ followed_by (step m (part_octets c place)) (part_from (step m (part_octets c place)).machine c (place + 1))
 before-last m c place more =
-    ap (λ (n : ℕ). in_turn operations m (part_octets c place) (parts_from (place + 1) n c)) (let some : part_count c - (place + 1) ≡ suc (part_count c - (place + 1 + 1)) = omega (arith, more) in some)
+    ap (λ (n : ℕ). in_turn m (part_octets c place) (parts_from (place + 1) n c)) (let some : part_count c - (place + 1) ≡ suc (part_count c - (place + 1 + 1)) = omega (arith, more) in some)
 
 -- a part was answered by 9000: the next one follows
 pub part-sent : {L : Type 0} (is_at : L → Machine → Type 0) (m : Machine) (c : Command) (place : ℕ) (heard : Reply) (old new : L) → (sent : HasSent is_at m c place old) → place + 1 < part_count c
-    → Answered is_at (step_by operations sent.machine (part_octets c place)) heard new → is_done heard.word ≡ true → HasSent is_at m c (place + 1) new
+    → Answered is_at (step sent.machine (part_octets c place)) heard new → is_done heard.word ≡ true → HasSent is_at m c (place + 1) new
 part-sent is_at m c place heard old new sent more answered done =
-    let step : Answer = step_by operations sent.machine (part_octets c place) in
-    let is_done' : is_done step.reply.word ≡ true = ap (λ (r : Reply). is_done r.word) (sym answered.reply) ∙ done in
+    let answer : Answer = step sent.machine (part_octets c place) in
+    let is_done' : is_done answer.reply.word ≡ true = ap (λ (r : Reply). is_done r.word) (sym answered.reply) ∙ done in
     record {
-      machine = step.machine;
-      commits = sent.commits ++ step.commits;
+      machine = answer.machine;
+      commits = sent.commits ++ answer.commits;
       at = answered.at;
       left =
           sent.left
           ∙ (ap (answering sent.commits) (before-last sent.machine c place more
-          ∙ ap (λ done. let next : Answer = part_from step.machine c (place + 1) in let a : Answer = if done then record next { commits = step.commits ++ next.commits } else step in a) is_done')
-          ∙ ap (λ (commits : List Database). record (part_from step.machine c (place + 1)) { commits = commits }) (sym (append_assoc sent.commits step.commits (part_from step.machine c (place + 1)).commits)));
+          ∙ ap (λ done. let next : Answer = part_from answer.machine c (place + 1) in let a : Answer = if done then record next { commits = answer.commits ++ next.commits } else answer in a) is_done')
+          ∙ ap (λ (commits : List Database). record (part_from answer.machine c (place + 1)) { commits = commits }) (sym (append_assoc sent.commits answer.commits (part_from answer.machine c (place + 1)).commits)));
       committed =
-          sym (last-step_by operations sent.machine (part_octets c place))
-          ∙ (ap (λ (db : Database). after_all db step.commits) sent.committed ∙ sym (after-append m.committed sent.commits step.commits));
+          sym (last-step sent.machine (part_octets c place))
+          ∙ (ap (λ (db : Database). after_all db answer.commits) sent.committed ∙ sym (after-append m.committed sent.commits answer.commits));
     }
 
 -- the whole answer: a part was answered by another word, or was the last
 pub all-sent : {L : Type 0} (is_at : L → Machine → Type 0) (m : Machine) (c : Command) (place : ℕ) (heard : Reply) (old new : L) → (sent : HasSent is_at m c place old)
-    → Answered is_at (step_by operations sent.machine (part_octets c place)) heard new → (place + 1 < part_count c → is_done heard.word ≡ false) → Answered is_at (answer_to operations m c) heard new
+    → Answered is_at (step sent.machine (part_octets c place)) heard new → (place + 1 < part_count c → is_done heard.word ≡ false) → Answered is_at (answer_to m c) heard new
 all-sent is_at m c place heard old new sent answered ends =
-    let step : Answer = step_by operations sent.machine (part_octets c place) in
-    let whole : answer_to operations m c ≡ answering sent.commits step = sent.left ∙ ap (answering sent.commits) (stops (nat_lt (place + 1) (part_count c)) refl) in
+    let answer : Answer = step sent.machine (part_octets c place) in
+    let whole : answer_to m c ≡ answering sent.commits answer = sent.left ∙ ap (answering sent.commits) (stops (nat_lt (place + 1) (part_count c)) refl) in
     record {
       reply = answered.reply ∙ ap (λ (a : Answer). a.reply) (sym whole);
       at = subst (is_at new) (ap (λ (a : Answer). a.machine) (sym whole)) answered.at;
     }
   where
-    stops : (more : Bool) → nat_lt (place + 1) (part_count c) ≡ more → part_from sent.machine c place ≡ step_by operations sent.machine (part_octets c place)
+    stops : (more : Bool) → nat_lt (place + 1) (part_count c) ≡ more → part_from sent.machine c place ≡ step sent.machine (part_octets c place)
     stops false is = at-last sent.machine c place (ltb-false (place + 1) (part_count c) is)
     stops true is =
-        let step : Answer = step_by operations sent.machine (part_octets c place) in
+        let answer : Answer = step sent.machine (part_octets c place) in
         let more : place + 1 < part_count c = ltb-true (place + 1) (part_count c) is in
-        let other : is_done step.reply.word ≡ false = ap (λ (r : Reply). is_done r.word) (sym answered.reply) ∙ ends more in
+        let other : is_done answer.reply.word ≡ false = ap (λ (r : Reply). is_done r.word) (sym answered.reply) ∙ ends more in
         before-last sent.machine c place more
-        ∙ ap (λ done. let next : Answer = part_from step.machine c (place + 1) in let a : Answer = if done then record next { commits = step.commits ++ next.commits } else step in a) other
+        ∙ ap (λ done. let next : Answer = part_from answer.machine c (place + 1) in let a : Answer = if done then record next { commits = answer.commits ++ next.commits } else answer in a) other
 
 -- what a part commits is of what the command does
-part-commits : (m : Machine) (c : Command) (place : ℕ) → (rest : List Database) × ((part_from m c place).commits ≡ (step_by operations m (part_octets c place)).commits ++ rest)
+part-commits : (m : Machine) (c : Command) (place : ℕ) → (rest : List Database) × ((part_from m c place).commits ≡ (step m (part_octets c place)).commits ++ rest)
 part-commits m c place = go (nat_lt (place + 1) (part_count c)) refl
   where
     ended : (step next : Answer) (done : Bool) → (rest : List Database) × ((let a : Answer = if done then record next { commits = step.commits ++ next.commits } else step in a.commits) ≡ step.commits ++ rest)
     ended step next true = (next.commits, refl)
     ended step next false = ([], sym (append-nil step.commits))
 
-    go : (more : Bool) → nat_lt (place + 1) (part_count c) ≡ more → (rest : List Database) × ((part_from m c place).commits ≡ (step_by operations m (part_octets c place)).commits ++ rest)
-    go false is = ([], ap (λ (a : Answer). a.commits) (at-last m c place (ltb-false (place + 1) (part_count c) is)) ∙ sym (append-nil (step_by operations m (part_octets c place)).commits))
+    go : (more : Bool) → nat_lt (place + 1) (part_count c) ≡ more → (rest : List Database) × ((part_from m c place).commits ≡ (step m (part_octets c place)).commits ++ rest)
+    go false is = ([], ap (λ (a : Answer). a.commits) (at-last m c place (ltb-false (place + 1) (part_count c) is)) ∙ sym (append-nil (step m (part_octets c place)).commits))
     go true is =
-        let step : Answer = step_by operations m (part_octets c place) in
-        let e = ended step (part_from step.machine c (place + 1)) (is_done step.reply.word) in
+        let answer : Answer = step m (part_octets c place) in
+        let e = ended answer (part_from answer.machine c (place + 1)) (is_done answer.reply.word) in
         (e.0, ap (λ (a : Answer). a.commits) (before-last m c place (ltb-true (place + 1) (part_count c) is)) ∙ e.1)
 
 -- so the moments of a part are moments of the command
 pub part-moments : {L : Type 0} (is_at : L → Machine → Type 0) (m : Machine) (c : Command) (place mark later g : ℕ) (left : Database) (old : L) → (sent : HasSent is_at m c place old) → later ≡ mark
-    → IsWithin later [] (sent.machine.committed ∷ (step_by operations sent.machine (part_octets c place)).commits) g left → IsWithin mark [] (m.committed ∷ (answer_to operations m c).commits) g left
+    → IsWithin later [] (sent.machine.committed ∷ (step sent.machine (part_octets c place)).commits) g left → IsWithin mark [] (m.committed ∷ (answer_to m c).commits) g left
 part-moments is_at m c place mark later g left old sent same within =
-    let step : Answer = step_by operations sent.machine (part_octets c place) in
+    let answer : Answer = step sent.machine (part_octets c place) in
     let front = part-commits sent.machine c place in
-    let all : sent.commits ++ (step.commits ++ front.0) ≡ (answer_to operations m c).commits = ap (λ (commits : List Database). sent.commits ++ commits) (sym front.1) ∙ ap (λ (a : Answer). a.commits) (sym sent.left) in
+    let all : sent.commits ++ (answer.commits ++ front.0) ≡ (answer_to m c).commits = ap (λ (commits : List Database). sent.commits ++ commits) (sym front.1) ∙ ap (λ (a : Answer). a.commits) (sym sent.left) in
     record {
       above = omega (arith, within.above, same);
       still = λ none. within.still none ∙ same;
       among =
           subst (λ (commits : List Database). IsAmong (m.committed ∷ commits) left) all
-          (among-next m.committed sent.machine.committed sent.commits (step.commits ++ front.0) left sent.committed (among-before (sent.machine.committed ∷ step.commits) front.0 left within.among));
+          (among-next m.committed sent.machine.committed sent.commits (answer.commits ++ front.0) left sent.committed (among-before (sent.machine.committed ∷ answer.commits) front.0 left within.among));
     }
 
 pub stays-both : {L : Type 0} (given : L → Option (List ℕ)) (sink_faults mark : L → ℕ) (a b c : L) → Stays given sink_faults mark a b → Stays given sink_faults mark b c → Stays given sink_faults mark a c
@@ -175,13 +174,13 @@ stays-both given sink_faults mark a b c first second = record {
 
 pub asked-moments : {L : Type 0} (is_at : L → Machine → Type 0) (chip : L → Chip) (given : L → Option (List ℕ)) (sink_faults mark : L → ℕ) (c : Command) (place now : ℕ) (old mid new : L)
     → now ≡ place → ((m : Machine) → is_at old m → HasSent is_at m c place mid)
-    → ((m : Machine) → is_at old m → LeavesOpen (IsWithin (mark old) [] (m.committed ∷ (answer_to operations m c).commits)) (chip old) (chip mid))
+    → ((m : Machine) → is_at old m → LeavesOpen (IsWithin (mark old) [] (m.committed ∷ (answer_to m c).commits)) (chip old) (chip mid))
     → Stays given sink_faults mark old mid
-    → ((m : Machine) → is_at mid m → LeavesOpen (IsWithin (mark mid) [] (m.committed ∷ (step_by operations m (part_octets c now)).commits)) (chip mid) (chip new))
-    → (m : Machine) → is_at old m → LeavesOpen (IsWithin (mark old) [] (m.committed ∷ (answer_to operations m c).commits)) (chip old) (chip new)
+    → ((m : Machine) → is_at mid m → LeavesOpen (IsWithin (mark mid) [] (m.committed ∷ (step m (part_octets c now)).commits)) (chip mid) (chip new))
+    → (m : Machine) → is_at old m → LeavesOpen (IsWithin (mark old) [] (m.committed ∷ (answer_to m c).commits)) (chip old) (chip new)
 asked-moments is_at chip given sink_faults mark c place now old mid new same told moments stays next m at =
     let sent = told m at in
-    leaves-both chip (IsWithin (mark old) [] (m.committed ∷ (answer_to operations m c).commits)) old mid new (moments m at)
-    (leaves-all chip (IsWithin (mark mid) [] (sent.machine.committed ∷ (step_by operations sent.machine (part_octets c place)).commits)) (IsWithin (mark old) [] (m.committed ∷ (answer_to operations m c).commits)) mid new
+    leaves-both chip (IsWithin (mark old) [] (m.committed ∷ (answer_to m c).commits)) old mid new (moments m at)
+    (leaves-all chip (IsWithin (mark mid) [] (sent.machine.committed ∷ (step sent.machine (part_octets c place)).commits)) (IsWithin (mark old) [] (m.committed ∷ (answer_to m c).commits)) mid new
     (λ g left within. part-moments is_at m c place (mark old) (mark mid) g left mid sent stays.mark_same within)
-    (subst (λ (n : ℕ). LeavesOpen (IsWithin (mark mid) [] (sent.machine.committed ∷ (step_by operations sent.machine (part_octets c n)).commits)) (chip mid) (chip new)) same (next sent.machine sent.at)))
+    (subst (λ (n : ℕ). LeavesOpen (IsWithin (mark mid) [] (sent.machine.committed ∷ (step sent.machine (part_octets c n)).commits)) (chip mid) (chip new)) same (next sent.machine sent.at)))

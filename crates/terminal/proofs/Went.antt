@@ -5,7 +5,6 @@ use Rattle.std.proofs.lemmas.List.{append-nil}
 use Rattle.scql_base.specs.declared.operation.Command.{Command}
 use Rattle.scql_model.specs.Database.{Database}
 use Rattle.scql_model.specs.Machine.{Machine, reset}
-use Rattle.scql_model.specs.Operations.{operations}
 use Rattle.scql_model.specs.Replies.{Reply}
 use Rattle.scql_model.specs.Step.{Answer}
 use Rattle.card_link.specs.Link.{Answered, HoldsWithin}
@@ -26,22 +25,23 @@ use Rattle.planner.specs.Text.{closing_text}
 use Rattle.std.specs.Prelude.{Result, Err, IfErr}
 use Rattle.terminal.specs.declared.failure.Failure.{Failure}
 use Rattle.terminal.specs.declared.failure.Failure.TheVariants.{Card, Outlet}
-use Rattle.terminal.specs.Going.{printed_row, rows_text, ran_text, FailsSo, whole_run, run_from, behind, after_all, Prints, IsWithin, IsInRun, Goes, IsMute, IsCut, IsOver, to_go}
+use Rattle.terminal.specs.Going.{printed_row, rows_text, ran_text, FailsSo, whole_run, run_from, behind, after_all, IsWithin, IsInRun, Goes, IsMute, IsCut, IsOver, to_go}
 use Rattle.terminal.specs.Stays.{Stays, IsStart, Works, Causes}
 use Rattle.eeprom.specs.Fault.{Rose}
+use Rattle.eeprom.specs.Output.{Prints}
 use Rattle.terminal.proofs.Sent.{among-before, among-next}
 
 -- a run with steps enough doesn't change with more
-enough : (k n : ℕ) (m : Machine) (last : Option Reply) (p : Planned) → turns_left p < k → k ≤ n → run operations k m last p ≡ run operations n m last p
+enough : (k n : ℕ) (m : Machine) (last : Option Reply) (p : Planned) → turns_left p < k → k ≤ n → run k m last p ≡ run n m last p
 enough k n m last p some most =
-    settled operations k (n - k) m last p some ∙ ap (λ (i : ℕ). run operations i m last p) (more-is k (n - k) ∙ omega (arith, most))
+    settled k (n - k) m last p some ∙ ap (λ (i : ℕ). run i m last p) (more-is k (n - k) ∙ omega (arith, most))
 
-step-whole : (n : ℕ) (m : Machine) (q : Planned) (step : Step) → IfGoesOn step (turns_left q < n) → taken operations (λ x r y. run operations n x r y) m q step ≡ taken operations whole_run m q step
+step-whole : (n : ℕ) (m : Machine) (q : Planned) (step : Step) → IfGoesOn step (turns_left q < n) → taken (λ x r y. run n x r y) m q step ≡ taken whole_run m q step
 step-whole n m q (Send c) below =
-    ap (committing (answer_to operations m c).commits) (sym (enough (suc (turns_left q)) n (answer_to operations m c).machine (Some (answer_to operations m c).reply) q (omega arith) (omega (arith, below))))
+    ap (committing (answer_to m c).commits) (sym (enough (suc (turns_left q)) n (answer_to m c).machine (Some (answer_to m c).reply) q (omega arith) (omega (arith, below))))
 step-whole n m q (Row c) below =
-    ap (λ (ran : Ran). giving q.row (committing (answer_to operations m c).commits ran))
-    (sym (enough (suc (turns_left q)) n (answer_to operations m c).machine (Some (answer_to operations m c).reply) q (omega arith) (omega (arith, below))))
+    ap (λ (ran : Ran). giving q.row (committing (answer_to m c).commits ran))
+    (sym (enough (suc (turns_left q)) n (answer_to m c).machine (Some (answer_to m c).reply) q (omega arith) (omega (arith, below))))
 step-whole n m q ResetCard below = sym (enough (suc (turns_left q)) n (reset m) None q (omega arith) (omega (arith, below)))
 step-whole n m q (Done closing) below = refl
 
@@ -85,10 +85,10 @@ rows-append xs ys = ap concat (map-append xs ys) ∙ concat-append (map printed_
 
 -- A command was sent: the run goes on by its answer.
 pub sent-goes : {L : Type 0} (is_at : L → Machine → Type 0) (given : L → Option (List ℕ)) (mark sink_faults : L → ℕ) (m : Machine) (p q : Planned) (c : Command) (next : Step) (heard : Reply) (old new : L)
-    → IsSendable c → Answered is_at (answer_to operations m c) heard new → Stays given sink_faults mark old new → next_of (Some heard) p ≡ record { plan = q; step = next }
+    → IsSendable c → Answered is_at (answer_to m c) heard new → Stays given sink_faults mark old new → next_of (Some heard) p ≡ record { plan = q; step = next }
     → Goes is_at given mark m p (Send c) old new q next
 sent-goes is_at given mark sink_faults m p q c next heard old new can answered stays is-turn =
-    let a : Answer = answer_to operations m c in
+    let a : Answer = answer_to m c in
     record {
       machine = a.machine;
       rows = [];
@@ -105,11 +105,11 @@ sent-goes is_at given mark sink_faults m p q c next heard old new can answered s
     }
 
 -- the moments of a command are moments of the run
-pub sent-moments : (from : ℕ) (m : Machine) (p : Planned) (c : Command) (g : ℕ) (left : Database) → IsWithin from [] (m.committed ∷ (answer_to operations m c).commits) g left → IsInRun from m (run_from m p (Send c)) g left
+pub sent-moments : (from : ℕ) (m : Machine) (p : Planned) (c : Command) (g : ℕ) (left : Database) → IsWithin from [] (m.committed ∷ (answer_to m c).commits) g left → IsInRun from m (run_from m p (Send c)) g left
 sent-moments from m p c g left within = record {
   above = within.above;
   still = λ none. within.still refl;
-  among = among-before (m.committed ∷ (answer_to operations m c).commits) (whole_run (answer_to operations m c).machine (Some (answer_to operations m c).reply) p).commits left within.among;
+  among = among-before (m.committed ∷ (answer_to m c).commits) (whole_run (answer_to m c).machine (Some (answer_to m c).reply) p).commits left within.among;
 }
 
 -- a row was printed before it

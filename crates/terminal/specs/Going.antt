@@ -6,9 +6,8 @@ use Rattle.scql_base.specs.Row.{row_from}
 use Rattle.scql_model.specs.Database.{Database}
 use Rattle.scql_model.specs.Heard.{after_commits}
 use Rattle.scql_model.specs.Machine.{Machine}
-use Rattle.scql_model.specs.Operations.{operations}
 use Rattle.scql_model.specs.Replies.{Reply}
-use Rattle.eeprom.specs.Chip.{Becomes}
+use Rattle.eeprom.specs.Output.{Prints}
 use Rattle.planner.specs.declared.closing.Closing.{Closing}
 use Rattle.planner.specs.declared.step.Step.{Step}
 use Rattle.planner.specs.declared.step.Step.TheVariants.{Done}
@@ -33,10 +32,10 @@ ran_text ran = rows_text ran.rows ++ closing_text ran.closing
 
 -- a plan's run to its end, and what is left of it at a step
 abbrev pub whole_run : Machine → Option Reply → Planned → Ran
-whole_run m last p = run operations (suc (turns_left p)) m last p
+whole_run m last p = run (suc (turns_left p)) m last p
 
 abbrev pub run_from : Machine → Planned → Step → Ran
-run_from m p step = taken operations whole_run m p step
+run_from m p step = taken whole_run m p step
 
 -- the run of a plan that takes its first step
 abbrev pub run_of : Machine → Planned → Ran
@@ -53,10 +52,6 @@ behind rows commits ran = record ran { rows = rows ++ ran.rows; commits = commit
 -- the database after all commits
 abbrev pub after_all : Database → List Database → Database
 after_all db commits = after_commits db commits (length commits)
-
--- a text follows what was given, where it is told
-abbrev pub Prints : List ℕ → Option (List ℕ) → Option (List ℕ) → Type 0
-Prints text old new = Becomes (λ before after. after ≡ before ++ text) old new
 
 -- a database is one of these
 abbrev pub IsAmong : List Database → Database → Type 0

@@ -1,11 +1,11 @@
 -- What there is of a line: its text, or as much of it as was printed where a device failed; the moments of it.
 use Rattle.std.specs.Prelude.{◌≡◌, ◌⊎◌, ℕ, ◌<◌, Bool, true, false, List, [], ◌∷◌, ◌++◌, map, Option, Result, Ok, Err}
 use Rattle.std.specs.List.{concat}
+use Rattle.eeprom.specs.Output.{Prints}
 use Rattle.scql_model.specs.Database.{Database}
 use Rattle.scql_model.specs.Lines.{Effect}
 use Rattle.scql_model.specs.Machine.{Machine}
 use Rattle.scql_model.specs.Matching.{Values}
-use Rattle.scql_model.specs.Operations.{operations}
 use Rattle.card_link.specs.Link.{IsOneOf}
 use Rattle.script.specs.declared.fault.ScriptFault.{ScriptFault}
 use Rattle.script.specs.declared.statement.Statement.{Statement}
@@ -16,7 +16,7 @@ use Rattle.planner.specs.StatementLines.{TerminalState}
 use Rattle.planner.specs.Text.{row_text}
 use Rattle.terminal.specs.declared.line_end.LineEnd.{LineEnd}
 use Rattle.terminal.specs.declared.line_end.LineEnd.TheVariants as ends
-use Rattle.terminal.specs.Going.{Prints, after_all}
+use Rattle.terminal.specs.Going.{after_all}
 use Rattle.terminal.specs.Holding.{Holding, Knows, Sits}
 use Rattle.terminal.specs.Stays.{Breaks, IsStart, Mutes, Works}
 
@@ -27,12 +27,12 @@ is_refusal closing = false
 
 abbrev pub refuses : TerminalState → Result Statement ScriptFault → Bool
 refuses state (Err fault) = true
-refuses state (Ok statement) = is_refusal (meaning operations state.machine state.channel statement).closing
+refuses state (Ok statement) = is_refusal (meaning state.machine state.channel statement).closing
 
 -- the rows that a line's statement gives
 abbrev pub rows_in : TerminalState → Result Statement ScriptFault → List Values
 rows_in state (Err fault) = []
-rows_in state (Ok statement) = (meaning operations state.machine state.channel statement).rows
+rows_in state (Ok statement) = (meaning state.machine state.channel statement).rows
 
 -- the terminal is in the line's next state, and the line's text was printed
 pub record IsAnswered {L : Type 0} (is_at : L → Machine → Type 0) (given : L → Option (List ℕ)) (does : Effect TerminalState) (holding : Holding) (old new : L) : Type 0 where

@@ -84,6 +84,10 @@ abbrev pub counts_text : LoadCounts → List ℕ
 counts_text counts =
     codes "load rows " ++ (decimal counts.rows ++ (codes " changed " ++ (decimal counts.changed ++ (codes " deleted " ++ (decimal counts.deleted ++ (codes " refused " ++ (decimal counts.refused ++ codes "\n")))))))
 
--- What is told of a load on a card with this database.
+-- what is told of the script from a state of the terminal on
+abbrev pub script_text : TerminalState → ℕ → ℕ → List ℕ
+script_text state k seed = counts_text (load_counts state k seed)
+
+-- what is told of a load on a card with this database
 abbrev pub load_text : Database → ℕ → ℕ → List ℕ
-load_text db k seed = counts_text (load_counts (terminal_at (start db) 0) k seed)
+load_text db k seed = script_text (terminal_at (start db) 0) k seed

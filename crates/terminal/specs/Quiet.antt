@@ -3,7 +3,6 @@ use Rattle.std.specs.Prelude.{◌≡◌, ◌⊎◌, ℕ, Bool, Option, Some, Non
 use Rattle.eeprom.specs.Chip.{Chip, Throughout}
 use Rattle.scql_model.specs.Lines.{Effect}
 use Rattle.scql_model.specs.Machine.{Machine}
-use Rattle.scql_model.specs.Operations.{operations}
 use Rattle.script.specs.declared.fault.ScriptFault.{ScriptFault}
 use Rattle.script.specs.declared.statement.Statement.{Statement}
 use Rattle.planner.specs.declared.closing.Closing.{Closing}
@@ -17,7 +16,7 @@ use Rattle.terminal.specs.Stays.{Mutes}
 -- how a line closes that is a statement
 abbrev pub closing_in : TerminalState → Result Statement ScriptFault → Option Closing
 closing_in state (Err fault) = None
-closing_in state (Ok statement) = Some (meaning operations state.machine state.channel statement).closing
+closing_in state (Ok statement) = Some (meaning state.machine state.channel statement).closing
 
 -- How a line ends that does this and closes so, of which nothing is printed.
 abbrev pub EndsQuietly : {L : Type 0} → (L → Machine → Type 0) → Effect TerminalState → Option Closing → Holding → QuietEnd → L → Type 0

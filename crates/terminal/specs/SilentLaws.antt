@@ -1,4 +1,4 @@
--- The laws of a link that is called while nothing is given.
+-- Lemmas, in specs/ since the ghost members of the quiet desk cite them: what holds of a link that is called while nothing is given.
 use Rattle.std.proofs.Common.{◌≡◌, ℕ, Bool, List, Option, refl, sym, ◌∙◌, subst, inl, inr, le_refl}
 use Rattle.std.specs.Prelude.{IfSome}
 use Rattle.eeprom.specs.Chip.{Chip}

@@ -1,7 +1,7 @@
 -- What calls leave of a desk, and what a card that goes mute does.
 use Rattle.std.specs.Prelude.{◌≡◌, ℕ, ◌≤◌, Bool, false, List, ◌++◌, Option}
 use Rattle.eeprom.specs.Fault.{Rose}
-use Rattle.eeprom.specs.Chip.{Becomes}
+use Rattle.eeprom.specs.Output.{Prints}
 use Rattle.terminal.specs.declared.failure.Failure.{Failure}
 use Rattle.terminal.specs.declared.failure.Failure.TheVariants.{Card, Outlet}
 
@@ -22,7 +22,7 @@ pub record IsStart (text : List ℕ) (old new : Option (List ℕ)) : Type 0 wher
   pub said : List ℕ
   pub rest : List ℕ
   pub start : text ≡ said ++ rest
-  pub printed : Becomes (λ before after. after ≡ before ++ said) old new
+  pub printed : Prints said old new
 
 -- an outlet failed, and its count rose
 pub record Breaks {L : Type 0} (faults sink_faults : L → ℕ) (old new : L) : Type 0 where

@@ -2,9 +2,8 @@
 ghost use Rattle.std.specs.Prelude.{◌≡◌, ◌+◌, ◌<◌, ◌≤◌, ℕ, [], ◌∷◌, IsTrue, IfErr, OnOk, true, false};
 ghost use Rattle.eeprom.specs.Fault.{Rose};
 ghost use Rattle.scql_model.specs.Machine.{Machine};
-ghost use Rattle.scql_model.specs.Operations.{operations};
 ghost use Rattle.scql_model.specs.Spelling as spelling;
-ghost use Rattle.scql_model.specs.Step.{step_by};
+ghost use Rattle.scql_model.specs.Step.{step};
 ghost use Rattle.script.specs.Commands.{IsSendable};
 ghost use Rattle.card_link.specs.Link.{LeavesOpen, Answered};
 ghost use Rattle.planner.specs.Meaning.{answer_to};
@@ -24,9 +23,9 @@ pub(crate) fn ask<L: Desk>(
 ) -> Result<(), Failure>
     requires live { IsTrue (L.is_live desk.old) }
     requires sendable { IsSendable command.now }
-    ensures answer { (m : Machine) → L.is_at desk.old m → OnOk result (Answered L.is_at (answer_to operations m command.now) reply.new desk.new) }
+    ensures answer { (m : Machine) → L.is_at desk.old m → OnOk result (Answered L.is_at (answer_to m command.now) reply.new desk.new) }
     ensures moments { (m : Machine) → L.is_at desk.old m
-        → LeavesOpen (IsWithin (L.mark desk.old) [] (m.committed ∷ (answer_to operations m command.now).commits)) (L.chip desk.old) (L.chip desk.new) }
+        → LeavesOpen (IsWithin (L.mark desk.old) [] (m.committed ∷ (answer_to m command.now).commits)) (L.chip desk.old) (L.chip desk.new) }
     ensures stays { Stays L.given L.sink_faults L.mark desk.old desk.new }
     ensures replied { OnOk result (IsTrue (L.is_live desk.new) × (L.faults desk.new ≡ L.faults desk.old)) }
     ensures mute { IfErr result (λ failure. (failure ≡ Failure.Card) × Mutes L.is_live L.faults desk.old desk.new) }
@@ -53,9 +52,9 @@ fn send_part<L: Desk>(
     requires fits { spelling.fits command.now ≡ true }
     requires there { part < spelling.part_count command.now }
     ensures answer { (m : Machine) → L.is_at desk.old m
-        → OnOk result (Answered L.is_at (step_by operations m (spelling.part_octets command.now part)) reply.new desk.new) }
+        → OnOk result (Answered L.is_at (step m (spelling.part_octets command.now part)) reply.new desk.new) }
     ensures moments { (m : Machine) → L.is_at desk.old m
-        → LeavesOpen (IsWithin (L.mark desk.old) [] (m.committed ∷ (step_by operations m (spelling.part_octets command.now part)).commits)) (L.chip desk.old) (L.chip desk.new) }
+        → LeavesOpen (IsWithin (L.mark desk.old) [] (m.committed ∷ (step m (spelling.part_octets command.now part)).commits)) (L.chip desk.old) (L.chip desk.new) }
     ensures stays { Stays L.given L.sink_faults L.mark desk.old desk.new }
     ensures replied { OnOk result (IsTrue (L.is_live desk.new) × (L.faults desk.new ≡ L.faults desk.old)) }
     ensures mute { IfErr result (λ failure. (failure ≡ Failure.Card) × Mutes L.is_live L.faults desk.old desk.new) }

@@ -4,7 +4,6 @@ ghost use Rattle.script.specs.declared.statement.Statement.TheVariants.{Blank};
 ghost use Rattle.std.specs.Option.{option_map_or};
 ghost use Rattle.scql_model.specs.Machine.{Machine};
 ghost use Rattle.scql_model.specs.Lines.{longest_line};
-ghost use Rattle.scql_model.specs.Operations.{operations};
 ghost use Rattle.script.specs.Commands.{CanAlwaysBeSent, CanBeSent};
 ghost use Rattle.script.specs.Line.{statement_of};
 ghost use Rattle.card_link.specs.Link.{Gives, IsOneOf, LeavesOpen};
@@ -110,11 +109,11 @@ impl Channels {
         ensures holds { IfOk result (λ closing. self.new ≡ holding.holding_after plan.old.statement closing self.old) }
         ensures stays { OnErr result (self.new ≡ self.old) }
         ensures over { (m : Machine) → L.is_at desk.old m → Knows self.old.transaction m
-            → IfOk result (λ closing. IsOver L.is_at L.given L.mark m (shown (meaning operations m self.old.channel plan.old.statement)) closing desk.old desk.new) }
+            → IfOk result (λ closing. IsOver L.is_at L.given L.mark m (shown (meaning m self.old.channel plan.old.statement)) closing desk.old desk.new) }
         ensures moments { (m : Machine) → L.is_at desk.old m → Knows self.old.transaction m
-            → LeavesOpen (IsInRun (L.mark desk.old) m (shown (meaning operations m self.old.channel plan.old.statement))) (L.chip desk.old) (L.chip desk.new) }
+            → LeavesOpen (IsInRun (L.mark desk.old) m (shown (meaning m self.old.channel plan.old.statement))) (L.chip desk.old) (L.chip desk.new) }
         ensures fails { (m : Machine) → L.is_at desk.old m → Knows self.old.transaction m
-            → IfErr result (λ failure. FailsSo L.is_at L.given m (IsSelect plan.old.statement) (shown (meaning operations m self.old.channel plan.old.statement)) failure desk.old desk.new) }
+            → IfErr result (λ failure. FailsSo L.is_at L.given m (IsSelect plan.old.statement) (shown (meaning m self.old.channel plan.old.statement)) failure desk.old desk.new) }
         ensures causes { IfErr result (λ failure. Causes L.is_live L.faults L.sink_faults failure desk.old desk.new) }
         ensures works { OnOk result (Works L.is_live L.faults L.sink_faults desk.old desk.new) }
         ensures goes_on { L.goes_on desk.old desk.new }

@@ -1,12 +1,13 @@
 // The steps of a plan, followed on a card.
 ghost use Rattle.std.specs.Prelude.{◌≡◌, ◌<◌, IsTrue, IfOk, IfErr, OnOk, OnErr};
+ghost use Rattle.eeprom.specs.Output.{Prints};
 ghost use Rattle.scql_model.specs.Machine.{Machine};
 ghost use Rattle.script.specs.Commands.{IsSendable};
 ghost use Rattle.card_link.specs.Link.{LeavesOpen, Gives};
 ghost use Rattle.planner.specs.Planned.{IfSent};
 ghost use Rattle.planner.specs.Readings.{IsReadingAt};
 ghost use Rattle.planner.specs.Turns.{IfGoesOn};
-ghost use Rattle.terminal.specs.Going.{Goes, FailsSo, IsInRun, IsOver, OnlyReads, Prints, printed_row, run_from, run_of, to_go};
+ghost use Rattle.terminal.specs.Going.{Goes, FailsSo, IsInRun, IsOver, OnlyReads, printed_row, run_from, run_of, to_go};
 ghost use Rattle.terminal.specs.Stays.{Breaks, Causes, IsStart, Mutes, Works};
 
 use crate::asking::ask;

@@ -9,7 +9,7 @@ use Rattle.std.proofs.lemmas.Option.{none-some}
 use Rattle.scql_base.specs.declared.condition.Condition.{Condition}
 use Rattle.scql_model.specs.Matching.{Columns}
 use Rattle.search_cond.specs.Bound.{first_unknown}
-use Rattle.views.specs.Resolved.{AreKnown}
+use Rattle.scql_model.specs.Resolving.{AreKnown}
 
 -- the error of a result that has no value
 pub err-none : {T E : Type 0} (P : E → Type 0) (r : Result T E) (o : Option T) → o ≡ result_ok r → o ≡ None → IfErr r P → (e : E) × P e

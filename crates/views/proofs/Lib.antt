@@ -1,4 +1,3 @@
 pub mod Bindings
-pub mod KnownNames
 pub mod Reached
 pub mod Stamped

@@ -11,9 +11,9 @@ use Rattle.scql_base.specs.declared.words.Subject.{Subject}
 use Rattle.scql_model.specs.Database.{object_stamped}
 use Rattle.scql_model.specs.Matching.{Columns}
 use Rattle.scql_model.specs.Resolving as model
-use Rattle.scql_model.specs.Resolving.{resolved_below, resolved_of, resolved_over}
+use Rattle.scql_model.specs.Resolving.{AreKnown, resolved_below, resolved_of, resolved_over}
 use Rattle.scql_model.proofs.Depths.{some-map}
-use Rattle.views.specs.Resolved.{AreKnown, Reaches}
+use Rattle.views.specs.Resolved.{Reaches}
 use Rattle.views.specs.declared.resolving.Resolved.{Resolved}
 
 -- a table is reached at once

@@ -1,10 +1,9 @@
 -- What it means that a table or a view is resolved.
-use Rattle.std.specs.Prelude.{◌≡◌, ℕ, Bool, List, Some, map, position}
+use Rattle.std.specs.Prelude.{◌≡◌, ℕ, List, Some, map, position}
 use Rattle.std.specs.List.{AllZip}
 use Rattle.std.specs.Str.{bytes_eq}
 use Rattle.scql_base.specs.declared.condition.Condition.{Condition}
 use Rattle.scql_base.specs.declared.records.Object.{Object}
-use Rattle.scql_model.specs.Database.{are_among}
 use Rattle.scql_model.specs.Matching.{Columns}
 use Rattle.scql_model.specs.Resolving as model
 use Rattle.scql_model.specs.Resolving.{resolved_of}
@@ -19,10 +18,6 @@ ArePlaces places all columns = map Some places ≡ map (λ (column : List ℕ). 
 -- each of some lists of conditions is bound to all columns
 abbrev pub AreBound : List (List Placed) → Columns → List (List Condition) → Type 0
 AreBound filters all conditions = AllZip (λ (bound : List Placed) (conditions : List Condition). Binds bound all conditions) filters conditions
-
--- conditions are on columns that are among all
-abbrev pub AreKnown : Columns → List Condition → Bool
-AreKnown all conditions = are_among (map (λ (c : Condition). c.column) conditions) all
 
 -- the table of what is resolved is reached: it is the same with all its columns, to which each view's conditions are bound
 pub record Reaches (answer : Resolved) (r : model.Resolved) : Type 0 where

@@ -8,12 +8,12 @@ ghost use Rattle.eeprom.specs.StoreOf.{cell_size};
 ghost use Rattle.record_store.specs.Held.{IsOver};
 ghost use Rattle.scql_model.specs.Database.{Database};
 ghost use Rattle.scql_model.specs.Resolving as model;
-ghost use Rattle.scql_model.specs.Resolving.{resolved_below};
+ghost use Rattle.scql_model.specs.Resolving.{AreKnown, resolved_below};
 ghost use Rattle.catalog_codec.specs.Catalog.{object_kind};
 ghost use Rattle.record_table.specs.Listed.{cells_marked, slots_of};
 ghost use Rattle.record_table.specs.Reading.{NeverFalls};
 ghost use Rattle.record_table.specs.Making.{IsHeld};
-ghost use Rattle.views.specs.Resolved.{AreKnown, Reaches};
+ghost use Rattle.views.specs.Resolved.{Reaches};
 
 use crate::DEEPEST;
 use crate::resolving::Resolved;

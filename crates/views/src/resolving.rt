@@ -12,12 +12,12 @@ ghost use Rattle.scql_model.specs.Database.{Database, are_among, object_stamped}
 ghost use Rattle.scql_model.specs.Defining.{is_table_or_view};
 ghost use Rattle.scql_model.specs.Objects.{columns_of, deepest};
 ghost use Rattle.scql_model.specs.Resolving as model;
-ghost use Rattle.scql_model.specs.Resolving.{resolved_of};
+ghost use Rattle.scql_model.specs.Resolving.{AreKnown, resolved_of};
 ghost use Rattle.catalog_codec.specs.Catalog.{object_kind};
 ghost use Rattle.record_table.specs.Listed.{cells_marked, slots_of};
 ghost use Rattle.record_table.specs.Reading.{NeverFalls};
 ghost use Rattle.record_table.specs.Making.{IsHeld};
-ghost use Rattle.views.specs.Resolved.{AreKnown, ArePlaces, Reaches, Resolves, StandsFor};
+ghost use Rattle.views.specs.Resolved.{ArePlaces, Reaches, Resolves, StandsFor};
 
 use crate::layer::{descend, pass, reach};
 use arrayvec::ArrayVec;

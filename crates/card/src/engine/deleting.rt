@@ -6,7 +6,7 @@ ghost use Rattle.eeprom.specs.StoreOf.{image_size};
 ghost use Rattle.scql_base.specs.declared.operation.Operation.TheVariants as asks;
 ghost use Rattle.scql_model.specs.Bound.{octets_changed, or_nothing};
 ghost use Rattle.scql_model.specs.Machine as machine;
-ghost use Rattle.scql_model.specs.Operations.{IsBuilt, kind_of};
+ghost use Rattle.scql_model.specs.Operations.{kind_of};
 ghost use Rattle.scql_model.specs.Sessions.{left_by};
 ghost use Rattle.scql_model.specs.Step as stepping;
 ghost use Rattle.scql_model.specs.WellFormed.{HasForm, FitsCard};
@@ -35,7 +35,6 @@ impl Engine {
         requires closed { self.old.transaction ≡ None }
         requires there { is_open self.old.sessions channel ≡ true }
         requires deletes { operation.now ≡ asks.DeleteUser name }
-        requires built { IsBuilt (kind_of operation.now) }
         requires formed { HasForm operation.now }
         requires fits { FitsCard self.old.store.row_limit operation.now }
         ensures performs { (m : machine.Machine) → IsAt self.old (B.chip bench.old) m

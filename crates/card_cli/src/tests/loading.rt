@@ -1,5 +1,5 @@
 // The form `load`, over a bench in memory.
-use super::{bench_of, no_faults, run_over, words_of};
+use super::{Nobody, bench_of, no_faults, run_over, words_of};
 use crate::run::run_card;
 use crate::status::Status;
 use eeprom::{MemBench, SteadyBench, SteadySource};
@@ -11,7 +11,7 @@ fn card_of_64(alloc: Global) -> Result<MemBench, AllocError> {
     let words = words_of(alloc, &["new", "64"])?;
     let mut source = SteadySource::new(Vec::new(alloc), 1);
     let mut bench = bench_of(alloc, 5000, 0)?;
-    let _ = run_card(alloc, &words, &mut source, &mut bench);
+    let _ = run_card(alloc, &words, &mut source, &mut bench, &mut Nobody);
     Ok(bench)
 }
 
@@ -44,11 +44,11 @@ fn long_load(alloc: Global) -> Result<(Status, SteadyBench), AllocError> {
     let mut source = SteadySource::new(Vec::new(alloc), 1);
     let words = words_of(alloc, &["new", "2048"])?;
     let mut made = SteadyBench::new(alloc, vec![in alloc; 0u8; 143_394]?, 0, 0)?;
-    let _ = run_card(alloc, &words, &mut source, &mut made);
+    let _ = run_card(alloc, &words, &mut source, &mut made, &mut Nobody);
     let words = words_of(alloc, &["load", "1000", "7"])?;
     let image = Vec::from_slice(alloc, made.image())?;
     let mut bench = SteadyBench::new(alloc, image, 0, 100)?;
-    let status = run_card(alloc, &words, &mut source, &mut bench);
+    let status = run_card(alloc, &words, &mut source, &mut bench, &mut Nobody);
     Ok((status, bench))
 }
 

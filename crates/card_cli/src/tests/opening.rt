@@ -1,5 +1,5 @@
 // The form `apdu`: cards that are there, and images that are none.
-use super::{WITH_ANN, fresh_card, is_open, lay, no_faults, run_over, words_of};
+use super::{Nobody, WITH_ANN, fresh_card, is_open, lay, no_faults, run_over, words_of};
 use crate::run::run_card;
 use crate::status::Status;
 use eeprom::{SteadyBench, SteadySource};
@@ -142,7 +142,7 @@ fn card_that_is_there(rt: HostRuntime) -> Result<(), Fail> {
     let words = words_of(alloc, &["apdu"])?;
     let mut source = SteadySource::new(Vec::new(alloc), 1);
     let mut bench = SteadyBench::new(alloc, Vec::from_slice(alloc, made.image())?, 100, 100)?;
-    let status = run_card(alloc, &words, &mut source, &mut bench);
+    let status = run_card(alloc, &words, &mut source, &mut bench, &mut Nobody);
     assert!(rt; status == Status::Done);
     assert_eq!(rt; bench.given(), b"".as_slice());
     assert_eq!(rt; bench.image(), made.image(), "the image stays");

@@ -62,27 +62,6 @@ const TABLE_WITH_ROWS: Story = Story {
     ],
 };
 
-/// OWNER inserts a second row of a table in a transaction, and commits it: until then there is one.
-const TRANSACTION: Story = Story {
-    lines: "0014008006054F574E4552
-00120080
-0010008C050154017900
-00120081
-",
-    probe: "0014008006054F574E4552
-001000870401540100
-00100088
-0010008A00
-0010008B00
-",
-    answers: &[
-        "9000\n9000\n9000\n0178009000\n6282\n",
-        "9000\n9000\n9000\n0178009000\n6282\n",
-        "9000\n9000\n9000\n0178009000\n6282\n",
-        "9000\n9000\n9000\n0178009000\n0179009000\n",
-    ],
-};
-
 /// OWNER drops a table.
 const DROPPED_TABLE: Story = Story {
     lines: "0014008006054F574E4552
@@ -95,13 +74,14 @@ const DROPPED_TABLE: Story = Story {
 };
 
 /// What power is lost with: each octet in the range of the write has this value.
-const FILLS: [u8; 3] = [0x00, 0xFF, 0x5A];
+pub(super) const FILLS: [u8; 3] = [0x00, 0xFF, 0x5A];
 
-// What the card of an image answers to a probe, and the bench of the opening before that. The image is opened twice: the first
+// What the card of an image answers to a probe in this form, and the bench of the opening before that. The image is opened twice: the first
 // opening writes only where the gate is open, and the second nothing. It is None where the image is no card; and nothing is
 // answered where a run ended in another way, or wrote what it needn't.
-fn left_in(
+pub(super) fn left_in(
     alloc: Global,
+    form: &str,
     image: &[u8],
     probe: &str,
 ) -> Result<(Option<Vec<u8>>, MemBench), AllocError> {
@@ -114,23 +94,29 @@ fn left_in(
     let is_kept = !is_open(opened.image())
         && again.writes() == 0
         && again.image() == opened.image();
-    let (last, probed) = run_over(alloc, &["apdu"], probe, opened.image(), no_faults(alloc))?;
+    let (last, probed) = run_over(alloc, &[form], probe, opened.image(), no_faults(alloc))?;
+    let is_answered = first == Status::Done && (last == Status::Done || last == Status::Refused);
     let mut answers = Vec::new(alloc);
-    if first == Status::Done && last == Status::Done && is_quiet && is_kept {
+    if is_answered && is_quiet && is_kept {
         answers = Vec::from_slice(alloc, probed.given())?;
     }
     Ok((Some(answers), opened))
 }
 
 // The same, where each image that a power loss leaves in the writes of the opening is left so too.
-fn look_at(alloc: Global, image: &[u8], probe: &str) -> Result<Option<Vec<u8>>, AllocError> {
-    let (left, opened) = left_in(alloc, image, probe)?;
+pub(super) fn look_at(
+    alloc: Global,
+    form: &str,
+    image: &[u8],
+    probe: &str,
+) -> Result<Option<Vec<u8>>, AllocError> {
+    let (left, opened) = left_in(alloc, form, image, probe)?;
     for write in 0..opened.writes() {
         for fill in FILLS {
             let Some(cut) = opened.image_within(alloc, write, fill)? else {
                 return Ok(Some(Vec::new(alloc)));
             };
-            let (found, _) = left_in(alloc, &cut, probe)?;
+            let (found, _) = left_in(alloc, form, &cut, probe)?;
             if !is_same(&found, &left) {
                 return Ok(Some(Vec::new(alloc)));
             }
@@ -144,14 +130,6 @@ fn is_same(first: &Option<Vec<u8>>, second: &Option<Vec<u8>>) -> bool {
         (Some(first), Some(second)) => first.as_slice() == second.as_slice(),
         (None, None) => true,
         _ => false,
-    }
-}
-
-// Whether a card is there that answers so.
-fn answers_so(left: &Option<Vec<u8>>, answers: &str) -> bool {
-    match left {
-        Some(left) => left.as_slice() == answers.as_bytes(),
-        None => false,
     }
 }
 
@@ -187,7 +165,12 @@ fn count_wrong(
             let found = bench.image_within(alloc, write, fill)?;
             let is_right = match (found, bench.given_at(write)) {
                 (Some(image), Some(given)) => {
-                    may_be_left(story, &look_at(alloc, &image, story.probe)?, given, before)
+                    may_be_left(
+                        story,
+                        &look_at(alloc, "apdu", &image, story.probe)?,
+                        given,
+                        before,
+                    )
                 }
                 _ => false,
             };
@@ -215,7 +198,7 @@ fn count_open(alloc: Global, bench: &MemBench) -> Result<usize, AllocError> {
 
 // Whether the card of an image has all changes of a story.
 fn has_all(alloc: Global, story: &Story, image: &[u8]) -> Result<bool, AllocError> {
-    let left = look_at(alloc, image, story.probe)?;
+    let left = look_at(alloc, "apdu", image, story.probe)?;
     Ok(match (left, story.answers.last()) {
         (Some(left), Some(answers)) => left.as_slice() == answers.as_bytes(),
         _ => false,
@@ -275,70 +258,6 @@ fn cut_while_a_table_is_filled_and_dropped(rt: HostRuntime) -> Result<(), Fail> 
     assert_eq!(rt; bench.given(), b"9000\n9000\n9000\n9000\n9000\n".as_slice());
     assert!(rt; has_all(alloc, &TABLE_WITH_ROWS, bench.image())?);
     assert_eq!(rt; count_wrong(alloc, &TABLE_WITH_ROWS, &bench, None)?, 0);
-    Ok(())
-}
-
-#[test]
-fn cut_in_a_transaction(rt: HostRuntime) -> Result<(), Fail> {
-    let alloc = rt.alloc();
-    let lines = "0014008006054F574E4552\n0010008006015401410142\n0010008C050154017800\n";
-    let (_, filled) = run_over(
-        alloc,
-        &["apdu"],
-        lines,
-        fresh_card(alloc)?.as_slice(),
-        no_faults(alloc),
-    )?;
-    assert_eq!(rt; filled.given(), b"9000\n9000\n9000\n".as_slice());
-    let (status, bench) = run_over(
-        alloc,
-        &["apdu"],
-        TRANSACTION.lines,
-        filled.image(),
-        no_faults(alloc),
-    )?;
-    assert!(rt; status == Status::Done);
-    assert_eq!(rt; bench.given(), b"9000\n9000\n9000\n9000\n".as_slice());
-    assert!(rt; has_all(alloc, &TRANSACTION, bench.image())?);
-    assert_eq!(rt; count_wrong(alloc, &TRANSACTION, &bench, None)?, 0);
-    Ok(())
-}
-
-// VERIFY commits a try less before it compares, and all tries once the secret was right: no cut gives one back, and some leave a try less.
-#[test]
-fn cut_in_a_verification(rt: HostRuntime) -> Result<(), Fail> {
-    let alloc = rt.alloc();
-    let lines = "0014008006054F574E4552\n001400810B03424F4201030431323334\n";
-    let (_, made) = run_over(
-        alloc,
-        &["apdu"],
-        lines,
-        fresh_card(alloc)?.as_slice(),
-        no_faults(alloc),
-    )?;
-    assert_eq!(rt; made.given(), b"9000\n9000\n".as_slice());
-    let lines = "001400800403424F42\n002000000431323334\n";
-    let (status, bench) = run_over(alloc, &["apdu"], lines, made.image(), no_faults(alloc))?;
-    assert!(rt; status == Status::Done);
-    assert_eq!(rt; bench.given(), b"9000\n9000\n".as_slice());
-    let probe = "001400800403424F42\n002000000430303030\n";
-    let mut wrong = 0usize;
-    let mut fewer = 0usize;
-    for write in 0..bench.writes() {
-        for fill in FILLS {
-            let left = match bench.image_within(alloc, write, fill)? {
-                Some(image) => look_at(alloc, &image, probe)?,
-                None => None,
-            };
-            if answers_so(&left, "9000\n63C1\n") {
-                fewer = fewer.saturating_add(1);
-            } else if !answers_so(&left, "9000\n63C2\n") {
-                wrong = wrong.saturating_add(1);
-            }
-        }
-    }
-    assert_eq!(rt; wrong, 0);
-    assert!(rt; 1 <= fewer);
     Ok(())
 }
 

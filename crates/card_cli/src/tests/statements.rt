@@ -1,5 +1,5 @@
 // The form `term`, over a bench in memory.
-use super::{Failing, fresh_card, no_faults, run_over};
+use super::{Failing, Nobody, fresh_card, no_faults, run_over};
 use crate::run::run_card;
 use crate::status::Status;
 use eeprom::{MemBench, MemSource};
@@ -128,7 +128,7 @@ fn session_failing(
     }
     let mut source = MemSource::new(Vec::from_slice(alloc, SESSION.as_bytes())?, 30, fails);
     let mut bench = MemBench::new(alloc, fresh_card(alloc)?, plan)?;
-    let status = run_card(alloc, &words, &mut source, &mut bench);
+    let status = run_card(alloc, &words, &mut source, &mut bench, &mut Nobody);
     Ok((status, bench))
 }
 

@@ -13,7 +13,7 @@ ghost use Rattle.scql_model.specs.Edits.{Edit, applied, takes_stamp};
 ghost use Rattle.scql_model.specs.Form.{a_command, form_of};
 ghost use Rattle.scql_model.specs.Machine.{Chain, Machine, start};
 ghost use Rattle.scql_model.specs.Operations.{operations};
-ghost use Rattle.scql_model.specs.Step.{step, step_by};
+ghost use Rattle.scql_model.specs.Step.{step};
 ghost use Rattle.scql_model.specs.ValidMachine.{IsValidMachine};
 ghost use Rattle.scql_model.specs.WellFormed.{FitsCard, HasForm};
 
@@ -36,9 +36,7 @@ pub fn a_change_keeps_a_database_valid()
 pub fn a_step_keeps_a_machine_valid()
     ensures start { (db : Database) → IsValid db → IsValidMachine (start db) }
     ensures machine { (m : Machine) (octets : List ℕ) → ((i : ℕ) → slice_index octets i < 256) → IsValidMachine m
-        → IsValidMachine (step_by operations m octets).machine }
+        → IsValidMachine (step m octets).machine }
     ensures commits { (m : Machine) (octets : List ℕ) → ((i : ℕ) → slice_index octets i < 256) → IsValidMachine m
-        → AllByRecursion IsValid (step_by operations m octets).commits }
-    ensures today { (m : Machine) (octets : List ℕ) → ((i : ℕ) → slice_index octets i < 256) → IsValidMachine m
-        → IsValidMachine (step m octets).machine × AllByRecursion IsValid (step m octets).commits }
+        → AllByRecursion IsValid (step m octets).commits }
 {}

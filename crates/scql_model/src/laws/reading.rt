@@ -12,7 +12,6 @@ ghost use Rattle.scql_model.specs.Form.{a_command};
 ghost use Rattle.scql_model.specs.Machine.{Machine, Reading, Session, base, session_of};
 ghost use Rattle.scql_model.specs.Moves.{move_of};
 ghost use Rattle.scql_model.specs.ReadingCommands.{ReadingCommand, reading_command};
-ghost use Rattle.scql_model.specs.Operations.{built_operations};
 ghost use Rattle.scql_model.specs.ReadingLaws.{IsReadable, IsReadingCommand, ReadsWhatIsShown, reading_after, replies_to};
 ghost use Rattle.scql_model.specs.Reads.{is_called, read_next, read_reply};
 ghost use Rattle.scql_model.specs.Rights.{seen_named};
@@ -64,10 +63,10 @@ pub fn a_step_reads_what_is_shown()
         → ¬ (c.channel ≡ other) → shown_on (stepped m (a_command c)).machine other ≡ shown_on m other }
 {}
 
-/// A card reads what is shown: the step to octets that are a reading command, by today's table and on a valid machine, answers from what is
+/// A card reads what is shown: the step to octets that are a reading command, on a valid machine, answers from what is
 /// shown on the channel that they name.
 pub fn a_card_reads_what_is_shown()
     ensures { (m : Machine) (octets : List ℕ) (reading : ReadingCommand) → IsValidMachine m
-        → AreCommand built_operations m octets (IsReadingCommand reading)
+        → AreCommand m octets (IsReadingCommand reading)
         → ReadsWhatIsShown m (channel_named octets) reading (step m octets) }
 {}

@@ -1,8 +1,8 @@
 -- The table is the model's.
 use Rattle.std.proofs.Common.{◌≡◌, ap, List, Some, slice_get, sym, ◌∙◌}
 use Rattle.scql_base.specs.declared.operation.Line.{Line}
-use Rattle.scql_model.specs.Operations.{line_of, built_lines, operations}
-use Rattle.apdu.proofs.BuiltLines.{find-built, line_of-place}
+use Rattle.scql_model.specs.Operations.{line_of, operations}
+use Rattle.apdu.proofs.TableLines.{line_of-place}
 use Rattle.apdu.proofs.table.line_of.Goals as goal
 
 pub returns-in-Some : goal.returns-in-Some
@@ -13,5 +13,5 @@ returns-in-Some c =
 
 pub returns-in_default : goal.returns-in_default
 returns-in_default c =
-    c.find_line.ensures ∙ find-built c.operations-lines.result.now c.args.ins c.args.p1 c.args.p2
-    ∙ ap (λ (lines : List Line). line_of (built_lines lines) c.args.ins c.args.p1 c.args.p2) c.operations-lines.ensures
+    c.find_line.ensures
+    ∙ ap (λ (lines : List Line). line_of lines c.args.ins c.args.p1 c.args.p2) c.operations-lines.ensures

@@ -1,5 +1,5 @@
 -- Each operation ends as its edits say, and the index goes on with it.
-use Rattle.std.proofs.Common.{◌≡◌, ℕ, false, true, List, refl}
+use Rattle.std.proofs.Common.{◌≡◌, ℕ, false, List, refl}
 use Rattle.scql_base.specs.declared.condition.Condition.{Condition}
 use Rattle.scql_base.specs.declared.operation.Operation.{Operation}
 use Rattle.scql_base.specs.declared.operation.Operation.TheVariants.{CreateTable, CreateView, CreateDictionary, DropTable, DropView, Grant, Revoke, Insert, Update, Delete, CreateUser, DeleteUser}
@@ -7,13 +7,12 @@ use Rattle.scql_base.specs.declared.words.Profile.{Profile}
 use Rattle.scql_base.specs.declared.words.Subject.{Subject}
 use Rattle.scql_model.specs.Changing.{edits_of}
 use Rattle.scql_model.specs.Operations.{kind_of}
-use Rattle.card.specs.Changing.{goes_through_cursor}
-use Rattle.card.proofs.BuiltLines.{is_change, is_change-IsChange}
+use Rattle.card.specs.Changing.{IsChange, goes_through_cursor}
 use Rattle.card.proofs.IndexedStore.{Indexes-ends}
 use Rattle.card.proofs.changing.make_without_cursor.Goals as goal
 
 -- each change has an arm
-no-other : (operation : Operation) → is_change (kind_of operation) ≡ true → goes_through_cursor (kind_of operation) ≡ false → ((name : List ℕ) (columns : List (List ℕ)) → operation ≡ CreateTable name columns → ⊥)
+no-other : (operation : Operation) → IsChange operation → goes_through_cursor (kind_of operation) ≡ false → ((name : List ℕ) (columns : List (List ℕ)) → operation ≡ CreateTable name columns → ⊥)
     → ((name base : List ℕ) (columns : List (List ℕ)) (conditions : List Condition) → operation ≡ CreateView name base columns conditions → ⊥) → ((name : List ℕ) (subject : Subject) → operation ≡ CreateDictionary name subject → ⊥)
     → ((name : List ℕ) → operation ≡ DropTable name → ⊥) → ((name : List ℕ) → operation ≡ DropView name → ⊥)
     → ((privileges : ℕ) (object grantee : List ℕ) → operation ≡ Grant privileges object grantee → ⊥) → ((privileges : ℕ) (object grantee : List ℕ) → operation ≡ Revoke privileges object grantee → ⊥)
@@ -35,7 +34,7 @@ no-other operation change without table view dictionary drop drop_view grant rev
 
 pub unreachable-requires : goal.unreachable-requires
 unreachable-requires g c =
-    no-other c.args.operation.now (is_change-IsChange c.args.operation.now c.requires.changes) c.requires.no_cursor c.in_default.not-CreateTable c.in_default.not-CreateView c.in_default.not-CreateDictionary c.in_default.not-DropTable
+    no-other c.args.operation.now c.requires.changes c.requires.no_cursor c.in_default.not-CreateTable c.in_default.not-CreateView c.in_default.not-CreateDictionary c.in_default.not-DropTable
     c.in_default.not-DropView c.in_default.not-Grant c.in_default.not-Revoke c.in_default.not-Insert c.in_default.not-CreateUser c.in_default.not-DeleteUser
 
 pub create_view-requires-clause-short : goal.create_view-requires-clause-short

@@ -5,13 +5,16 @@ use Rattle.std.proofs.lemmas.Result.{err_from_is_err_and}
 use Rattle.card.specs.GivenMoments.{behind-same}
 use Rattle.card_cli.specs.Halting.{Halts}
 use Rattle.card_cli.specs.Line.{line_octets}
-use Rattle.card_cli.specs.RunState.{RunState, Feeds}
+use Rattle.card_cli.specs.RunState.{RunState, Faults, Feeds}
 use Rattle.card_cli.proofs.Behind.{behind-on}
 use Rattle.card_cli.proofs.Stopping.{Halts-within}
 use Rattle.card_cli.proofs.Feeding.{Feeds-nothing, Feeds-then}
 use Rattle.card_cli.proofs.LineEnds.{Feeds-others, cut_at}
 use Rattle.card_cli.proofs.answering.take_octets.Given as given
 use Rattle.card_cli.proofs.answering.take_octets.Goals as goal
+
+abbrev eeprom : (g : given.Over) → g.row.R.Denot → ℕ
+eeprom g responder = (g.R.Responder.faults responder).eeprom
 
 abbrev run : (g : given.Over) → g.row.R.Denot → Option (List ℕ) → RunState g.R.Responder.State
 run g responder line = record { at = g.R.Responder.is_at responder; line = line; chip = g.R.Responder.chip responder }
@@ -72,8 +75,9 @@ returns-in_err-end_line-clause-halts g c =
     let so_far = c.loop-end.invariant.feeds in
     let split : c.args.octets.now ≡ so_far.0 ++ (line ++ behind) = so_far.1 ∙ ap (λ (x : List ℕ). so_far.0 ++ x) (cut_at rest end c.in-Some.ensures.within c.in-Some.ensures.found) in
     let is = err_from_is_err_and c.from_residual.result c.from_residual.ensures.1 in
-    rw (is.1, is.2) (subst (λ (x : List ℕ). Halts c.in_err-end_line.field-0.0 g.R.Responder.language x old (g.R.Responder.chip c.end_line.new.responder)) (sym split)
-    (Halts-within g.R.Responder.language c.in_err-end_line.field-0.0 so_far.0 line behind old mid (g.R.Responder.chip c.end_line.new.responder) so_far.2 c.in_err-end_line.ensures.halts))
+    rw (is.1, is.2) (subst (λ (x : List ℕ). Halts g.R.Responder.chip (eeprom g) c.in_err-end_line.field-0.0 g.R.Responder.language x (eeprom g c.args.responder.now) old (g.R.Responder.chip c.end_line.new.responder)) (sym split)
+    (Halts-within g.R.Responder.chip (eeprom g) g.R.Responder.language c.in_err-end_line.field-0.0 so_far.0 line behind (eeprom g c.args.responder.now) (eeprom g c.loop-end.responder) old mid (g.R.Responder.chip c.end_line.new.responder)
+    (ap (λ (f : Faults). f.eeprom) c.loop-end.invariant.faults) so_far.2 c.in_err-end_line.ensures.halts))
 
 -- and then another line
 pub returns-in_err-end_line-clause-behind : goal.returns-in_err-end_line-clause-behind

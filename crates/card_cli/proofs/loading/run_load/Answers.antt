@@ -1,5 +1,6 @@
 -- A load over a card that was opened.
-use Rattle.std.proofs.Common.{◌≡◌, ◌+◌, ◌≤◌, ℕ, nat_lt, List, length, ap, sym, subst, ◌∙◌, refl, arith, rules}
+use Rattle.std.proofs.lemmas.Bool.{false≢true}
+use Rattle.std.proofs.Common.{◌≡◌, true, ◌+◌, ◌≤◌, ℕ, nat_lt, List, length, ap, sym, subst, ◌∙◌, refl, arith, rules}
 use Rattle.eeprom.specs.Chip.{Still, Throughout}
 use Rattle.eeprom.specs.Fault.{Rose}
 use Rattle.scql_model.specs.Database.{Database}
@@ -15,16 +16,20 @@ use Rattle.card_cli.specs.declared.status.Status.{Status}
 use Rattle.card_cli.specs.declared.stop.FailedDevice.TheVariants.{Eeprom, Outlet}
 use Rattle.card_cli.specs.Answering.{Failed}
 use Rattle.card_cli.specs.CutOff.{IsCutShort}
-use Rattle.card_cli.specs.Ends.{AllFaults, EndsBy}
+use Rattle.card_cli.specs.declared.status.Status.TheVariants as status
+use Rattle.card_cli.specs.Ends.{AllFaults, EndsBy, has_opened}
 use Rattle.card_cli.specs.Loading.{IsIn, IsLoaded, Loader, LoadsTo, script_effect, script_lines}
 use Rattle.card_cli.specs.Moments.{IfGiven}
+use Rattle.card_cli.specs.Progress.{Reached, ShowsLoad}
 use Rattle.card_cli.specs.RunState.{Prints}
+use Rattle.card_cli.specs.Watching.{IsWhole, PassesLoad}
 use Rattle.card_cli.proofs.Behind.{behind-on}
 use Rattle.card_cli.proofs.Finishing.{same_faults}
 use Rattle.card_cli.proofs.LoadedCards.{cut-short, ends-quietly, loaded, loads-as, script-failed}
+use Rattle.card_cli.proofs.ShownLoads.{shows-load}
 use Rattle.card_cli.proofs.Sittings.{sits-opened}
 use Rattle.card_cli.proofs.loading.run_load.Goals as goal
-use Rattle.card_cli.proofs.loading.run_load.Goals.{After-run_script-counted as Ran, After-give as Told}
+use Rattle.card_cli.proofs.loading.run_load.Goals.{After-run_script-counted as Ran, After-end as Ended, After-give as Told}
 
 -- The script was run.
 
@@ -172,3 +177,26 @@ returns-in-Err-clause-behind g c =
     let run : Ran g = (goal.at.returns-in-Err-clause-behind g c).After-run_script-counted in
     let told : Told g = (goal.at.returns-in-Err-clause-behind g c).After-give in
     subst (λ (bench : g.row.B.Denot). KeepsBehind (λ (was : List ℕ). c.args.card.store.chains.cells) (g.B.Eeprom.chip c.args.bench.now) (g.B.Eeprom.chip bench)) (search rules) (behind_text g told (behind g run c.in-Ok.ensures.carried.passes.lasts.lasts.behind))
+
+-- What was shown.
+
+ended : (g : _) (c : Ended g) (reached : Reached) (status : Status) → PassesLoad g.P.Person.lost g.P.Person.shown c.args.rows c.args.seed (λ state. IsIn g.B.Eeprom.chip state (record { terminal = c.new.result; card = c.new-2.result; refused = 0 })) c.run_script-counted.new.progress c.args.person.now c.run_script-counted.new.person reached
+    → ((db : Database) → IsAt c.args.card (g.B.Eeprom.chip c.args.bench.now) (start db) → IsIn g.B.Eeprom.chip (terminal_at (start db) 0) (record { terminal = c.new.result; card = c.new-2.result; refused = 0 })) → (has_opened status ≡ true → IsWhole c.args.rows reached) → ShowsLoad g.P.Person.lost g.P.Person.shown c.args.rows c.args.seed status (λ db. IsAt c.args.card (g.B.Eeprom.chip c.args.bench.now) (start db)) c.args.person.now c.end.new.person
+ended g c reached status passes starts whole =
+    shows-load g.P.Person.lost g.P.Person.shown c.args.rows c.args.seed status (λ state. IsIn g.B.Eeprom.chip state (record { terminal = c.new.result; card = c.new-2.result; refused = 0 })) (λ db. IsAt c.args.card (g.B.Eeprom.chip c.args.bench.now) (start db))
+    c.run_script-counted.new.progress c.args.person.now c.run_script-counted.new.person c.end.new.person reached passes c.end.ensures starts whole
+
+pub returns-in_default-clause-shows : goal.returns-in_default-clause-shows
+returns-in_default-clause-shows g c =
+    let until = c.in_default.ensures.shows_until in
+    ended g (goal.at.returns-in_default-clause-shows g c).After-end until.0 status.Eeprom until.1 (sits g (goal.at.returns-in_default-clause-shows g c).After-run_script-counted) (λ opened. absurd (false≢true opened))
+
+pub returns-in-Ok-give-clause-shows : goal.returns-in-Ok-give-clause-shows
+returns-in-Ok-give-clause-shows g c =
+    let all = c.in-Ok.ensures.shows in
+    ended g (goal.at.returns-in-Ok-give-clause-shows g c).After-end all.0 c.status_of.result all.1 (sits g (goal.at.returns-in-Ok-give-clause-shows g c).After-run_script-counted) (λ opened. all.2)
+
+pub returns-in-Err-clause-shows : goal.returns-in-Err-clause-shows
+returns-in-Err-clause-shows g c =
+    let all = c.in-Ok.ensures.shows in
+    ended g (goal.at.returns-in-Err-clause-shows g c).After-end all.0 status.WriteFault all.1 (sits g (goal.at.returns-in-Err-clause-shows g c).After-run_script-counted) (λ opened. all.2)

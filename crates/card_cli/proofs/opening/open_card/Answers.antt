@@ -60,3 +60,9 @@ returns-in-Ok-open-clause-behind g c = behind g (goal.at.returns-in-Ok-open-clau
 pub returns-in-Ok-open-clause-cells : goal.returns-in-Ok-open-clause-cells
 returns-in-Ok-open-clause-cells g c =
     cells-opened c.args.form c.in-Ok-open.card (g.B.Eeprom.chip c.args.bench.now) (g.B.Eeprom.chip c.prepare.new.bench) (g.B.Eeprom.chip c.open.new.bench) c.in-Ok-open.ensures.ready c.open.ensures.recovers.store c.in-Ok.ensures.cells
+
+-- before a record was read there was no memory
+pub returns-in-Err-NoMemory-clause-no_memory : goal.returns-in-Err-NoMemory-clause-no_memory
+returns-in-Err-NoMemory-clause-no_memory g c = λ is.
+    let front = c.in-Err-NoMemory.ensures.no_memory (cc) in
+    record { there = c.prepare.new.bench; is_there = c.in-Ok.ensures.there; cells = front.0; front = front.1 }

@@ -5,7 +5,7 @@ use Rattle.card.specs.Card.{fresh_card}
 use Rattle.card.specs.GivenMoments.{behind-same}
 use Rattle.card_cli.specs.Behind.{run_cells}
 use Rattle.card_cli.proofs.Behind.{behind-new, cells-new, cells-there}
-use Rattle.card_cli.proofs.Preparing.{begins-new, began-new, begins-there, leaves-there}
+use Rattle.card_cli.proofs.Preparing.{begins-new, began-new, begins-there, leaves-there, there-new, there-same}
 use Rattle.card_cli.proofs.opening.prepare.Goals as goal
 
 pub returns-in-New-clause-begins : goal.returns-in-New-clause-begins
@@ -36,3 +36,10 @@ returns-in-Apdu-clause-cells g c = cells-there c.args.form (g.B.Eeprom.chip c.ar
 
 pub returns-in-Apdu-clause-behind : goal.returns-in-Apdu-clause-behind
 returns-in-Apdu-clause-behind g c = behind-same (run_cells c.args.form) (g.B.Eeprom.chip c.args.bench.now) (g.B.Eeprom.chip c.args.bench.now) refl
+
+-- where the card is there
+pub returns-in-New-clause-there : goal.returns-in-New-clause-there
+returns-in-New-clause-there g c = there-new g.B.Eeprom.chip c.format.result c.args.form c.in-New.cells c.args.bench.now c.format.new.bench c.in-New.is c.format.ensures.moments c.format.ensures.fresh
+
+pub returns-in-Apdu-clause-there : goal.returns-in-Apdu-clause-there
+returns-in-Apdu-clause-there g c = there-same g.B.Eeprom.chip c.args.form c.args.bench.now c.in-Apdu.is

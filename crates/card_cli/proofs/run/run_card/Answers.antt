@@ -1,8 +1,8 @@
 -- The card that was opened is at the start of the database with which the run begins; from there the run over its input, or its migration, tells how it ends.
-use Rattle.std.proofs.Common.{◌≡◌, ℕ, false, List, Some, refl, sym, ap, subst, ◌∙◌}
+use Rattle.std.proofs.Common.{◌≡◌, ℕ, true, false, Some, refl, sym, ap, subst, ◌∙◌}
 use Rattle.std.specs.Prelude.{map}
 use Rattle.std.specs.String.{string_bytes}
-use Rattle.eeprom.specs.Chip.{Chip, Still, Becomes}
+use Rattle.eeprom.specs.Chip.{Chip, Still}
 use Rattle.scql_model.specs.Database.{Database}
 use Rattle.scql_model.specs.Machine.{start}
 use Rattle.scql_model.specs.Lines.{command_lines}
@@ -11,24 +11,26 @@ use Rattle.card.specs.Card.{IsAt}
 use Rattle.card_cli.specs.declared.words.Form.{Form}
 use Rattle.card_cli.specs.declared.words.Form.TheVariants.{Term, Check, Load, Migrate}
 use Rattle.card_cli.specs.Behind.{run_cells}
-use Rattle.card_cli.specs.Beginning.{IsOpenTo, BeginsWith, Begins, LacksCard, LeavesUntilOpen, FindsNoCard}
+use Rattle.card_cli.specs.declared.status.Status.{Status}
+use Rattle.card_cli.specs.Beginning.{IsOpenTo, BeginsWith, Begins, LacksCard, LeavesUntilOpen, FindsNoCard, WantsMemory}
 use Rattle.card_cli.specs.Checking.{Says}
-use Rattle.card_cli.specs.Ends.{AllFaults, EndsBy}
-use Rattle.card_cli.specs.Extent.{RunsInput}
+use Rattle.card_cli.specs.Ends.{AllFaults, EndsBy, may_end}
+use Rattle.card_cli.specs.Progress.{ShowsLoad}
 use Rattle.card_cli.specs.Selecting.{TermLinesSelectShown}
 use Rattle.card_cli.specs.Showing.{LinesReadShown}
 use Rattle.card_cli.specs.Loading.{LoadsTo}
 use Rattle.card_cli.specs.Migrating.{MigratesTo}
 use Rattle.card_cli.specs.Statements.{opened, term_lines, was_refused}
-use Rattle.card_cli.specs.Words.{form_in}
+use Rattle.card_cli.specs.Words.{form_in, makes_card}
 use Rattle.terminal.specs.Holding.{terminal_at}
-use Rattle.card_cli.proofs.Asking.{no_lines}
+use Rattle.card_cli.proofs.Asking.{commands-read, lines-may, lines-not-wanting, no-load, no_lines, not-wanting, opened-may, opening-may, unopened}
 use Rattle.card_cli.proofs.Behind.{behind-then, cells-over}
 use Rattle.card_cli.proofs.CheckedCards.{Checks-opened, Checks-unopened}
 use Rattle.card_cli.proofs.Finishing.{Lines-unopened, Lines-opened, never-tells, same_faults, valid-beginning}
 use Rattle.card_cli.proofs.LoadedCards.{Loads-opened, Loads-unopened}
 use Rattle.card_cli.proofs.LongerRows.{open-at, open-told, Migrates-opened, Migrates-unopened}
 use Rattle.card_cli.proofs.Selecting.{term-lines-select-shown}
+use Rattle.card_cli.proofs.ShownLoads.{shows-from, shows-unopened}
 use Rattle.card_cli.proofs.Showing.{lines-read-shown}
 use Rattle.card_cli.proofs.run.run_card.Given as given
 use Rattle.card_cli.proofs.run.run_card.Goals as goal
@@ -64,13 +66,13 @@ outlet_stays g c = outlet_kept g c.open_card.new.bench c.args.bench.now c.open_c
 pub returns-in-Err-clause-commands : goal.returns-in-Err-clause-commands
 returns-in-Err-clause-commands g c = λ form asked reads.
     let run : Opened g = (goal.at.returns-in-Err-clause-commands g c).After-open_card in
-    Lines-unopened command_lines (λ m. false) start form c.in-Err.status c.args.source.now (g.S.Source.left c.args.source.now) (g.S.Source.left c.args.source.now) (g.B.Eeprom.chip c.args.bench.now) (g.B.Eeprom.chip c.open_card.new.bench) _ _ c.in-Err.ensures.unopened
+    Lines-unopened g.B.Eeprom.chip g.B.Eeprom.faults command_lines (λ m. false) start form c.in-Err.status c.args.source.now (g.S.Source.left c.args.source.now) (g.S.Source.left c.args.source.now) c.args.bench.now c.open_card.new.bench _ _ c.in-Err.ensures.unopened
     (λ db begins. c.in-Err.ensures.stopped db (of_form g run form db asked begins)) (c.in-Err.ensures.ends (g.S.Source.source_faults c.args.source.now)) c.open_card.ensures.still (left g run form asked)
 
 pub returns-in-Err-clause-statements : goal.returns-in-Err-clause-statements
 returns-in-Err-clause-statements g c = λ asked.
     let run : Opened g = (goal.at.returns-in-Err-clause-statements g c).After-open_card in
-    Lines-unopened term_lines was_refused opened Term c.in-Err.status c.args.source.now (g.S.Source.left c.args.source.now) (g.S.Source.left c.args.source.now) (g.B.Eeprom.chip c.args.bench.now) (g.B.Eeprom.chip c.open_card.new.bench) _ _ c.in-Err.ensures.unopened
+    Lines-unopened g.B.Eeprom.chip g.B.Eeprom.faults term_lines was_refused opened Term c.in-Err.status c.args.source.now (g.S.Source.left c.args.source.now) (g.S.Source.left c.args.source.now) c.args.bench.now c.open_card.new.bench _ _ c.in-Err.ensures.unopened
     (λ db begins. c.in-Err.ensures.stopped db (of_form g run Term db asked begins)) (c.in-Err.ensures.ends (g.S.Source.source_faults c.args.source.now)) c.open_card.ensures.still (left g run Term asked)
 
 pub returns-in-Err-clause-unread : goal.returns-in-Err-clause-unread
@@ -233,17 +235,15 @@ returns-in-Term-clause-statements g c = λ asked.
     let card : Opened g = (goal.at.returns-in-Term-clause-statements g c).After-open_card in
     let old : Chip = g.B.Eeprom.chip c.args.bench.now in
     let mid : Chip = g.B.Eeprom.chip c.open_card.new.bench in
-    let new : Chip = g.B.Eeprom.chip c.answer_statements.new.bench in
     let same : c.in-Some.form ≡ Term = cc (c.in-Some.ensures, asked) in
-    Lines-opened term_lines was_refused opened Term c.answer_statements.result c.args.source.now c.answer_statements.new.source (g.S.Source.left c.args.source.now) (g.S.Source.left c.answer_statements.new.source) old mid new _ _
+    Lines-opened g.B.Eeprom.chip g.B.Eeprom.faults term_lines was_refused opened Term c.answer_statements.result c.args.source.now c.answer_statements.new.source (g.S.Source.left c.args.source.now) (g.S.Source.left c.answer_statements.new.source) c.args.bench.now c.open_card.new.bench c.answer_statements.new.bench _ _
     c.answer_statements.ensures.status
     (λ told. let first = c.in-Ok.ensures.begins told in (first.0, subst (λ (f : Form). Begins f old first.0) same first.1))
-    c.open_card.ensures.still (left g card Term asked)
+    c.open_card.ensures.still c.in-Ok.ensures.quiet (left g card Term asked)
     (λ db begins. open-told mid db (open-at c.in-Ok.card mid db c.in-Ok.ensures.ready (begins_at g run db asked begins)))
     c.answer_statements.ensures.whole c.answer_statements.ensures.too_long (ends_statements g run)
     (λ db begins. c.answer_statements.ensures.refusals db (begins_at g run db asked begins))
-    (λ db begins. subst (λ (from : ℕ). Becomes (λ (input left : List ℕ). RunsInput term_lines (opened db) c.answer_statements.result from (g.B.Eeprom.faults c.answer_statements.new.bench) input left mid new) (g.S.Source.left c.args.source.now) (g.S.Source.left c.answer_statements.new.source))
-    c.in-Ok.ensures.quiet (c.answer_statements.ensures.runs db (begins_at g run db asked begins)))
+    (λ db begins. c.answer_statements.ensures.runs db (begins_at g run db asked begins))
 
 pub returns-in-Term-clause-no_card : goal.returns-in-Term-clause-no_card
 returns-in-Term-clause-no_card g c = λ finds. absurd (c.in-Ok.ensures.found (lacking g (goal.at.returns-in-Term-clause-no_card g c).After-open_card finds))
@@ -274,17 +274,15 @@ returns-in-New-clause-commands g c = λ form asked reads.
     let opened : Opened g = (goal.at.returns-in-New-clause-commands g c).After-open_card in
     let old : Chip = g.B.Eeprom.chip c.args.bench.now in
     let mid : Chip = g.B.Eeprom.chip c.open_card.new.bench in
-    let new : Chip = g.B.Eeprom.chip c.answer_commands.new.bench in
     let same : c.in-Some.form ≡ form = cc (c.in-Some.ensures, asked) in
-    Lines-opened command_lines (λ m. false) start form c.answer_commands.result c.args.source.now c.answer_commands.new.source (g.S.Source.left c.args.source.now) (g.S.Source.left c.answer_commands.new.source) old mid new _ _
+    Lines-opened g.B.Eeprom.chip g.B.Eeprom.faults command_lines (λ m. false) start form c.answer_commands.result c.args.source.now c.answer_commands.new.source (g.S.Source.left c.args.source.now) (g.S.Source.left c.answer_commands.new.source) c.args.bench.now c.open_card.new.bench c.answer_commands.new.bench _ _
     c.answer_commands.ensures.status
     (λ told. let first = c.in-Ok.ensures.begins told in (first.0, subst (λ (f : Form). Begins f old first.0) same first.1))
-    c.open_card.ensures.still (left g opened form asked)
+    c.open_card.ensures.still c.in-Ok.ensures.quiet (left g opened form asked)
     (λ db begins. open-told mid db (open-at c.in-Ok.card mid db c.in-Ok.ensures.ready (starts g run form db asked begins)))
     c.answer_commands.ensures.whole c.answer_commands.ensures.too_long (ends_commands g run)
     (λ db begins. never-tells command_lines (start db) c.answer_commands.result (g.S.Source.left c.args.source.now) (g.S.Source.left c.answer_commands.new.source) c.answer_commands.ensures.never_refused c.answer_commands.ensures.whole)
-    (λ db begins. subst (λ (from : ℕ). Becomes (λ (input left : List ℕ). RunsInput command_lines (start db) c.answer_commands.result from (g.B.Eeprom.faults c.answer_commands.new.bench) input left mid new) (g.S.Source.left c.args.source.now) (g.S.Source.left c.answer_commands.new.source))
-    c.in-Ok.ensures.quiet (c.answer_commands.ensures.runs (start db) (starts g run form db asked begins)))
+    (λ db begins. c.answer_commands.ensures.runs (start db) (starts g run form db asked begins))
 
 pub returns-in-New-clause-no_card : goal.returns-in-New-clause-no_card
 returns-in-New-clause-no_card g c = λ finds. absurd (c.in-Ok.ensures.found (lacking g (goal.at.returns-in-New-clause-no_card g c).After-open_card finds))
@@ -388,3 +386,101 @@ pub returns-in-Migrate-clause-commands : goal.returns-in-Migrate-clause-commands
 returns-in-Migrate-clause-commands g c = λ form asked answers.
     let same : form ≡ c.in-Some.form = cc (c.in-Some.ensures, asked) in
     absurd (no_lines form Migrate (same ∙ c.in-Migrate.is) refl answers)
+
+-- The statuses of each form.
+
+-- the form that was read is the one that the words ask for
+same_form : (g : given.Over) (c : Opened g) (form : Form) → form_in (map string_bytes c.args.words.now) ≡ Some form → c.in-Some.form ≡ form
+same_form g c form asked = cc (c.in-Some.ensures, asked)
+
+-- and so it may end for this form as for that one
+may-asked : (g : given.Over) (c : Opened g) (status : Status) → may_end c.in-Some.form status ≡ true → (form : Form) → form_in (map string_bytes c.args.words.now) ≡ Some form → may_end form status ≡ true
+may-asked g c status may form asked = subst (λ (f : Form). may_end f status ≡ true) (same_form g c form asked) may
+
+pub returns-in-Err-clause-statuses : goal.returns-in-Err-clause-statuses
+returns-in-Err-clause-statuses g c =
+    let run : Opened g = (goal.at.returns-in-Err-clause-statuses g c).After-open_card in
+    may-asked g run c.in-Err.status (opening-may c.in-Some.form c.in-Err.status c.in-Err.ensures.unopened
+    (λ is. let made = c.in-Err.ensures.too_small.0 (cc is) in subst (λ (f : Form). makes_card f ≡ true) (sym made.1) refl))
+
+pub returns-in-Check-clause-statuses : goal.returns-in-Check-clause-statuses
+returns-in-Check-clause-statuses g c =
+    may-asked g (goal.at.returns-in-Check-clause-statuses g c).After-open_card c.run_check.result (subst (λ (f : Form). may_end f c.run_check.result ≡ true) (sym c.in-Check.is) (opened-may Check c.run_check.result c.run_check.ensures.status))
+
+pub returns-in-Migrate-clause-statuses : goal.returns-in-Migrate-clause-statuses
+returns-in-Migrate-clause-statuses g c =
+    may-asked g (goal.at.returns-in-Migrate-clause-statuses g c).After-open_card c.run_migration.result
+    (subst (λ (f : Form). may_end f c.run_migration.result ≡ true) (sym c.in-Migrate.is) (opened-may Migrate c.run_migration.result c.run_migration.ensures.status))
+
+pub returns-in-Load-clause-statuses : goal.returns-in-Load-clause-statuses
+returns-in-Load-clause-statuses g c =
+    may-asked g (goal.at.returns-in-Load-clause-statuses g c).After-open_card c.run_load.result
+    (subst (λ (f : Form). may_end f c.run_load.result ≡ true) (sym c.in-Load.is) (opened-may (Load c.in-Load.rows c.in-Load.seed) c.run_load.result c.run_load.ensures.status))
+
+pub returns-in-Term-clause-statuses : goal.returns-in-Term-clause-statuses
+returns-in-Term-clause-statuses g c =
+    may-asked g (goal.at.returns-in-Term-clause-statuses g c).After-open_card c.answer_statements.result
+    (subst (λ (f : Form). may_end f c.answer_statements.result ≡ true) (sym c.in-Term.is) (lines-may Term c.answer_statements.result refl c.answer_statements.ensures.status (λ is. refl)))
+
+pub returns-in-New-clause-statuses : goal.returns-in-New-clause-statuses
+returns-in-New-clause-statuses g c =
+    may-asked g (goal.at.returns-in-New-clause-statuses g c).After-open_card c.answer_commands.result
+    (lines-may c.in-Some.form c.answer_commands.result (commands-read c.in-Some.form c.in-New.is) c.answer_commands.ensures.status (λ is. absurd (c.answer_commands.ensures.never_refused is)))
+
+-- Where memory was wanting.
+
+pub returns-in-Err-clause-no_memory : goal.returns-in-Err-clause-no_memory
+returns-in-Err-clause-no_memory g c = λ form asked is.
+    let run : Opened g = (goal.at.returns-in-Err-clause-no_memory g c).After-open_card in
+    subst (λ (f : Form). WantsMemory g.B.Eeprom.chip g.B.Eeprom.octets_read f c.args.bench.now c.open_card.new.bench) (same_form g run form asked) (c.in-Err.ensures.no_memory (cc is))
+
+pub returns-in-Check-clause-no_memory : goal.returns-in-Check-clause-no_memory
+returns-in-Check-clause-no_memory g c = λ form asked is. absurd (not-wanting Check c.run_check.result c.run_check.ensures.status is)
+
+pub returns-in-Migrate-clause-no_memory : goal.returns-in-Migrate-clause-no_memory
+returns-in-Migrate-clause-no_memory g c = λ form asked is. absurd (not-wanting Migrate c.run_migration.result c.run_migration.ensures.status is)
+
+pub returns-in-Load-clause-no_memory : goal.returns-in-Load-clause-no_memory
+returns-in-Load-clause-no_memory g c = λ form asked is. absurd (not-wanting (Load c.in-Load.rows c.in-Load.seed) c.run_load.result c.run_load.ensures.status is)
+
+pub returns-in-Term-clause-no_memory : goal.returns-in-Term-clause-no_memory
+returns-in-Term-clause-no_memory g c = λ form asked is. absurd (lines-not-wanting c.answer_statements.result c.answer_statements.ensures.status is)
+
+pub returns-in-New-clause-no_memory : goal.returns-in-New-clause-no_memory
+returns-in-New-clause-no_memory g c = λ form asked is. absurd (lines-not-wanting c.answer_commands.result c.answer_commands.ensures.status is)
+
+-- What a person was shown.
+
+pub returns-in-Err-clause-watched : goal.returns-in-Err-clause-watched
+returns-in-Err-clause-watched g c = λ rows seed asked. shows-unopened g.P.Person.lost g.P.Person.shown rows seed c.in-Err.status _ c.args.person.now (unopened c.in-Err.status c.in-Err.ensures.unopened)
+
+pub returns-in-Load-clause-watched : goal.returns-in-Load-clause-watched
+returns-in-Load-clause-watched g c = λ rows seed asked.
+    let run : Opened g = (goal.at.returns-in-Load-clause-watched g c).After-open_card in
+    let old : Chip = g.B.Eeprom.chip c.args.bench.now in
+    let same : c.in-Some.form ≡ Load rows seed = same_form g run (Load rows seed) asked in
+    let same_rows : c.in-Load.rows ≡ rows = cc (c.in-Load.is, same) in
+    let same_seed : c.in-Load.seed ≡ seed = cc (c.in-Load.is, same) in
+    subst (λ (n : ℕ). ShowsLoad g.P.Person.lost g.P.Person.shown rows n c.run_load.result (IsOpenTo old) c.args.person.now c.run_load.new.person) same_seed
+    (subst (λ (n : ℕ). ShowsLoad g.P.Person.lost g.P.Person.shown n c.in-Load.seed c.run_load.result (IsOpenTo old) c.args.person.now c.run_load.new.person) same_rows
+    (shows-from g.P.Person.lost g.P.Person.shown c.in-Load.rows c.in-Load.seed c.run_load.result _ (IsOpenTo old) c.args.person.now c.run_load.new.person
+    (λ db opens. c.in-Ok.ensures.starts db (of_form g run (Load rows seed) db asked opens)) c.run_load.ensures.shows))
+
+pub returns-in-Load-clause-unwatched : goal.returns-in-Load-clause-unwatched
+returns-in-Load-clause-unwatched g c = λ other. absurd (other c.in-Load.rows c.in-Load.seed (cc (c.in-Some.ensures, c.in-Load.is)))
+
+pub returns-in-Check-clause-watched : goal.returns-in-Check-clause-watched
+returns-in-Check-clause-watched g c = λ rows seed asked.
+    let same : Check ≡ Load rows seed = cc (same_form g (goal.at.returns-in-Check-clause-watched g c).After-open_card (Load rows seed) asked, c.in-Check.is) in absurd cc
+
+pub returns-in-Migrate-clause-watched : goal.returns-in-Migrate-clause-watched
+returns-in-Migrate-clause-watched g c = λ rows seed asked.
+    let same : Migrate ≡ Load rows seed = cc (same_form g (goal.at.returns-in-Migrate-clause-watched g c).After-open_card (Load rows seed) asked, c.in-Migrate.is) in absurd cc
+
+pub returns-in-Term-clause-watched : goal.returns-in-Term-clause-watched
+returns-in-Term-clause-watched g c = λ rows seed asked.
+    let same : Term ≡ Load rows seed = cc (same_form g (goal.at.returns-in-Term-clause-watched g c).After-open_card (Load rows seed) asked, c.in-Term.is) in absurd cc
+
+pub returns-in-New-clause-watched : goal.returns-in-New-clause-watched
+returns-in-New-clause-watched g c = λ rows seed asked.
+    absurd (no-load c.in-Some.form rows seed (same_form g (goal.at.returns-in-New-clause-watched g c).After-open_card (Load rows seed) asked) (commands-read c.in-Some.form c.in-New.is))

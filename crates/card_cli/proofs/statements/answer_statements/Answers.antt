@@ -7,15 +7,18 @@ use Rattle.card.specs.LiveCard.{IsReadyAt, OnBench}
 use Rattle.card_cli.specs.Ends.{ends_as}
 use Rattle.card_cli.specs.Extent.{RunsInput}
 use Rattle.card_cli.specs.Statements.{opened, term_lines}
+use Rattle.card_cli.proofs.Finishing.{runs-through}
 use Rattle.card_cli.proofs.Sittings.{sits-opened}
 use Rattle.card_cli.proofs.statements.answer_statements.Goals as goal
 
 pub returns-clause-runs : goal.returns-clause-runs
 returns-clause-runs g c = λ db at.
-    subst (λ (bench : g.row.B.Denot). Becomes (λ (input left : List ℕ). RunsInput term_lines (opened db) c.answer_input-status.result (g.B.Eeprom.faults c.args.bench.now) (g.B.Eeprom.faults bench) input left (g.B.Eeprom.chip c.args.bench.now) (g.B.Eeprom.chip bench))
-    (g.S.Source.left c.args.source.now) (g.S.Source.left c.answer_input-status.new.source)) (search rules)
-    (rw (c.new-card.ensures) at (c.answer_input-status.ensures.runs (opened db)
-    (sits-opened (λ (l : OnBench g.row.B.Denot) (m : Machine). IsReadyAt l.card (g.B.Eeprom.chip l.bench) m) c.new-terminal.result c.new-card.result db c.new-terminal.ensures (rw (c.new-card.ensures) (record { ready = c.requires; at = at })))))
+    subst (λ (bench : g.row.B.Denot). Becomes (λ (input left : List ℕ). RunsInput g.B.Eeprom.chip g.B.Eeprom.faults term_lines (opened db) c.answer_input-status.result input left c.args.bench.now bench) (g.S.Source.left c.args.source.now) (g.S.Source.left c.answer_input-status.new.source))
+    (search rules)
+    (rw (c.new-card.ensures) at
+    (runs-through _ c.answer_input-status.new.responder (λ statements. statements.card.bench) g.B.Eeprom.chip g.B.Eeprom.faults term_lines (opened db) c.answer_input-status.result (g.S.Source.left c.args.source.now) (g.S.Source.left c.answer_input-status.new.source)
+    (c.answer_input-status.ensures.runs (opened db)
+    (sits-opened (λ (l : OnBench g.row.B.Denot) (m : Machine). IsReadyAt l.card (g.B.Eeprom.chip l.bench) m) c.new-terminal.result c.new-card.result db c.new-terminal.ensures (rw (c.new-card.ensures) (record { ready = c.requires; at = at }))))))
 
 pub returns-clause-refusals : goal.returns-clause-refusals
 returns-clause-refusals g c = λ db at whole left told.

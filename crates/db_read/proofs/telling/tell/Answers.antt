@@ -2,7 +2,7 @@
 use Rattle.std.proofs.Common.{sym, ◌∙◌}
 use Rattle.std.proofs.lemmas.Bool.{and_parts, false≢true}
 use Rattle.scql_model.specs.Database.{are_among}
-use Rattle.views.specs.Resolved.{AreKnown}
+use Rattle.scql_model.specs.Resolving.{AreKnown}
 use Rattle.views.proofs.Bindings.{AreKnown-unknown, err-none}
 use Rattle.db_read.proofs.telling.tell.Goals as goal
 

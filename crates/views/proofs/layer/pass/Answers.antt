@@ -2,7 +2,7 @@
 use Rattle.std.proofs.Common.{◌≡◌, true, sym, subst, ◌∙◌}
 use Rattle.std.proofs.lemmas.Bool.{false≢true}
 use Rattle.scql_model.specs.Matching.{Columns}
-use Rattle.views.specs.Resolved.{AreKnown}
+use Rattle.scql_model.specs.Resolving.{AreKnown}
 use Rattle.views.proofs.Bindings.{AreKnown-unknown}
 use Rattle.views.proofs.layer.pass.Goals as goal
 

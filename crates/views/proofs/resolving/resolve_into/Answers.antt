@@ -4,7 +4,7 @@ use Rattle.std.proofs.lemmas.Bool.{false≢true}
 use Rattle.scql_model.specs.Database.{are_among}
 use Rattle.scql_model.specs.Matching.{Columns}
 use Rattle.scql_model.specs.Objects.{columns_of}
-use Rattle.views.proofs.KnownNames.{IsKnown-resolved_of, columns-resolved, resolved-valid}
+use Rattle.scql_model.proofs.KnownNames.{IsKnown-resolved_of, columns-resolved, resolved-valid}
 use Rattle.views.proofs.resolving.resolve_into.Goals.{else-branch-via-then-branch+else-show, else-branch-via-else-branch}
 use Rattle.views.proofs.resolving.resolve_into.Goals as goal
 

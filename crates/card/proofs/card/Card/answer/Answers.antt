@@ -1,10 +1,9 @@
 use Rattle.std.proofs.Common.{◌≡◌, sym, ap, subst, ◌∙◌, inl, inr, arith}
 use Rattle.scql_model.specs.Accepting.{Accepts}
-use Rattle.scql_model.specs.Operations.{built_operations}
 use Rattle.scql_model.specs.Replies.{Reply}
 use Rattle.scql_model.specs.Bound.{octets_bound}
 use Rattle.scql_model.specs.Step.{step}
-use Rattle.scql_model.proofs.NothingWritten.{octets_bound_by-accepts}
+use Rattle.scql_model.proofs.NothingWritten.{octets_bound-accepts}
 use Rattle.scql_model.proofs.AnswerWords.{step-costs, step-ends}
 use Rattle.scql_model.proofs.CardReads.{reads-step}
 use Rattle.scql_model.proofs.Refusing.{step-accepts_or_leaves}
@@ -48,9 +47,9 @@ returns-in-Ok-clause-refused g c = λ m at is.
     let performs = c.in-Ok.ensures.performs m (engine-at _ _ _ m c.self.view_is at) in
     let says = performs.step in
     let accepts_so = λ (accepts : Accepts (step m c.args.command.now).reply.word). subst Accepts (sym (ap (λ (sent : Reply). sent.word) says.reply)) accepts in
-    elim (step-accepts_or_leaves built_operations m c.args.command.now) [
+    elim (step-accepts_or_leaves m c.args.command.now) [
       | inl accepts ↦ inl (accepts_so accepts)
-      | inr leaves ↦ elim (octets_bound_by-accepts built_operations m c.args.command.now) [
+      | inr leaves ↦ elim (octets_bound-accepts m c.args.command.now) [
         | inl accepts ↦ inl (accepts_so accepts)
         | inr none ↦ inr (
           performs.unwritten none,
@@ -70,13 +69,13 @@ pub returns-in-Ok-clause-at_its_end : goal.returns-in-Ok-clause-at_its_end
 unfolding step
 returns-in-Ok-clause-at_its_end g c = λ m at is ends.
     let says = (c.in-Ok.ensures.performs m (engine-at _ _ _ m c.self.view_is at)).step in
-    step-ends built_operations m c.args.command.now (sym (ap (λ (sent : Reply). sent.word) says.reply) ∙ ends)
+    step-ends m c.args.command.now (sym (ap (λ (sent : Reply). sent.word) says.reply) ∙ ends)
 
 pub returns-in-Ok-clause-costs_a_try : goal.returns-in-Ok-clause-costs_a_try
 unfolding step
 returns-in-Ok-clause-costs_a_try g c = λ m left at is costs.
     let says = (c.in-Ok.ensures.performs m (engine-at _ _ _ m c.self.view_is at)).step in
-    step-costs built_operations m c.args.command.now left (sym (ap (λ (sent : Reply). sent.word) says.reply) ∙ costs)
+    step-costs m c.args.command.now left (sym (ap (λ (sent : Reply). sent.word) says.reply) ∙ costs)
 
 pub returns-in-Ok-clause-in_turn : goal.returns-in-Ok-clause-in_turn
 returns-in-Ok-clause-in_turn g c = λ m at is.

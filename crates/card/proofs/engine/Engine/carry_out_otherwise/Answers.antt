@@ -19,8 +19,8 @@ use Rattle.scql_model.specs.WellFormed.{HasForm}
 use Rattle.card.specs.Answering.{HoldsAnswer, LeavesFirstOfTwo, Performs, replied}
 use Rattle.card.specs.Card.{Kept, HoldsMachine, IsAt, StandsOver}
 use Rattle.card.specs.Waiting.{keeps_waiting}
-use Rattle.card.proofs.BuiltLines.{IsChange-built, IsNoneOfThose}
-use Rattle.card.proofs.Leaving.{Keeps-none}
+use Rattle.card.proofs.OtherCommands.{IsChange-others, IsNoneOfThose}
+use Rattle.record_table.proofs.AtRest.{Keeps-none}
 use Rattle.card.proofs.Performing.{Performs-unwritten}
 use Rattle.card.proofs.FreeCommands.{any-none, carried_out-arm, carried_out-changes, carried_out-waits, octets-arm, octets-carried_out, waiting-at, waits-changes}
 use Rattle.card.proofs.engine.Engine.carry_out_otherwise.Goals.{In_default}
@@ -152,7 +152,7 @@ change-requires g c = record {
   ready = c.requires.ready;
   channel = omega (arith, c.requires.formed.channel);
   there = c.requires.open;
-  changes = IsChange-built c.args.command.now.operation c.requires.built (none g (goal.at.change-requires g c).In_default);
+  changes = IsChange-others c.args.command.now.operation (none g (goal.at.change-requires g c).In_default);
   formed = c.requires.formed.form;
   fits = c.requires.fits;
 }
@@ -161,16 +161,16 @@ pub returns-in_default-clause-performs : goal.returns-in_default-clause-performs
 returns-in_default-clause-performs g c = λ m at.
     let channel = c.args.command.now.channel in
     let operation = c.args.command.now.operation in
-    let changes = IsChange-built operation c.requires.built (none g (goal.at.returns-in_default-clause-performs g c).In_default) in
+    let changes = IsChange-others operation (none g (goal.at.returns-in_default-clause-performs g c).In_default) in
     let old = g.B.Eeprom.chip c.args.bench.now in
     let new = g.B.Eeprom.chip c.change.new.bench in
     let free = told-waiting c.args.self.now old m c.args.command.now c.keeps_waiting.result false at.held c.keeps_waiting.ensures c.if-keeps_waiting.false in
-    let others = subst (λ (w : Waits). keeps_waiting w c.args.self.now.transaction channel ≡ false) (waits-changes operation changes.1 c.in_default.not-DeleteUser) (sym c.keeps_waiting.ensures ∙ c.if-keeps_waiting.false) in
+    let others = subst (λ (w : Waits). keeps_waiting w c.args.self.now.transaction channel ≡ false) (waits-changes operation changes c.in_default.not-DeleteUser) (sym c.keeps_waiting.ensures ∙ c.if-keeps_waiting.false) in
     subst (λ (body : List ℕ). Performs m (answered m (carried_out m c.args.command.now)) (or_nothing (octets_carried_out m c.args.command.now)) body c.change.result c.change.new.self old new) (sym c.requires.empty)
     (subst (λ (outcome : Result Answer StatusWord). Performs m (answered m outcome) (or_nothing (octets_carried_out m c.args.command.now)) [] c.change.result c.change.new.self old new)
-    (sym (carried_out-changes m channel operation c.args.command.now.le changes.1 c.in_default.not-DeleteUser free))
+    (sym (carried_out-changes m channel operation c.args.command.now.le changes c.in_default.not-DeleteUser free))
     (subst (λ (most : Result ℕ StatusWord). Performs m (answered m (changed m channel operation)) (or_nothing most) [] c.change.result c.change.new.self old new)
-    (sym (octets-carried_out m channel operation c.args.command.now.le changes.1 free)) (c.change.ensures.performs m at others)))
+    (sym (octets-carried_out m channel operation c.args.command.now.le changes free)) (c.change.ensures.performs m at others)))
 
 -- VERIFY and DELETE USER wait for any transaction, so none is open.
 pub verify-requires-clause-closed : goal.verify-requires-clause-closed

@@ -12,7 +12,8 @@ use Rattle.record_table.specs.Listed.{slots_of}
 use Rattle.record_table.specs.Making.{GoesOn, IsHeld}
 use Rattle.card.specs.Answering.{settled}
 use Rattle.row_index.specs.Index.{is_above}
-use Rattle.card.specs.Card.{Kept, IsAtRest, StandsOver}
+use Rattle.record_table.specs.AtRest.{IsAtRest}
+use Rattle.card.specs.Card.{Kept, StandsOver}
 use Rattle.card.specs.Acting.{acting}
 use Rattle.card.specs.Changing.{Changes, ConcludesWithin}
 use Rattle.card.specs.Sessions as opened

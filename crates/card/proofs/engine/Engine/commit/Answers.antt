@@ -7,7 +7,7 @@ use Rattle.scql_model.specs.Sessions.{without_pending}
 use Rattle.row_index.specs.Index.{Index}
 use Rattle.card.specs.Answering.{changing_session}
 use Rattle.card.specs.Card.{Kept}
-use Rattle.card.proofs.ChangedStore.{slots-committed}
+use Rattle.record_table.proofs.AtRest.{slots-committed}
 use Rattle.card.proofs.FreeCommands.{own-has, own-none}
 use Rattle.card.proofs.ReadingCard.{err-ok}
 use Rattle.card.proofs.Sides.{StandsOver-sessions}

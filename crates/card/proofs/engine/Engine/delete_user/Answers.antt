@@ -16,7 +16,8 @@ use Rattle.scql_model.specs.Step.{Answer, answered, changed, user_and_sessions_d
 use Rattle.db_access.proofs.NamedUser.{named-held}
 use Rattle.card.specs.Answering.{HoldsAnswer, Performs}
 use Rattle.scql_model.specs.Transactions.{for_others}
-use Rattle.card.specs.Card.{Kept, IsAt, IsAtRest}
+use Rattle.record_table.specs.AtRest.{IsAtRest}
+use Rattle.card.specs.Card.{Kept, IsAt}
 use Rattle.card.specs.Waiting.{keeps_waiting}
 use Rattle.card.proofs.DeletedSessions.{Performs-deleted, left_after, left_card, refused-nobody}
 use Rattle.card.proofs.Performing.{IsAtRest-at, Performs-unwritten}

@@ -2,10 +2,11 @@
 use Rattle.std.proofs.Common.{ap, subst, sym, refl}
 use Rattle.scql_base.specs.Words.{not_found}
 use Rattle.db_access.specs.Presenting.{session_presented}
-use Rattle.card.specs.Card.{Kept, IsAtRest}
+use Rattle.record_table.specs.AtRest.{IsAtRest}
+use Rattle.card.specs.Card.{Kept}
 use Rattle.card.proofs.Performing.{IsAtRest-at, HoldsAnswer-unknown, HoldsAnswer-presented}
 use Rattle.card.proofs.Transacting.{none-of}
-use Rattle.card.proofs.engine.Engine.present_user.Goals.{After-branch-present, in-Public, in-User}
+use Rattle.card.proofs.engine.Engine.present_user.Goals.{in-Public, in-User}
 use Rattle.card.proofs.engine.Engine.present_user.Goals as goal
 
 pub returns-in-Unknown-clause-step : goal.returns-in-Unknown-clause-step

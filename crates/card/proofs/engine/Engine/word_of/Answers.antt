@@ -10,7 +10,7 @@ use Rattle.scql_model.specs.Form.{Form, form_of}
 use Rattle.scql_model.specs.Accepting.{channel_named}
 use Rattle.scql_model.specs.Machine.{Machine, Session, open_channels}
 use Rattle.scql_model.specs.Sessions.{command_chain}
-use Rattle.scql_model.specs.Operations.{built_operations}
+use Rattle.scql_model.specs.Operations.{operations}
 use Rattle.scql_model.specs.Replies.{said}
 use Rattle.scql_model.specs.Step.{Answer, answered, carried_out, done_with, step}
 use Rattle.scql_model.specs.WellFormed.{FitsCard}
@@ -19,8 +19,8 @@ use Rattle.card.specs.Card.{Kept, IsAt, IsReady}
 use Rattle.card.specs.Answering.{HoldsAnswer, LeavesFirstOfTwo, Performs}
 use Rattle.card.specs.Sessions.{sessions_of}
 use Rattle.card.proofs.ReadingCosts.{kept-untaken, on-then, reads-taken, reads-untaken, refused-untaken}
-use Rattle.card.proofs.TakenForms.{form-card, taken_at, outcome_of, step-taken, IsAt-taken, bound-taken, octets_taken, octets-whole, taken-committed, taken-refused, taken-kept, length-after, named-taken, open-taken, outcome-whole, built-taken, fits-taken}
-use Rattle.card.proofs.Leaving.{Keeps-none}
+use Rattle.card.proofs.TakenForms.{form-card, taken_at, outcome_of, step-taken, IsAt-taken, bound-taken, octets_taken, octets-whole, taken-committed, taken-refused, taken-kept, length-after, named-taken, open-taken, outcome-whole, fits-taken}
+use Rattle.record_table.proofs.AtRest.{Keeps-none}
 use Rattle.card.proofs.Performing.{HoldsAnswer-done, Performs-found, Performs-from, Performs-unwritten}
 use Rattle.card.proofs.Sides.{IsReady-none, IsReady-sessions, StandsOver-sessions}
 use Rattle.card.proofs.SeenSessions.{parts-unseen}
@@ -40,7 +40,7 @@ after_take g c = record { store = c.self.inside.store; index = c.self.inside.ind
 
 -- what they are
 abbrev form : (g : _) → After-take g → Form
-form g c = form_of built_operations c.args.octets.now c.open_channels-channels.result (chain_on c.self.inside.chains) (min c.row_limit.result 1020)
+form g c = form_of operations c.args.octets.now c.open_channels-channels.result (chain_on c.self.inside.chains) (min c.row_limit.result 1020)
 
 steps : (g : _) (c : After-take g) (m : Machine) → IsAt c.args.self.now (g.B.Eeprom.chip c.args.bench.now) m
     → step m c.args.octets.now ≡ answered (taken_at m (form g c)) (outcome_of (taken_at m (form g c)) (form g c))
@@ -85,10 +85,6 @@ returns-in-Kept-clause-performs g c = λ m at.
     (unwritten g w m (done_with next channel []) done c.drop_pending.new.self at
     (ap (answered next) (taken-kept next c.args.octets.now (form g w) (named-taken c.args.octets.now c.open_channels-channels.result (chain_on c.self.inside.chains) (min c.row_limit.result 1020)) (sym c.in-Kept.is ∙ c.take.ensures.taken)))
     (HoldsAnswer-done (after_take g w) c.drop_pending.new.self chip next channel [] (at-taken g w m at).held (rw (sym c.channel_named.ensures.named) c.drop_pending.ensures)) c.requires.empty))
-
-pub carry_out-requires-clause-built : goal.carry_out-requires-clause-built
-carry_out-requires-clause-built g c =
-    built-taken c.args.octets.now c.open_channels-channels.result (chain_on c.self.inside.chains) (min c.row_limit.result 1020) c.take.new.command (omega arith) (c.take.ensures.whole c.in-Whole.is)
 
 pub carry_out-requires-clause-open : goal.carry_out-requires-clause-open
 carry_out-requires-clause-open g c =
@@ -175,7 +171,7 @@ returns-in-Whole-clause-lowered g c = λ m at.
 
 -- What is read, by what was taken.
 forms : (g : _) (c : After-take g) (m : Machine) → IsAt c.args.self.now (g.B.Eeprom.chip c.args.bench.now) m
-    → form_of built_operations c.args.octets.now (open_channels m) (command_chain m) m.committed.limit ≡ form g c
+    → form_of operations c.args.octets.now (open_channels m) (command_chain m) m.committed.limit ≡ form g c
 forms g c m at =
     form-card c.args.self.now (g.B.Eeprom.chip c.args.bench.now) m c.args.octets.now c.open_channels-channels.result c.self.inside.sessions c.self.inside.chains (min c.row_limit.result 1020) at
     c.open_channels-channels.ensures (ap (λ (kept : Kept). kept.sessions) (sym c.self.view_is)) (rows c.row_limit.result _ c.row_limit.ensures.most (c.row_limit.ensures.limit ∙ ap (λ (kept : Kept). kept.store.row_limit) c.self.view_is))

@@ -7,6 +7,7 @@ use Rattle.terminal.specs.Load.{next_number}
 use Rattle.card_cli.specs.Loading.{Loader}
 use Rattle.card_cli.proofs.InsertedRows.{few-inserted, inserts-fail, inserts-next, number-next}
 use Rattle.card_cli.proofs.LoadedLines.{carries-none, on-err}
+use Rattle.card_cli.proofs.ShownRows.{passes-none, passes-row}
 use Rattle.card_cli.proofs.loading.Loader.insert_rows.Goals as goal
 
 pub loop-row-init : goal.loop-row-init
@@ -18,6 +19,7 @@ loop-row-init g c =
       few = omega (arith, c.requires.few);
       value = refl;
       below = search rules;
+      shows = passes-none g.P.Person.lost g.P.Person.shown c.args.seed _ c.args.progress.now c.args.person.now c.requires.unshown;
     }
 
 pub loop-row-preserved : goal.loop-row-preserved
@@ -32,6 +34,8 @@ loop-row-preserved g c =
       few = omega (arith, few-inserted g.B.Eeprom.chip g.B.Eeprom.faults (c.loop-row.row + 1) c.args.seed old new carried, c.requires.few);
       value = c.next_number-value.ensures.next ∙ (ap next_number c.loop-row.invariant.value ∙ sym (number-next c.loop-row.row c.args.seed));
       below = c.next_number-value.ensures.below;
+      shows = passes-row g.P.Person.lost g.P.Person.shown g.B.Eeprom.chip g.B.Eeprom.faults c.loop-row.row c.args.seed c.next_number-value.result c.loop-row.value _ old mid new _ c.loop-row.progress c.pass_row.new.self c.args.person.now c.loop-row.person c.pass_row.new.person
+          (search rules) c.next_number-value.ensures.next c.loop-row.invariant.value c.loop-row.invariant.carried c.in_ok-carry_out.ensures.carried refl c.loop-row.invariant.shows c.pass_row.ensures.row c.pass_row.ensures.shows;
     }
 
 pub returns-in_err-carry_out-clause-failed : goal.returns-in_err-carry_out-clause-failed
@@ -42,3 +46,6 @@ returns-in_err-carry_out-clause-failed g c =
     on-err c.from_residual.result
     (inserts-fail g.B.Eeprom.chip g.B.Eeprom.faults c.args.rows c.loop-row.row c.args.seed c.loop-row.value c.next_number-value.result _ old mid new (search rules) (search rules) c.next_number-value.ensures.next c.loop-row.invariant.value
     c.loop-row.invariant.carried c.in_err-carry_out.ensures.failed)
+
+pub returns-in_err-carry_out-clause-shows_until : goal.returns-in_err-carry_out-clause-shows_until
+returns-in_err-carry_out-clause-shows_until g c = on-err c.from_residual.result (c.loop-row.row, search rules, c.loop-row.invariant.shows)

@@ -1,6 +1,9 @@
 use Rattle.std.proofs.Common.{◌≡◌, ◌<◌, ◌≤◌, ◌+◌}
-use Rattle.terminal.specs.Load.{insert_lines}
-use Rattle.card_cli.specs.Loading.{CarriesOut}
+use Rattle.scql_model.specs.Lines.{state_after}
+use Rattle.planner.specs.StatementLines.{statement_lines}
+use Rattle.terminal.specs.Load.{filling_lines, insert_lines}
+use Rattle.card_cli.specs.Loading.{CarriesOut, IsIn}
+use Rattle.card_cli.specs.Watching.{PassesRows}
 use Rattle.card_cli.proofs.InsertedRows.{number_after}
 use Rattle.card_cli.proofs.loading.Loader.insert_rows.Given as goal
 
@@ -11,4 +14,6 @@ invariant-loop-row g l = record {
   few : l.self.refused ≤ 2 + l.row;
   value : l.value ≡ number_after l.row l.seed;
   below : l.value < 65537;
+  shows : PassesRows g.P.Person.lost g.P.Person.shown l.seed l.row
+      (λ state. IsIn g.B.Eeprom.chip (state_after statement_lines state (filling_lines 0 l.seed)) (record { terminal = l.fn.self.terminal; card = l.fn.self.card.card; refused = l.fn.self.refused })) l.progress l.fn.person l.person;
 }

@@ -1,6 +1,6 @@
 use Rattle.std.proofs.Common.{ap}
 use Rattle.cell_store.specs.Cells.{Cells}
-use Rattle.cell_store.proofs.Chains.{record-some}
+use Rattle.cell_store.proofs.ReadRecord.{record-some}
 use Rattle.cell_store.proofs.Counting.{count-copied, some-copied}
 use Rattle.cell_store.proofs.store.CellStore.claim_record.Goals as goal
 

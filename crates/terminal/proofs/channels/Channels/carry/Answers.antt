@@ -1,6 +1,5 @@
 use Rattle.std.proofs.Common.{sym, subst, rules}
 use Rattle.card_link.specs.Link.{LeavesOpen}
-use Rattle.scql_model.specs.Operations.{operations}
 use Rattle.planner.specs.Meaning.{meaning}
 use Rattle.planner.specs.Readings.{IsSelect}
 use Rattle.planner.specs.Running.{Ran, shown}
@@ -19,7 +18,7 @@ returns-in-Err-clause-moments g c = λ m at knows.
 pub returns-in-Err-clause-fails : goal.returns-in-Err-clause-fails
 returns-in-Err-clause-fails g c = λ m at knows.
     let p = c.args.plan.now in
-    fails-told g.L.CardLink.is_at g.L.Outlet.given m (OnlyReads p) (IsSelect p.statement) (shown (meaning operations m c.args.self.now.channel p.statement)) c.in-Err.failure c.args.desk.now c.carry_out.new.desk
+    fails-told g.L.CardLink.is_at g.L.Outlet.given m (OnlyReads p) (IsSelect p.statement) (shown (meaning m c.args.self.now.channel p.statement)) c.in-Err.failure c.args.desk.now c.carry_out.new.desk
     (λ select. subst OnlyReads (sym c.requires.started) (started-reads p.statement c.args.self.now.channel _ select))
     (subst (λ (ran : Ran). FailsSo g.L.CardLink.is_at g.L.Outlet.given m (OnlyReads p) ran c.in-Err.failure c.args.desk.now c.carry_out.new.desk)
     (started-meant m c.args.self.now p (g.met.L.CardLink.valid c.args.desk.now m at) (search rules) c.requires.started knows)

@@ -1,5 +1,4 @@
 use Rattle.std.proofs.Common.{ap, ◌∙◌, arith}
-use Rattle.scql_model.specs.Operations.{operations}
 use Rattle.planner.specs.Meaning.{meaning}
 use Rattle.terminal.specs.Holding.{Holding}
 use Rattle.terminal.proofs.Sent.{leaves-all, leaves-both}
@@ -12,7 +11,7 @@ returns-in-Ok-clause-ends g c = λ m at knows.
     let over = c.in-Ok.ensures.over m at knows in
     closes-ends g.L.CardLink.is_at g.L.Outlet.given g.L.CardLink.is_live g.L.CardLink.faults g.L.Outlet.sink_faults g.L.CardLink.mark m before c.args.plan.now.statement c.in-Ok.closing c.carry.new.self c.close.result c.args.link.now c.carry.new.desk c.close.new.link
     (g.met.L.CardLink.valid c.args.link.now m at) c.carry.ensures.sent knows c.in-Ok.ensures.holds over
-    (rw (c.deref.ensures.0, c.closing_text.ensures, c.is_refusal.ensures) at c.close.ensures.closes) (c.close.ensures.gives.machine (meaning operations m before.channel c.args.plan.now.statement).machine over.at)
+    (rw (c.deref.ensures.0, c.closing_text.ensures, c.is_refusal.ensures) at c.close.ensures.closes) (c.close.ensures.gives.machine (meaning m before.channel c.args.plan.now.statement).machine over.at)
 
 pub returns-in-Ok-clause-moments : goal.returns-in-Ok-clause-moments
 returns-in-Ok-clause-moments g c = λ m at knows.
@@ -23,8 +22,8 @@ returns-in-Ok-clause-moments g c = λ m at knows.
     (λ n left within. run-moments (g.L.CardLink.mark c.args.link.now) n m channel c.args.plan.now.statement left (g.met.L.CardLink.valid c.args.link.now m at) c.carry.ensures.sent within)
     (c.carry.ensures.moments m at knows))
     (leaves-all g.L.CardLink.chip _ _ c.carry.new.desk c.close.new.link
-    (λ n left holds. last-moment (g.L.CardLink.mark c.args.link.now) n m.committed (meaning operations m channel c.args.plan.now.statement).commits left (omega (arith, over.later, holds.above)) (holds.same ∙ over.committed))
-    (c.close.ensures.gives.moments (meaning operations m channel c.args.plan.now.statement).machine over.at))
+    (λ n left holds. last-moment (g.L.CardLink.mark c.args.link.now) n m.committed (meaning m channel c.args.plan.now.statement).commits left (omega (arith, over.later, holds.above)) (holds.same ∙ over.committed))
+    (c.close.ensures.gives.moments (meaning m channel c.args.plan.now.statement).machine over.at))
 
 pub returns-in-Err-Card-clause-ends : goal.returns-in-Err-Card-clause-ends
 returns-in-Err-Card-clause-ends g c = λ m at knows.

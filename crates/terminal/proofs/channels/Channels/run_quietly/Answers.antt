@@ -1,5 +1,4 @@
 use Rattle.std.proofs.Common.{◌∷◌, Some, Ok, ap, sym, subst, rules}
-use Rattle.scql_model.specs.Operations.{operations}
 use Rattle.card_link.specs.Link.{IsOneOf, LeavesOpen}
 use Rattle.planner.specs.Meaning.{Meaning, meaning}
 use Rattle.planner.specs.StatementLines.{read_effect}
@@ -19,14 +18,14 @@ returns-in-Ok-clause-ends g c = λ m at knows.
 
 pub returns-in-Ok-clause-moments : goal.returns-in-Ok-clause-moments
 returns-in-Ok-clause-moments g c = λ m at knows.
-    let x : Meaning = meaning operations m c.args.self.now.channel c.args.plan.now.statement in
+    let x : Meaning = meaning m c.args.self.now.channel c.args.plan.now.statement in
     subst (λ (link : g.row.L.Denot). LeavesOpen (IsOneOf (g.L.CardLink.mark c.args.link.now) (m.committed ∷ x.commits)) (g.L.CardLink.chip c.args.link.now) (g.L.CardLink.chip link)) (search rules)
     (quiet-moments g.L.CardLink.is_at g.L.CardLink.is_live g.L.CardLink.mark g.L.CardLink.chip m x c.args.link.now c.carry.new.desk.link.now (g.met.L.CardLink.marks c.args.link.now) at
     c.carry.ensures.goes_on.2 (c.carry.ensures.moments m at knows))
 
 pub returns-in-Err-clause-moments : goal.returns-in-Err-clause-moments
 returns-in-Err-clause-moments g c = λ m at knows.
-    let x : Meaning = meaning operations m c.args.self.now.channel c.args.plan.now.statement in
+    let x : Meaning = meaning m c.args.self.now.channel c.args.plan.now.statement in
     subst (λ (link : g.row.L.Denot). LeavesOpen (IsOneOf (g.L.CardLink.mark c.args.link.now) (m.committed ∷ x.commits)) (g.L.CardLink.chip c.args.link.now) (g.L.CardLink.chip link)) (search rules)
     (quiet-moments g.L.CardLink.is_at g.L.CardLink.is_live g.L.CardLink.mark g.L.CardLink.chip m x c.args.link.now c.carry.new.desk.link.now (g.met.L.CardLink.marks c.args.link.now) at
     c.carry.ensures.goes_on.2 (c.carry.ensures.moments m at knows))

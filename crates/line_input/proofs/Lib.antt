@@ -1,0 +1,3 @@
+pub mod CutLines
+pub mod Feeding
+pub mod Taking

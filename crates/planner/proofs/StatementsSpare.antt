@@ -1,0 +1,179 @@
+-- The language of statements spares a user's tries.
+use Rattle.std.proofs.Common.{◌≡◌, ℕ, Bool, true, false, List, [], ◌∷◌, ◌++◌, Option, Some, None, Result, Ok, Err, if◌then◌else◌, refl, sym, subst, inr}
+use Rattle.std.specs.Prelude.{IfOk}
+use Rattle.scql_base.specs.declared.words.Actor.{Actor}
+use Rattle.scql_base.specs.declared.words.StatusWord.{StatusWord}
+use Rattle.scql_base.specs.declared.cursor.Cursor.{Cursor}
+use Rattle.scql_base.specs.declared.operation.Command.{Command}
+use Rattle.scql_base.specs.declared.operation.Operation.{Operation}
+use Rattle.scql_base.specs.declared.operation.Operation.TheVariants.{Update, Delete, OpenChannel, CloseChannel}
+use Rattle.scql_base.specs.Words.{channel_not_supported}
+use Rattle.scql_model.specs.Changing.{edits_of, with_edits}
+use Rattle.scql_model.specs.Database.{Database}
+use Rattle.scql_model.specs.Machine.{Machine, Session, Transaction, actor}
+use Rattle.scql_model.specs.Objects.{StampedRow}
+use Rattle.scql_model.specs.Sessions.{is_channel_open}
+use Rattle.scql_model.specs.Step.{Answer, step}
+use Rattle.scql_model.specs.Transactions.{own_transaction}
+use Rattle.scql_model.specs.Tries.{AreSpared, IsGuardedMachine, IsGuardedWork, SparesTries}
+use Rattle.scql_model.proofs.FourCommits.{spared-append}
+use Rattle.scql_model.proofs.LastCommits.{last-step}
+use Rattle.scql_model.proofs.SparingEdits.{spares-with_edits}
+use Rattle.scql_model.proofs.SparingSteps.{guarded-begun, guarded-closed, guarded-further, guarded-own, guarded-sessions, spared-step}
+use Rattle.scql_model.proofs.ValidSteps.{bound-ok}
+use Rattle.script.specs.declared.fault.ScriptFault.{ScriptFault}
+use Rattle.script.specs.declared.statement.Statement.{Statement}
+use Rattle.script.specs.declared.statement.Statement.TheVariants.{Blank, Single, Select, UpdateRows, DeleteRows, OpenNumber, CloseNumber, UseNumber, Reset}
+use Rattle.script.specs.Commands.{asking}
+use Rattle.script.specs.Line.{statement_of}
+use Rattle.planner.specs.declared.closing.Closing.TheVariants.{Refused}
+use Rattle.planner.specs.Words.{is_done}
+use Rattle.planner.specs.Meaning.{Meaning, Declared, Changed, all_changed, all_in_turn, answer_to, at_stamp, begun, changed_by, changed_in, changed_inside, changed_outside, committed_after, declared, ended, followed_by, in_turn, on_open, once_changed, parts_of, row_changed, selects_all, meaning}
+use Rattle.planner.specs.StatementLines.{TerminalState, read_effect, statement_effect, statement_lines}
+
+-- A machine is guarded, and the commits that led to it are spared.
+record Spares (stamp : ℕ) (db : Database) (next : Machine) (made : List Database) : Type 0 where
+  machine : IsGuardedMachine stamp next
+  commits : AreSpared stamp db made
+
+-- The parts of a command in turn.
+spares-step : (stamp : ℕ) (m : Machine) (octets : List ℕ) → IsGuardedMachine stamp m → Spares stamp m.committed (step m octets).machine (step m octets).commits
+spares-step stamp m octets guarded = let sparing = spared-step stamp m octets guarded in record { machine = sparing.machine; commits = sparing.commits }
+
+spares-followed : (stamp : ℕ) (m : Machine) (octets : List ℕ) (next : Answer) → IsGuardedMachine stamp m
+    → Spares stamp (step m octets).machine.committed next.machine next.commits
+    → (let answer = followed_by (step m octets) next in Spares stamp m.committed answer.machine answer.commits)
+spares-followed stamp m octets next guarded later = go (is_done (step m octets).reply.word)
+  where
+    first : Spares stamp m.committed (step m octets).machine (step m octets).commits
+    first = spares-step stamp m octets guarded
+
+    go : (done : Bool) → (let answer : Answer = if done then record next { commits = (step m octets).commits ++ next.commits } else step m octets in
+        Spares stamp m.committed answer.machine answer.commits)
+    go false = first
+    go true = record {
+      machine = later.machine;
+      commits = spared-append stamp m.committed (step m octets).commits next.commits first.commits
+          (subst (λ (db : Database). AreSpared stamp db next.commits) (sym (last-step m octets)) later.commits);
+    }
+
+spares-in_turn : (stamp : ℕ) (m : Machine) (octets : List ℕ) (rest : List (List ℕ)) → IsGuardedMachine stamp m
+    → Spares stamp m.committed (in_turn m octets rest).machine (in_turn m octets rest).commits
+spares-in_turn stamp m octets [] guarded = spares-step stamp m octets guarded
+spares-in_turn stamp m octets (next ∷ rest) guarded =
+    spares-followed stamp m octets (in_turn (step m octets).machine next rest) guarded
+    (spares-in_turn stamp (step m octets).machine next rest (spares-step stamp m octets guarded).machine)
+
+spares-answer : (stamp : ℕ) (m : Machine) (c : Command) → IsGuardedMachine stamp m → Spares stamp m.committed (answer_to m c).machine (answer_to m c).commits
+unfolding answer_to
+spares-answer stamp m c guarded = go (parts_of c)
+  where
+    go : (parts : List (List ℕ)) → Spares stamp m.committed (all_in_turn m parts).machine (all_in_turn m parts).commits
+    go [] = record { machine = guarded; commits = tt }
+    go (octets ∷ rest) = spares-in_turn stamp m octets rest guarded
+
+-- Rows that are changed in turn.
+guarded-row : (stamp : ℕ) (committed : Database) (actor : Actor) (operation : Operation) (c : Cursor) (t : Transaction) → IsGuardedWork stamp committed t
+    → IfOk (row_changed committed actor operation c t) (IsGuardedWork stamp committed)
+unfolding row_changed
+guarded-row stamp committed actor operation c t work =
+    bound-ok (IsGuardedWork stamp committed) (edits_of t.working actor (Some c) operation) _ (λ edits made.
+    bound-ok (IsGuardedWork stamp committed) (with_edits t.working edits) _ (λ db ok.
+    guarded-further stamp committed t edits db work (spares-with_edits stamp t.working actor (Some c) operation edits db made ok work.working)))
+
+guarded-rows : (stamp : ℕ) (committed : Database) (actor : Actor) (operation : Operation) (c : Cursor) (rows : List StampedRow) (t : Transaction) → IsGuardedWork stamp committed t
+    → IsGuardedWork stamp committed (all_changed committed actor operation c rows t).transaction
+guarded-rows stamp committed actor operation c [] t work = work
+guarded-rows stamp committed actor operation c (r ∷ rows) t work =
+    go (row_changed committed actor operation (at_stamp r.stamp c) t) (guarded-row stamp committed actor operation (at_stamp r.stamp c) t work) (λ next guarded. guarded-rows stamp committed actor operation c rows next guarded)
+  where
+    go : (changed : Result Transaction StatusWord) → IfOk changed (IsGuardedWork stamp committed)
+        → ((next : Transaction) → IsGuardedWork stamp committed next → IsGuardedWork stamp committed (all_changed committed actor operation c rows next).transaction)
+        → IsGuardedWork stamp committed (once_changed r.stamp t (λ next. all_changed committed actor operation c rows next) changed).transaction
+    go (Err word) guarded rest = work
+    go (Ok next) guarded rest = rest next guarded
+
+-- Statements.
+abbrev IsSparing : ℕ → Machine → Meaning → Type 0
+IsSparing stamp m x = Spares stamp m.committed x.machine x.commits
+
+-- the sessions alone change
+sparing-none : (stamp : ℕ) (m : Machine) (sessions : List (Option Session)) → IsGuardedMachine stamp m → Spares stamp m.committed (record m { sessions = sessions }) []
+sparing-none stamp m sessions guarded = record { machine = guarded-sessions stamp m sessions guarded; commits = tt }
+
+sparing-open : (stamp : ℕ) (m : Machine) (channel : ℕ) (x : Meaning) → IsGuardedMachine stamp m → IsSparing stamp m x → IsSparing stamp m (on_open m channel x)
+sparing-open stamp m channel x guarded sparing = go (is_channel_open m channel)
+  where
+    go : (b : Bool) → IsSparing stamp m (if b then x else ended (Refused channel_not_supported) m channel)
+    go true = sparing
+    go false = record { machine = guarded; commits = tt }
+
+sparing-selects : (stamp : ℕ) (m : Machine) (channel : ℕ) (d : Result Declared StatusWord) → IsGuardedMachine stamp m → IsSparing stamp m (selects_all m channel d)
+sparing-selects stamp m channel (Err word) guarded = sparing-none stamp m _ guarded
+sparing-selects stamp m channel (Ok d) guarded = sparing-none stamp m _ guarded
+
+sparing-inside : (stamp : ℕ) (m : Machine) (channel : ℕ) (operation : Operation) (t : Transaction) (d : Result Declared StatusWord) → IsGuardedMachine stamp m → IsGuardedWork stamp m.committed t
+    → IsSparing stamp m (changed_inside m channel operation t d)
+sparing-inside stamp m channel operation t (Err word) guarded work = sparing-none stamp m _ guarded
+sparing-inside stamp m channel operation t (Ok d) guarded work =
+    sparing-none stamp (record m { transaction = Some (changed_in m channel operation d t).transaction }) _ (record {
+      committed = guarded.committed;
+      transaction = guarded-rows stamp m.committed (actor m channel) operation d.cursor d.rows t work;
+    })
+
+sparing-committed : (stamp : ℕ) (m : Machine) (channel : ℕ) (d : Declared) (c : Changed) (refusal : Option StatusWord) → m.transaction ≡ None → IsGuardedMachine stamp m
+    → IsGuardedWork stamp m.committed c.transaction → IsSparing stamp m (committed_after m channel d c refusal)
+sparing-committed stamp m channel d c (Some word) none guarded work = sparing-none stamp m _ guarded
+sparing-committed stamp m channel d c None none guarded work = record {
+  machine = guarded-sessions stamp (record m { committed = c.transaction.working }) _ (guarded-closed stamp m c.transaction.working none work.working);
+  commits = ((work.working, inr work.spared), tt);
+}
+
+sparing-outside : (stamp : ℕ) (m : Machine) (channel : ℕ) (operation : Operation) (d : Result Declared StatusWord) (t : Option Transaction) → m.transaction ≡ t → IsGuardedMachine stamp m
+    → IsSparing stamp m (changed_outside m channel operation d t)
+sparing-outside stamp m channel operation d (Some t) is guarded = sparing-none stamp m _ guarded
+sparing-outside stamp m channel operation (Err word) None is guarded = sparing-none stamp m _ guarded
+sparing-outside stamp m channel operation (Ok d) None is guarded =
+    let c = changed_in m channel operation d (begun m channel) in
+    sparing-committed stamp m channel d c c.refusal is guarded
+    (guarded-rows stamp m.committed (actor m channel) operation d.cursor d.rows (begun m channel) (guarded-begun stamp m.committed channel guarded.committed))
+
+sparing-changes : (stamp : ℕ) (m : Machine) (channel : ℕ) (operation : Operation) (d : Result Declared StatusWord) → IsGuardedMachine stamp m
+    → IsSparing stamp m (changed_by m channel operation d (own_transaction m.transaction channel))
+sparing-changes stamp m channel operation d guarded = go (own_transaction m.transaction channel) refl
+  where
+    go : (own : Option Transaction) → own_transaction m.transaction channel ≡ own → IsSparing stamp m (changed_by m channel operation d own)
+    go (Some t) is = sparing-inside stamp m channel operation t d guarded (guarded-own stamp m channel t is guarded)
+    go None is = sparing-outside stamp m channel operation d m.transaction refl guarded
+
+sparing-meaning : (stamp : ℕ) (m : Machine) (channel : ℕ) (s : Statement) → IsGuardedMachine stamp m → IsSparing stamp m (meaning m channel s)
+unfolding meaning
+sparing-meaning stamp m channel Blank guarded = record { machine = guarded; commits = tt }
+sparing-meaning stamp m channel (Single operation) guarded = spares-answer stamp m (asking channel operation) guarded
+sparing-meaning stamp m channel (Select object columns conditions) guarded =
+    sparing-open stamp m channel _ guarded (sparing-selects stamp m channel (declared m channel object columns conditions) guarded)
+sparing-meaning stamp m channel (UpdateRows object changes conditions) guarded =
+    sparing-open stamp m channel _ guarded (sparing-changes stamp m channel (Update changes) (declared m channel object [] conditions) guarded)
+sparing-meaning stamp m channel (DeleteRows object conditions) guarded =
+    sparing-open stamp m channel _ guarded (sparing-changes stamp m channel Delete (declared m channel object [] conditions) guarded)
+sparing-meaning stamp m channel (OpenNumber number) guarded = spares-answer stamp m (asking 0 (OpenChannel number)) guarded
+sparing-meaning stamp m channel (CloseNumber number) guarded = spares-answer stamp m (asking 0 (CloseChannel number)) guarded
+sparing-meaning stamp m channel (UseNumber number) guarded = record { machine = guarded; commits = tt }
+sparing-meaning stamp m channel Reset guarded = record { machine = record { committed = guarded.committed; transaction = tt }; commits = tt }
+
+-- Lines.
+sparing-read : (stamp : ℕ) (state : TerminalState) (read : Result Statement ScriptFault) → IsGuardedMachine stamp state.machine
+    → (let does = read_effect state read in Spares stamp state.machine.committed does.next.machine does.commits)
+sparing-read stamp state (Err fault) guarded = record { machine = guarded; commits = tt }
+sparing-read stamp state (Ok s) guarded = sparing-meaning stamp state.machine state.channel s guarded
+
+sparing-line : (stamp : ℕ) (state : TerminalState) (line : Option (List ℕ)) → IsGuardedMachine stamp state.machine
+    → (let does = statement_effect state line in Spares stamp state.machine.committed does.next.machine does.commits)
+sparing-line stamp state None guarded = record { machine = guarded; commits = tt }
+sparing-line stamp state (Some line) guarded = sparing-read stamp state (statement_of line) guarded
+
+pub statements-spare : SparesTries statement_lines
+statements-spare = record {
+  machine = λ stamp state line guarded. (sparing-line stamp state line guarded).machine;
+  commits = λ stamp state line guarded. (sparing-line stamp state line guarded).commits;
+}
