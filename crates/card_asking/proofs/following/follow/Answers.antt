@@ -1,0 +1,42 @@
+use Rattle.std.proofs.Common.{◌<◌, Some, None, refl, sym, subst, inl, rules}
+use Rattle.planner.specs.declared.step.Step.{Step}
+use Rattle.planner.specs.Turns.{IfGoesOn}
+use Rattle.card_asking.specs.Following.{Follows, given_by, to_go}
+use Rattle.card_asking.proofs.Moments.{leaves-all, leaves-none}
+use Rattle.card_asking.proofs.Followed.{asked-follows, asked-less, asked-moment, reset-follows, less-seen}
+use Rattle.card_asking.proofs.Rows.{gives-on}
+use Rattle.card_asking.proofs.following.follow.Goals as goal
+
+pub returns-in_err-ask-in-Send-clause-moments : goal.returns-in_err-ask-in-Send-clause-moments
+returns-in_err-ask-in-Send-clause-moments g c = λ m at.
+    leaves-all g.L.CardLink.chip _ _ c.args.link.now c.ask.new.link (λ n left is. asked-moment (g.L.CardLink.mark c.args.link.now) m c.args.plan.now c.args.step.now c.in-Send.command n left c.in-Send.is is) (c.ask.ensures.moments m at)
+
+pub returns-in_ok-ask-in-Send-clause-moments : goal.returns-in_ok-ask-in-Send-clause-moments
+returns-in_ok-ask-in-Send-clause-moments g c = λ m at.
+    leaves-all g.L.CardLink.chip _ _ c.args.link.now c.ask.new.link (λ n left is. asked-moment (g.L.CardLink.mark c.args.link.now) m c.args.plan.now c.args.step.now c.in-Send.command n left c.in-Send.is is) (c.ask.ensures.moments m at)
+
+pub returns-in_ok-ask-in-Send-clause-follows : goal.returns-in_ok-ask-in-Send-clause-follows
+returns-in_ok-ask-in-Send-clause-follows g c = λ m at.
+    asked-follows g.L.CardLink.is_at m c.args.plan.now c.next_into-in-Send.new.self c.args.step.now c.in-Send.command c.next_into-in-Send.new.step c.ask.new.reply c.ask.new.link c.in-Send.is c.requires.sendable
+    (c.in_ok-ask-in-Send.ensures.answer m at) c.next_into-in-Send.ensures.next
+
+pub returns-in_ok-ask-in-Send-clause-gives : goal.returns-in_ok-ask-in-Send-clause-gives
+returns-in_ok-ask-in-Send-clause-gives g c = λ m closing rows gives.
+    gives-on g.L.CardLink.is_at m closing rows c.args.plan.now c.next_into-in-Send.new.self c.args.step.now c.next_into-in-Send.new.step c.args.link.now c.ask.new.link gives
+    (asked-follows g.L.CardLink.is_at gives.machine c.args.plan.now c.next_into-in-Send.new.self c.args.step.now c.in-Send.command c.next_into-in-Send.new.step c.ask.new.reply c.ask.new.link c.in-Send.is c.requires.sendable
+    (c.in_ok-ask-in-Send.ensures.answer gives.machine gives.at) c.next_into-in-Send.ensures.next)
+
+pub returns-in_ok-ask-in-Send-clause-less : goal.returns-in_ok-ask-in-Send-clause-less
+returns-in_ok-ask-in-Send-clause-less g c = asked-less (Some c.ask.new.reply) c.args.plan.now c.next_into-in-Send.new.self c.args.step.now c.next_into-in-Send.new.step c.in-Send.command c.in-Send.is c.next_into-in-Send.ensures.next
+
+pub returns-in-ResetCard-clause-follows : goal.returns-in-ResetCard-clause-follows
+returns-in-ResetCard-clause-follows g c = λ m at.
+    subst (λ (s : Step). Follows g.L.CardLink.is_at m c.args.plan.now s (given_by c.args.plan.now s) c.next_into.new.self c.next_into.new.step c.reset.new.self) (sym c.in-ResetCard.is)
+    (reset-follows g.L.CardLink.is_at m c.args.plan.now c.next_into.new.self c.next_into.new.step c.reset.new.self (c.reset.ensures.step m at) c.next_into.ensures.next)
+
+pub returns-in-ResetCard-clause-moments : goal.returns-in-ResetCard-clause-moments
+returns-in-ResetCard-clause-moments g c = λ m at. leaves-all g.L.CardLink.chip _ _ c.args.link.now c.reset.new.self (λ n left holds. inl holds) (c.reset.ensures.moments m at)
+
+pub returns-in-ResetCard-clause-less : goal.returns-in-ResetCard-clause-less
+returns-in-ResetCard-clause-less g c =
+    subst (λ (s : Step). IfGoesOn s (to_go c.next_into.new.self c.next_into.new.step < to_go c.args.plan.now s)) (sym c.in-ResetCard.is) (less-seen None c.args.plan.now c.next_into.new.self c.next_into.new.step c.next_into.ensures.next)

@@ -1,0 +1,62 @@
+-- A plan under way on a link: what is left of its run, and how the link goes on with it.
+use Rattle.std.specs.Prelude.{◌≡◌, ℕ, suc, List, [], ◌∷◌, ◌++◌, length, Option, None}
+use Rattle.scql_model.specs.Database.{Database}
+use Rattle.scql_model.specs.Heard.{after_commits}
+use Rattle.scql_model.specs.Machine.{Machine}
+use Rattle.scql_model.specs.Replies.{Reply}
+use Rattle.planner.specs.declared.closing.Closing.{Closing}
+use Rattle.planner.specs.declared.step.Step.{Step}
+use Rattle.planner.specs.declared.step.Step.TheVariants.{Row, Done}
+use Rattle.planner.specs.Held.{transaction_channel}
+use Rattle.planner.specs.Planned.{Planned, next_of}
+use Rattle.planner.specs.Readings.{IsReadingAt}
+use Rattle.planner.specs.Turns.{turns_left}
+use Rattle.planner.specs.Running.{Ran, run, taken}
+
+-- a plan's run to its end, and what is left of it at a step
+abbrev pub whole_run : Machine → Option Reply → Planned → Ran
+whole_run m last p = run (suc (turns_left p)) m last p
+
+abbrev pub run_from : Machine → Planned → Step → Ran
+run_from m p step = taken whole_run m p step
+
+-- the run of a plan that takes its first step
+abbrev pub run_of : Machine → Planned → Ran
+run_of m p = run_from m (next_of None p).plan (next_of None p).step
+
+-- the run of a plan that takes its first step only reads
+abbrev pub OnlyReads : Planned → Type 0
+OnlyReads p = IsReadingAt (next_of None p).plan (next_of None p).step
+
+-- a run behind rows that were given before it, and databases that were committed
+abbrev pub behind : List (List ℕ) → List Database → Ran → Ran
+behind rows commits ran = record ran { rows = rows ++ ran.rows; commits = commits ++ ran.commits }
+
+-- the database after all commits
+abbrev pub after_all : Database → List Database → Database
+after_all db commits = after_commits db commits (length commits)
+
+-- how many steps are left
+abbrev pub to_go : Planned → Step → ℕ
+to_go p (Done closing) = 0
+to_go p step = suc (turns_left p)
+
+-- the row that a step has, if it has one
+abbrev pub given_by : Planned → Step → List (List ℕ)
+given_by p (Row command) = p.row ∷ []
+given_by p step = []
+
+-- A link that was at a machine and a step of a plan is at another machine and step: the run from there on follows these rows, and what was committed until then. A plan that
+-- reads reads on, and keeps the open transaction.
+pub record Follows {L : Type 0} (is_at : L → Machine → Type 0) (m : Machine) (p : Planned) (step : Step) (rows : List (List ℕ)) (q : Planned) (next : Step) (now : L) : Type 0 where
+  pub machine : Machine
+  pub commits : List Database
+  pub at : is_at now machine
+  pub left : run_from m p step ≡ behind rows commits (run_from machine q next)
+  pub committed : machine.committed ≡ after_all m.committed commits
+  pub reads : IsReadingAt p step → IsReadingAt q next × (transaction_channel machine ≡ transaction_channel m)
+
+-- a link is at the machine after a run, which closed so
+pub record IsEnded {L : Type 0} (is_at : L → Machine → Type 0) (ran : Ran) (closing : Closing) (now : L) : Type 0 where
+  pub at : is_at now ran.machine
+  pub closes : closing ≡ ran.closing

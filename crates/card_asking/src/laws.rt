@@ -1,0 +1,32 @@
+// Laws over what a plan of a SELECT gives over a link. Each is the contract of a function that does nothing.
+ghost use Rattle.std.specs.Prelude.{ℕ, Bool, List, None};
+ghost use Rattle.scql_base.specs.declared.operation.Command.{Command};
+ghost use Rattle.scql_model.specs.Machine.{Machine};
+ghost use Rattle.scql_model.specs.Matching.{Values};
+ghost use Rattle.script.specs.declared.statement.Statement.{Statement};
+ghost use Rattle.script.specs.Commands.{CanBeSent};
+ghost use Rattle.planner.specs.declared.closing.Closing.{Closing};
+ghost use Rattle.planner.specs.declared.step.Step.TheVariants.{Row, Done};
+ghost use Rattle.planner.specs.Planned.{Planned, next_of, started};
+ghost use Rattle.planner.specs.Readings.{IsSelect};
+ghost use Rattle.card_asking.specs.Giving.{AreAllGiven, Gives, GivesMeaning, IsNextRow};
+
+use card_link::CardLink;
+
+/// At its first step a plan of a SELECT is to give the rows of the SELECT's meaning, and to close as that does.
+pub fn a_select_is_to_give_its_rows<L: CardLink>()
+    ensures { (m : Machine) (channel : ℕ) (s : Statement) (inside : Bool) (now : L) → IsSelect s → CanBeSent channel s → L.is_at now m
+        → GivesMeaning L.is_at m channel s (next_of None (started s channel inside)).plan (next_of None (started s channel inside)).step now }
+{}
+
+/// A step with a row has the first of the rows that are left.
+pub fn a_row_is_the_next<L: CardLink>()
+    ensures { (m : Machine) (closing : Closing) (rows : List Values) (p : Planned) (c : Command) (now : L) → Gives L.is_at m closing rows p (Row c) now
+        → IsNextRow rows p.row }
+{}
+
+/// At the last step all rows were given, and it closes as it was to.
+pub fn all_rows_are_given<L: CardLink>()
+    ensures { (m : Machine) (closing : Closing) (rows : List Values) (p : Planned) (last : Closing) (now : L) → Gives L.is_at m closing rows p (Done last) now
+        → AreAllGiven closing rows last }
+{}

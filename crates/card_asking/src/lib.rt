@@ -1,0 +1,11 @@
+//! What asks a card, over any link: a command in its parts, and the steps of a plan.
+#![tactic(auto)]
+
+mod asking;
+mod following;
+pub mod laws;
+mod mute;
+
+pub use asking::ask;
+pub use following::{carry_out, follow};
+pub use mute::Mute;
