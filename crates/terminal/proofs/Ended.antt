@@ -1,128 +1,42 @@
 -- How a line ends: its text, and its moments.
-use Rattle.std.proofs.Common.{◌≡◌, ◌⊎◌, ℕ, ◌≤◌, ◌==◌, nat_le, Bool, true, false, ◌&&◌, List, [], ◌∷◌, ◌++◌, length, map, Option, Some, None, is_some, option_map, Result, Ok, Err, if◌then◌else◌, append_assoc, refl, sym, ◌∙◌, ap, subst, inl, inr, arith}
+use Rattle.std.proofs.Common.{◌≡◌, ◌⊎◌, ℕ, ◌≤◌, ◌==◌, nat_le, Bool, true, ◌&&◌, List, [], ◌∷◌, ◌++◌, length, map, Option, Ok, append_assoc, refl, sym, ◌∙◌, ap, subst, inl, inr, arith}
 use Rattle.std.specs.List.{concat, list_all, AllByRecursion}
-use Rattle.std.specs.Option.{option_map_or}
 use Rattle.std.proofs.lemmas.Bool.{and_parts, le-ltb, cases_Bool, eqb-true, eqb-false, false≢true}
 use Rattle.scql_base.specs.Row.{row_size, is_narrow}
 use Rattle.scql_base.proofs.Splitting.{params_of-again}
-use Rattle.scql_base.specs.declared.words.StatusWord.{StatusWord}
-use Rattle.scql_base.specs.declared.condition.Condition.{Condition}
-use Rattle.scql_base.specs.declared.operation.Operation.{Operation}
-use Rattle.scql_base.specs.Words.{channel_not_supported}
-use Rattle.scql_model.specs.Database.{Database, IsValid}
-use Rattle.scql_model.specs.Machine.{Machine, Transaction, base}
+use Rattle.scql_model.specs.Database.{Database}
+use Rattle.scql_model.specs.Machine.{Machine}
 use Rattle.scql_model.specs.Lines.{line_effect}
-use Rattle.scql_model.specs.Sessions.{is_channel_open}
-use Rattle.scql_model.specs.Matching.{Columns, Values}
+use Rattle.scql_model.specs.Matching.{Values}
 use Rattle.scql_model.specs.Records as records
 use Rattle.scql_model.specs.Records.{is_row}
 use Rattle.scql_model.specs.ReadingCommands.{row_octets}
-use Rattle.scql_model.specs.Transactions.{own_transaction}
 use Rattle.card_link.specs.Link.{IsOneOf, IsOver as IsOverValid}
 use Rattle.script.specs.declared.statement.Statement.{Statement}
-use Rattle.script.specs.declared.statement.Statement.TheVariants.{Blank, Single, Select, UpdateRows, DeleteRows, OpenNumber, CloseNumber, UseNumber, Reset}
 use Rattle.script.specs.Commands.{CanBeSent}
 use Rattle.script.specs.Line.{statement_of}
 use Rattle.planner.specs.declared.closing.Closing.{Closing}
-use Rattle.planner.specs.declared.closing.Closing.TheVariants.{Refused}
-use Rattle.planner.specs.Meaning.{Meaning, Declared, Changed, declared, ended, selects_all, changed_by, changed_outside, committed_after, changed_in, on_open, begun, meaning}
+use Rattle.planner.specs.Meaning.{Meaning, meaning}
 use Rattle.planner.specs.Readings.{IsSelect}
 use Rattle.planner.specs.Running.{shown}
 use Rattle.planner.specs.Held.{transaction_channel, held_after, held_when}
 use Rattle.planner.specs.StatementLines.{TerminalState, read_effect, statement_lines, unread}
 use Rattle.planner.specs.Text.{row_text, closing_text, meaning_text}
 use Rattle.planner.proofs.GoingOn.{goes-on}
-use Rattle.planner.proofs.Statements.{select-rows}
 use Rattle.planner.proofs.TransactionKnown.{transaction-told}
 use Rattle.terminal.specs.declared.failure.Failure.TheVariants.{Card, Outlet}
 use Rattle.terminal.specs.declared.line_end.LineEnd.{LineEnd}
 use Rattle.terminal.specs.declared.line_end.LineEnd.TheVariants as ends
-use Rattle.terminal.specs.Going.{printed_row, rows_text, ran_text, after_all, IsAmong, IsInRun, IsMute, IsCut, IsOver, FailsSo}
+use Rattle.card_asking.specs.Following.{after_all}
+use Rattle.card_asking.proofs.Moments.{one-last}
+use Rattle.card_asking.proofs.Sound.{IsSound, select-or-none, sound}
+use Rattle.terminal.specs.Going.{printed_row, rows_text, ran_text, IsInRun, IsMute, IsCut, IsOver, FailsSo}
 use Rattle.terminal.specs.Holding.{Holding, Knows, Sits, terminal_at, holding_after}
 use Rattle.terminal.specs.Line.{IsAnswered, IsCutOff, IsCutShort, EndsSo, EndsBy, ClosesSo, IsMoment, is_refusal, refuses, rows_in}
 use Rattle.terminal.specs.Stays.{Works}
-use Rattle.terminal.proofs.Meant.{base-valid}
-use Rattle.terminal.proofs.Sent.{among-last}
 use Rattle.terminal.proofs.Went.{prints-both, works-both}
 use Rattle.eeprom.specs.Fault.{Rose}
 use Rattle.eeprom.specs.Output.{Prints}
-
--- What a meaning gives: rows that are rows, and either these or commits.
-pub record IsSound (x : Meaning) : Type 0 where
-  pub formed : AllByRecursion (λ (values : Values). is_row values ≡ true) x.rows
-  pub either : (x.commits ≡ []) ⊎ (x.rows ≡ [])
-
-no-rows : (x : Meaning) → x.rows ≡ [] → IsSound x
-no-rows x none = record { formed = subst (AllByRecursion (λ (values : Values). is_row values ≡ true)) (sym none) tt; either = inr none }
-
-changed-rows : (m : Machine) (channel : ℕ) (operation : Operation) (d : Result Declared StatusWord) (own : Option Transaction) → (changed_by m channel operation d own).rows ≡ []
-changed-rows m channel operation (Err word) (Some t) = refl
-changed-rows m channel operation (Ok d) (Some t) = refl
-changed-rows m channel operation d None = outside m.transaction d
-  where
-    committed : (d : Declared) (c : Changed) (refusal : Option StatusWord) → (committed_after m channel d c refusal).rows ≡ []
-    committed d c None = refl
-    committed d c (Some word) = refl
-
-    outside : (t : Option Transaction) (d : Result Declared StatusWord) → (changed_outside m channel operation d t).rows ≡ []
-    outside (Some t) d = refl
-    outside None (Err word) = refl
-    outside None (Ok d) = committed d (changed_in m channel operation d (begun m channel)) (changed_in m channel operation d (begun m channel)).refusal
-
-on-open-rows : (m : Machine) (channel : ℕ) (x : Meaning) → x.rows ≡ [] → (on_open m channel x).rows ≡ []
-on-open-rows m channel x none = go (is_channel_open m channel)
-  where
-    go : (b : Bool) → (if b then x else ended (Refused channel_not_supported) m channel).rows ≡ []
-    go true = none
-    go false = refl
-
-select-sound : (m : Machine) (channel : ℕ) (object : List ℕ) (columns : Columns) (conditions : List Condition) → IsValid (base m channel) → CanBeSent channel (Select object columns conditions)
-    → IsSound (meaning m channel (Select object columns conditions))
-unfolding meaning
-select-sound m channel object columns conditions valid can = go (is_channel_open m channel) refl
-  where
-    selected : Meaning
-    selected = selects_all m channel (declared m channel object columns conditions)
-
-    none : (d : Result Declared StatusWord) → (selects_all m channel d).commits ≡ []
-    none (Err word) = refl
-    none (Ok d) = refl
-
-    commits : (b : Bool) → (if b then selects_all m channel (declared m channel object columns conditions) else ended (Refused channel_not_supported) m channel).commits ≡ []
-    commits true = none (declared m channel object columns conditions)
-    commits false = refl
-
-    formed : (b : Bool) → is_channel_open m channel ≡ b → AllByRecursion (λ (values : Values). is_row values ≡ true) (on_open m channel (selects_all m channel (declared m channel object columns conditions))).rows
-    formed true is = (select-rows m channel object columns conditions is valid can.commands.0.formed.form.1).formed
-    formed false is =
-        subst (λ b. AllByRecursion (λ (values : Values). is_row values ≡ true) (if b then selects_all m channel (declared m channel object columns conditions) else ended (Refused channel_not_supported) m channel).rows) (sym is) tt
-
-    go : (b : Bool) → is_channel_open m channel ≡ b → IsSound (on_open m channel (selects_all m channel (declared m channel object columns conditions)))
-    go b is = record { formed = formed b is; either = inl (commits (is_channel_open m channel)) }
-
--- a SELECT alone gives rows
-select-or-none : (m : Machine) (channel : ℕ) (s : Statement) → IsSelect s ⊎ ((meaning m channel s).rows ≡ [])
-unfolding meaning
-select-or-none m channel (Select object columns conditions) = inl tt
-select-or-none m channel (UpdateRows object changes conditions) = inr (on-open-rows m channel _ (changed-rows m channel _ (declared m channel object [] conditions) (own_transaction m.transaction channel)))
-select-or-none m channel (DeleteRows object conditions) = inr (on-open-rows m channel _ (changed-rows m channel _ (declared m channel object [] conditions) (own_transaction m.transaction channel)))
-select-or-none m channel Blank = inr refl
-select-or-none m channel (Single operation) = inr refl
-select-or-none m channel (OpenNumber number) = inr refl
-select-or-none m channel (CloseNumber number) = inr refl
-select-or-none m channel (UseNumber number) = inr refl
-select-or-none m channel Reset = inr refl
-
-pub sound : (m : Machine) (channel : ℕ) (s : Statement) → IsOverValid m → CanBeSent channel s → IsSound (meaning m channel s)
-sound m channel s over can = go (select-or-none m channel s)
-  where
-    select : (s : Statement) → IsSelect s → CanBeSent channel s → IsSound (meaning m channel s)
-    select (Select object columns conditions) is can = select-sound m channel object columns conditions (base-valid m channel over) can
-    select s is can = absurd is
-
-    go : IsSelect s ⊎ ((meaning m channel s).rows ≡ []) → IsSound (meaning m channel s)
-    go (inl is) = select s is can
-    go (inr none) = no-rows (meaning m channel s) none
 
 -- The text of rows.
 row-again : (values : Values) → is_row values ≡ true → printed_row (row_octets values) ≡ row_text values
@@ -205,39 +119,22 @@ failure-ends is_at given m channel s holding old new over can knows =
     let is = sound m channel s over can in
     ((λ mute. cut-off given (meaning m channel s) old new is mute), (λ cut. cut-short is_at given m channel s holding old new is knows cut))
 
--- Whether the channel has the open transaction.
-pub inside-known : (m : Machine) (channel : ℕ) (held : Option ℕ) → Knows held m → option_map_or (λ (n : ℕ). n == channel) held false ≡ is_some (own_transaction m.transaction channel)
-inside-known m channel held knows = ap (λ (t : Option ℕ). option_map_or (λ (n : ℕ). n == channel) t false) knows ∙ go m.transaction
-  where
-    mine : (t : Transaction) (b : Bool) → b ≡ is_some (let x : Option Transaction = if b then Some t else None in x)
-    mine t true = refl
-    mine t false = refl
-
-    go : (t : Option Transaction) → option_map_or (λ (n : ℕ). n == channel) (option_map (λ (t : Transaction). t.channel) t) false ≡ is_some (own_transaction t channel)
-    go None = refl
-    go (Some t) = mine t (t.channel == channel)
-
 -- Moments.
-pub among-one : (mark g : ℕ) (dbs : List Database) (left : Database) → g ≡ mark → IsAmong dbs left → IsOneOf mark dbs g left
-among-one mark g [] left same is = is
-among-one mark g (db ∷ dbs) left same (inl is) = inl (same, is)
-among-one mark g (db ∷ dbs) left same (inr is) = inr (among-one mark g dbs left same is)
-
 -- from a mark on the database is the last one
 pub last-moment : (mark g : ℕ) (db : Database) (commits : List Database) (left : Database) → mark ≤ g → left ≡ after_all db commits → IsMoment mark db commits g left
 last-moment mark g db commits left above is =
     elim (cases_Bool (g == mark)) [
-      | inl t ↦ inl (among-one mark g (db ∷ commits) left (eqb-true g mark t) (among-last db commits left is))
+      | inl t ↦ inl (one-last mark db commits g left (eqb-true g mark t) is)
       | inr f ↦ inr (let other : g ≡ mark → ⊥ = eqb-false g mark f in (omega (arith, other, above), is))
     ]
 
 run-moment : (mark g : ℕ) (m : Machine) (x : Meaning) (left : Database) → IsSound x → IsInRun mark m (shown x) g left → IsMoment mark m.committed x.commits g left
 run-moment mark g m x left is within = go is.either within.among
   where
-    go : (x.commits ≡ []) ⊎ (x.rows ≡ []) → IsAmong (m.committed ∷ x.commits) left → IsMoment mark m.committed x.commits g left
-    go (inr none) among = inl (among-one mark g (m.committed ∷ x.commits) left (within.still (ap (map row_octets) none)) among)
-    go (inl none) (inl among) = last-moment mark g m.committed x.commits left within.above (among ∙ ap (after_all m.committed) (sym none))
-    go (inl none) (inr among) = absurd (subst (λ (commits : List Database). IsAmong commits left) none among)
+    go : (x.commits ≡ []) ⊎ (x.rows ≡ []) → IsOneOf g (m.committed ∷ x.commits) g left → IsMoment mark m.committed x.commits g left
+    go (inr none) among = inl (subst (λ (n : ℕ). IsOneOf n (m.committed ∷ x.commits) g left) (within.still (ap (map row_octets) none)) among)
+    go (inl none) (inl among) = last-moment mark g m.committed x.commits left within.above (among.1 ∙ ap (after_all m.committed) (sym none))
+    go (inl none) (inr among) = absurd (subst (λ (commits : List Database). IsOneOf g commits g left) none among)
 
 pub run-moments : (mark g : ℕ) (m : Machine) (channel : ℕ) (s : Statement) (left : Database) → IsOverValid m → CanBeSent channel s → IsInRun mark m (shown (meaning m channel s)) g left
     → IsMoment mark m.committed (meaning m channel s).commits g left

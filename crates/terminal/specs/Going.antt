@@ -1,22 +1,19 @@
--- A statement under way on a link: what is left of its run, and what came of it so far.
-use Rattle.std.specs.Prelude.{◌≡◌, ◌⊎◌, ℕ, suc, ◌≤◌, List, [], ◌∷◌, ◌++◌, length, map, Option, None}
+-- A statement under way on a desk: what was printed of it so far, and what of it is left.
+use Rattle.std.specs.Prelude.{◌≡◌, ℕ, ◌≤◌, List, [], ◌∷◌, ◌++◌, map, Option}
 use Rattle.std.specs.List.{concat}
 use Rattle.std.specs.Option.{option_map_or}
 use Rattle.scql_base.specs.Row.{row_from}
 use Rattle.scql_model.specs.Database.{Database}
-use Rattle.scql_model.specs.Heard.{after_commits}
 use Rattle.scql_model.specs.Machine.{Machine}
-use Rattle.scql_model.specs.Replies.{Reply}
 use Rattle.eeprom.specs.Output.{Prints}
 use Rattle.planner.specs.declared.closing.Closing.{Closing}
 use Rattle.planner.specs.declared.step.Step.{Step}
-use Rattle.planner.specs.declared.step.Step.TheVariants.{Done}
 use Rattle.planner.specs.Held.{transaction_channel}
-use Rattle.planner.specs.Planned.{Planned, next_of}
-use Rattle.planner.specs.Readings.{IsReadingAt}
-use Rattle.planner.specs.Turns.{turns_left}
-use Rattle.planner.specs.Running.{Ran, run, taken}
+use Rattle.planner.specs.Planned.{Planned}
+use Rattle.planner.specs.Running.{Ran}
 use Rattle.planner.specs.Text.{row_text, closing_text}
+use Rattle.card_link.specs.Link.{IsOneOf}
+use Rattle.card_asking.specs.Following.{Follows, after_all}
 use Rattle.terminal.specs.declared.failure.Failure.{Failure}
 use Rattle.terminal.specs.declared.failure.Failure.TheVariants.{Card, Outlet}
 
@@ -30,57 +27,23 @@ rows_text rows = concat (map printed_row rows)
 abbrev pub ran_text : Ran → List ℕ
 ran_text ran = rows_text ran.rows ++ closing_text ran.closing
 
--- a plan's run to its end, and what is left of it at a step
-abbrev pub whole_run : Machine → Option Reply → Planned → Ran
-whole_run m last p = run (suc (turns_left p)) m last p
-
-abbrev pub run_from : Machine → Planned → Step → Ran
-run_from m p step = taken whole_run m p step
-
--- the run of a plan that takes its first step
-abbrev pub run_of : Machine → Planned → Ran
-run_of m p = run_from m (next_of None p).plan (next_of None p).step
-
--- the run of a plan that takes its first step only reads
-abbrev pub OnlyReads : Planned → Type 0
-OnlyReads p = IsReadingAt (next_of None p).plan (next_of None p).step
-
--- a run behind rows that were given before it, and databases that were committed
-abbrev pub behind : List (List ℕ) → List Database → Ran → Ran
-behind rows commits ran = record ran { rows = rows ++ ran.rows; commits = commits ++ ran.commits }
-
--- the database after all commits
-abbrev pub after_all : Database → List Database → Database
-after_all db commits = after_commits db commits (length commits)
-
--- a database is one of these
-abbrev pub IsAmong : List Database → Database → Type 0
-IsAmong [] left = ⊥
-IsAmong (db ∷ dbs) left = (left ≡ db) ⊎ IsAmong dbs left
-
 -- From a mark on a database is one of these; the mark is a later one only where rows were given.
 pub record IsWithin (from : ℕ) (rows : List (List ℕ)) (dbs : List Database) (g : ℕ) (left : Database) : Type 0 where
   pub above : from ≤ g
   pub still : rows ≡ [] → g ≡ from
-  pub among : IsAmong dbs left
+  pub among : IsOneOf g dbs g left
 
 -- so at each moment of a run from a machine on
 abbrev pub IsInRun : ℕ → Machine → Ran → ℕ → Database → Type 0
 IsInRun from m ran g left = IsWithin from ran.rows (m.committed ∷ ran.commits) g left
 
--- A link went from a machine and a step of a plan to another machine and step: the run from there on follows what was given and committed until then. A plan that reads
--- reads on, and keeps the open transaction.
+-- A desk went from a machine and a step of a plan to another machine and step, and printed the rows that were given until then.
 pub record Goes {L : Type 0} (is_at : L → Machine → Type 0) (given : L → Option (List ℕ)) (mark : L → ℕ) (m : Machine) (p : Planned) (step : Step) (old new : L) (q : Planned) (next : Step) : Type 0 where
-  pub machine : Machine
   pub rows : List (List ℕ)
-  pub commits : List Database
-  pub at : is_at new machine
-  pub left : run_from m p step ≡ behind rows commits (run_from machine q next)
+  pub follows : Follows is_at m p step rows q next new
   pub printed : Prints (rows_text rows) (given old) (given new)
-  pub committed : machine.committed ≡ after_all m.committed commits
   pub later : mark old ≤ mark new
   pub still : rows ≡ [] → mark new ≡ mark old
-  pub reads : IsReadingAt p step → IsReadingAt q next × (transaction_channel machine ≡ transaction_channel m)
 
 -- a card that goes mute: some first rows of what was left were printed
 pub record IsMute {L : Type 0} (given : L → Option (List ℕ)) (ran : Ran) (old new : L) : Type 0 where
@@ -113,8 +76,3 @@ pub record IsOver {L : Type 0} (is_at : L → Machine → Type 0) (given : L →
   pub committed : ran.machine.committed ≡ after_all m.committed ran.commits
   pub later : mark old ≤ mark new
   pub still : ran.rows ≡ [] → mark new ≡ mark old
-
--- how many steps are left
-abbrev pub to_go : Planned → Step → ℕ
-to_go p (Done closing) = 0
-to_go p step = suc (turns_left p)

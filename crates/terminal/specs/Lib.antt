@@ -4,5 +4,4 @@ pub mod Line
 pub mod Load
 pub mod Printed
 pub mod Quiet
-pub mod SilentLaws
 pub mod Stays

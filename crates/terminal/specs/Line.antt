@@ -16,9 +16,10 @@ use Rattle.planner.specs.StatementLines.{TerminalState}
 use Rattle.planner.specs.Text.{row_text}
 use Rattle.terminal.specs.declared.line_end.LineEnd.{LineEnd}
 use Rattle.terminal.specs.declared.line_end.LineEnd.TheVariants as ends
-use Rattle.terminal.specs.Going.{after_all}
+use Rattle.card_asking.specs.Following.{after_all}
 use Rattle.terminal.specs.Holding.{Holding, Knows, Sits}
-use Rattle.terminal.specs.Stays.{Breaks, IsStart, Mutes, Works}
+use Rattle.card_asking.specs.Asked.{Mutes}
+use Rattle.terminal.specs.Stays.{Breaks, IsStart, Works}
 
 -- the closing line is a refusal, or an error
 abbrev pub is_refusal : Closing → Bool

@@ -1,21 +1,10 @@
--- What calls leave of a desk, and what a card that goes mute does.
-use Rattle.std.specs.Prelude.{◌≡◌, ℕ, ◌≤◌, Bool, false, List, ◌++◌, Option}
+-- What a failing outlet does, and which device it was that failed.
+use Rattle.std.specs.Prelude.{◌≡◌, ℕ, ◌≤◌, Bool, List, ◌++◌, Option}
 use Rattle.eeprom.specs.Fault.{Rose}
 use Rattle.eeprom.specs.Output.{Prints}
+use Rattle.card_asking.specs.Asked.{Mutes}
 use Rattle.terminal.specs.declared.failure.Failure.{Failure}
 use Rattle.terminal.specs.declared.failure.Failure.TheVariants.{Card, Outlet}
-
--- nothing was given, and no outlet failed
-pub record Stays {L : Type 0} (given : L → Option (List ℕ)) (sink_faults mark : L → ℕ) (old new : L) : Type 0 where
-  pub given_same : given new ≡ given old
-  pub sink_same : sink_faults new ≡ sink_faults old
-  pub mark_same : mark new ≡ mark old
-
--- a card answers no more, and its count rose
-pub record Mutes {L : Type 0} (is_live : L → Bool) (faults : L → ℕ) (old new : L) : Type 0 where
-  pub gone : is_live new ≡ false
-  pub rose : Rose (faults old) (faults new)
-  pub later : faults old ≤ faults new
 
 -- the start of a text went out
 pub record IsStart (text : List ℕ) (old new : Option (List ℕ)) : Type 0 where

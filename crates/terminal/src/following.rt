@@ -1,5 +1,5 @@
 // The steps of a plan, followed on a card.
-ghost use Rattle.std.specs.Prelude.{◌≡◌, ◌<◌, IsTrue, IfOk, IfErr, OnOk, OnErr};
+ghost use Rattle.std.specs.Prelude.{◌≡◌, ◌≢◌, ◌<◌, [], IsTrue, IfOk, IfErr, OnOk, OnErr};
 ghost use Rattle.eeprom.specs.Output.{Prints};
 ghost use Rattle.scql_model.specs.Machine.{Machine};
 ghost use Rattle.script.specs.Commands.{IsSendable};
@@ -7,10 +7,10 @@ ghost use Rattle.card_link.specs.Link.{LeavesOpen, Gives};
 ghost use Rattle.planner.specs.Planned.{IfSent};
 ghost use Rattle.planner.specs.Readings.{IsReadingAt};
 ghost use Rattle.planner.specs.Turns.{IfGoesOn};
-ghost use Rattle.terminal.specs.Going.{Goes, FailsSo, IsInRun, IsOver, OnlyReads, printed_row, run_from, run_of, to_go};
-ghost use Rattle.terminal.specs.Stays.{Breaks, Causes, IsStart, Mutes, Works};
+ghost use Rattle.card_asking.specs.Following.{OnlyReads, given_by, run_from, run_of, to_go};
+ghost use Rattle.terminal.specs.Going.{Goes, FailsSo, IsInRun, IsOver, printed_row, rows_text};
+ghost use Rattle.terminal.specs.Stays.{Breaks, Causes, IsStart, Works};
 
-use crate::asking::ask;
 use crate::failure::Failure;
 use crate::printing::{LONGEST_ROW, put_row_text};
 use apdu::Reply;
@@ -22,8 +22,8 @@ use scql_base::{Row, StatusWord};
 /// What is used again for each step of a plan: the step, the last reply, and a row and its text.
 #[derive(Drop)]
 pub(crate) struct Room {
-    step: Step,
-    reply: Reply,
+    pub(crate) step: Step,
+    pub(crate) reply: Reply,
     row: Row,
     text: ArrayVec<u8, LONGEST_ROW>,
 }
@@ -71,24 +71,28 @@ fn follow<L: Desk>(desk: &mut L, plan: &mut Plan, room: &mut Room) -> Result<(),
     ensures less { OnOk result (IfGoesOn room.old.step (to_go plan.new room.new.step < to_go plan.old room.old.step)) }
     ensures goes_on { L.goes_on desk.old desk.new }
 {
+    print_given(desk, plan, room)?;
+    match card_asking::follow(desk, plan, &mut room.step, &mut room.reply) {
+        Ok(()) => Ok(()),
+        Err(_) => Err(Failure::Card),
+    }
+}
+
+// The row that a step has is printed, if it has one.
+fn print_given<L: Desk>(desk: &mut L, plan: &Plan, room: &mut Room) -> Result<(), Failure>
+    ensures step { room.new.step ≡ room.old.step }
+    ensures printed { OnOk result (Prints (rows_text (given_by plan.now room.old.step)) (L.given desk.old) (L.given desk.new)) }
+    ensures cut { OnErr result (IsStart (rows_text (given_by plan.now room.old.step)) (L.given desk.old) (L.given desk.new)) }
+    ensures row { OnErr result (given_by plan.now room.old.step ≢ []) }
+    ensures still { given_by plan.now room.old.step ≡ [] → L.mark desk.new ≡ L.mark desk.old }
+    ensures gives { Gives L.is_at L.is_live L.faults L.mark L.chip desk.old desk.new }
+    ensures fails { IfErr result (λ failure. (failure ≡ Failure.Outlet) × Breaks L.faults L.sink_faults desk.old desk.new) }
+    ensures works { OnOk result (Works L.is_live L.faults L.sink_faults desk.old desk.new) }
+    ensures goes_on { L.goes_on desk.old desk.new }
+{
     match &room.step {
-        Step::Send { command } => {
-            ask(desk, command, &mut room.reply)?;
-            plan.next_into(Some(&room.reply), &mut room.step);
-            Ok(())
-        }
-        Step::Row { command } => {
-            print_row(desk, plan, &mut room.row, &mut room.text)?;
-            ask(desk, command, &mut room.reply)?;
-            plan.next_into(Some(&room.reply), &mut room.step);
-            Ok(())
-        }
-        Step::ResetCard => {
-            desk.reset();
-            plan.next_into(None, &mut room.step);
-            Ok(())
-        }
-        Step::Done { .. } => Ok(()),
+        Step::Row { .. } => print_row(desk, plan, &mut room.row, &mut room.text),
+        _ => Ok(()),
     }
 }
 

@@ -1,13 +1,11 @@
 //! A terminal: a line is read as a statement and carried out on a card, and what comes of it is printed.
 #![tactic(auto)]
 
-mod asking;
 mod channels;
 mod failure;
 mod following;
 mod line_end;
 mod printing;
-mod quiet_desk;
 mod quiet_end;
 mod terminal;
 

@@ -82,6 +82,7 @@ impl Terminal {
         ensures ends { (m : Machine) → L.is_at link.old m → Knows self.old.transaction m
             → EndsQuietly L.is_at (line_effect statement_lines (terminal_at m self.old.channel) line.now) (closing_in (terminal_at m self.old.channel) (statement_of line.now)) self.new result link.new }
         ensures ends_by { EndsQuietlyBy L.is_live L.faults result link.old link.new }
+        ensures keeps { L.keeps link.old link.new }
         ensures goes_on { L.goes_on link.old link.new }
         ensures mark { L.mark link.new ≡ L.mark link.old }
         ensures moments { (m : Machine) → L.is_at link.old m → Knows self.old.transaction m

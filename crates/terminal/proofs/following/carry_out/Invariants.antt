@@ -3,7 +3,8 @@ use Rattle.scql_model.specs.Machine.{Machine}
 use Rattle.script.specs.Commands.{IsSendable}
 use Rattle.card_link.specs.Link.{LeavesOpen}
 use Rattle.planner.specs.Planned.{IfSent, next_of}
-use Rattle.terminal.specs.Going.{Goes, IsInRun, run_of, to_go}
+use Rattle.card_asking.specs.Following.{run_of, to_go}
+use Rattle.terminal.specs.Going.{Goes, IsInRun}
 use Rattle.terminal.specs.Stays.{Works}
 use Rattle.terminal.proofs.following.carry_out.Given as goal
 

@@ -4,7 +4,8 @@ use Rattle.planner.specs.Meaning.{meaning}
 use Rattle.planner.specs.Readings.{IsSelect}
 use Rattle.planner.specs.Running.{Ran, shown}
 use Rattle.planner.proofs.Readings.{started-reads}
-use Rattle.terminal.specs.Going.{IsOver, IsInRun, FailsSo, OnlyReads}
+use Rattle.card_asking.specs.Following.{OnlyReads}
+use Rattle.terminal.specs.Going.{IsOver, IsInRun, FailsSo}
 use Rattle.terminal.proofs.Meant.{started-meant}
 use Rattle.terminal.proofs.Went.{fails-told}
 use Rattle.terminal.proofs.channels.Channels.carry.Goals as goal

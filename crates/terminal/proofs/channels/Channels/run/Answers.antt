@@ -1,7 +1,7 @@
 use Rattle.std.proofs.Common.{ap, ◌∙◌, arith}
 use Rattle.planner.specs.Meaning.{meaning}
 use Rattle.terminal.specs.Holding.{Holding}
-use Rattle.terminal.proofs.Sent.{leaves-all, leaves-both}
+use Rattle.card_asking.proofs.Moments.{leaves-all, leaves-both}
 use Rattle.terminal.proofs.Ended.{failure-ends, run-moments, closes-ends, last-moment}
 use Rattle.terminal.proofs.channels.Channels.run.Goals as goal
 

@@ -9,7 +9,7 @@ use Rattle.planner.specs.StatementLines.{TerminalState, read_effect, statement_l
 use Rattle.planner.specs.Text.{fault_text}
 use Rattle.terminal.specs.Holding.{Holding, Knows, terminal_at}
 use Rattle.terminal.specs.Line.{EndsSo, IsMoment, refuses, rows_in}
-use Rattle.terminal.proofs.Sent.{leaves-all}
+use Rattle.card_asking.proofs.Moments.{leaves-all}
 use Rattle.terminal.proofs.Ended.{unread-ends, line-is, last-moment}
 use Rattle.terminal.proofs.terminal.Terminal.line.Goals as goal
 

@@ -1,5 +1,5 @@
 use Rattle.std.proofs.Common.{[], codes, rules}
-use Rattle.terminal.proofs.Sent.{leaves-all}
+use Rattle.card_asking.proofs.Moments.{leaves-all}
 use Rattle.terminal.proofs.Ended.{unread-ends, last-moment}
 use Rattle.terminal.proofs.terminal.Terminal.refuse_long_line.Goals as goal
 
