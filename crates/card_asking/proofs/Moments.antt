@@ -1,5 +1,5 @@
 -- Moments that follow one another, and the databases that they have.
-use Rattle.std.proofs.Common.{◌≡◌, ℕ, List, [], ◌∷◌, ◌++◌, IfSome, refl, ◌∙◌, subst, inl, inr, arith}
+use Rattle.std.proofs.Common.{◌≡◌, ℕ, List, [], ◌∷◌, ◌++◌, IfSome, ◌∙◌, subst, inl, inr, arith}
 use Rattle.eeprom.specs.Chip.{Chip}
 use Rattle.eeprom.proofs.Moments.{throughout-then, throughout-weaker}
 use Rattle.scql_model.specs.Database.{Database}

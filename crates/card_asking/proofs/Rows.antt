@@ -1,5 +1,5 @@
 -- The rows that a plan of a SELECT is still to give: at its first step, behind each step, and at its last.
-use Rattle.std.proofs.Common.{◌≡◌, ◌⊎◌, ℕ, Bool, true, List, [], ◌∷◌, ◌++◌, map, is_some, None, refl, sym, ◌∙◌, ap, subst, inl, inr}
+use Rattle.std.proofs.Common.{◌≡◌, ℕ, Bool, true, List, [], ◌∷◌, ◌++◌, map, is_some, None, refl, sym, ◌∙◌, ap}
 use Rattle.std.specs.List.{AllByRecursion}
 use Rattle.scql_base.specs.declared.operation.Command.{Command}
 use Rattle.scql_model.specs.Database.{Database}
@@ -20,8 +20,8 @@ use Rattle.planner.specs.Planned.{Planned, next_of, started}
 use Rattle.planner.specs.Readings.{IsSelect}
 use Rattle.planner.specs.Running.{Ran, shown}
 use Rattle.planner.proofs.Readings.{started-reads}
-use Rattle.card_asking.specs.Following.{Follows, after_all, run_from, run_of, behind, given_by}
-use Rattle.card_asking.specs.Giving.{Gives, IsLike, behind_step, IsNextRow, AreAllGiven, GivesMeaning}
+use Rattle.card_asking.specs.Following.{Follows, after_all, run_from, run_of, given_by}
+use Rattle.card_asking.specs.Giving.{Gives, behind_step, IsNextRow, AreAllGiven, GivesMeaning}
 use Rattle.card_asking.proofs.Meant.{run-meant}
 use Rattle.card_asking.proofs.Sound.{sound, select-commits}
 

@@ -1,4 +1,4 @@
-use Rattle.std.proofs.Common.{[], refl, inl, ◌∙◌, ◌++◌, rules}
+use Rattle.std.proofs.Common.{[], refl, inl, ◌∙◌, ◌++◌}
 use Rattle.card_asking.proofs.Moments.{leaves-all, leaves-both, leaves-none}
 use Rattle.card_asking.proofs.Followed.{first-follows, follows-both, follows-moment, is-ended}
 use Rattle.card_asking.proofs.following.carry_out.Goals as goal

@@ -1,8 +1,8 @@
-use Rattle.std.proofs.Common.{◌<◌, Some, None, refl, sym, subst, inl, rules}
+use Rattle.std.proofs.Common.{◌<◌, Some, None, sym, subst, inl}
 use Rattle.planner.specs.declared.step.Step.{Step}
 use Rattle.planner.specs.Turns.{IfGoesOn}
 use Rattle.card_asking.specs.Following.{Follows, given_by, to_go}
-use Rattle.card_asking.proofs.Moments.{leaves-all, leaves-none}
+use Rattle.card_asking.proofs.Moments.{leaves-all}
 use Rattle.card_asking.proofs.Followed.{asked-follows, asked-less, asked-moment, reset-follows, less-seen}
 use Rattle.card_asking.proofs.Rows.{gives-on}
 use Rattle.card_asking.proofs.following.follow.Goals as goal
