@@ -21,7 +21,7 @@ use Rattle.script.specs.declared.statement.Statement.TheVariants.{Blank, Single,
 use Rattle.script.specs.Commands.{asking}
 use Rattle.script.specs.Line.{statement_of}
 use Rattle.planner.specs.declared.closing.Closing.{Closing}
-use Rattle.planner.specs.declared.closing.Closing.TheVariants.{Nothing, Fine, Rows, Refused}
+use Rattle.planner.specs.declared.closing.Closing.TheVariants.{Nothing, Fine, Rows, Cut, Refused}
 use Rattle.planner.specs.Words.{is_done, is_refusal}
 use Rattle.planner.specs.Meaning.{Meaning, Declared, Changed, answer_to, in_turn, parts_of, all_in_turn, declared, ended, selects_all, changed_by, changed_outside, committed_after, changed_in, on_open, begun, meaning}
 use Rattle.planner.specs.Text.{row_text, word_octets, closing_text, meaning_text}
@@ -152,6 +152,7 @@ said-closing : (closing : Closing) → IsSaid closing → 1 ≤ length (closing_
 said-closing Nothing said = absurd said
 said-closing Fine said = omega arith
 said-closing (Rows number) said = omega (arith, length-append (codes "rows ") (decimal number ++ codes "\n"))
+said-closing (Cut number) said = omega (arith, length-append (codes "rows ") (decimal number ++ codes "\n"))
 said-closing (Refused word) said = omega (arith, length-append (codes "refused ") (encode_upper (word_octets word) ++ codes "\n"))
 
 silent-text : (x : Meaning) → IsSilent x → length (meaning_text x) ≡ 0 → length x.commits ≡ 0
