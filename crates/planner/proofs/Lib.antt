@@ -4,7 +4,6 @@ pub mod Brief
 pub mod Changed
 pub mod Changing
 pub mod Closed
-pub mod CutRows
 pub mod GoingOn
 pub mod KindsRead
 pub mod Parts

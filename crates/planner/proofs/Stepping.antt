@@ -170,7 +170,7 @@ module _ (m : Machine) (channel : ℕ) (s : Session) (near : channel ≤ 3) (the
   pub answer-changed : (operation : Operation) (t : Transaction) (c : Cursor) → ChangesRow operation → IsSendable (asking channel operation) → (t.channel == channel) ≡ true
       → answer_to (machine_with (Some t) (resting c)) (asking channel operation) ≡ change_answer t (resting c) (row_changed m.committed (who_in t.working s) operation c t)
   answer-changed (Update changes) t c is can own =
-      answer-in_parts (record m { transaction = Some t }) channel s there s.user (Some c) changes can
+      answer-in_parts (record m { transaction = Some t }) channel s there s.user (Some c) (Update changes) refl can tt
       ∙ (ended-outcome (Update changes) (Some t) (resting c) ∙ (goes ∙ change-outcome (Update changes) t c own))
     where
       goes : outcome (Update changes) (Some t) (resting c) ≡ answered (machine_with (Some t) (resting c)) (changed (machine_with (Some t) (resting c)) channel (Update changes))
