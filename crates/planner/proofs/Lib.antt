@@ -5,6 +5,7 @@ pub mod Changed
 pub mod Changing
 pub mod Closed
 pub mod GoingOn
+pub mod InTurn
 pub mod KindsRead
 pub mod Parts
 pub mod Readings

@@ -1,7 +1,7 @@
 -- The run of a SELECT: each row is given once, in parts where it needs them.
 use Rattle.std.proofs.Common.{◌≡◌, ℕ, zero, suc, ◌+◌, ◌/◌, ◌≤◌, ◌<◌, ◌==◌, nat_le, nat_lt, Bool, true, false, not, ◌||◌, List, [], ◌∷◌, ◌++◌, length, Option, Some, None, Result, Ok, Err, if◌then◌else◌, refl, sym, ◌∙◌, ap, subst, lit<, arith}
 use Rattle.std.specs.List.{find, AllByRecursion}
-use Rattle.std.proofs.lemmas.Bool.{lt-ltb, le-ltb, ltb-true, ne_eqb, eq-eqb}
+use Rattle.std.proofs.lemmas.Bool.{lt-ltb, le-ltb, ltb-true, ne_eqb, eq-eqb, or_right}
 use Rattle.std.proofs.lemmas.List.{length-append}
 use Rattle.eeprom.specs.Slots.{Rises}
 use Rattle.scql_base.specs.declared.words.Actor.{Actor}
@@ -64,10 +64,6 @@ done-ends m last p q closing is-turn = record {
 }
 
 -- words
-or-true : (a : Bool) → (a || true) ≡ true
-or-true true = refl
-or-true false = refl
-
 sw2-small : (n : ℕ) → in_sw2 n < 256
 sw2-small n = go (nat_lt n 256) refl
   where
@@ -88,11 +84,11 @@ more-not_end n = other (in_sw2 n) (sw2-small n)
     other k small = ne_eqb (0x6100 + k) 0x6282 (λ is. omega (arith, is, small))
 
 pub more-accepted : (n : ℕ) → is_refusal (more_left n) ≡ false
-more-accepted n = ap (λ has. not (0x6100 + in_sw2 n == 0x9000 || 0x6100 + in_sw2 n == 0x6282 || has)) (more-more n) ∙ ap not (or-true (0x6100 + in_sw2 n == 0x9000 || 0x6100 + in_sw2 n == 0x6282))
+more-accepted n = ap (λ has. not (0x6100 + in_sw2 n == 0x9000 || 0x6100 + in_sw2 n == 0x6282 || has)) (more-more n) ∙ ap not (or_right (0x6100 + in_sw2 n == 0x9000 || 0x6100 + in_sw2 n == 0x6282) true refl)
 
 -- Le 256 fits each row
 fitting-256 : (octets : List ℕ) → fitting 256 octets ≡ Ok octets
-fitting-256 octets = ap (λ fits. let r : Result (List ℕ) StatusWord = if fits then Ok octets else Err (wrong_le (length octets)) in r) (or-true (nat_le (length octets) 256))
+fitting-256 octets = ap (λ fits. let r : Result (List ℕ) StatusWord = if fits then Ok octets else Err (wrong_le (length octets)) in r) (or_right (nat_le (length octets) 256) true refl)
 
 -- the rows behind one of rising stamps
 all-behind : (P : StampedRow → Type 0) (before : List StampedRow) (r : StampedRow) (rest : List StampedRow) → AllByRecursion P (before ++ r ∷ rest) → P r
