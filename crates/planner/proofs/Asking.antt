@@ -1,14 +1,16 @@
 -- The answer to a command that reads.
-use Rattle.std.proofs.Common.{◌≡◌, ℕ, zero, suc, Bool, true, false, List, [], ◌∷◌, length, map, Option, Some, None, is_some, refl, ◌∙◌, ap, arith}
+use Rattle.std.proofs.Common.{◌≡◌, ℕ, zero, suc, Bool, true, false, List, [], ◌∷◌, length, map, Option, Some, None, is_some, refl, sym, ◌∙◌, ap, arith}
 use Rattle.std.specs.Prelude.{slice_get, slice_set, option_and_then}
 use Rattle.std.specs.Option.{option_flatten, option_map_or}
-use Rattle.std.proofs.lemmas.Bool.{leb-true}
+use Rattle.std.proofs.lemmas.Bool.{false≢true, leb-true}
 use Rattle.std.proofs.lemmas.Option.{none-some}
 use Rattle.scql_base.specs.declared.words.Actor.{Actor}
 use Rattle.scql_base.specs.declared.words.Actor.TheVariants.{Public}
 use Rattle.scql_base.specs.declared.operation.Command.{Command}
 use Rattle.scql_base.specs.declared.operation.Operation.{Operation}
 use Rattle.scql_base.specs.declared.operation.Operation.TheVariants.{DeclareCursor, OpenCursor, Next, Fetch, FetchNext, GetResponse}
+use Rattle.scql_base.specs.declared.operation.OperationKind.{OperationKind}
+use Rattle.scql_base.specs.declared.operation.OperationKind.TheVariants as kind
 use Rattle.scql_model.specs.Machine.{Machine, Session, Reading, Chain, no_reading, session_of, open_channels, base, actor_of, actor}
 use Rattle.scql_model.specs.Sessions.{with_session, changing_session, command_chain, reading_of, reading_so, without_chain}
 use Rattle.scql_model.specs.Operations.{operations, comes_in_parts, kind_of, has_secrets}
@@ -37,17 +39,14 @@ open-there (None ∷ xs) zero x is = absurd (none-some x is)
 open-there (Some y ∷ xs) zero x is = refl
 open-there (first ∷ xs) (suc i) x is = open-there xs i x is
 
--- no reading command comes in parts
-no-parts : (operation : Operation) (le : Option ℕ) (command : ReadingCommand) (chain : Option Chain) → reading_command operation le ≡ Some command → parts_of (kind_of operation) chain ≡ []
-no-parts operation le command None is = refl
-no-parts (DeclareCursor object columns conditions) le command (Some chain) is = refl
-no-parts OpenCursor le command (Some chain) is = refl
-no-parts Next le command (Some chain) is = refl
-no-parts Fetch le command (Some chain) is = refl
-no-parts FetchNext le command (Some chain) is = refl
-no-parts GetResponse le command (Some chain) is = refl
-no-parts operation le command (Some chain) is = absurd (none-some command is)
+-- what doesn't come in parts has none before it
+pub no-chain : (asked : OperationKind) (chain : Option Chain) → comes_in_parts asked ≡ false → parts_of asked chain ≡ []
+no-chain asked None alone = refl
+no-chain kind.Insert (Some chain) alone = absurd (false≢true (sym alone))
+no-chain kind.Update (Some chain) alone = absurd (false≢true (sym alone))
+no-chain asked (Some chain) alone = refl
 
+-- no reading command comes in parts
 no-part : (operation : Operation) (le : Option ℕ) (command : ReadingCommand) → reading_command operation le ≡ Some command → comes_in_parts (kind_of operation) ≡ false
 no-part (DeclareCursor object columns conditions) le command is = refl
 no-part OpenCursor le command is = refl
@@ -78,19 +77,18 @@ answer-one m c one = rw (one, part-one c one) refl
 
 -- a command in one is read as it is, on an open channel
 pub answer-whole : (m : Machine) (c : Command) (s : Session) → IsSendable c → comes_in_parts (kind_of c.operation) ≡ false → IsTaken (has_secrets operations) m.committed.limit c.operation
-    → ((chain : Option Chain) → parts_of (kind_of c.operation) chain ≡ []) → session_of m c.channel ≡ Some s → answer_to m c ≡ stepped m (a_command c)
+    → session_of m c.channel ≡ Some s → answer_to m c ≡ stepped m (a_command c)
 unfolding step
-answer-whole m c s can alone taken parts there =
+answer-whole m c s can alone taken there =
     answer-one m c (one-part c alone can.fitting)
     ∙ ap (stepped m) (command-again operations m.committed.limit c can.formed (HasLine-operations (kind_of c.operation)) taken
-    (open_channels m) (command_chain m) (open-there m.sessions c.channel s there) (parts (command_chain m c.channel)))
+    (open_channels m) (command_chain m) (open-there m.sessions c.channel s there) (no-chain (kind_of c.operation) (command_chain m c.channel) alone))
 
 -- the step of a reading command on an open channel
 answer-stepped : (m : Machine) (c : Command) (s : Session) (command : ReadingCommand) → IsSendable c → reading_command c.operation c.le ≡ Some command → session_of m c.channel ≡ Some s
     → answer_to m c ≡ stepped m (a_command c)
 answer-stepped m c s command can is there =
-    answer-whole m c s can (no-part c.operation c.le command is) (reading-taken c.operation c.le command (has_secrets operations) m.committed.limit is)
-    (λ chain. no-parts c.operation c.le command chain is) there
+    answer-whole m c s can (no-part c.operation c.le command is) (reading-taken c.operation c.le command (has_secrets operations) m.committed.limit is) there
 
 abbrev ended : Machine → ℕ → Machine
 ended m channel = changing_session without_chain m channel

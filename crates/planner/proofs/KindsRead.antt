@@ -15,7 +15,6 @@ use Rattle.scql_model.specs.Operations.{operations, has_secrets, is_for_channel,
 use Rattle.scql_model.specs.Parameters.{insert_in, operation_in}
 use Rattle.scql_model.specs.Refusals.{or_refused, provided}
 use Rattle.scql_model.specs.Form.{Tail, data_in, is_chained, channel_asked, line_on, taken_in, parts_of, a_command, part_in, command_in, form_of}
-use Rattle.scql_model.specs.Spelling.{apdu_by, with_length, le_octets}
 use Rattle.scql_model.proofs.FormedCommands.{passed, found, read-operation, bound, not_refused, same_Ok, on_channel, no_part}
 
 kind-insert : (limit : ℕ) (strings : List (List ℕ)) (o : Operation) → insert_in limit strings ≡ Some o → kind_of o ≡ kind.Insert
@@ -27,28 +26,7 @@ kind-operation : (secrets : Bool) (asked : OperationKind) (limit : ℕ) (octets 
 kind-operation secrets kind.Insert limit octets o is = found (params_of octets) (insert_in limit) o is (λ strings _ is. kind-insert limit strings o is)
 kind-operation secrets (kind.OpenChannel number) limit octets o is = ap kind_of (sym (same_Some (OpenChannel number) o is))
 kind-operation secrets (kind.CloseChannel number) limit octets o is = ap kind_of (sym (same_Some (CloseChannel number) o is))
-kind-operation secrets kind.CreateTable limit octets o is = (read-operation secrets kind.CreateTable 0 (omega arith) refl octets o is).kind
-kind-operation secrets kind.CreateView limit octets o is = (read-operation secrets kind.CreateView 0 (omega arith) refl octets o is).kind
-kind-operation secrets kind.CreateDictionary limit octets o is = (read-operation secrets kind.CreateDictionary 0 (omega arith) refl octets o is).kind
-kind-operation secrets kind.DropTable limit octets o is = (read-operation secrets kind.DropTable 0 (omega arith) refl octets o is).kind
-kind-operation secrets kind.DropView limit octets o is = (read-operation secrets kind.DropView 0 (omega arith) refl octets o is).kind
-kind-operation secrets kind.Grant limit octets o is = (read-operation secrets kind.Grant 0 (omega arith) refl octets o is).kind
-kind-operation secrets kind.Revoke limit octets o is = (read-operation secrets kind.Revoke 0 (omega arith) refl octets o is).kind
-kind-operation secrets kind.DeclareCursor limit octets o is = (read-operation secrets kind.DeclareCursor 0 (omega arith) refl octets o is).kind
-kind-operation secrets kind.OpenCursor limit octets o is = (read-operation secrets kind.OpenCursor 0 (omega arith) refl octets o is).kind
-kind-operation secrets kind.Next limit octets o is = (read-operation secrets kind.Next 0 (omega arith) refl octets o is).kind
-kind-operation secrets kind.Fetch limit octets o is = (read-operation secrets kind.Fetch 0 (omega arith) refl octets o is).kind
-kind-operation secrets kind.FetchNext limit octets o is = (read-operation secrets kind.FetchNext 0 (omega arith) refl octets o is).kind
-kind-operation secrets kind.Update limit octets o is = (read-operation secrets kind.Update 0 (omega arith) refl octets o is).kind
-kind-operation secrets kind.Delete limit octets o is = (read-operation secrets kind.Delete 0 (omega arith) refl octets o is).kind
-kind-operation secrets kind.Begin limit octets o is = (read-operation secrets kind.Begin 0 (omega arith) refl octets o is).kind
-kind-operation secrets kind.Commit limit octets o is = (read-operation secrets kind.Commit 0 (omega arith) refl octets o is).kind
-kind-operation secrets kind.Rollback limit octets o is = (read-operation secrets kind.Rollback 0 (omega arith) refl octets o is).kind
-kind-operation secrets kind.PresentUser limit octets o is = (read-operation secrets kind.PresentUser 0 (omega arith) refl octets o is).kind
-kind-operation secrets kind.CreateUser limit octets o is = (read-operation secrets kind.CreateUser 0 (omega arith) refl octets o is).kind
-kind-operation secrets kind.DeleteUser limit octets o is = (read-operation secrets kind.DeleteUser 0 (omega arith) refl octets o is).kind
-kind-operation secrets kind.Verify limit octets o is = (read-operation secrets kind.Verify 0 (omega arith) refl octets o is).kind
-kind-operation secrets kind.GetResponse limit octets o is = (read-operation secrets kind.GetResponse 0 (omega arith) refl octets o is).kind
+kind-operation secrets asked limit octets o is = (read-operation secrets asked 0 (omega arith) refl octets o is).kind
 
 kind-command : (secrets : Bool) (channel : ℕ) (asked : OperationKind) (limit : ℕ) (parts : List (List ℕ)) (tail : Tail) (c : Command)
     → command_in secrets channel asked limit parts tail ≡ Ok (a_command c) → kind_of c.operation ≡ asked
@@ -66,14 +44,14 @@ same-line table channel ins p1 p2 l line at is =
     bound (provided (is_for_channel channel found_line.kind) wrong_parameters) _ line is (λ _ _ same.
     ap (λ (l : Line). l.kind) (sym (same_Ok found_line line same) ∙ same_Some found_line l (sym (not_refused (line_of table ins p1 p2) wrong_parameters found_line at_found) ∙ at))))
 
-pub kind-read : (l : Line) (cla : ℕ) (body : List ℕ) (le : Option ℕ) (channels : List Bool) (chain : ℕ → Option Chain) (limit : ℕ) (c : Command) → line_of operations l.ins l.p1 l.p2 ≡ Some l
-    → form_of operations (apdu_by l cla body le) channels chain limit ≡ a_command c → kind_of c.operation ≡ l.kind
+pub kind-read : (l : Line) (cla ins p1 p2 : ℕ) (after : List ℕ) (channels : List Bool) (chain : ℕ → Option Chain) (limit : ℕ) (c : Command) → line_of operations ins p1 p2 ≡ Some l
+    → form_of operations (cla ∷ ins ∷ p1 ∷ p2 ∷ after) channels chain limit ≡ a_command c → kind_of c.operation ≡ l.kind
 unfolding form_of
-kind-read l cla body le channels chain limit c at is =
-    on_channel (channel_asked operations cla l.ins channels) _ (a_command c) refl is (λ channel _ is.
-    bound (line_on operations channel l.ins l.p1 l.p2) _ (a_command c) is (λ line on_line is.
-    bound (taken_in line.takes (is_chained cla) (with_length body ++ le_octets le)) _ (a_command c) is (λ tail _ is.
-    go (is_chained cla) channel line tail is ∙ same-line operations channel l.ins l.p1 l.p2 l line at on_line)))
+kind-read l cla ins p1 p2 after channels chain limit c at is =
+    on_channel (channel_asked operations cla ins channels) _ (a_command c) refl is (λ channel _ is.
+    bound (line_on operations channel ins p1 p2) _ (a_command c) is (λ line on_line is.
+    bound (taken_in line.takes (is_chained cla) after) _ (a_command c) is (λ tail _ is.
+    go (is_chained cla) channel line tail is ∙ same-line operations channel ins p1 p2 l line at on_line)))
   where
     go : (more : Bool) (channel : ℕ) (line : Line) (tail : Tail)
         → (if more then part_in channel line.kind (parts_of line.kind (chain channel)) tail else command_in (has_secrets operations) channel line.kind limit (parts_of line.kind (chain channel)) tail) ≡ Ok (a_command c)

@@ -4,8 +4,8 @@ pub mod Brief
 pub mod Changed
 pub mod Changing
 pub mod Closed
-pub mod CutRows
 pub mod GoingOn
+pub mod InTurn
 pub mod KindsRead
 pub mod Parts
 pub mod Readings

@@ -19,7 +19,7 @@ use Rattle.planner.specs.declared.stage.Stage.TheVariants.{Start, Alone, Beginni
 use Rattle.planner.specs.declared.closing.Closing.TheVariants.{Rows, Refused}
 use Rattle.planner.specs.Held.{transaction_channel}
 use Rattle.planner.specs.Meaning.{answer_to}
-use Rattle.planner.specs.Planned.{Planned, Turn, changes_rows, heard, started, finishes, refuses, is_beginning, declares_over, declares, begins, most_rows, reaches, most_responses, row_before, is_row, gives_row, ends_row, asks_for_rest, gathers, takes, accepts, is_answered, goes_on, asks, wants, ends, next_of}
+use Rattle.planner.specs.Planned.{Planned, Turn, changes_rows, heard, started, finishes, cuts, refuses, is_beginning, declares_over, declares, begins, most_rows, reaches, most_responses, row_before, is_row, gives_row, ends_row, asks_for_rest, gathers, takes, accepts, is_answered, goes_on, asks, wants, ends, next_of}
 use Rattle.planner.specs.Readings.{IsReading, IsReadingAt, IsSelect}
 use Rattle.planner.specs.Words.{is_end, has_more, is_refusal}
 use Rattle.planner.proofs.TransactionKnown.{answer-kept, transacts}
@@ -53,6 +53,9 @@ finishes-reads : (p : Planned) → IsOfSelect p → TurnReads (finishes p)
 finishes-reads p of =
     subst (λ (own : Bool). TurnReads (if own then asks Committing Commit p else ends (Rows p.rows) p)) (sym of.own) (record { select = of.select; own = of.own; reads = tt })
 
+cuts-reads : (p : Planned) → IsOfSelect p → TurnReads (cuts p)
+cuts-reads p of = record { select = of.select; own = of.own; reads = tt }
+
 refuses-reads : (stage : Stage) (word : StatusWord) (p : Planned) → IsOfSelect p → TurnReads (refuses stage word p)
 refuses-reads stage word p of =
     subst (λ (own : Bool). TurnReads (if own && not (is_beginning stage) then asks (RollingBack word) Rollback p else ends (Refused word) p)) (sym of.own) (record { select = of.select; own = of.own; reads = tt })
@@ -73,13 +76,14 @@ reaches-reads p s is of = absurd is
 gathers-reads : (word : StatusWord) (p : Planned) → IsOfSelect p → TurnReads (gathers word p)
 gathers-reads word p of =
     choose (has_more word) (asks_for_rest p) (ends_row p)
-    (choose (nat_lt p.responses most_responses) (wants Fetching GetResponse (record p { responses = p.responses + 1 })) (finishes p) (record { select = of.select; own = of.own; reads = refl }) (finishes-reads p of))
-    (choose (is_row p.row && nat_lt p.rows most_rows) (gives_row p) (finishes p) (record { select = of.select; own = of.own; reads = refl }) (finishes-reads p of))
+    (choose (nat_lt p.responses most_responses) (wants Fetching GetResponse (record p { responses = p.responses + 1 })) (cuts p) (record { select = of.select; own = of.own; reads = refl }) (cuts-reads p of))
+    (choose (is_row p.row) (if nat_lt p.rows most_rows then gives_row p else finishes p) (cuts p)
+    (choose (nat_lt p.rows most_rows) (gives_row p) (finishes p) (record { select = of.select; own = of.own; reads = refl }) (finishes-reads p of)) (cuts-reads p of))
 
 takes-reads : (word : StatusWord) (body : List ℕ) (p : Planned) → IsOfSelect p → TurnReads (takes word body p)
 takes-reads word body p of =
-    choose (nat_lt LARGEST (length (row_before p) + length body)) (finishes p) (gathers word (record p { row = row_before p ++ body }))
-    (finishes-reads p of) (gathers-reads word (record p { row = row_before p ++ body }) (record { select = of.select; own = of.own }))
+    choose (nat_lt LARGEST (length (row_before p) + length body)) (cuts p) (gathers word (record p { row = row_before p ++ body }))
+    (cuts-reads p of) (gathers-reads word (record p { row = row_before p ++ body }) (record { select = of.select; own = of.own }))
 
 accepts-reads : (stage : Stage) (word : StatusWord) (body : List ℕ) (p : Planned) → IsOfSelect p → TurnReads (accepts stage word body p)
 accepts-reads Beginning word body p of = declares-reads p p.statement of.select of

@@ -4,7 +4,8 @@ use Rattle.std.specs.List.{filter, list_all, AllByRecursion}
 use Rattle.std.specs.Prelude.{option_and_then}
 use Rattle.std.specs.Option.{option_map_or}
 use Rattle.std.proofs.lemmas.Bool.{and_parts, lt-ltb, leb-true, ne_eqb}
-use Rattle.std.proofs.lemmas.List.{append-nil, take-append-drop, length-append, length-drop}
+use Rattle.std.proofs.lemmas.List.{append-nil, take-append-drop, length-append, length-drop, length-map}
+use Rattle.std.proofs.lemmas.Simd.{map-map}
 use Rattle.eeprom.specs.Slots.{Rises}
 use Rattle.scql_base.specs.declared.words.Actor.{Actor}
 use Rattle.scql_base.specs.declared.words.Actor.TheVariants.{Public}
@@ -281,14 +282,6 @@ given-all : (rows : List StampedRow) → AllByRecursion (λ (values : Values). r
 given-all [] are = tt
 given-all (r ∷ rows) are = (given-of r.values are.0, given-all rows are.1)
 
-map-twice : (rows : List StampedRow) → map (λ (r : StampedRow). row_octets r.values) rows ≡ map row_octets (map (λ (r : StampedRow). r.values) rows)
-map-twice [] = refl
-map-twice (r ∷ rows) = ap (λ rest. row_octets r.values ∷ rest) (map-twice rows)
-
-length-mapped : (rows : List StampedRow) → length (map (λ (r : StampedRow). r.values) rows) ≡ length rows
-length-mapped [] = refl
-length-mapped (r ∷ rows) = ap suc (length-mapped rows)
-
 -- a SELECT on an open channel runs to its meaning
 module _ (m : Machine) (channel : ℕ) (s : Session) (there : session_of m channel ≡ Some s) (object : List ℕ) (columns : Columns) (conditions : List Condition) (inside : Bool)
     (can : CanBeSent channel (Select object columns conditions)) (readable : IsReadable (base m channel)) where
@@ -322,8 +315,8 @@ module _ (m : Machine) (channel : ℕ) (s : Session) (there : session_of m chann
       let Q : List (List ℕ) → Type 0 =
       λ given. Ends m None (started (Select object columns conditions) channel inside)
       (record { rows = given; closing = Rows (length d.rows); machine = changing_session (standing End d.cursor) m channel; commits = [] }) in
-      let few : length d.rows ≤ 2048 = subst (λ n. n ≤ 2048) (length-mapped d.rows) rows.few in
-      subst Q (map-twice d.rows) (subst P (changed-session (standing End d.cursor))
+      let few : length d.rows ≤ 2048 = subst (λ n. n ≤ 2048) (length-map d.rows (λ (r : StampedRow). r.values)) rows.few in
+      subst Q (sym (map-map row_octets (λ (r : StampedRow). r.values) d.rows)) (subst P (changed-session (standing End d.cursor))
       (sends-ends m (in_session m channel (reads_so s (at d.cursor NotOpen []))) None (said done) (started (Select object columns conditions) channel inside) (plan_in Declaring) asked
       (record { rows = map (λ (r : StampedRow). row_octets r.values) d.rows; closing = Rows (length d.rows); machine = in_session m channel (reads_so s (at d.cursor End [])); commits = [] }) refl
       (asked-answer (Ok d) declares)

@@ -1,7 +1,7 @@
 -- The run of a SELECT: each row is given once, in parts where it needs them.
-use Rattle.std.proofs.Common.{◌≡◌, ℕ, zero, suc, ◌+◌, ◌/◌, ◌≤◌, ◌<◌, ◌==◌, nat_le, nat_lt, Bool, true, false, not, ◌||◌, ◌&&◌, List, [], ◌∷◌, ◌++◌, length, Option, Some, None, Result, Ok, Err, if◌then◌else◌, refl, sym, ◌∙◌, ap, subst, lit<, arith}
+use Rattle.std.proofs.Common.{◌≡◌, ℕ, zero, suc, ◌+◌, ◌/◌, ◌≤◌, ◌<◌, ◌==◌, nat_le, nat_lt, Bool, true, false, not, ◌||◌, List, [], ◌∷◌, ◌++◌, length, Option, Some, None, Result, Ok, Err, if◌then◌else◌, refl, sym, ◌∙◌, ap, subst, lit<, arith}
 use Rattle.std.specs.List.{find, AllByRecursion}
-use Rattle.std.proofs.lemmas.Bool.{lt-ltb, le-ltb, ltb-true, ne_eqb, eq-eqb}
+use Rattle.std.proofs.lemmas.Bool.{lt-ltb, le-ltb, ltb-true, ne_eqb, eq-eqb, or_right}
 use Rattle.std.proofs.lemmas.List.{length-append}
 use Rattle.eeprom.specs.Slots.{Rises}
 use Rattle.scql_base.specs.declared.words.Actor.{Actor}
@@ -24,7 +24,7 @@ use Rattle.planner.specs.declared.stage.Stage.TheVariants.{Fetching}
 use Rattle.planner.specs.declared.step.Step.TheVariants.{Send, Row, Done}
 use Rattle.planner.specs.Words.{is_end, has_more, is_refusal}
 use Rattle.planner.specs.Meaning.{answer_to}
-use Rattle.planner.specs.Planned.{Planned, Turn, next_of, goes_on, accepts, refuses, finishes, takes, gathers, gives_row, ends_row, asks_for_rest, wants, row_before, is_row}
+use Rattle.planner.specs.Planned.{Planned, Turn, next_of, goes_on, accepts, refuses, finishes, cuts, takes, gathers, gives_row, ends_row, asks_for_rest, wants, row_before, is_row}
 use Rattle.planner.specs.Running.{Ran, run, taken, answered_by}
 use Rattle.planner.specs.Running as running
 
@@ -64,10 +64,6 @@ done-ends m last p q closing is-turn = record {
 }
 
 -- words
-or-true : (a : Bool) → (a || true) ≡ true
-or-true true = refl
-or-true false = refl
-
 sw2-small : (n : ℕ) → in_sw2 n < 256
 sw2-small n = go (nat_lt n 256) refl
   where
@@ -88,11 +84,11 @@ more-not_end n = other (in_sw2 n) (sw2-small n)
     other k small = ne_eqb (0x6100 + k) 0x6282 (λ is. omega (arith, is, small))
 
 pub more-accepted : (n : ℕ) → is_refusal (more_left n) ≡ false
-more-accepted n = ap (λ has. not (0x6100 + in_sw2 n == 0x9000 || 0x6100 + in_sw2 n == 0x6282 || has)) (more-more n) ∙ ap not (or-true (0x6100 + in_sw2 n == 0x9000 || 0x6100 + in_sw2 n == 0x6282))
+more-accepted n = ap (λ has. not (0x6100 + in_sw2 n == 0x9000 || 0x6100 + in_sw2 n == 0x6282 || has)) (more-more n) ∙ ap not (or_right (0x6100 + in_sw2 n == 0x9000 || 0x6100 + in_sw2 n == 0x6282) true refl)
 
 -- Le 256 fits each row
 fitting-256 : (octets : List ℕ) → fitting 256 octets ≡ Ok octets
-fitting-256 octets = ap (λ fits. let r : Result (List ℕ) StatusWord = if fits then Ok octets else Err (wrong_le (length octets)) in r) (or-true (nat_le (length octets) 256))
+fitting-256 octets = ap (λ fits. let r : Result (List ℕ) StatusWord = if fits then Ok octets else Err (wrong_le (length octets)) in r) (or_right (nat_le (length octets) 256) true refl)
 
 -- the rows behind one of rising stamps
 all-behind : (P : StampedRow → Type 0) (before : List StampedRow) (r : StampedRow) (rest : List StampedRow) → AllByRecursion P (before ++ r ∷ rest) → P r
@@ -154,19 +150,19 @@ pub takes-row : (p : Planned) (body whole : List ℕ) → row_before p ++ body �
     → takes done body p ≡ gives_row (record p { row = whole })
 takes-row p body whole joined short row few =
     let size : length (row_before p) + length body ≤ 1020 = subst (λ n. n ≤ 1020) (ap length (sym joined) ∙ length-append (row_before p) body) short in
-    ap (λ large. if large then finishes p else gathers done (record p { row = row_before p ++ body })) (le-ltb 1020 (length (row_before p) + length body) size)
+    ap (λ large. if large then cuts p else gathers done (record p { row = row_before p ++ body })) (le-ltb 1020 (length (row_before p) + length body) size)
     ∙ (ap (λ octets. gathers done (record p { row = octets })) joined
-    ∙ (ap (λ is. if is && nat_lt p.rows 2048 then gives_row (record p { row = whole }) else finishes (record p { row = whole })) row
+    ∙ (ap (λ is. if is then (if nat_lt p.rows 2048 then gives_row (record p { row = whole }) else finishes (record p { row = whole })) else cuts (record p { row = whole })) row
     ∙ ap (λ is. if is then gives_row (record p { row = whole }) else finishes (record p { row = whole })) (lt-ltb p.rows 2048 few)))
 
 pub takes-piece : (p : Planned) (n : ℕ) (body longer : List ℕ) → row_before p ++ body ≡ longer → length longer ≤ 1020 → p.responses < 3
     → takes (more_left n) body p ≡ wants Fetching GetResponse (record p { row = longer; responses = p.responses + 1 })
 takes-piece p n body longer joined short few =
     let size : length (row_before p) + length body ≤ 1020 = subst (λ n. n ≤ 1020) (ap length (sym joined) ∙ length-append (row_before p) body) short in
-    ap (λ large. if large then finishes p else gathers (more_left n) (record p { row = row_before p ++ body })) (le-ltb 1020 (length (row_before p) + length body) size)
+    ap (λ large. if large then cuts p else gathers (more_left n) (record p { row = row_before p ++ body })) (le-ltb 1020 (length (row_before p) + length body) size)
     ∙ (ap (λ octets. gathers (more_left n) (record p { row = octets })) joined
     ∙ (ap (λ has. if has then asks_for_rest (record p { row = longer }) else ends_row (record p { row = longer })) (more-more n)
-    ∙ ap (λ is. if is then wants Fetching GetResponse (record p { row = longer; responses = p.responses + 1 }) else finishes (record p { row = longer })) (lt-ltb p.responses 3 few)))
+    ∙ ap (λ is. if is then wants Fetching GetResponse (record p { row = longer; responses = p.responses + 1 }) else cuts (record p { row = longer })) (lt-ltb p.responses 3 few)))
 
 pub fetching-next : (p : Planned) (word : StatusWord) (body : List ℕ) → is_refusal word ≡ false → is_end word ≡ false → goes_on Fetching word body p ≡ takes word body p
 fetching-next p word body accepted goes =

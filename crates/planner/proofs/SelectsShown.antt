@@ -29,9 +29,10 @@ use Rattle.scql_model.proofs.FoundAgain.{seen_stamped-named, name-seen_named, fi
 use Rattle.scql_model.proofs.Positions.{values_of}
 use Rattle.scql_model.proofs.ReadingSteps.{shown_on-other, ended-shown}
 use Rattle.script.specs.declared.statement.Statement.TheVariants.{Select}
+use Rattle.planner.specs.declared.closing.Closing.{Closing}
 use Rattle.planner.specs.declared.closing.Closing.TheVariants.{Rows, Refused}
 use Rattle.planner.specs.Meaning.{Meaning, Declared, cursor_on, declared, standing, selects_all, ended, meaning}
-use Rattle.planner.specs.Selecting.{ShownRows, select_shown, rows_shown, cursor_behind, rows_text, shown_behind, read_select, select_next, SelectsWhatIsShown}
+use Rattle.planner.specs.Selecting.{ShownRows, select_shown, rows_shown, cursor_behind, rows_given, closing_given, rows_text, shown_behind, read_select, select_next, SelectsWhatIsShown}
 use Rattle.planner.specs.Text.{row_text, closing_text, meaning_text}
 use Rattle.planner.proofs.Asking.{set-there}
 
@@ -103,21 +104,34 @@ module _ (m : Machine) (channel : ℕ) (s : Session) (there : session_of m chann
   shown_in session =
       shown db (option_map_or (actor_of db) (option_and_then (λ (x : Session). x.user) session) Public) (option_map_or (λ (x : Session). x.reading) session no_reading)
 
+  still-there : (change : Session → Session) → session_of (changing_session change m channel) channel ≡ Some (change s)
+  still-there change = ap (λ (session : Option Session). session_of (with_session m channel (option_map change session)) channel) there ∙ set-there m.sessions channel s (change s) there
+
+  still-open : (change : Session → Session) → is_channel_open (changing_session change m channel) channel ≡ true
+  still-open change = ap (λ (session : Option Session). is_some session) (still-there change)
+
   shown-standing : (c : Cursor) → shown_on (changing_session (standing End c) m channel) channel ≡ shown db (actor m channel) (record { cursor = Some (record c { place = End }); pending = [] })
   unfolding shown_on
   shown-standing c =
       let reading : Reading = record { cursor = Some (record c { place = End }); pending = [] } in
-      let now : session_of (changing_session (standing End c) m channel) channel ≡ Some (standing End c s) =
-      ap (λ (session : Option Session). session_of (with_session m channel (option_map (standing End c) session)) channel) there ∙ set-there m.sessions channel s (standing End c s) there in
-      ap shown_in now ∙ sym (ap (λ (session : Option Session). shown db (option_map_or (actor_of db) (option_and_then (λ (x : Session). x.user) session) Public) reading) there)
+      ap shown_in (still-there (standing End c)) ∙ sym (ap (λ (session : Option Session). shown db (option_map_or (actor_of db) (option_and_then (λ (x : Session). x.user) session) Public) reading) there)
 
   module _ (object : List ℕ) (columns : Columns) (conditions : List Condition) (readable : IsReadable (base m channel)) where
     abbrev given : Result Declared StatusWord → Result ShownRows StatusWord
     given d = as_shown db (actor m channel) (reading_of m channel) object columns conditions readable d
 
+    rows-same : (d : Result Declared StatusWord) → (selects_all m channel d).rows ≡ rows_given (given d)
+    rows-same (Err word) = refl
+    rows-same (Ok d) = refl
+
+    closing-same : (d : Result Declared StatusWord) → (selects_all m channel d).closing ≡ closing_given (given d)
+    closing-same (Err word) = refl
+    closing-same (Ok d) = ap (λ (n : ℕ). Rows n) (sym (length-map d.rows (λ (r : StampedRow). r.values)))
+
     text-given : (d : Result Declared StatusWord) → meaning_text (selects_all m channel d) ≡ rows_text (given d)
-    text-given (Err word) = refl
-    text-given (Ok d) = ap (λ (n : ℕ). concat (map row_text (values_of d.rows)) ++ closing_text (Rows n)) (sym (length-map d.rows (λ (r : StampedRow). r.values)))
+    text-given d =
+        ap (λ (rows : List Values). concat (map row_text rows) ++ closing_text (selects_all m channel d).closing) (rows-same d)
+        ∙ ap (λ (closing : Closing). concat (map row_text (rows_given (given d))) ++ closing_text closing) (closing-same d)
 
     shown-given : (d : Result Declared StatusWord) → shown_on (selects_all m channel d).machine channel ≡ shown_behind (shown_on m channel) (given d)
     unfolding shown_on shown
@@ -138,6 +152,10 @@ module _ (m : Machine) (channel : ℕ) (s : Session) (there : session_of m chann
     unfolding shown_on
     same-given = declared-shown db (actor m channel) (reading_of m channel) object columns conditions readable
 
+    opened : (d : Result Declared StatusWord) → is_channel_open (selects_all m channel d).machine channel ≡ true
+    opened (Err word) = still-open without_chain
+    opened (Ok d) = still-open (standing End d.cursor)
+
     stays : (d : Result Declared StatusWord) → (selects_all m channel d).machine.committed ≡ m.committed
     stays (Err word) = refl
     stays (Ok d) = refl
@@ -157,8 +175,11 @@ module _ (m : Machine) (channel : ℕ) (s : Session) (there : session_of m chann
     all-selected : Selects (selects_all m channel reads)
     unfolding read_select select_next
     all-selected = record {
+      rows = rows-same reads ∙ ap rows_given same-given;
+      closing = closing-same reads ∙ ap closing_given same-given;
       text = text-given reads ∙ ap rows_text same-given;
       after = shown-given reads ∙ ap (shown_behind (shown_on m channel)) same-given;
+      opened = opened reads;
       others = others-given reads;
       committed = stays reads;
       transaction = keeps reads;

@@ -11,7 +11,7 @@ use Rattle.script.proofs.Sendable.{asked-sent, wanted-sent}
 use Rattle.planner.specs.declared.stage.Stage.{Stage}
 use Rattle.planner.specs.declared.stage.Stage.TheVariants.{Start, Alone, Beginning, Declaring, Opening, Fetching, Changing, Moving, Committing, RollingBack, Ended}
 use Rattle.planner.specs.Words.{is_end, has_more, is_refusal}
-use Rattle.planner.specs.Planned.{Planned, Turn, IfSent, finishes, refuses, is_beginning, declares_over, declares, begins_with, begins, most_rows, changes_row, reaches, most_responses, row_before, is_row, gives_row, ends_row, asks_for_rest, gathers, takes, accepts, is_answered, goes_on, asks, wants}
+use Rattle.planner.specs.Planned.{Planned, Turn, IfSent, finishes, cuts, refuses, is_beginning, declares_over, declares, begins_with, begins, most_rows, changes_row, reaches, most_responses, row_before, is_row, gives_row, ends_row, asks_for_rest, gathers, takes, accepts, is_answered, goes_on, asks, wants}
 
 -- a step sends a command that can be sent, or none
 abbrev pub Sends : Turn → Type 0
@@ -57,13 +57,14 @@ reaches-sends p s can = wanted-sent p.channel Fetch can.within refl tt refl
 gathers-sends : (word : StatusWord) (p : Planned) → p.channel ≤ 3 → Sends (gathers word p)
 gathers-sends word p few =
     choose (has_more word) (asks_for_rest p) (ends_row p)
-    (choose (nat_lt p.responses most_responses) (wants Fetching GetResponse (record p { responses = p.responses + 1 })) (finishes p) (wanted-sent p.channel GetResponse few refl tt refl) (finishes-sends p few))
-    (choose (is_row p.row && nat_lt p.rows most_rows) (gives_row p) (finishes p) (wanted-sent p.channel FetchNext few refl tt refl) (finishes-sends p few))
+    (choose (nat_lt p.responses most_responses) (wants Fetching GetResponse (record p { responses = p.responses + 1 })) (cuts p) (wanted-sent p.channel GetResponse few refl tt refl) tt)
+    (choose (is_row p.row) (if nat_lt p.rows most_rows then gives_row p else finishes p) (cuts p)
+    (choose (nat_lt p.rows most_rows) (gives_row p) (finishes p) (wanted-sent p.channel FetchNext few refl tt refl) (finishes-sends p few)) tt)
 
 takes-sends : (word : StatusWord) (body : List ℕ) (p : Planned) → p.channel ≤ 3 → Sends (takes word body p)
 takes-sends word body p few =
-    choose (nat_lt LARGEST (length (row_before p) + length body)) (finishes p) (gathers word (record p { row = row_before p ++ body }))
-    (finishes-sends p few) (gathers-sends word (record p { row = row_before p ++ body }) few)
+    choose (nat_lt LARGEST (length (row_before p) + length body)) (cuts p) (gathers word (record p { row = row_before p ++ body }))
+    tt (gathers-sends word (record p { row = row_before p ++ body }) few)
 
 accepts-sends : (stage : Stage) (word : StatusWord) (body : List ℕ) (p : Planned) → CanBeSent p.channel p.statement → Sends (accepts stage word body p)
 accepts-sends Beginning word body p can = declares-sends p p.statement can

@@ -35,12 +35,12 @@ use Rattle.scql_model.specs.Contents.{Contents, cut_to, of_table, narrowed, rows
 use Rattle.scql_model.specs.Parameters.{are_chosen_columns}
 use Rattle.scql_model.specs.ReadingCommands.{wanted_of, named_among}
 use Rattle.scql_model.proofs.Creating.{name-size}
+use Rattle.scql_model.proofs.CutRows.{narrow-cut, size-cut}
 use Rattle.scql_model.proofs.Keeping.{IsThere-found}
 use Rattle.scql_model.proofs.KeepsViews.{among-wanted}
 use Rattle.scql_model.proofs.LongerLists.{find-all}
 use Rattle.planner.specs.Meaning.{Declared, cursor_on, declared}
 use Rattle.planner.proofs.Above.{found-first}
-use Rattle.planner.proofs.CutRows.{narrow-cut, size-cut}
 
 -- No more records than cells.
 records-few : (records : List StoredRecord) → list_all is_storable records ≡ true → length records ≤ cells_of_records records

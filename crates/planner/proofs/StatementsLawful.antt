@@ -12,7 +12,8 @@ use Rattle.scql_model.specs.Database.{Database}
 use Rattle.scql_model.specs.Heard.{IsLawful, after_commits}
 use Rattle.scql_model.specs.Machine.{Machine, Transaction}
 use Rattle.scql_model.specs.Sessions.{is_channel_open}
-use Rattle.scql_model.specs.Step.{Answer, step}
+use Rattle.scql_model.specs.Spelling.{part_octets}
+use Rattle.scql_model.specs.Step.{step}
 use Rattle.scql_model.specs.Transactions.{own_transaction}
 use Rattle.scql_model.proofs.LastCommits.{last-step}
 use Rattle.script.specs.declared.fault.ScriptFault.{ScriptFault}
@@ -21,11 +22,12 @@ use Rattle.script.specs.declared.statement.Statement.TheVariants.{Blank, Single,
 use Rattle.script.specs.Commands.{asking}
 use Rattle.script.specs.Line.{statement_of}
 use Rattle.planner.specs.declared.closing.Closing.{Closing}
-use Rattle.planner.specs.declared.closing.Closing.TheVariants.{Nothing, Fine, Rows, Refused}
-use Rattle.planner.specs.Words.{is_done, is_refusal}
-use Rattle.planner.specs.Meaning.{Meaning, Declared, Changed, answer_to, in_turn, parts_of, all_in_turn, declared, ended, selects_all, changed_by, changed_outside, committed_after, changed_in, on_open, begun, meaning}
+use Rattle.planner.specs.declared.closing.Closing.TheVariants.{Nothing, Fine, Rows, Cut, Refused}
+use Rattle.planner.specs.Words.{is_refusal}
+use Rattle.planner.specs.Meaning.{Meaning, Declared, Changed, answer_to, declared, ended, selects_all, changed_by, changed_outside, committed_after, changed_in, on_open, begun, meaning}
 use Rattle.planner.specs.Text.{row_text, word_octets, closing_text, meaning_text}
 use Rattle.planner.specs.StatementLines.{TerminalState, read_effect, statement_effect, statement_lines}
+use Rattle.planner.proofs.InTurn.{answer-holds}
 
 -- the database after all of some commits
 abbrev pub after_all : Database → List Database → Database
@@ -36,24 +38,10 @@ after-append db [] ys = refl
 after-append db (x ∷ xs) ys = after-append x xs ys
 
 -- The database after a command is the last that it committed.
-last-in_turn : (m : Machine) (octets : List ℕ) (rest : List (List ℕ)) → after_all m.committed (in_turn m octets rest).commits ≡ (in_turn m octets rest).machine.committed
-last-in_turn m octets [] = last-step m octets
-last-in_turn m octets (next ∷ rest) = go (is_done (step m octets).reply.word) (last-in_turn (step m octets).machine next rest)
-  where
-    go : (done : Bool) → after_all (step m octets).machine.committed (in_turn (step m octets).machine next rest).commits ≡ (in_turn (step m octets).machine next rest).machine.committed
-        → (let a : Answer = if done then record (in_turn (step m octets).machine next rest) { commits = (step m octets).commits ++ (in_turn (step m octets).machine next rest).commits } else step m octets in after_all m.committed a.commits ≡ a.machine.committed)
-    go false last = last-step m octets
-    go true last =
-        after-append m.committed (step m octets).commits (in_turn (step m octets).machine next rest).commits
-        ∙ (ap (λ (db : Database). after_all db (in_turn (step m octets).machine next rest).commits) (last-step m octets) ∙ last)
-
-last-all : (m : Machine) (parts : List (List ℕ)) → after_all m.committed (all_in_turn m parts).commits ≡ (all_in_turn m parts).machine.committed
-last-all m [] = refl
-last-all m (octets ∷ rest) = last-in_turn m octets rest
-
 pub last-answer : (m : Machine) (c : Command) → after_all m.committed (answer_to m c).commits ≡ (answer_to m c).machine.committed
-unfolding answer_to
-last-answer m c = last-all m (parts_of c)
+last-answer m c =
+    answer-holds (λ n answer. after_all n.committed answer.commits ≡ answer.machine.committed) c (λ n place. last-step n (part_octets c place)) (λ n place next last.
+    after-append n.committed (step n (part_octets c place)).commits next.commits ∙ (ap (λ (db : Database). after_all db next.commits) (last-step n (part_octets c place)) ∙ last)) m
 
 -- So it is after a statement.
 abbrev IsLast : Machine → Meaning → Type 0
@@ -152,6 +140,7 @@ said-closing : (closing : Closing) → IsSaid closing → 1 ≤ length (closing_
 said-closing Nothing said = absurd said
 said-closing Fine said = omega arith
 said-closing (Rows number) said = omega (arith, length-append (codes "rows ") (decimal number ++ codes "\n"))
+said-closing (Cut number) said = omega (arith, length-append (codes "rows ") (decimal number ++ codes "\n"))
 said-closing (Refused word) said = omega (arith, length-append (codes "refused ") (encode_upper (word_octets word) ++ codes "\n"))
 
 silent-text : (x : Meaning) → IsSilent x → length (meaning_text x) ≡ 0 → length x.commits ≡ 0

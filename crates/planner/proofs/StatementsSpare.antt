@@ -1,5 +1,5 @@
 -- The language of statements spares a user's tries.
-use Rattle.std.proofs.Common.{◌≡◌, ℕ, Bool, true, false, List, [], ◌∷◌, ◌++◌, Option, Some, None, Result, Ok, Err, if◌then◌else◌, refl, sym, subst, inr}
+use Rattle.std.proofs.Common.{◌≡◌, ℕ, Bool, true, false, List, [], ◌∷◌, Option, Some, None, Result, Ok, Err, if◌then◌else◌, refl, sym, subst, inr}
 use Rattle.std.specs.Prelude.{IfOk}
 use Rattle.scql_base.specs.declared.words.Actor.{Actor}
 use Rattle.scql_base.specs.declared.words.StatusWord.{StatusWord}
@@ -13,7 +13,8 @@ use Rattle.scql_model.specs.Database.{Database}
 use Rattle.scql_model.specs.Machine.{Machine, Session, Transaction, actor}
 use Rattle.scql_model.specs.Objects.{StampedRow}
 use Rattle.scql_model.specs.Sessions.{is_channel_open}
-use Rattle.scql_model.specs.Step.{Answer, step}
+use Rattle.scql_model.specs.Spelling.{part_octets}
+use Rattle.scql_model.specs.Step.{step}
 use Rattle.scql_model.specs.Transactions.{own_transaction}
 use Rattle.scql_model.specs.Tries.{AreSpared, IsGuardedMachine, IsGuardedWork, SparesTries}
 use Rattle.scql_model.proofs.FourCommits.{spared-append}
@@ -27,9 +28,9 @@ use Rattle.script.specs.declared.statement.Statement.TheVariants.{Blank, Single,
 use Rattle.script.specs.Commands.{asking}
 use Rattle.script.specs.Line.{statement_of}
 use Rattle.planner.specs.declared.closing.Closing.TheVariants.{Refused}
-use Rattle.planner.specs.Words.{is_done}
-use Rattle.planner.specs.Meaning.{Meaning, Declared, Changed, all_changed, all_in_turn, answer_to, at_stamp, begun, changed_by, changed_in, changed_inside, changed_outside, committed_after, declared, ended, followed_by, in_turn, on_open, once_changed, parts_of, row_changed, selects_all, meaning}
+use Rattle.planner.specs.Meaning.{Meaning, Declared, Changed, all_changed, answer_to, at_stamp, begun, changed_by, changed_in, changed_inside, changed_outside, committed_after, declared, ended, on_open, once_changed, row_changed, selects_all, meaning}
 use Rattle.planner.specs.StatementLines.{TerminalState, read_effect, statement_effect, statement_lines}
+use Rattle.planner.proofs.InTurn.{answer-holds}
 
 -- A machine is guarded, and the commits that led to it are spared.
 record Spares (stamp : ℕ) (db : Database) (next : Machine) (made : List Database) : Type 0 where
@@ -40,37 +41,16 @@ record Spares (stamp : ℕ) (db : Database) (next : Machine) (made : List Databa
 spares-step : (stamp : ℕ) (m : Machine) (octets : List ℕ) → IsGuardedMachine stamp m → Spares stamp m.committed (step m octets).machine (step m octets).commits
 spares-step stamp m octets guarded = let sparing = spared-step stamp m octets guarded in record { machine = sparing.machine; commits = sparing.commits }
 
-spares-followed : (stamp : ℕ) (m : Machine) (octets : List ℕ) (next : Answer) → IsGuardedMachine stamp m
-    → Spares stamp (step m octets).machine.committed next.machine next.commits
-    → (let answer = followed_by (step m octets) next in Spares stamp m.committed answer.machine answer.commits)
-spares-followed stamp m octets next guarded later = go (is_done (step m octets).reply.word)
-  where
-    first : Spares stamp m.committed (step m octets).machine (step m octets).commits
-    first = spares-step stamp m octets guarded
-
-    go : (done : Bool) → (let answer : Answer = if done then record next { commits = (step m octets).commits ++ next.commits } else step m octets in
-        Spares stamp m.committed answer.machine answer.commits)
-    go false = first
-    go true = record {
-      machine = later.machine;
-      commits = spared-append stamp m.committed (step m octets).commits next.commits first.commits
-          (subst (λ (db : Database). AreSpared stamp db next.commits) (sym (last-step m octets)) later.commits);
-    }
-
-spares-in_turn : (stamp : ℕ) (m : Machine) (octets : List ℕ) (rest : List (List ℕ)) → IsGuardedMachine stamp m
-    → Spares stamp m.committed (in_turn m octets rest).machine (in_turn m octets rest).commits
-spares-in_turn stamp m octets [] guarded = spares-step stamp m octets guarded
-spares-in_turn stamp m octets (next ∷ rest) guarded =
-    spares-followed stamp m octets (in_turn (step m octets).machine next rest) guarded
-    (spares-in_turn stamp (step m octets).machine next rest (spares-step stamp m octets guarded).machine)
-
 spares-answer : (stamp : ℕ) (m : Machine) (c : Command) → IsGuardedMachine stamp m → Spares stamp m.committed (answer_to m c).machine (answer_to m c).commits
-unfolding answer_to
-spares-answer stamp m c guarded = go (parts_of c)
-  where
-    go : (parts : List (List ℕ)) → Spares stamp m.committed (all_in_turn m parts).machine (all_in_turn m parts).commits
-    go [] = record { machine = guarded; commits = tt }
-    go (octets ∷ rest) = spares-in_turn stamp m octets rest guarded
+spares-answer stamp m c =
+    answer-holds (λ n answer. IsGuardedMachine stamp n → Spares stamp n.committed answer.machine answer.commits) c (λ n place. spares-step stamp n (part_octets c place)) (λ n place next later guarded.
+    let first = spares-step stamp n (part_octets c place) guarded in
+    let then' = later first.machine in
+    record {
+      machine = then'.machine;
+      commits = spared-append stamp n.committed (step n (part_octets c place)).commits next.commits first.commits
+          (subst (λ (db : Database). AreSpared stamp db next.commits) (sym (last-step n (part_octets c place))) then'.commits);
+    }) m
 
 -- Rows that are changed in turn.
 guarded-row : (stamp : ℕ) (committed : Database) (actor : Actor) (operation : Operation) (c : Cursor) (t : Transaction) → IsGuardedWork stamp committed t

@@ -6,33 +6,28 @@ use Rattle.scql_base.specs.declared.words.Actor.{Actor}
 use Rattle.scql_base.specs.declared.words.Actor.TheVariants.{Public}
 use Rattle.scql_base.specs.declared.words.StatusWord.{StatusWord}
 use Rattle.scql_base.specs.declared.cursor.Cursor.{Cursor}
-use Rattle.scql_base.specs.declared.operation.Command.{Command}
 use Rattle.scql_base.specs.declared.operation.Operation.{Operation}
 use Rattle.scql_base.specs.declared.operation.Operation.TheVariants.{Update, Delete, Begin, Commit, Rollback}
-use Rattle.scql_base.specs.declared.operation.OperationKind.{OperationKind}
-use Rattle.scql_base.specs.declared.operation.OperationKind.TheVariants as kind
 use Rattle.scql_base.specs.Words.{done, conditions_not_satisfied}
 use Rattle.scql_model.specs.Refusals.{◌>>=◌}
 use Rattle.scql_model.specs.Replies.{said}
 use Rattle.scql_model.specs.Database.{Database}
-use Rattle.scql_model.specs.Machine.{Machine, Session, Chain, Transaction, no_reading, session_of, open_channels, base, actor_of, actor}
-use Rattle.scql_model.specs.Sessions.{changing_session, command_chain, cursor_of, without_chain, without_pending, without_cursor}
+use Rattle.scql_model.specs.Machine.{Machine, Session, Transaction, no_reading, session_of, base, actor_of, actor}
+use Rattle.scql_model.specs.Sessions.{changing_session, cursor_of, without_chain, without_pending, without_cursor}
 use Rattle.scql_model.specs.Transactions.{own_transaction}
-use Rattle.scql_model.specs.Operations.{operations, goes_on, comes_in_parts, kind_of, has_secrets}
-use Rattle.scql_model.specs.Form.{a_command, parts_of}
+use Rattle.scql_model.specs.Operations.{operations, comes_in_parts, kind_of, has_secrets}
+use Rattle.scql_model.specs.Form.{a_command}
 use Rattle.scql_model.specs.Spelling.{IsTaken}
 use Rattle.scql_model.specs.Edits.{Edit, with_edits}
 use Rattle.scql_model.specs.Changing.{edits_of, transaction_after}
 use Rattle.scql_model.specs.ReadingCommands.{ReadingCommand, reading_command}
 use Rattle.scql_model.specs.Moves.{move_of}
-use Rattle.scql_model.specs.Step.{Answer, answered, done_with, changed_to, changed, carried_out, stepped, step}
-use Rattle.scql_model.proofs.CommandsAgain.{command-again}
-use Rattle.scql_model.proofs.LinesFound.{HasLine-operations}
+use Rattle.scql_model.specs.Step.{Answer, answered, done_with, changed_to, changed, carried_out, stepped}
 use Rattle.scql_model.proofs.ChangingSessions.{changing_session-set}
 use Rattle.script.specs.Commands.{asking, IsSendable}
 use Rattle.script.proofs.Sendable.{asked-sent}
 use Rattle.planner.specs.Meaning.{answer_to, begun, row_changed}
-use Rattle.planner.proofs.Asking.{set-there, open-there, one-part, answer-one, in_session, moved_answer, answer-read}
+use Rattle.planner.proofs.Asking.{set-there, answer-whole, in_session, moved_answer, answer-read}
 use Rattle.planner.proofs.Parts.{answer-in_parts}
 
 -- UPDATE and DELETE
@@ -44,10 +39,6 @@ ChangesRow operation = ⊥
 -- for whom a session acts on a database
 abbrev pub who_in : Database → Session → Actor
 who_in db s = option_map_or (actor_of db) s.user Public
-
-pub no-chain : (asked : OperationKind) → ((other : OperationKind) → goes_on asked other ≡ false) → (chain : Option Chain) → parts_of asked chain ≡ []
-no-chain asked alone None = refl
-no-chain asked alone (Some chain) = ap (λ goes. if goes then chain.parts else []) (alone chain.operation)
 
 module _ (m : Machine) (channel : ℕ) (s : Session) (near : channel ≤ 3) (there : session_of m channel ≡ Some s) where
   -- the machine with this transaction, and with this session of the channel
@@ -66,16 +57,8 @@ module _ (m : Machine) (channel : ℕ) (s : Session) (near : channel ≤ 3) (the
       ap (λ (n : Machine). answered n (carried_out n (asking channel operation))) (changing_session-set without_chain (record m { transaction = t }) channel (Some x))
 
   answer-alone : (operation : Operation) (t : Option Transaction) (x : Session) → comes_in_parts (kind_of operation) ≡ false → IsSendable (asking channel operation)
-      → IsTaken (has_secrets operations) m.committed.limit operation → ((chain : Option Chain) → parts_of (kind_of operation) chain ≡ [])
-      → answer_to (machine_with t x) (asking channel operation) ≡ outcome operation t (without_chain x)
-  unfolding step
-  answer-alone operation t x alone can taken parts =
-      let n : Machine = machine_with t x in
-      let c : Command = asking channel operation in
-      answer-one n c (one-part c alone can.fitting)
-      ∙ (ap (stepped n) (command-again operations m.committed.limit c can.formed (HasLine-operations (kind_of operation)) taken
-      (open_channels n) (command_chain n) (open-there n.sessions channel x (now t x)) (parts (command_chain n channel)))
-      ∙ ended-outcome operation t x)
+      → IsTaken (has_secrets operations) m.committed.limit operation → answer_to (machine_with t x) (asking channel operation) ≡ outcome operation t (without_chain x)
+  answer-alone operation t x alone can taken = answer-whole (machine_with t x) (asking channel operation) x can alone taken (now t x) ∙ ended-outcome operation t x
 
   -- the session after a command that is done
   settled : (t : Option Transaction) (x : Session) (commits : List Database) → done_with (machine_with t x) channel commits ≡ record { reply = said done; machine = machine_with t (without_pending x); commits = commits }
@@ -86,20 +69,20 @@ module _ (m : Machine) (channel : ℕ) (s : Session) (near : channel ≤ 3) (the
   pub answer-begun : (x : Session)
       → answer_to (machine_with None x) (asking channel Begin) ≡ record { reply = said done; machine = machine_with (Some (begun m channel)) (without_pending (without_chain x)); commits = [] }
   answer-begun x =
-      answer-alone Begin None x refl (asked-sent channel Begin near refl refl tt refl) tt (no-chain kind.Begin (λ other. refl))
+      answer-alone Begin None x refl (asked-sent channel Begin near refl refl tt refl) tt
       ∙ settled (Some (begun m channel)) (without_chain x) []
 
   pub answer-waits : (t : Transaction) (x : Session) → (t.channel == channel) ≡ false
       → answer_to (machine_with (Some t) x) (asking channel Begin) ≡ record { reply = said conditions_not_satisfied; machine = machine_with (Some t) (without_chain x); commits = [] }
   answer-waits t x other =
-      answer-alone Begin (Some t) x refl (asked-sent channel Begin near refl refl tt refl) tt (no-chain kind.Begin (λ other. refl)) ∙ rw other refl
+      answer-alone Begin (Some t) x refl (asked-sent channel Begin near refl refl tt refl) tt ∙ rw other refl
 
   -- COMMIT and ROLLBACK
   pub answer-committed : (t : Transaction) (x : Session) → (t.channel == channel) ≡ true
       → answer_to (machine_with (Some t) x) (asking channel Commit)
       ≡ record { reply = said done; machine = in_session (record m { committed = t.working; transaction = None }) channel (without_pending (without_chain x)); commits = t.working ∷ [] }
   answer-committed t x own =
-      answer-alone Commit (Some t) x refl (asked-sent channel Commit near refl refl tt refl) tt (no-chain kind.Commit (λ other. refl))
+      answer-alone Commit (Some t) x refl (asked-sent channel Commit near refl refl tt refl) tt
       ∙ (commits ∙ ap (λ (n : Machine). let a : Answer = record { reply = said done; machine = n; commits = t.working ∷ [] } in a)
       (changing_session-set without_pending (record m { committed = t.working; transaction = None }) channel (Some (without_chain x))))
     where
@@ -109,7 +92,7 @@ module _ (m : Machine) (channel : ℕ) (s : Session) (near : channel ≤ 3) (the
   pub answer-rolled_back : (t : Transaction) (x : Session) → (t.channel == channel) ≡ true
       → answer_to (machine_with (Some t) x) (asking channel Rollback) ≡ record { reply = said done; machine = machine_with None (without_cursor (without_chain x)); commits = [] }
   answer-rolled_back t x own =
-      answer-alone Rollback (Some t) x refl (asked-sent channel Rollback near refl refl tt refl) tt (no-chain kind.Rollback (λ other. refl))
+      answer-alone Rollback (Some t) x refl (asked-sent channel Rollback near refl refl tt refl) tt
       ∙ (rolls ∙ (ap (λ (n : Machine). done_with n channel []) (changing_session-set without_cursor (record m { transaction = None }) channel (Some (without_chain x)))
       ∙ settled None (without_cursor (without_chain x)) []))
     where
@@ -170,13 +153,13 @@ module _ (m : Machine) (channel : ℕ) (s : Session) (near : channel ≤ 3) (the
   pub answer-changed : (operation : Operation) (t : Transaction) (c : Cursor) → ChangesRow operation → IsSendable (asking channel operation) → (t.channel == channel) ≡ true
       → answer_to (machine_with (Some t) (resting c)) (asking channel operation) ≡ change_answer t (resting c) (row_changed m.committed (who_in t.working s) operation c t)
   answer-changed (Update changes) t c is can own =
-      answer-in_parts (record m { transaction = Some t }) channel s there s.user (Some c) changes can
+      answer-in_parts (record m { transaction = Some t }) channel s there s.user (Some c) (Update changes) refl can tt
       ∙ (ended-outcome (Update changes) (Some t) (resting c) ∙ (goes ∙ change-outcome (Update changes) t c own))
     where
       goes : outcome (Update changes) (Some t) (resting c) ≡ answered (machine_with (Some t) (resting c)) (changed (machine_with (Some t) (resting c)) channel (Update changes))
       goes = rw own refl
   answer-changed Delete t c is can own =
-      answer-alone Delete (Some t) (resting c) refl can tt (no-chain kind.Delete (λ other. refl)) ∙ (goes ∙ change-outcome Delete t c own)
+      answer-alone Delete (Some t) (resting c) refl can tt ∙ (goes ∙ change-outcome Delete t c own)
     where
       goes : outcome Delete (Some t) (resting c) ≡ answered (machine_with (Some t) (resting c)) (changed (machine_with (Some t) (resting c)) channel Delete)
       goes = rw own refl

@@ -1,5 +1,5 @@
 -- Which channel has the open transaction after a statement.
-use Rattle.std.proofs.Common.{◌≡◌, ℕ, zero, suc, ◌==◌, not, Bool, true, false, List, [], ◌∷◌, ◌++◌, Option, Some, None, is_some, Result, Ok, Err, if◌then◌else◌, refl, sym, ◌∙◌, ap, subst, inl, inr, ◌+◌}
+use Rattle.std.proofs.Common.{◌≡◌, ℕ, zero, suc, ◌==◌, not, Bool, true, false, List, [], ◌∷◌, Option, Some, None, is_some, Result, Ok, Err, if◌then◌else◌, refl, sym, ◌∙◌, ap, subst, inl, inr}
 use Rattle.std.specs.Prelude.{IfOk, option_map}
 use Rattle.std.specs.Option.{option_map_or}
 use Rattle.std.specs.Str.{bytes_eq}
@@ -16,17 +16,17 @@ use Rattle.scql_base.specs.declared.operation.OperationKind.{OperationKind}
 use Rattle.scql_base.specs.declared.operation.OperationKind.TheVariants as kind
 use Rattle.scql_base.specs.Words.{authentication_blocked, channel_not_supported, conditions_not_satisfied, function_not_supported, not_found}
 use Rattle.scql_model.specs.Database.{Database, user_named, user_stamped}
-use Rattle.scql_model.specs.Machine.{Machine, Session, Chain, Transaction, open_channels, session_of, base, actor}
+use Rattle.scql_model.specs.Machine.{Machine, Session, Transaction, open_channels, session_of, base, actor}
 use Rattle.scql_model.specs.Sessions.{changing_session, command_chain, cursor_of, without_chain, user_of, is_channel_open, least_closed}
 use Rattle.scql_model.specs.Transactions.{own_transaction, waits, is_kept_waiting}
 use Rattle.scql_model.specs.Objects.{StampedRow}
 use Rattle.scql_model.specs.Operations.{operations, has_secrets, comes_in_parts, kind_of}
 use Rattle.scql_model.specs.Refusals.{◌>>=◌, or_refused, provided}
-use Rattle.scql_model.specs.Form.{Form, refused, refused_on, part_on, a_command, parts_of, form_of}
+use Rattle.scql_model.specs.Form.{Form, refused, refused_on, part_on, a_command, form_of}
 use Rattle.scql_model.specs.ReadingCommands.{ReadingCommand, reading_command}
 use Rattle.scql_model.specs.Edits.{Edit}
 use Rattle.scql_model.specs.Changing.{edits_of, with_edits, transaction_after}
-use Rattle.scql_model.specs.Spelling.{IsTaken, field_of, part_count, part_octets, part_by}
+use Rattle.scql_model.specs.Spelling.{IsTaken, field_of, part_octets, part_by}
 use Rattle.scql_model.specs.Step.{Answer, answered, reading_done, changed_to, changed, user_and_sessions_deleted, session_named, secret_right, secret_wrong, compared, verified, channel_opened, channel_closed, operated, carried_out, stepped, step}
 use Rattle.scql_model.proofs.FormedCommands.{bound, same_Ok}
 use Rattle.scql_model.proofs.LastCommits.{of_outcome}
@@ -37,13 +37,13 @@ use Rattle.script.specs.declared.statement.Statement.TheVariants.{Blank, Single,
 use Rattle.script.specs.Commands.{asking, IsSendable, CanBeSent}
 use Rattle.planner.specs.declared.closing.Closing.{Closing}
 use Rattle.planner.specs.declared.closing.Closing.TheVariants.{Fine, Refused}
-use Rattle.planner.specs.Words.{is_done, closing_of}
-use Rattle.planner.specs.Meaning.{Meaning, Declared, Changed, answer_to, in_turn, parts_from, all_in_turn, declared, ended, selects_all, all_changed, once_changed, row_changed, at_stamp, changed_by, changed_outside, committed_after, changed_in, on_open, begun, meaning}
+use Rattle.planner.specs.Words.{closing_of}
+use Rattle.planner.specs.Meaning.{Meaning, Declared, Changed, answer_to, declared, ended, selects_all, all_changed, once_changed, row_changed, at_stamp, changed_by, changed_outside, committed_after, changed_in, on_open, begun, meaning}
 use Rattle.planner.specs.Held.{transaction_channel, held_by, held_when, TellsWhoHolds}
 use Rattle.planner.proofs.Asking.{answer-whole}
 use Rattle.planner.proofs.Closed.{answer-closed}
+use Rattle.planner.proofs.InTurn.{answer-holds}
 use Rattle.planner.proofs.KindsRead.{kind-read}
-use Rattle.planner.proofs.Stepping.{no-chain}
 
 -- BEGIN, COMMIT and ROLLBACK
 abbrev pub transacts : OperationKind → Bool
@@ -56,7 +56,7 @@ transacts kind = false
 abbrev pub Keeps : Machine → Machine → Type 0
 Keeps m n = transaction_channel n ≡ transaction_channel m
 
-abbrev IsKept : Machine → Answer → Type 0
+abbrev pub IsKept : Machine → Answer → Type 0
 IsKept m answer = Keeps m answer.machine
 
 own-channel : (t : Option Transaction) (channel : ℕ) (own : Transaction) → own_transaction t channel ≡ Some own → Some own.channel ≡ option_map (λ (t : Transaction). t.channel) t
@@ -133,7 +133,7 @@ kept-answered : (m n : Machine) (result : Result Answer StatusWord) → Keeps m 
 kept-answered m n (Ok answer) same kept = kept ∙ same
 kept-answered m n (Err word) same kept = same
 
-kept-stepped : (m : Machine) (form : Form) → ((c : Command) → form ≡ a_command c → transacts (kind_of c.operation) ≡ false) → IsKept m (stepped m form)
+pub kept-stepped : (m : Machine) (form : Form) → ((c : Command) → form ≡ a_command c → transacts (kind_of c.operation) ≡ false) → IsKept m (stepped m form)
 kept-stepped m (refused word) other = refl
 kept-stepped m (refused_on channel word) other = refl
 kept-stepped m (part_on channel kind octets) other = refl
@@ -147,50 +147,33 @@ kept-part m c place can other =
     let lined = Lined-field c.operation c.le can.formed.form can.formed.wanted in
     rw lined.found
     (kept-stepped m (form_of operations (part_by lined.line c.channel c.le (field_of c.operation) place) (open_channels m) (command_chain m) m.committed.limit) (λ read is.
-    ap transacts (kind-read lined.line _ _ _ (open_channels m) (command_chain m) m.committed.limit read (HasLine-operations (kind_of c.operation) lined.line lined.found) is ∙ lined.kind) ∙ other))
-
-kept-in_turn : (m : Machine) (c : Command) (n place : ℕ) → IsSendable c → transacts (kind_of c.operation) ≡ false → IsKept m (in_turn m (part_octets c place) (parts_from (place + 1) n c))
-kept-in_turn m c zero place can other = kept-part m c place can other
-kept-in_turn m c (suc n) place can other = go (is_done first.reply.word) (kept-in_turn first.machine c n (place + 1) can other)
-  where
-    first : Answer
-    first = step m (part_octets c place)
-
-    go : (b : Bool) → IsKept (step m (part_octets c place)).machine (in_turn (step m (part_octets c place)).machine (part_octets c (place + 1)) (parts_from (place + 1 + 1) n c))
-        → IsKept m (if b then record (in_turn (step m (part_octets c place)).machine (part_octets c (place + 1)) (parts_from (place + 1 + 1) n c)) { commits = (step m (part_octets c place)).commits ++ (in_turn (step m (part_octets c place)).machine (part_octets c (place + 1)) (parts_from (place + 1 + 1) n c)).commits } else step m (part_octets c place))
-    go true kept = kept ∙ kept-part m c place can other
-    go false kept = kept-part m c place can other
+    ap transacts (kind-read lined.line _ _ _ _ _ (open_channels m) (command_chain m) m.committed.limit read (HasLine-operations (kind_of c.operation) lined.line lined.found) is ∙ lined.kind) ∙ other))
 
 pub answer-kept : (m : Machine) (c : Command) → IsSendable c → transacts (kind_of c.operation) ≡ false → Keeps m (answer_to m c).machine
-unfolding answer_to
-answer-kept m c can other = go (part_count c)
-  where
-    go : (count : ℕ) → IsKept m (all_in_turn m (parts_from 0 count c))
-    go zero = refl
-    go (suc n) = kept-in_turn m c n 0 can other
+answer-kept m c can other = answer-holds IsKept c (λ n place. kept-part n c place can other) (λ n place next kept. kept ∙ kept-part n c place can other) m
 
 -- BEGIN, COMMIT and ROLLBACK change it where they are done.
-abbrev Tells : Machine → ℕ → Operation → Answer → Type 0
+abbrev pub Tells : Machine → ℕ → Operation → Answer → Type 0
 Tells m channel operation answer = transaction_channel answer.machine ≡ held_when (closing_of answer.reply.word) (held_by operation channel (transaction_channel m)) (transaction_channel m)
 
-abbrev outcome_of : Machine → ℕ → Operation → Answer
+abbrev pub outcome_of : Machine → ℕ → Operation → Answer
 outcome_of m channel operation = answered m (carried_out m (asking channel operation))
 
-told-begun : (m : Machine) (channel : ℕ) (t : Option Transaction) → m.transaction ≡ t → Tells m channel Begin (outcome_of m channel Begin)
+pub told-begun : (m : Machine) (channel : ℕ) (t : Option Transaction) → m.transaction ≡ t → Tells m channel Begin (outcome_of m channel Begin)
 told-begun m channel None is = rw is refl
 told-begun m channel (Some t) is = elim (cases_Bool (t.channel == channel)) [
   | inl own ↦ rw (is, own) refl
   | inr other ↦ rw (is, other) refl
 ]
 
-told-committed : (m : Machine) (channel : ℕ) (t : Option Transaction) → m.transaction ≡ t → Tells m channel Commit (outcome_of m channel Commit)
+pub told-committed : (m : Machine) (channel : ℕ) (t : Option Transaction) → m.transaction ≡ t → Tells m channel Commit (outcome_of m channel Commit)
 told-committed m channel None is = rw is refl
 told-committed m channel (Some t) is = elim (cases_Bool (t.channel == channel)) [
   | inl own ↦ rw (is, own) refl
   | inr other ↦ rw (is, other) refl
 ]
 
-told-rolled_back : (m : Machine) (channel : ℕ) (t : Option Transaction) → m.transaction ≡ t → Tells m channel Rollback (outcome_of m channel Rollback)
+pub told-rolled_back : (m : Machine) (channel : ℕ) (t : Option Transaction) → m.transaction ≡ t → Tells m channel Rollback (outcome_of m channel Rollback)
 told-rolled_back m channel None is = rw is refl
 told-rolled_back m channel (Some t) is = elim (cases_Bool (t.channel == channel)) [
   | inl own ↦ rw (is, own) refl
@@ -199,12 +182,12 @@ told-rolled_back m channel (Some t) is = elim (cases_Bool (t.channel == channel)
 
 -- on a channel that isn't open they are refused
 told-alone : (m : Machine) (channel : ℕ) (operation : Operation) → IsSendable (asking channel operation) → comes_in_parts (kind_of operation) ≡ false → IsTaken (has_secrets operations) m.committed.limit operation
-    → ((chain : Option Chain) → parts_of (kind_of operation) chain ≡ []) → Tells m channel operation (outcome_of (changing_session without_chain m channel) channel operation)
+    → Tells m channel operation (outcome_of (changing_session without_chain m channel) channel operation)
     → Tells m channel operation (answer_to m (asking channel operation))
-told-alone m channel operation can alone taken parts tells = go (session_of m channel) refl
+told-alone m channel operation can alone taken tells = go (session_of m channel) refl
   where
     go : (s : Option Session) → session_of m channel ≡ s → Tells m channel operation (answer_to m (asking channel operation))
-    go (Some s) is = subst (Tells m channel operation) (sym (answer-whole m (asking channel operation) s can alone taken parts is)) tells
+    go (Some s) is = subst (Tells m channel operation) (sym (answer-whole m (asking channel operation) s can alone taken is)) tells
     go None is = subst (Tells m channel operation) (sym (answer-closed m (asking channel operation) can alone (ap (λ (s : Option Session). is_some s) is))) refl
 
 -- A single operation.
@@ -219,9 +202,9 @@ held_when-same Fine held = refl
 held_when-same closing held = refl
 
 told-single : (m : Machine) (channel : ℕ) (operation : Operation) → IsSendable (asking channel operation) → Tells m channel operation (answer_to m (asking channel operation))
-told-single m channel Begin can = told-alone m channel Begin can refl tt (no-chain kind.Begin (λ other. refl)) (told-begun (changing_session without_chain m channel) channel m.transaction refl)
-told-single m channel Commit can = told-alone m channel Commit can refl tt (no-chain kind.Commit (λ other. refl)) (told-committed (changing_session without_chain m channel) channel m.transaction refl)
-told-single m channel Rollback can = told-alone m channel Rollback can refl tt (no-chain kind.Rollback (λ other. refl)) (told-rolled_back (changing_session without_chain m channel) channel m.transaction refl)
+told-single m channel Begin can = told-alone m channel Begin can refl tt (told-begun (changing_session without_chain m channel) channel m.transaction refl)
+told-single m channel Commit can = told-alone m channel Commit can refl tt (told-committed (changing_session without_chain m channel) channel m.transaction refl)
+told-single m channel Rollback can = told-alone m channel Rollback can refl tt (told-rolled_back (changing_session without_chain m channel) channel m.transaction refl)
 told-single m channel operation can = answer-kept m (asking channel operation) can refl ∙ sym (held_when-same (closing_of (answer_to m (asking channel operation)).reply.word) (transaction_channel m))
 
 -- UPDATE and DELETE FROM stay in their transaction.

@@ -1,6 +1,6 @@
 -- Each step but the last leaves fewer.
 use Rattle.std.proofs.Common.{◌≡◌, ℕ, ◌+◌, ◌-◌, ◌<◌, ◌≤◌, nat_lt, not, ◌&&◌, Bool, true, false, List, ◌++◌, length, Option, if◌then◌else◌, refl, lit<, arith}
-use Rattle.std.proofs.lemmas.Bool.{and_parts, ltb-true}
+use Rattle.std.proofs.lemmas.Bool.{ltb-true}
 use Rattle.scql_base.specs.declared.row.TheConstants.Row.{LARGEST}
 use Rattle.scql_base.specs.declared.words.StatusWord.{StatusWord}
 use Rattle.scql_base.specs.declared.operation.Operation.{Operation}
@@ -11,7 +11,7 @@ use Rattle.script.specs.declared.statement.Statement.TheVariants.{Blank, Single,
 use Rattle.planner.specs.declared.stage.Stage.{Stage}
 use Rattle.planner.specs.declared.stage.Stage.TheVariants.{Start, Alone, Beginning, Declaring, Opening, Fetching, Changing, Moving, Committing, RollingBack, Ended}
 use Rattle.planner.specs.Words.{is_end, has_more, is_refusal}
-use Rattle.planner.specs.Planned.{Planned, Turn, finishes, refuses, is_beginning, declares_over, begins, most_rows, changes_row, reaches, most_responses, row_before, is_row, ends_row, asks_for_rest, gathers, takes, accepts, is_answered, goes_on, heard, next_of}
+use Rattle.planner.specs.Planned.{Planned, Turn, finishes, refuses, is_beginning, declares_over, begins, most_rows, changes_row, reaches, most_responses, row_before, is_row, gives_row, cuts, ends_row, asks_for_rest, gathers, takes, accepts, is_answered, goes_on, heard, next_of}
 use Rattle.planner.specs.Turns.{for_rows, turns_at, turns_left, IfGoesOn}
 
 abbrev Below : ℕ → Turn → Type 0
@@ -57,13 +57,14 @@ reaches-below n s p more = omega (arith, more)
 gathers-below : (n : ℕ) (word : StatusWord) (p : Planned) → for_rows p + 3 + (3 - p.responses) ≤ n → Below n (gathers word p)
 gathers-below n word p more =
     or-done n (has_more word) (asks_for_rest p) (ends_row p)
-    (choose n (nat_lt p.responses most_responses) _ _ (λ few. omega (arith, more, ltb-true p.responses 3 few)) (finishes-below n p (omega (arith, more))))
-    (choose n (is_row p.row && nat_lt p.rows most_rows) _ _ (λ both. omega (arith, more, ltb-true p.rows 2048 (and_parts (is_row p.row) (nat_lt p.rows 2048) both).1)) (finishes-below n p (omega (arith, more))))
+    (choose n (nat_lt p.responses most_responses) _ _ (λ few. omega (arith, more, ltb-true p.responses 3 few)) tt)
+    (or-done n (is_row p.row) (if nat_lt p.rows most_rows then gives_row p else finishes p) (cuts p)
+    (choose n (nat_lt p.rows most_rows) _ _ (λ few. omega (arith, more, ltb-true p.rows 2048 few)) (finishes-below n p (omega (arith, more)))) tt)
 
 takes-below : (n : ℕ) (word : StatusWord) (body : List ℕ) (p : Planned) → for_rows p + 3 + (3 - p.responses) ≤ n → Below n (takes word body p)
 takes-below n word body p more =
-    or-done n (nat_lt LARGEST (length (row_before p) + length body)) (finishes p) (gathers word (record p { row = row_before p ++ body }))
-    (finishes-below n p (omega (arith, more))) (gathers-below n word (record p { row = row_before p ++ body }) more)
+    or-done n (nat_lt LARGEST (length (row_before p) + length body)) (cuts p) (gathers word (record p { row = row_before p ++ body }))
+    tt (gathers-below n word (record p { row = row_before p ++ body }) more)
 
 accepts-below : (stage : Stage) (word : StatusWord) (body : List ℕ) (p : Planned) → Below (turns_at stage p) (accepts stage word body p)
 accepts-below Beginning word body p = declares-below (for_rows p + 9) p.statement p (omega arith)

@@ -3,24 +3,23 @@ use Rattle.std.proofs.Common.{◌≡◌, ◌≤◌, ◌<◌, ℕ, zero, suc, ◌
 use Rattle.std.specs.Prelude.{nat_lt}
 use Rattle.std.specs.List.{AllByRecursion, concat, list_all}
 use Rattle.std.specs.Option.{option_map_or}
-use Rattle.std.proofs.lemmas.Bool.{false≢true, leb-true, le-leb}
+use Rattle.std.proofs.lemmas.Bool.{leb-true, le-leb}
 use Rattle.std.proofs.lemmas.Option.{same_Some}
 use Rattle.std.proofs.Math.Nat.{mod-eq_of_lt, mod-lt}
 use Rattle.scql_base.specs.Words.{wrong_data, wrong_length}
 use Rattle.scql_base.specs.declared.operation.Command.{Command}
 use Rattle.scql_base.specs.declared.operation.Line.{Line}
 use Rattle.scql_base.specs.declared.operation.OperationKind.{OperationKind}
-use Rattle.scql_base.specs.declared.operation.OperationKind.TheVariants as kind
 use Rattle.scql_base.specs.declared.operation.Takes.{Takes}
 use Rattle.scql_model.specs.Database.{IsValid}
 use Rattle.scql_model.specs.Form.{Tail, tail_of, takes_case, is_case_3, data_in, is_chained, channel_asked, line_on, taken_in, parts_of, a_command, part_in, command_in, form_of}
 use Rattle.scql_model.specs.Machine.{Machine, Chain, open_channels}
-use Rattle.scql_model.specs.Operations.{operations, goes_on, comes_in_parts, has_secrets, is_le_alone, kind_of}
+use Rattle.scql_model.specs.Operations.{operations, has_secrets, is_le_alone, kind_of}
 use Rattle.scql_model.specs.Parameters.{operation_in}
 use Rattle.scql_model.specs.Refusals.{or_refused, provided}
 use Rattle.scql_model.specs.Sessions.{command_chain}
-use Rattle.scql_model.specs.Spelling.{field_of, line_for, cla_of, with_length, le_octets, part_at, part_by, part_count, part_octets, parts_for}
-use Rattle.scql_model.specs.Step.{Answer, step}
+use Rattle.scql_model.specs.Spelling.{field_of, line_for, cla_of, with_length, le_octets, part_at, part_by, part_octets, parts_for}
+use Rattle.scql_model.specs.Step.{step}
 use Rattle.scql_model.specs.ValidMachine.{IsValidMachine}
 use Rattle.scql_model.specs.WellFormed.{HasForm, FitsCard}
 use Rattle.scql_model.proofs.FormedCommands.{both, read-operation, has_channel, wants_le, is_sound, same_Ok, bound, not_refused, on_channel, no_part, line-passes, sound-operations}
@@ -28,9 +27,9 @@ use Rattle.scql_model.proofs.KeepsRows.{within_largest}
 use Rattle.scql_model.proofs.ReadFits.{command-fits}
 use Rattle.scql_model.proofs.TailsAgain.{IsLe, tail, tail-again, data-again}
 use Rattle.scql_model.proofs.ValidSteps.{IsValidAnswer, valid-stepped}
-use Rattle.planner.specs.Meaning.{answer_to, followed_by, in_turn, parts_from, all_in_turn}
-use Rattle.planner.specs.Words.{is_done}
-use Rattle.planner.proofs.Stepping.{no-chain}
+use Rattle.planner.specs.Meaning.{answer_to}
+use Rattle.planner.proofs.Asking.{no-chain}
+use Rattle.planner.proofs.InTurn.{answer-holds}
 
 -- An Le is written as one of 1 to 256 is.
 record IsWritten (le : Option ℕ) : Type 0 where
@@ -60,12 +59,6 @@ field-taken takes is_part field le found is =
     bound (or_refused (tail_of (with_length field ++ le_octets le)) wrong_length) _ found is (λ read at is.
     bound (provided (takes_case takes read && (not is_part || is_case_3 read)) wrong_length) _ found is (λ taken at_taken same.
     subst (λ (t : Tail). data_in t ≡ field) (same_Ok read found same) (field-found field le read (not_refused (tail_of (with_length field ++ le_octets le)) wrong_length read at))))
-
--- what doesn't come in parts has none
-alone : (asked other : OperationKind) → comes_in_parts asked ≡ false → goes_on asked other ≡ false
-alone kind.Insert other single = absurd (false≢true (sym single))
-alone kind.Update other single = absurd (false≢true (sym single))
-alone asked other single = refl
 
 -- What is read as a command has its form, and fits the card.
 record HasFields (limit : ℕ) (c : Command) : Type 0 where
@@ -99,7 +92,7 @@ fields-read table cla ins p1 p2 field le channels chain limit c sound least few 
     go false channel line found number few is = record {
       form = command-form (has_secrets table) channel line.kind limit (parts_of line.kind (chain channel)) found c least number is;
       fits = command-fits (has_secrets table) channel line.kind limit (parts_of line.kind (chain channel)) found c least number few
-          (λ single. no-chain line.kind (λ other. alone line.kind other single) (chain channel)) is;
+          (no-chain line.kind (chain channel)) is;
     }
 
 -- A part of a command.
@@ -130,24 +123,9 @@ pub all-both : {X : Type 0} (P : X → Type 0) (xs ys : List X) → AllByRecursi
 all-both P [] ys first then' = then'
 all-both P (x ∷ xs) ys first then' = (first.0, all-both P xs ys first.1 then')
 
-valid-followed : (answer next : Answer) → IsValidAnswer answer → IsValidAnswer next → IsValidAnswer (followed_by answer next)
-valid-followed answer next first then' = go (is_done answer.reply.word)
-  where
-    go : (done : Bool) → IsValidAnswer (if done then record next { commits = answer.commits ++ next.commits } else answer)
-    go true = record { machine = then'.machine; commits = all-both IsValid answer.commits next.commits first.commits then'.commits }
-    go false = first
-
-valid-in_turn : (m : Machine) (c : Command) (place next count : ℕ) → IsValidMachine m → IsValidAnswer (in_turn m (part_octets c place) (parts_from next count c))
-valid-in_turn m c place next zero valid = valid-part m c place valid
-valid-in_turn m c place next (suc count) valid =
-    let first = valid-part m c place valid in
-    let after : Machine = (step m (part_octets c place)).machine in
-    valid-followed (step m (part_octets c place)) (in_turn after (part_octets c next) (parts_from (next + 1) count c)) first (valid-in_turn after c next (next + 1) count first.machine)
-
 pub valid-answer : (m : Machine) (c : Command) → IsValidMachine m → IsValidAnswer (answer_to m c)
-unfolding answer_to
-valid-answer m c valid = go (part_count c)
-  where
-    go : (count : ℕ) → IsValidAnswer (all_in_turn m (parts_from 0 count c))
-    go zero = record { machine = valid; commits = tt }
-    go (suc count) = valid-in_turn m c 0 (0 + 1) count valid
+valid-answer m c =
+    answer-holds (λ n answer. IsValidMachine n → IsValidAnswer answer) c (λ n place. valid-part n c place) (λ n place next later valid.
+    let first = valid-part n c place valid in
+    let then' = later first.machine in
+    record { machine = then'.machine; commits = all-both IsValid (step n (part_octets c place)).commits next.commits first.commits then'.commits }) m

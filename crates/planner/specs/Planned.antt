@@ -13,7 +13,7 @@ use Rattle.script.specs.declared.statement.Statement.{Statement}
 use Rattle.script.specs.declared.statement.Statement.TheVariants.{Blank, Single, Select, UpdateRows, DeleteRows, OpenNumber, CloseNumber, UseNumber, Reset}
 use Rattle.script.specs.Commands.{asking, wanting}
 use Rattle.planner.specs.declared.closing.Closing.{Closing}
-use Rattle.planner.specs.declared.closing.Closing.TheVariants.{Nothing, Fine, Rows, Refused}
+use Rattle.planner.specs.declared.closing.Closing.TheVariants.{Nothing, Fine, Rows, Cut, Refused}
 use Rattle.planner.specs.declared.stage.Stage.{Stage}
 use Rattle.planner.specs.declared.stage.Stage.TheVariants.{Start, Alone, Beginning, Declaring, Opening, Fetching, Changing, Moving, Committing, RollingBack, Ended}
 use Rattle.planner.specs.declared.step.Step.{Step}
@@ -63,6 +63,10 @@ ends closing p = record { plan = record p { stage = Ended closing }; step = Done
 abbrev pub finishes : Planned → Turn
 finishes p = if p.own then asks Committing Commit p else ends (Rows p.rows) p
 
+-- what came is no row, or didn't end: the plan ends with the rows so far
+abbrev pub cuts : Planned → Turn
+cuts p = ends (Cut p.rows) p
+
 -- a refusal ends a plan, which first rolls back a transaction of its own that was begun
 abbrev pub is_beginning : Stage → Bool
 is_beginning Beginning = true
@@ -109,8 +113,8 @@ reaches (UpdateRows object changes conditions) p = changes_row (Update changes) 
 reaches (DeleteRows object conditions) p = changes_row Delete p
 reaches statement p = wants Fetching Fetch p
 
--- Octets of a row came. Where more is left of it they are asked for, at most three times. A row is given, and the next one is fetched. What is
--- no row, and what comes behind 2,048 rows, is none.
+-- Octets of a row came. Where more is left of it they are asked for, at most three times. A row is given where it is one of the
+-- first 2,048, and the next one is fetched. What is no row, or doesn't end, cuts the plan off.
 abbrev pub most_responses : ℕ
 most_responses = 3
 
@@ -125,17 +129,17 @@ abbrev pub gives_row : Planned → Turn
 gives_row p = record { plan = record p { stage = Fetching; rows = p.rows + 1; responses = 0 }; step = Row (wanting p.channel FetchNext) }
 
 abbrev pub ends_row : Planned → Turn
-ends_row p = if is_row p.row && nat_lt p.rows most_rows then gives_row p else finishes p
+ends_row p = if is_row p.row then (if nat_lt p.rows most_rows then gives_row p else finishes p) else cuts p
 
 abbrev pub asks_for_rest : Planned → Turn
-asks_for_rest p = if nat_lt p.responses most_responses then wants Fetching GetResponse (record p { responses = p.responses + 1 }) else finishes p
+asks_for_rest p = if nat_lt p.responses most_responses then wants Fetching GetResponse (record p { responses = p.responses + 1 }) else cuts p
 
 abbrev pub gathers : StatusWord → Planned → Turn
 gathers word p = if has_more word then asks_for_rest p else ends_row p
 
 abbrev pub takes : StatusWord → List ℕ → Planned → Turn
 takes word body p =
-    if nat_lt LARGEST (length (row_before p) + length body) then finishes p
+    if nat_lt LARGEST (length (row_before p) + length body) then cuts p
     else gathers word (record p { row = row_before p ++ body })
 
 -- An answer that is no refusal.

@@ -1,15 +1,17 @@
 -- What a SELECT on an open channel prints, and what is shown after it, from what is shown alone.
-use Rattle.std.specs.Prelude.{◌≡◌, ℕ, List, [], ◌++◌, length, map, Some, Result, Ok, Err}
+use Rattle.std.specs.Prelude.{◌≡◌, ℕ, true, List, [], ◌++◌, length, map, Some, Result, Ok, Err}
 use Rattle.std.specs.List.{filter, concat}
 use Rattle.scql_base.specs.declared.words.StatusWord.{StatusWord}
 use Rattle.scql_base.specs.declared.condition.Condition.{Condition}
 use Rattle.scql_model.specs.Refusals.{◌>>=◌}
 use Rattle.scql_model.specs.Machine.{Machine}
+use Rattle.scql_model.specs.Sessions.{is_channel_open}
 use Rattle.scql_model.specs.Matching.{Columns, Values, matches}
 use Rattle.scql_model.specs.Contents.{cut_to}
 use Rattle.scql_model.specs.ReadingCommands.{wanted_of, named_among}
 use Rattle.scql_model.specs.Shown.{ShownTable, at_end, ShownCursor, Shown, shown_on}
 use Rattle.scql_model.specs.Reads.{table_called}
+use Rattle.planner.specs.declared.closing.Closing.{Closing}
 use Rattle.planner.specs.declared.closing.Closing.TheVariants.{Rows, Refused}
 use Rattle.planner.specs.Meaning.{Meaning}
 use Rattle.planner.specs.Text.{row_text, closing_text, meaning_text}
@@ -33,10 +35,18 @@ select_shown s object columns conditions = do
   _ ← named_among t.columns columns conditions
   Ok (record { rows = rows_shown t columns conditions; cursor = cursor_behind object t columns conditions })
 
+-- the rows, of which a refusal gives none, and how the SELECT closes
+abbrev pub rows_given : Result ShownRows StatusWord → List Values
+rows_given (Ok given) = given.rows
+rows_given (Err word) = []
+
+abbrev pub closing_given : Result ShownRows StatusWord → Closing
+closing_given (Ok given) = Rows (length given.rows)
+closing_given (Err word) = Refused word
+
 -- each row on a line, and then their number; or the refusal
 abbrev pub rows_text : Result ShownRows StatusWord → List ℕ
-rows_text (Ok given) = concat (map row_text given.rows) ++ closing_text (Rows (length given.rows))
-rows_text (Err word) = closing_text (Refused word)
+rows_text given = concat (map row_text (rows_given given)) ++ closing_text (closing_given given)
 
 -- the cursor stands behind the rows; a refusal leaves all as it was shown
 abbrev pub shown_behind : Shown → Result ShownRows StatusWord → Shown
@@ -50,11 +60,15 @@ read_select s object columns conditions = rows_text (select_shown s object colum
 unfoldable pub select_next : Shown → List ℕ → Columns → List Condition → Shown
 select_next s object columns conditions = shown_behind s (select_shown s object columns conditions)
 
--- A meaning of a SELECT on a channel is printed as it follows from what is shown there, and so does what is shown there afterwards. On every
--- other channel is shown what was, the committed database and the transaction stay, and nothing is committed.
+-- A meaning of a SELECT on a channel gives the rows, and closes and is printed, as it follows from what is shown there, and so does what is shown
+-- there afterwards. The channel stays open. On every other channel is shown what was, the committed database and the transaction stay, and nothing
+-- is committed.
 pub record SelectsWhatIsShown (m : Machine) (channel : ℕ) (object : List ℕ) (columns : Columns) (conditions : List Condition) (x : Meaning) : Type 0 where
+  pub rows : x.rows ≡ rows_given (select_shown (shown_on m channel) object columns conditions)
+  pub closing : x.closing ≡ closing_given (select_shown (shown_on m channel) object columns conditions)
   pub text : meaning_text x ≡ read_select (shown_on m channel) object columns conditions
   pub after : shown_on x.machine channel ≡ select_next (shown_on m channel) object columns conditions
+  pub opened : is_channel_open x.machine channel ≡ true
   pub others : (other : ℕ) → ¬ (channel ≡ other) → shown_on x.machine other ≡ shown_on m other
   pub committed : x.machine.committed ≡ m.committed
   pub transaction : x.machine.transaction ≡ m.transaction

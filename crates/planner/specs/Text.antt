@@ -8,7 +8,7 @@ use Rattle.scql_model.specs.Matching.{Values}
 use Rattle.script.specs.declared.fault.ScriptFault.{ScriptFault}
 use Rattle.script.specs.declared.fault.ScriptFault.TheVariants.{At, TooLarge}
 use Rattle.planner.specs.declared.closing.Closing.{Closing}
-use Rattle.planner.specs.declared.closing.Closing.TheVariants.{Nothing, Fine, Rows, Refused}
+use Rattle.planner.specs.declared.closing.Closing.TheVariants.{Nothing, Fine, Rows, Cut, Refused}
 use Rattle.planner.specs.Meaning.{Meaning}
 
 -- A value whose octets are all printed characters of ASCII stands between quotes, where two stand for one; any other is hexadecimal.
@@ -36,10 +36,14 @@ row_text values = values_text values ++ codes "\n"
 abbrev pub word_octets : StatusWord → List ℕ
 word_octets word = (word.word / 256) ∷ (word.word % 256) ∷ []
 
+abbrev pub count_text : ℕ → List ℕ
+count_text number = codes "rows " ++ (decimal number ++ codes "\n")
+
 abbrev pub closing_text : Closing → List ℕ
 closing_text Nothing = []
 closing_text Fine = codes "ok\n"
-closing_text (Rows number) = codes "rows " ++ (decimal number ++ codes "\n")
+closing_text (Rows number) = count_text number
+closing_text (Cut number) = count_text number
 closing_text (Refused word) = codes "refused " ++ (encode_upper (word_octets word) ++ codes "\n")
 
 abbrev pub meaning_text : Meaning → List ℕ

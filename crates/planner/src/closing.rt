@@ -10,6 +10,8 @@ pub enum Closing {
     Fine,
     /// So many rows were given or changed.
     Rows { number: u32 },
+    /// So many rows were given, and then came something that is no row, or that didn't end.
+    Cut { number: u32 },
     /// The card refused it with this word.
     Refused { word: StatusWord },
 }

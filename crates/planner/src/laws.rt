@@ -39,8 +39,9 @@ pub fn a_select_runs_to_its_meaning()
         → RunsTo m (started s channel inside) (shown (meaning m channel s))) }
 {}
 
-/// A SELECT on an open channel prints what follows from what is shown to the channel, and so does what is shown to it afterwards: its cursor is at
-/// the end of the rows, or as before where it was refused. What is shown to all others stays, and nothing is committed.
+/// A SELECT on an open channel gives the rows, closes and prints as it follows from what is shown to the channel, and so does what is shown to it
+/// afterwards: its cursor is at the end of the rows, or as before where it was refused. The channel stays open, what is shown to all others stays,
+/// and nothing is committed.
 pub fn a_select_reads_what_is_shown()
     ensures { (m : Machine) (channel : ℕ) (object : List ℕ) (columns : List (List ℕ)) (conditions : List Condition)
         → is_channel_open m channel ≡ true → IsReadable (base m channel)

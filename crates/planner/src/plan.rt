@@ -289,7 +289,7 @@ impl Plan {
             self.row.len()
         };
         if before + body.len() > Row::LARGEST {
-            return self.finish(step);
+            return self.cut(step);
         }
         self.row.truncate(before);
         let fits = self.row.try_extend_from_slice(body).is_ok();
@@ -308,7 +308,7 @@ impl Plan {
             self.responses += 1;
             self.want(Stage::Fetching, Operation::GetResponse, step)
         } else {
-            self.finish(step)
+            self.cut(step)
         }
     }
 
@@ -316,7 +316,10 @@ impl Plan {
     fn end_row(&mut self, step: &mut Step)
         ensures { planned.ends_row self.old ≡ record { plan = self.new; step = step.new } }
     {
-        if !is_row(self.row.as_slice(), &mut self.values) || self.rows >= Plan::MOST_ROWS {
+        if !is_row(self.row.as_slice(), &mut self.values) {
+            return self.cut(step);
+        }
+        if self.rows >= Plan::MOST_ROWS {
             return self.finish(step);
         }
         self.stage = Stage::Fetching;
@@ -334,6 +337,13 @@ impl Plan {
         } else {
             self.end(Closing::Rows { number: self.rows }, step)
         }
+    }
+
+    // What came is no row, or didn't end: the plan ends with the rows so far.
+    fn cut(&mut self, step: &mut Step)
+        ensures { planned.cuts self.old ≡ record { plan = self.new; step = step.new } }
+    {
+        self.end(Closing::Cut { number: self.rows }, step)
     }
 
     // A refusal ends the plan, which first rolls back a transaction of its own that was begun.

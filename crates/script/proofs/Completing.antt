@@ -4,7 +4,7 @@ use Rattle.std.proofs.lemmas.List.{length-map}
 use Rattle.std.specs.Str.{bytes_eq}
 use Rattle.script.specs.declared.statement.Statement.{Statement}
 use Rattle.script.specs.Tokens.{Token}
-use Rattle.script.specs.Reading.{octets_of, Reader, gives, fault, ◌>>=◌, one, optional, is_next, after, the, more, listed}
+use Rattle.script.specs.Reading.{octets_of, Rule, gives, fault, ◌>>=◌, one, optional, is_next, after, the, more, listed}
 use Rattle.scql_base.specs.declared.condition.Condition.{Condition}
 use Rattle.scql_base.specs.Name.{name_of}
 use Rattle.script.specs.Meanings.{channel_of, comparison_of, further_channel_of, given_secret_of, literal_of, new_name_of, presented_secret_of, privilege_of, profile_of, subject_of, undoubled}
@@ -15,7 +15,7 @@ use Rattle.script.proofs.Fresh.{fresh_name, none-new}
 use Rattle.script.proofs.Locality.{one-is, optional-is, after-yes, after-no, bind-is}
 
 -- the tokens before those at fault, and others that make a statement behind them
-record Begun (r : Reader Statement) (tokens rest : List Token) : Type 0 where
+record Begun (r : Rule Statement) (tokens rest : List Token) : Type 0 where
   before : List Token
   split : tokens ≡ before ++ rest
   others : List Token
@@ -23,23 +23,23 @@ record Begun (r : Reader Statement) (tokens rest : List Token) : Type 0 where
   made : (r (before ++ others)).0 ≡ Some statement
 
 -- there is a statement, and what stands before a fault begins one
-record IsCompleted (r : Reader Statement) : Type 0 where
+record IsCompleted (r : Rule Statement) : Type 0 where
   others : List Token
   statement : Statement
   made : (r others).0 ≡ Some statement
   begun : (tokens rest : List Token) → r tokens ≡ (None, rest) → Begun r tokens rest
 
 -- with whatever completes what is behind it, where that completes each of what it gives
-record CompletesTo (A : Type 0) (P : A → Type 0) (r : Reader A) : Type 0 where
-  goes_on : (k : A → Reader Statement) → ((x : A) → P x → IsCompleted (k x)) → IsCompleted (r >>= k)
+record CompletesTo (A : Type 0) (P : A → Type 0) (r : Rule A) : Type 0 where
+  goes_on : (k : A → Rule Statement) → ((x : A) → P x → IsCompleted (k x)) → IsCompleted (r >>= k)
 
-abbrev Completes : (A : Type 0) → Reader A → Type 0
+abbrev Completes : (A : Type 0) → Rule A → Type 0
 Completes A r = CompletesTo A (λ x. Unit {0}) r
 
 abbrev token_for : List ℕ → Token
 token_for text = record { octets = text; left = 0 }
 
-completed-same : (r s : Reader Statement) → ((tokens : List Token) → r tokens ≡ s tokens) → IsCompleted s → IsCompleted r
+completed-same : (r s : Rule Statement) → ((tokens : List Token) → r tokens ≡ s tokens) → IsCompleted s → IsCompleted r
 completed-same r s same completed = record {
   others = completed.others;
   statement = completed.statement;
@@ -62,7 +62,7 @@ gives-completes : {A : Type 0} (x : A) → Completes A (gives x)
 gives-completes x = gives-to x tt
 
 -- a text, or another thing
-after-from_nothing : (text : List ℕ) (r s : Reader Statement) (tokens rest : List Token) → bytes_eq text text ≡ true → IsCompleted r → tokens ≡ rest
+after-from_nothing : (text : List ℕ) (r s : Rule Statement) (tokens rest : List Token) → bytes_eq text text ≡ true → IsCompleted r → tokens ≡ rest
     → Begun (after text r s) tokens rest
 after-from_nothing text r s tokens rest same completed all = record {
   before = [];
@@ -72,7 +72,7 @@ after-from_nothing text r s tokens rest same completed all = record {
   made = ap (λ (p : Option Statement × List Token). p.0) (after-yes text r s (token_for text ∷ completed.others) same) ∙ completed.made;
 }
 
-after-other : (text : List ℕ) (r s : Reader Statement) (tokens rest before others : List Token) (statement : Statement) → bytes_eq text text ≡ true → IsCompleted r
+after-other : (text : List ℕ) (r s : Rule Statement) (tokens rest before others : List Token) (statement : Statement) → bytes_eq text text ≡ true → IsCompleted r
     → is_next text tokens ≡ false → tokens ≡ before ++ rest → (s (before ++ others)).0 ≡ Some statement → Begun (after text r s) tokens rest
 after-other text r s tokens rest [] others one_made same completed other split made = after-from_nothing text r s tokens rest same completed split
 after-other text r s tokens rest (token ∷ before) others one_made same completed other split made = record {
@@ -83,7 +83,7 @@ after-other text r s tokens rest (token ∷ before) others one_made same complet
   made = ap (λ (p : Option Statement × List Token). p.0) (after-no text r s (token ∷ (before ++ others)) (ap (is_next text) (sym split) ∙ other)) ∙ made;
 }
 
-after-text : (text : List ℕ) (r s : Reader Statement) (tokens rest : List Token) → is_next text [] ≡ false → IsCompleted r
+after-text : (text : List ℕ) (r s : Rule Statement) (tokens rest : List Token) → is_next text [] ≡ false → IsCompleted r
     → is_next text tokens ≡ true → after text r s tokens ≡ (None, rest) → Begun (after text r s) tokens rest
 after-text text r s [] rest none completed next is = absurd (cc)
 after-text text r s (token ∷ tokens) rest none completed next is =
@@ -96,20 +96,20 @@ after-text text r s (token ∷ tokens) rest none completed next is =
       made = ap (λ (p : Option Statement × List Token). p.0) (after-yes text r s (token ∷ (b.before ++ b.others)) next) ∙ b.made;
     }
 
-after-begun : (text : List ℕ) (r s : Reader Statement) (tokens rest : List Token) (next : Bool) → is_next text [] ≡ false → bytes_eq text text ≡ true → IsCompleted r → IsCompleted s
+after-begun : (text : List ℕ) (r s : Rule Statement) (tokens rest : List Token) (next : Bool) → is_next text [] ≡ false → bytes_eq text text ≡ true → IsCompleted r → IsCompleted s
     → is_next text tokens ≡ next → after text r s tokens ≡ (None, rest) → Begun (after text r s) tokens rest
 after-begun text r s tokens rest true none same r-completed s-completed next is = after-text text r s tokens rest none r-completed next is
 after-begun text r s tokens rest false none same r-completed s-completed next is =
     let b = s-completed.begun tokens rest (sym (after-no text r s tokens next) ∙ is) in
     after-other text r s tokens rest b.before b.others b.statement same r-completed next b.split b.made
 
-last-begun : (text : List ℕ) (r : Reader Statement) (tokens rest : List Token) (next : Bool) → is_next text [] ≡ false → bytes_eq text text ≡ true → IsCompleted r
+last-begun : (text : List ℕ) (r : Rule Statement) (tokens rest : List Token) (next : Bool) → is_next text [] ≡ false → bytes_eq text text ≡ true → IsCompleted r
     → is_next text tokens ≡ next → after text r fault tokens ≡ (None, rest) → Begun (after text r fault) tokens rest
 last-begun text r tokens rest true none same completed next is = after-text text r fault tokens rest none completed next is
 last-begun text r tokens rest false none same completed next is =
     after-from_nothing text r fault tokens rest same completed (ap (λ (p : Option Statement × List Token). p.1) (sym (after-no text r fault tokens next) ∙ is))
 
-after-completed : (text : List ℕ) (r s : Reader Statement) → is_next text [] ≡ false → bytes_eq text text ≡ true → IsCompleted r → IsCompleted s → IsCompleted (after text r s)
+after-completed : (text : List ℕ) (r s : Rule Statement) → is_next text [] ≡ false → bytes_eq text text ≡ true → IsCompleted r → IsCompleted s → IsCompleted (after text r s)
 after-completed text r s none same r-completed s-completed = record {
   others = token_for text ∷ r-completed.others;
   statement = r-completed.statement;
@@ -117,7 +117,7 @@ after-completed text r s none same r-completed s-completed = record {
   begun = λ tokens rest is. after-begun text r s tokens rest (is_next text tokens) none same r-completed s-completed refl is;
 }
 
-last-completed : (text : List ℕ) (r : Reader Statement) → is_next text [] ≡ false → bytes_eq text text ≡ true → IsCompleted r → IsCompleted (after text r fault)
+last-completed : (text : List ℕ) (r : Rule Statement) → is_next text [] ≡ false → bytes_eq text text ≡ true → IsCompleted r → IsCompleted (after text r fault)
 last-completed text r none same completed = record {
   others = token_for text ∷ completed.others;
   statement = completed.statement;
@@ -125,12 +125,12 @@ last-completed text r none same completed = record {
   begun = λ tokens rest is. last-begun text r tokens rest (is_next text tokens) none same completed refl is;
 }
 
-after-bind : {A : Type 0} (text : List ℕ) (r s : Reader A) (k : A → Reader Statement) (tokens : List Token) (next : Bool) → is_next text tokens ≡ next
+after-bind : {A : Type 0} (text : List ℕ) (r s : Rule A) (k : A → Rule Statement) (tokens : List Token) (next : Bool) → is_next text tokens ≡ next
     → (after text r s >>= k) tokens ≡ after text (r >>= k) (s >>= k) tokens
 after-bind text r s k tokens true is = rw is refl
 after-bind text r s k tokens false is = rw is refl
 
-after-completes : {A : Type 0} (text : List ℕ) (r s : Reader A) → is_next text [] ≡ false → bytes_eq text text ≡ true → Completes A r → Completes A s → Completes A (after text r s)
+after-completes : {A : Type 0} (text : List ℕ) (r s : Rule A) → is_next text [] ≡ false → bytes_eq text text ≡ true → Completes A r → Completes A s → Completes A (after text r s)
 after-completes text r s none same r-completes s-completes = record {
   goes_on = λ k completed.
       completed-same (after text r s >>= k) (after text (r >>= k) (s >>= k)) (λ tokens. after-bind text r s k tokens (is_next text tokens) refl)
@@ -138,7 +138,7 @@ after-completes text r s none same r-completes s-completes = record {
 }
 
 -- a text, or nothing else
-last-completes : {A : Type 0} (text : List ℕ) (r : Reader A) → is_next text [] ≡ false → bytes_eq text text ≡ true → Completes A r → Completes A (after text r fault)
+last-completes : {A : Type 0} (text : List ℕ) (r : Rule A) → is_next text [] ≡ false → bytes_eq text text ≡ true → Completes A r → Completes A (after text r fault)
 last-completes text r none same completes = record {
   goes_on = λ k completed.
       completed-same (after text r fault >>= k) (after text (r >>= k) fault) (λ tokens. after-bind text r fault k tokens (is_next text tokens) refl)
@@ -150,7 +150,7 @@ unfolding the
 the-completes text none same = last-completes text (gives tt) none same (gives-completes tt)
 
 -- one token
-one-begun : {A : Type 0} (meaning : List ℕ → Option A) (octets : List ℕ) (x : A) (k : A → Reader Statement) (tokens rest : List Token) (found : Option A)
+one-begun : {A : Type 0} (meaning : List ℕ → Option A) (octets : List ℕ) (x : A) (k : A → Rule Statement) (tokens rest : List Token) (found : Option A)
     → meaning octets ≡ Some x → meaning [] ≡ None → ((y : A) → IsCompleted (k y)) → meaning (octets_of tokens) ≡ found → (one meaning >>= k) tokens ≡ (None, rest)
     → Begun (one meaning >>= k) tokens rest
 one-begun meaning octets x k tokens rest None some none completed found is = record {
@@ -188,15 +188,15 @@ one-completes meaning octets {x} some none = record {
 }
 
 -- one token, or none
-optional-given : {A : Type 0} (meaning : List ℕ → Option A) (otherwise : A) (k : A → Reader Statement) (token : Token) (tokens : List Token) (x : A) → meaning token.octets ≡ Some x
+optional-given : {A : Type 0} (meaning : List ℕ → Option A) (otherwise : A) (k : A → Rule Statement) (token : Token) (tokens : List Token) (x : A) → meaning token.octets ≡ Some x
     → (optional meaning otherwise >>= k) (token ∷ tokens) ≡ k x tokens
 optional-given meaning otherwise k token tokens x is = bind-is (optional meaning otherwise) k (token ∷ tokens) (Some x) tokens (optional-is meaning otherwise (token ∷ tokens) (Some x) is)
 
-optional-none : {A : Type 0} (meaning : List ℕ → Option A) (otherwise : A) (k : A → Reader Statement) (tokens : List Token) → meaning (octets_of tokens) ≡ None
+optional-none : {A : Type 0} (meaning : List ℕ → Option A) (otherwise : A) (k : A → Rule Statement) (tokens : List Token) → meaning (octets_of tokens) ≡ None
     → (optional meaning otherwise >>= k) tokens ≡ k otherwise tokens
 optional-none meaning otherwise k tokens is = bind-is (optional meaning otherwise) k tokens (Some otherwise) tokens (optional-is meaning otherwise tokens None is)
 
-optional-other : {A : Type 0} (meaning : List ℕ → Option A) (otherwise : A) (octets : List ℕ) (x : A) (k : A → Reader Statement) (tokens rest before others : List Token) (statement : Statement)
+optional-other : {A : Type 0} (meaning : List ℕ → Option A) (otherwise : A) (octets : List ℕ) (x : A) (k : A → Rule Statement) (tokens rest before others : List Token) (statement : Statement)
     → meaning octets ≡ Some x → ((y : A) → IsCompleted (k y)) → meaning (octets_of tokens) ≡ None → tokens ≡ before ++ rest
     → (k otherwise (before ++ others)).0 ≡ Some statement → Begun (optional meaning otherwise >>= k) tokens rest
 optional-other meaning otherwise octets x k tokens rest [] others one_made some completed found split made = record {
@@ -216,7 +216,7 @@ optional-other meaning otherwise octets x k tokens rest (token ∷ before) other
       (ap (λ (all : List Token). meaning (octets_of all)) (sym split) ∙ found)) ∙ made;
 }
 
-optional-begun : {A : Type 0} (meaning : List ℕ → Option A) (otherwise : A) (octets : List ℕ) (x : A) (k : A → Reader Statement) (tokens rest : List Token) (found : Option A)
+optional-begun : {A : Type 0} (meaning : List ℕ → Option A) (otherwise : A) (octets : List ℕ) (x : A) (k : A → Rule Statement) (tokens rest : List Token) (found : Option A)
     → meaning octets ≡ Some x → meaning [] ≡ None → ((y : A) → IsCompleted (k y)) → meaning (octets_of tokens) ≡ found
     → (optional meaning otherwise >>= k) tokens ≡ (None, rest) → Begun (optional meaning otherwise >>= k) tokens rest
 optional-begun meaning otherwise octets x k tokens rest None some none completed found is =
@@ -245,12 +245,12 @@ optional-completes meaning otherwise octets {x} some none = record {
 }
 
 -- one thing behind another
-bind-bind : {A B : Type 0} (r : Reader A) (f : A → Reader B) (k : B → Reader Statement) (tokens : List Token) (x : Option A) (rest : List Token) → r tokens ≡ (x, rest)
+bind-bind : {A B : Type 0} (r : Rule A) (f : A → Rule B) (k : B → Rule Statement) (tokens : List Token) (x : Option A) (rest : List Token) → r tokens ≡ (x, rest)
     → ((r >>= f) >>= k) tokens ≡ (r >>= (λ y. f y >>= k)) tokens
 bind-bind r f k tokens None rest is = rw is refl
 bind-bind r f k tokens (Some x) rest is = rw is refl
 
-bind-to : {A B : Type 0} {P : A → Type 0} {Q : B → Type 0} {r : Reader A} {f : A → Reader B} → CompletesTo A P r → ((x : A) → P x → CompletesTo B Q (f x))
+bind-to : {A B : Type 0} {P : A → Type 0} {Q : B → Type 0} {r : Rule A} {f : A → Rule B} → CompletesTo A P r → ((x : A) → P x → CompletesTo B Q (f x))
     → CompletesTo B Q (r >>= f)
 bind-to {r = r} {f = f} r-completes f-completes = record {
   goes_on = λ k completed.
@@ -258,11 +258,11 @@ bind-to {r = r} {f = f} r-completes f-completes = record {
       (r-completes.goes_on (λ y. f y >>= k) (λ y holds. (f-completes y holds).goes_on k completed));
 }
 
-bind-completes : {A B : Type 0} (r : Reader A) (f : A → Reader B) → Completes A r → ((x : A) → Completes B (f x)) → Completes B (r >>= f)
+bind-completes : {A B : Type 0} (r : Rule A) (f : A → Rule B) → Completes A r → ((x : A) → Completes B (f x)) → Completes B (r >>= f)
 bind-completes r f r-completes f-completes = bind-to r-completes (λ x any. f-completes x)
 
 -- up to so many items more, where an item can be read while there is room for it
-more-completes : {A : Type 0} (HasRoomFor : ℕ → A → Type 0) (n : ℕ) (separator : List ℕ) (item : A → Reader A) (items : A) → is_next separator [] ≡ false → bytes_eq separator separator ≡ true
+more-completes : {A : Type 0} (HasRoomFor : ℕ → A → Type 0) (n : ℕ) (separator : List ℕ) (item : A → Rule A) (items : A) → is_next separator [] ≡ false → bytes_eq separator separator ≡ true
     → ((m : ℕ) (xs : A) → HasRoomFor (suc m) xs → CompletesTo A (HasRoomFor m) (item xs)) → HasRoomFor n items → Completes A (more n separator item items)
 unfolding more
 more-completes HasRoomFor zero separator item items none same item-completes room = gives-completes items
@@ -270,7 +270,7 @@ more-completes HasRoomFor (suc n) separator item items none same item-completes 
     after-completes separator (item items >>= more n separator item) (gives items) none same
     (bind-to (item-completes n items room) (λ xs further. more-completes HasRoomFor n separator item xs none same item-completes further)) (gives-completes items)
 
-listed-completes : {A : Type 0} (HasRoomFor : ℕ → A → Type 0) (most : ℕ) (separator : List ℕ) (item : A → Reader A) (nothing : A) → is_next separator [] ≡ false
+listed-completes : {A : Type 0} (HasRoomFor : ℕ → A → Type 0) (most : ℕ) (separator : List ℕ) (item : A → Rule A) (nothing : A) → is_next separator [] ≡ false
     → bytes_eq separator separator ≡ true → CompletesTo A (HasRoomFor (most - 1)) (item nothing)
     → ((m : ℕ) (xs : A) → HasRoomFor (suc m) xs → CompletesTo A (HasRoomFor m) (item xs)) → Completes A (listed most separator item nothing)
 unfolding listed

@@ -9,11 +9,11 @@ use Rattle.scql_base.specs.Name.{IsName, is_name, name_of}
 use Rattle.scql_model.specs.Rules.{are_different}
 use Rattle.scql_model.proofs.LongerLists.{all-added}
 use Rattle.script.specs.Tokens.{Token}
-use Rattle.script.specs.Reading.{octets_of, behind, Reader, gives, fault, continued, ◌>>=◌, read_token, read_or, one, optional, is_next, after, the, more, listed}
+use Rattle.script.specs.Reading.{octets_of, behind, Rule, gives, fault, continued, ◌>>=◌, read_token, read_or, one, optional, is_next, after, the, more, listed}
 use Rattle.script.specs.Meanings.{is_among, new_name_of}
 
 -- a rule reads only what has a property
-pub record Reads {A : Type 0} (P : A → Type 0) (r : Reader A) : Type 0 where
+pub record Reads {A : Type 0} (P : A → Type 0) (r : Rule A) : Type 0 where
   pub found : (tokens : List Token) → IfSome (r tokens).0 P
 
 pub gives-reads : {A : Type 0} (P : A → Type 0) (x : A) → P x → Reads P (gives x)
@@ -22,14 +22,14 @@ gives-reads P x is = record { found = λ tokens. is }
 pub fault-reads : {A : Type 0} (P : A → Type 0) → Reads P fault
 fault-reads P = record { found = λ tokens. tt }
 
-pub after-reads : {A : Type 0} (P : A → Type 0) (text : List ℕ) (r s : Reader A) → Reads P r → Reads P s → Reads P (after text r s)
+pub after-reads : {A : Type 0} (P : A → Type 0) (text : List ℕ) (r s : Rule A) → Reads P r → Reads P s → Reads P (after text r s)
 after-reads {A} P text r s r-reads s-reads = record { found = λ tokens. go tokens (is_next text tokens) }
   where
     go : (tokens : List Token) (next : Bool) → IfSome (if next then r (behind tokens) else s tokens).0 P
     go tokens true = r-reads.found (behind tokens)
     go tokens false = s-reads.found tokens
 
-pub bind-reads : {A B : Type 0} (Q : A → Type 0) (P : B → Type 0) (r : Reader A) (f : A → Reader B) → Reads Q r → ((x : A) → Q x → Reads P (f x)) → Reads P (r >>= f)
+pub bind-reads : {A B : Type 0} (Q : A → Type 0) (P : B → Type 0) (r : Rule A) (f : A → Rule B) → Reads Q r → ((x : A) → Q x → Reads P (f x)) → Reads P (r >>= f)
 bind-reads {A} {B} Q P r f r-reads f-reads = record { found = λ tokens. go (r tokens).0 (r tokens).1 (r-reads.found tokens) }
   where
     go : (x : Option A) (rest : List Token) → IfSome x Q → IfSome (continued f x rest).0 P
@@ -61,7 +61,7 @@ unfolding the
 the-reads text = after-reads (Anything (Unit {0})) text (gives tt) fault (gives-reads (Anything (Unit {0})) tt tt) (fault-reads (Anything (Unit {0})))
 
 -- a list has so many items and a form; with each item it has one more and the form still
-pub more-reads : {A : Type 0} (P : ℕ → A → Type 0) (Q : A → Type 0) (n most k : ℕ) (separator : List ℕ) (item : A → Reader A) (items : A)
+pub more-reads : {A : Type 0} (P : ℕ → A → Type 0) (Q : A → Type 0) (n most k : ℕ) (separator : List ℕ) (item : A → Rule A) (items : A)
     → ((k : ℕ) (items : A) → P k items → Reads (P (k + 1)) (item items)) → ((k : ℕ) (items : A) → k ≤ most → P k items → Q items)
     → k + n ≤ most → P k items → Reads Q (more n separator item items)
 unfolding more
@@ -71,14 +71,14 @@ more-reads P Q (suc n) most k separator item items grows ends fits is =
     (bind-reads (P (k + 1)) Q (item items) (more n separator item) (grows k items is) (λ longer has. more-reads P Q n most (k + 1) separator item longer grows ends (omega (arith, fits)) has))
     (gives-reads Q items (ends k items (omega (arith, fits)) is))
 
-pub weaker-reads : {A : Type 0} (P Q : A → Type 0) (r : Reader A) → ((x : A) → P x → Q x) → Reads P r → Reads Q r
+pub weaker-reads : {A : Type 0} (P Q : A → Type 0) (r : Rule A) → ((x : A) → P x → Q x) → Reads P r → Reads Q r
 weaker-reads {A} P Q r gives-it reads = record { found = λ tokens. go (r tokens).0 (reads.found tokens) }
   where
     go : (x : Option A) → IfSome x P → IfSome x Q
     go None is = tt
     go (Some x) is = gives-it x is
 
-pub listed-reads : {A : Type 0} (P : ℕ → A → Type 0) (Q : A → Type 0) (most : ℕ) (separator : List ℕ) (item : A → Reader A) (none : A)
+pub listed-reads : {A : Type 0} (P : ℕ → A → Type 0) (Q : A → Type 0) (most : ℕ) (separator : List ℕ) (item : A → Rule A) (none : A)
     → ((k : ℕ) (items : A) → P k items → Reads (P (k + 1)) (item items)) → ((k : ℕ) (items : A) → 1 ≤ k → k ≤ most → P k items → Q items)
     → 1 ≤ most → P 0 none → Reads Q (listed most separator item none)
 unfolding listed

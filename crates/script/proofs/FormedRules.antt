@@ -23,7 +23,7 @@ use Rattle.scql_model.proofs.LongerLists.{all-added}
 use Rattle.script.specs.declared.statement.Statement.{Statement}
 use Rattle.script.specs.declared.statement.Statement.TheVariants.{Blank, Single, Select, UpdateRows, DeleteRows, OpenNumber, CloseNumber, UseNumber, Reset}
 use Rattle.script.specs.Tokens.{Token}
-use Rattle.script.specs.Reading.{is_end, Reader, gives, fault, ◌>>=◌, one, optional, after, the}
+use Rattle.script.specs.Reading.{is_end, Rule, gives, fault, ◌>>=◌, one, optional, after, the}
 use Rattle.script.specs.Meanings.{literal_of, text_of, hexadecimal_of, undoubled, presented, given, presented_secret_of, given_secret_of, comparison_of, privilege_of, profile_of, subject_of, further_channel_of, channel_of, new_name_of}
 use Rattle.script.specs.Grammar as grammar
 use Rattle.script.specs.Grammar.{name, literal, with_name, names, columns, with_condition, conditions, where_conditions, with_literal, literals, with_change, changes, with_privilege, privileges, create_table, create_view, create_dictionary, create_user, create, drop_table, drop_view, dropping, grant, revoke, insert, select, update, delete_rows, delete_user, delete, present, verify, open_channel, close_channel, use_channel, about_channels, about_transactions, about_users, about_objects, about_rows, statement, at_end, whole}
@@ -347,13 +347,13 @@ IsFormed Blank = Unit {0}
 IsFormed Reset = Unit {0}
 
 -- a rule goes on behind a name, or behind a word
-named : (f : List ℕ → Reader Statement) → ((x : List ℕ) → IsName x → Reads IsFormed (f x)) → Reads IsFormed (grammar.name >>= f)
+named : (f : List ℕ → Rule Statement) → ((x : List ℕ) → IsName x → Reads IsFormed (f x)) → Reads IsFormed (grammar.name >>= f)
 named f so = bind-reads IsName IsFormed grammar.name f name-reads so
 
-worded : (text : List ℕ) (f : Unit {0} → Reader Statement) → Reads IsFormed (f tt) → Reads IsFormed (the text >>= f)
+worded : (text : List ℕ) (f : Unit {0} → Rule Statement) → Reads IsFormed (f tt) → Reads IsFormed (the text >>= f)
 worded text f so = bind-reads (Anything (Unit {0})) IsFormed (the text) f (the-reads text) (λ sign any. so)
 
-choice : (text : List ℕ) (r s : Reader Statement) → Reads IsFormed r → Reads IsFormed s → Reads IsFormed (after text r s)
+choice : (text : List ℕ) (r s : Rule Statement) → Reads IsFormed r → Reads IsFormed s → Reads IsFormed (after text r s)
 choice text r s r-reads s-reads = after-reads IsFormed text r s r-reads s-reads
 
 done : (s : Statement) → IsFormed s → Reads IsFormed (gives s)

@@ -1,5 +1,6 @@
 -- A name that isn't among others, of which there are few.
 use Rattle.std.proofs.Common.{◌≡◌, ℕ, ◌+◌, ◌<◌, Bool, true, false, not, ◌&&◌, ◌||◌, List, [], ◌∷◌, length, Some, None, if◌then◌else◌, refl, sym, ◌∙◌, ap, codes, arith}
+use Rattle.std.proofs.lemmas.Bool.{and_parts, not-true, or_from, or_left, or_parts, or_right}
 use Rattle.std.proofs.lemmas.Slice.Eq.{bytes_eq-Decides}
 use Rattle.std.specs.Str.{bytes_eq}
 use Rattle.scql_base.specs.Name.{is_name, name_of}
@@ -21,30 +22,6 @@ without octets (name ∷ names) = if bytes_eq name octets then names else name �
 bytes_eq-refl : (octets : List ℕ) → bytes_eq octets octets ≡ true
 bytes_eq-refl octets = (bytes_eq-Decides octets octets).1 refl
 
-or-parts : (a b : Bool) → (a || b) ≡ false → (a ≡ false) × (b ≡ false)
-or-parts true b is = absurd (cc)
-or-parts false b is = (refl, is)
-
-or-back : (a b : Bool) → b ≡ true → (a || b) ≡ true
-or-back true b is = refl
-or-back false b is = is
-
-or-front : (a b : Bool) → a ≡ true → (a || b) ≡ true
-or-front true b is = refl
-or-front false b is = absurd (cc)
-
-or-none : (a b : Bool) → a ≡ false → b ≡ false → (a || b) ≡ false
-or-none true b a-none b-none = absurd (cc)
-or-none false b a-none b-none = b-none
-
-and-parts : (a b : Bool) → (a && b) ≡ true → (a ≡ true) × (b ≡ true)
-and-parts true b is = (refl, is)
-and-parts false b is = absurd (cc)
-
-not-true : (a : Bool) → not a ≡ true → a ≡ false
-not-true true is = absurd (cc)
-not-true false is = refl
-
 length-without_by : (octets name : List ℕ) (names : List (List ℕ)) (same : Bool) → bytes_eq name octets ≡ same → (same || is_among octets names) ≡ true
     → (is_among octets names ≡ true → length (without octets names) + 1 ≡ length names) → length (without octets (name ∷ names)) + 1 ≡ length (name ∷ names)
 length-without_by octets name names true is among behind = rw is (omega arith)
@@ -59,10 +36,10 @@ among-without_by : (octets other name : List ℕ) (names : List (List ℕ)) (sam
     → is_among other (name ∷ names) ≡ false
 among-without_by octets other name names true apart is none behind =
     let none-left : is_among other names ≡ false = rw is at none in
-    or-none (bytes_eq name other) (is_among other names) (ap (λ (n : List ℕ). bytes_eq n other) ((bytes_eq-Decides name octets).0 is) ∙ apart) none-left
+    or_from (bytes_eq name other) (is_among other names) (ap (λ (n : List ℕ). bytes_eq n other) ((bytes_eq-Decides name octets).0 is) ∙ apart) none-left
 among-without_by octets other name names false apart is none behind =
-    let parts = or-parts (bytes_eq name other) (is_among other (without octets names)) (rw is at none) in
-    or-none (bytes_eq name other) (is_among other names) parts.0 (behind parts.1)
+    let parts = or_parts (bytes_eq name other) (is_among other (without octets names)) (rw is at none) in
+    or_from (bytes_eq name other) (is_among other names) parts.0 (behind parts.1)
 
 among-without : (octets other : List ℕ) (names : List (List ℕ)) → bytes_eq octets other ≡ false → is_among other (without octets names) ≡ false → is_among other names ≡ false
 among-without octets other [] apart none = refl
@@ -83,21 +60,21 @@ fresh-by : (first : List ℕ) (candidates names : List (List ℕ)) (among : Bool
     → length names < length candidates + 1 → ((others : List (List ℕ)) → length others < length candidates → Fresh candidates others) → Fresh (first ∷ candidates) names
 fresh-by first candidates names false is different few behind = record {
   octets = first;
-  candidate = or-front (bytes_eq first first) (is_among first candidates) (bytes_eq-refl first);
+  candidate = or_left (bytes_eq first first) (is_among first candidates) (bytes_eq-refl first);
   new = is;
 }
 fresh-by first candidates names true is different few behind =
     let f = behind (without first names) (omega (arith, length-without first names is)) in
     record {
       octets = f.octets;
-      candidate = or-back (bytes_eq first f.octets) (is_among f.octets candidates) f.candidate;
+      candidate = or_right (bytes_eq first f.octets) (is_among f.octets candidates) f.candidate;
       new = among-without first f.octets names (apart-by first f.octets candidates (bytes_eq first f.octets) refl different f.candidate) f.new;
     }
 
 fresh : (candidates names : List (List ℕ)) → are_different candidates ≡ true → length names < length candidates → Fresh candidates names
 fresh [] names different few = absurd (omega arith)
 fresh (first ∷ candidates) names different few =
-    let parts = and-parts (not (is_among first candidates)) (are_different candidates) different in
+    let parts = and_parts (not (is_among first candidates)) (are_different candidates) different in
     fresh-by first candidates names (is_among first names) refl (not-true (is_among first candidates) parts.0) (omega arith)
     (λ others fewer. fresh candidates others parts.1 fewer)
 
@@ -109,7 +86,7 @@ is_name-by octets name names false is valid among behind = behind among
 is_name-among : (octets : List ℕ) (names : List (List ℕ)) → are_names names ≡ true → is_among octets names ≡ true → is_name octets ≡ true
 is_name-among octets [] valid among = absurd (cc)
 is_name-among octets (name ∷ names) valid among =
-    let parts = and-parts (is_name name) (are_names names) valid in
+    let parts = and_parts (is_name name) (are_names names) valid in
     is_name-by octets name names (bytes_eq name octets) refl parts among (λ is. is_name-among octets names parts.1 is)
 
 -- fifteen names

@@ -3,7 +3,7 @@ use Rattle.std.proofs.Common.{◌≡◌, ℕ, zero, suc, ◌-◌, Bool, true, fa
 use Rattle.std.specs.Str.{bytes_eq}
 use Rattle.script.specs.declared.statement.Statement.{Statement}
 use Rattle.script.specs.Tokens.{Token}
-use Rattle.script.specs.Reading.{octets_of, behind, is_end, Reader, gives, fault, continued, ◌>>=◌, read_token, read_or, one, optional, is_next, after, the, more, listed}
+use Rattle.script.specs.Reading.{octets_of, behind, is_end, Rule, gives, fault, continued, ◌>>=◌, read_token, read_or, one, optional, is_next, after, the, more, listed}
 use Rattle.scql_base.specs.declared.condition.Condition.{Condition}
 use Rattle.scql_base.specs.Name.{name_of}
 use Rattle.script.specs.Meanings.{channel_of, comparison_of, further_channel_of, given_secret_of, literal_of, new_name_of, presented_secret_of, privilege_of, profile_of, subject_of}
@@ -12,19 +12,19 @@ use Rattle.script.specs.Grammar.{name, literal, with_name, names, columns, with_
 use Rattle.script.specs.Place.{IsAtFault}
 
 -- what was read of tokens, and that it is read again where other tokens stand behind the next one
-pub record Read (A : Type 0) (r : Reader A) (tokens : List Token) (x : Option A) (rest : List Token) : Type 0 where
+pub record Read (A : Type 0) (r : Rule A) (tokens : List Token) (x : Option A) (rest : List Token) : Type 0 where
   pub before : List Token
   pub split : tokens ≡ before ++ rest
   pub again : (others : List Token) → take 1 others ≡ take 1 rest → r (before ++ others) ≡ (x, others)
 
-pub record IsLocal (A : Type 0) (r : Reader A) : Type 0 where
+pub record IsLocal (A : Type 0) (r : Rule A) : Type 0 where
   pub reads : (tokens : List Token) → Read A r tokens (r tokens).0 (r tokens).1
 
-turned : {A : Type 0} (r : Reader A) (tokens : List Token) (x : Option A) (rest : List Token) → r tokens ≡ (x, rest) → Read A r tokens x rest
+turned : {A : Type 0} (r : Rule A) (tokens : List Token) (x : Option A) (rest : List Token) → r tokens ≡ (x, rest) → Read A r tokens x rest
     → Read A r tokens (r tokens).0 (r tokens).1
 turned {A} r tokens x rest is read = let P : Option A × List Token → Type 0 = λ p. Read A r tokens p.0 p.1 in subst P (sym is) read
 
-taken : {A : Type 0} (r : Reader A) (tokens : List Token) (x : Option A) (rest : List Token) → r tokens ≡ (x, rest) → Read A r tokens (r tokens).0 (r tokens).1
+taken : {A : Type 0} (r : Rule A) (tokens : List Token) (x : Option A) (rest : List Token) → r tokens ≡ (x, rest) → Read A r tokens (r tokens).0 (r tokens).1
     → Read A r tokens x rest
 taken {A} r tokens x rest is read = let P : Option A × List Token → Type 0 = λ p. Read A r tokens p.0 p.1 in subst P is read
 
@@ -110,13 +110,13 @@ optional-local : {A : Type 0} (meaning : List ℕ → Option A) (otherwise : A) 
 optional-local meaning otherwise = record { reads = λ tokens. optional-by meaning otherwise tokens (meaning (octets_of tokens)) refl }
 
 -- a text, or another thing
-pub after-yes : {A : Type 0} (text : List ℕ) (r s : Reader A) (tokens : List Token) → is_next text tokens ≡ true → after text r s tokens ≡ r (behind tokens)
+pub after-yes : {A : Type 0} (text : List ℕ) (r s : Rule A) (tokens : List Token) → is_next text tokens ≡ true → after text r s tokens ≡ r (behind tokens)
 after-yes text r s tokens is = rw is refl
 
-pub after-no : {A : Type 0} (text : List ℕ) (r s : Reader A) (tokens : List Token) → is_next text tokens ≡ false → after text r s tokens ≡ s tokens
+pub after-no : {A : Type 0} (text : List ℕ) (r s : Rule A) (tokens : List Token) → is_next text tokens ≡ false → after text r s tokens ≡ s tokens
 after-no text r s tokens is = rw is refl
 
-after-by : {A : Type 0} (text : List ℕ) (r s : Reader A) (tokens : List Token) (next : Bool) → is_next text [] ≡ false → IsLocal A r → IsLocal A s
+after-by : {A : Type 0} (text : List ℕ) (r s : Rule A) (tokens : List Token) (next : Bool) → is_next text [] ≡ false → IsLocal A r → IsLocal A s
     → is_next text tokens ≡ next → Read A (after text r s) tokens (after text r s tokens).0 (after text r s tokens).1
 after-by text r s tokens false none r-local s-local is =
     let read = s-local.reads tokens in
@@ -137,7 +137,7 @@ after-by text r s (token ∷ tokens) true none r-local s-local is =
       again = λ others same. after-yes text r s (token ∷ (read.before ++ others)) is ∙ read.again others same;
     })
 
-after-local : {A : Type 0} (text : List ℕ) (r s : Reader A) → is_next text [] ≡ false → IsLocal A r → IsLocal A s → IsLocal A (after text r s)
+after-local : {A : Type 0} (text : List ℕ) (r s : Rule A) → is_next text [] ≡ false → IsLocal A r → IsLocal A s → IsLocal A (after text r s)
 after-local text r s none r-local s-local = record { reads = λ tokens. after-by text r s tokens (is_next text tokens) none r-local s-local refl }
 
 the-local : (text : List ℕ) → is_next text [] ≡ false → IsLocal (Unit {0}) (the text)
@@ -145,11 +145,11 @@ unfolding the
 the-local text none = after-local text (gives tt) fault none (gives-local tt) (fault-local (Unit {0}))
 
 -- one thing behind another
-pub bind-is : {A B : Type 0} (r : Reader A) (f : A → Reader B) (tokens : List Token) (x : Option A) (rest : List Token) → r tokens ≡ (x, rest)
+pub bind-is : {A B : Type 0} (r : Rule A) (f : A → Rule B) (tokens : List Token) (x : Option A) (rest : List Token) → r tokens ≡ (x, rest)
     → (r >>= f) tokens ≡ continued f x rest
 bind-is {A} r f tokens x rest is = ap (λ (p : Option A × List Token). continued f p.0 p.1) is
 
-bind-by : {A B : Type 0} (r : Reader A) (f : A → Reader B) (tokens : List Token) (x : Option A) (rest : List Token) → IsLocal A r → ((y : A) → IsLocal B (f y))
+bind-by : {A B : Type 0} (r : Rule A) (f : A → Rule B) (tokens : List Token) (x : Option A) (rest : List Token) → IsLocal A r → ((y : A) → IsLocal B (f y))
     → r tokens ≡ (x, rest) → Read B (r >>= f) tokens ((r >>= f) tokens).0 ((r >>= f) tokens).1
 bind-by r f tokens None rest r-local f-local is =
     let read = taken r tokens None rest is (r-local.reads tokens) in
@@ -171,10 +171,10 @@ bind-by r f tokens (Some x) rest r-local f-local is =
           ∙ second.again others same);
     })
 
-bind-local : {A B : Type 0} (r : Reader A) (f : A → Reader B) → IsLocal A r → ((y : A) → IsLocal B (f y)) → IsLocal B (r >>= f)
+bind-local : {A B : Type 0} (r : Rule A) (f : A → Rule B) → IsLocal A r → ((y : A) → IsLocal B (f y)) → IsLocal B (r >>= f)
 bind-local r f r-local f-local = record { reads = λ tokens. bind-by r f tokens (r tokens).0 (r tokens).1 r-local f-local refl }
 
-more-local : {A : Type 0} (n : ℕ) (separator : List ℕ) (item : A → Reader A) (items : A) → is_next separator [] ≡ false → ((xs : A) → IsLocal A (item xs))
+more-local : {A : Type 0} (n : ℕ) (separator : List ℕ) (item : A → Rule A) (items : A) → is_next separator [] ≡ false → ((xs : A) → IsLocal A (item xs))
     → IsLocal A (more n separator item items)
 unfolding more
 more-local zero separator item items none item-local = gives-local items
@@ -182,7 +182,7 @@ more-local (suc n) separator item items none item-local =
     after-local separator (item items >>= more n separator item) (gives items) none
     (bind-local (item items) (more n separator item) (item-local items) (λ xs. more-local n separator item xs none item-local)) (gives-local items)
 
-listed-local : {A : Type 0} (most : ℕ) (separator : List ℕ) (item : A → Reader A) (none : A) → is_next separator [] ≡ false → ((xs : A) → IsLocal A (item xs))
+listed-local : {A : Type 0} (most : ℕ) (separator : List ℕ) (item : A → Rule A) (none : A) → is_next separator [] ≡ false → ((xs : A) → IsLocal A (item xs))
     → IsLocal A (listed most separator item none)
 unfolding listed
 listed-local most separator item none ends item-local =

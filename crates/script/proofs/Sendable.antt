@@ -1,6 +1,6 @@
 -- Each command of a statement that is read can be sent.
-use Rattle.std.proofs.Common.{◌≡◌, ℕ, zero, suc, ◌≤◌, ◌<◌, nat_le, nat_lt, Bool, true, false, not, ◌||◌, List, [], ◌∷◌, Option, Some, None, Ok, Err, IfSome, IfOk, if◌then◌else◌, get_or, refl, sym, ◌∙◌, subst, ◌==◌, lit≤, arith}
-use Rattle.std.proofs.lemmas.Bool.{false≢true, le-leb, ne_eqb}
+use Rattle.std.proofs.Common.{◌≡◌, ℕ, zero, suc, ◌≤◌, ◌<◌, nat_le, nat_lt, Bool, true, false, List, [], ◌∷◌, Option, Some, None, Ok, Err, IfSome, IfOk, if◌then◌else◌, get_or, refl, sym, ◌∙◌, subst, ◌==◌, lit≤, arith}
+use Rattle.std.proofs.lemmas.Bool.{false≢true, le-leb, ne_eqb, not-false, or_parts}
 use Rattle.scql_base.specs.declared.operation.Operation.{Operation}
 use Rattle.scql_base.specs.declared.operation.Operation.TheVariants.{CreateTable, CreateView, CreateDictionary, CreateUser, DropTable, DropView, Grant, Revoke, Insert, DeleteUser, PresentUser, Verify, Begin, Commit, Rollback, DeclareCursor, OpenCursor, Next, Fetch, FetchNext, GetResponse, Update, Delete, OpenChannel, CloseChannel}
 use Rattle.scql_base.specs.declared.operation.OperationKind.{OperationKind}
@@ -61,22 +61,14 @@ wanted-sent channel operation few for_it form fitting = record {
 }
 
 -- what isn't too large
-or-none : (a b : Bool) → (a || b) ≡ false → (a ≡ false) × (b ≡ false)
-or-none true b is = absurd (cc)
-or-none false b is = (refl, is)
-
-not-none : (a : Bool) → not a ≡ false → a ≡ true
-not-none true is = refl
-not-none false is = absurd (cc)
-
 record IsSmall (operation : Operation) : Type 0 where
   row : has_long_row operation ≡ false
   fitting : (channel : ℕ) → fits (asking channel operation) ≡ true
 
 small-of : (operation : Operation) → is_operation_too_large operation ≡ false → IsSmall operation
 small-of operation is =
-    let parts = or-none (has_long_row operation) _ is in
-    record { row = parts.0; fitting = λ channel. not-none (fits (asking channel operation)) parts.1 }
+    let parts = or_parts (has_long_row operation) _ is in
+    record { row = parts.0; fitting = λ channel. not-false (fits (asking channel operation)) parts.1 }
 
 single-sent : (channel : ℕ) (operation : Operation) → channel ≤ 3 → HasFields operation → IsSmall operation → IsSendable (asking channel operation)
 single-sent channel (Insert table row) few form small =
@@ -136,7 +128,7 @@ formed-sent channel (Select object columns conditions) few form small =
       );
     }
 formed-sent channel (UpdateRows object changes conditions) few form small =
-    let parts = or-none (is_operation_too_large (DeclareCursor object [] conditions)) (is_operation_too_large (Update changes)) small in
+    let parts = or_parts (is_operation_too_large (DeclareCursor object [] conditions)) (is_operation_too_large (Update changes)) small in
     record {
       within = few;
       number = tt;

@@ -21,54 +21,55 @@ abbrev pub is_end : List Token → Bool
 is_end [] = true
 is_end (token ∷ tokens) = false
 
-abbrev pub Reader : Type 0 → Type 0
-Reader A = List Token → Option A × List Token
+-- a rule of a grammar
+abbrev pub Rule : Type 0 → Type 0
+Rule A = List Token → Option A × List Token
 
-abbrev pub gives : {A : Type 0} → A → Reader A
+abbrev pub gives : {A : Type 0} → A → Rule A
 gives x = λ tokens. (Some x, tokens)
 
-abbrev pub fault : {A : Type 0} → Reader A
+abbrev pub fault : {A : Type 0} → Rule A
 fault = λ tokens. (None, tokens)
 
-abbrev pub continued : {A B : Type 0} → (A → Reader B) → Option A → Reader B
+abbrev pub continued : {A B : Type 0} → (A → Rule B) → Option A → Rule B
 continued reads None = fault
 continued reads (Some x) = reads x
 
 infixl 10 ◌>>=◌
-abbrev pub ◌>>=◌ : {A B : Type 0} → Reader A → (A → Reader B) → Reader B
+abbrev pub ◌>>=◌ : {A B : Type 0} → Rule A → (A → Rule B) → Rule B
 first >>= second = λ tokens. continued second (first tokens).0 (first tokens).1
 
 -- a token that stands for something
-abbrev pub read_token : {A : Type 0} → Option A → Reader A
+abbrev pub read_token : {A : Type 0} → Option A → Rule A
 read_token None = fault
 read_token (Some x) = λ tokens. (Some x, behind tokens)
 
-abbrev pub read_or : {A : Type 0} → A → Option A → Reader A
+abbrev pub read_or : {A : Type 0} → A → Option A → Rule A
 read_or otherwise None = gives otherwise
 read_or otherwise (Some x) = λ tokens. (Some x, behind tokens)
 
-unfoldable pub one : {A : Type 0} → (List ℕ → Option A) → Reader A
+unfoldable pub one : {A : Type 0} → (List ℕ → Option A) → Rule A
 one meaning = λ tokens. read_token (meaning (octets_of tokens)) tokens
 
 -- such a token, or another thing where none is next
-unfoldable pub optional : {A : Type 0} → (List ℕ → Option A) → A → Reader A
+unfoldable pub optional : {A : Type 0} → (List ℕ → Option A) → A → Rule A
 optional meaning otherwise = λ tokens. read_or otherwise (meaning (octets_of tokens)) tokens
 
 abbrev pub is_next : List ℕ → List Token → Bool
 is_next text tokens = bytes_eq (octets_of tokens) text
 
 -- where a token of this text is next, what stands behind it, and else another thing
-abbrev pub after : {A : Type 0} → List ℕ → Reader A → Reader A → Reader A
+abbrev pub after : {A : Type 0} → List ℕ → Rule A → Rule A → Rule A
 after text reads otherwise = λ tokens. if is_next text tokens then reads (behind tokens) else otherwise tokens
 
-unfoldable pub the : List ℕ → Reader (Unit {0})
+unfoldable pub the : List ℕ → Rule (Unit {0})
 the text = after text (gives tt) fault
 
 -- up to so many items more, each behind a separator; an item is read with those before it, and gives them all
-unfoldable pub more : {A : Type 0} → ℕ → List ℕ → (A → Reader A) → A → Reader A
+unfoldable pub more : {A : Type 0} → ℕ → List ℕ → (A → Rule A) → A → Rule A
 more zero separator item items = gives items
 more (suc n) separator item items = after separator (item items >>= more n separator item) (gives items)
 
 -- one to so many items
-unfoldable pub listed : {A : Type 0} → ℕ → List ℕ → (A → Reader A) → A → Reader A
+unfoldable pub listed : {A : Type 0} → ℕ → List ℕ → (A → Rule A) → A → Rule A
 listed most separator item none = item none >>= more (most - 1) separator item

@@ -48,11 +48,11 @@ is_closed_digits rest = digits_len rest % 2 == 0 && starts_with nat_eq (drop (di
 abbrev pub hexadecimal_len : List ℕ → ℕ
 hexadecimal_len line = if starts_with nat_eq line (codes "X'") && is_closed_digits (drop 2 line) then digits_len (drop 2 line) + 3 else 0
 
--- one of ( ) , * ; = < > <= >= <>
+-- one of ( ) , * ; = < > . <= >= <>; no statement has the .
 abbrev pub sign_len : List ℕ → ℕ
 sign_len line =
     if starts_with nat_eq line (codes "<=") || starts_with nat_eq line (codes ">=") || starts_with nat_eq line (codes "<>") then 2
-    else if list_any (λ sign. starts_with nat_eq line (sign ∷ [])) (codes "(),*;=<>") then 1
+    else if list_any (λ sign. starts_with nat_eq line (sign ∷ [])) (codes "(),*;=<>.") then 1
     else 0
 
 -- the longest of these, and the whole line where there is none

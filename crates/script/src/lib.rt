@@ -6,14 +6,15 @@ pub mod laws;
 mod lists;
 mod literal;
 mod parsed;
-mod reader;
 mod reading;
 mod rules;
 mod size;
 mod statement;
 mod token;
+mod tokens;
 mod values;
 mod words;
 
 pub use fault::ScriptFault;
 pub use statement::Statement;
+pub use tokens::Tokens;

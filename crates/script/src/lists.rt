@@ -6,13 +6,14 @@ ghost use Rattle.script.specs.Grammar as grammar;
 ghost use Rattle.script.specs.Meanings.{is_among};
 
 use crate::literal::literal_of;
-use crate::reader::Reader;
+use crate::tokens::Tokens;
 use crate::words::{comparison_of, privilege_of};
 use scql_base::{Change, Changes, Condition, Conditions, Name, NameList, Octets, Privileges};
 
-impl<'a> Reader<'a> {
+impl<'a> Tokens<'a> {
+    /// Goes past the next token, which has to be a name: any other is at fault.
     #[tactic(auto, unfolding(crate::specs::Grammar::name, crate::specs::Reading::one))]
-    pub(crate) fn name(&mut self) -> Option<Name>
+    pub fn name(&mut self) -> Option<Name>
         ensures { grammar.name self.old ≡ (result, self.new) }
     {
         let name = Name::read(self.next())?;

@@ -4,8 +4,8 @@ ghost use Rattle.script.specs.Grammar as grammar;
 ghost use Rattle.script.specs.Parsed.{IsRead};
 
 use crate::Statement;
-use crate::reader::Reader;
 use crate::rules::put;
+use crate::tokens::Tokens;
 use scql_base::{Operation, Row};
 
 /// What was read: a statement, which stands in its place, or one of which a row is known to be too large.
@@ -15,7 +15,7 @@ pub(crate) enum Parsed {
     TooLarge,
 }
 
-impl<'a> Reader<'a> {
+impl<'a> Tokens<'a> {
     /// The one statement that all tokens are.
     #[tactic(auto, unfolding(crate::specs::Grammar::whole, crate::specs::Grammar::at_end))]
     pub(crate) fn whole(&mut self, place: &mut Statement) -> Option<Parsed>

@@ -5,8 +5,8 @@ ghost use Rattle.script.specs.Commands.{CanAlwaysBeSent};
 ghost use Rattle.script.specs.Line as lines;
 
 use crate::parsed::Parsed;
-use crate::reader::{Reader, after_blanks};
 use crate::size::is_too_large;
+use crate::tokens::{Tokens, after_blanks};
 use crate::{ScriptFault, Statement};
 
 impl Statement {
@@ -48,12 +48,12 @@ fn read_statement(line: &[u8], place: &mut Statement) -> Result<(), ScriptFault>
         *place = Statement::Blank;
         return Ok(());
     }
-    let mut reader = Reader::new(line);
-    match reader.whole(place) {
+    let mut tokens = Tokens::new(line);
+    match tokens.whole(place) {
         Some(Parsed::Held) if !is_too_large(place) => Ok(()),
         Some(_) => Err(ScriptFault::TooLarge),
         None => Err(ScriptFault::At {
-            place: line.len().saturating_sub(reader.left()) as u16,
+            place: line.len().saturating_sub(tokens.left()) as u16,
         }),
     }
 }

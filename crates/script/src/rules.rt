@@ -6,11 +6,11 @@ ghost use Rattle.script.specs.declared.statement.Statement.TheVariants.{Reset, S
 
 use crate::Statement;
 use crate::literal::{given_secret_of, presented_secret_of};
-use crate::reader::Reader;
+use crate::tokens::Tokens;
 use crate::words::{channel_of, further_channel_of, profile_of, subject_of};
 use scql_base::{Changes, Octets, Operation};
 
-impl<'a> Reader<'a> {
+impl<'a> Tokens<'a> {
     #[inline(never)]
     #[tactic(auto, unfolding(crate::specs::Grammar::create_table))]
     fn create_table(&mut self, place: &mut Statement) -> Option<()>

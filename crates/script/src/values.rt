@@ -3,10 +3,10 @@ ghost use Rattle.std.specs.Prelude.{◌≡◌, ◌<◌, [], ◌∷◌, ◌++◌,
 ghost use Rattle.script.specs.Grammar as grammar;
 ghost use Rattle.script.specs.Parsed.{row_of};
 
-use crate::reader::Reader;
+use crate::tokens::Tokens;
 use scql_base::Row;
 
-impl<'a> Reader<'a> {
+impl<'a> Tokens<'a> {
     /// One to 15 literals, as a row where they aren't too wide for one.
     pub(crate) fn values(&mut self, row: &mut Option<Row>) -> Option<()>
         requires { row.old ≡ Some [] }

@@ -1,7 +1,7 @@
 use Rattle.std.proofs.Common.{◌==◌, length, sym, ◌∙◌, ap}
 use Rattle.script.specs.Reading.{is_end}
 use Rattle.script.proofs.Cutting.{is_end-tokens}
-use Rattle.script.proofs.reader.Reader.is_at_end.Goals as goal
+use Rattle.script.proofs.tokens.Tokens.is_at_end.Goals as goal
 
 pub returns : goal.returns
 returns c =

@@ -2,8 +2,8 @@ use Rattle.std.proofs.Common.{[], length, codes, sym, ap, arith}
 use Rattle.script.specs.Grammar as grammar
 use Rattle.script.specs.Grammar.{conditions}
 use Rattle.script.proofs.Listing.{listed-fault, begins, goes_on, fails, ends, is_full}
-use Rattle.script.proofs.reader.Reader.conditions.Goals as goal
-use Rattle.script.proofs.reader.Reader.conditions.Goals.{then-loop-self-test+else-takes, else-loop-self-test}
+use Rattle.script.proofs.tokens.Tokens.conditions.Goals as goal
+use Rattle.script.proofs.tokens.Tokens.conditions.Goals.{then-loop-self-test+else-takes, else-loop-self-test}
 
 pub returns-in_err-conditions : goal.returns-in_err-conditions
 unfolding conditions

@@ -1,4 +1,4 @@
-// Reads the tokens of a line one by one.
+// The tokens of a line, read one by one.
 ghost use Rattle.std.specs.Prelude.{◌≡◌, ◌≤◌, ◌↔◌, IsSome, IsTrue, length, if◌then◌else◌};
 ghost use Rattle.script.specs.Reading.{behind, is_end, is_next, left_of, octets_of, the};
 ghost use Rattle.script.specs.Tokens as tokens;
@@ -6,13 +6,16 @@ ghost use Rattle.script.specs.Tokens as tokens;
 use crate::token::{is_blank, token_len};
 use std::marker::Model;
 
-/// The tokens of a line that aren't read yet. Where a rule answers None, the next token is the one at fault.
+/// The tokens of a line that aren't read yet.
+///
+/// A rule of a grammar is a function over them: it goes past the tokens that it stands for, and answers what they are. Where it
+/// answers None, the next token is the one at fault.
 #[derive(Drop)]
-pub(crate) struct Reader<'a> {
+pub struct Tokens<'a> {
     rest: &'a [u8],
 }
 
-impl<'a> Model for Reader<'a> {
+impl<'a> Model for Tokens<'a> {
     ghost use Rattle.std.specs.Prelude.{List};
     ghost use Rattle.script.specs.Tokens.{Token, tokens_of};
 
@@ -21,11 +24,12 @@ impl<'a> Model for Reader<'a> {
     ghost view = { λ r. tokens_of r.rest.now };
 }
 
-impl<'a> Reader<'a> {
-    pub fn new(line: &'a [u8]) -> Reader<'a>
+impl<'a> Tokens<'a> {
+    /// All tokens of a line.
+    pub fn new(line: &'a [u8]) -> Tokens<'a>
         ensures { result ≡ tokens.tokens_of line.now }
     {
-        Reader { rest: line }
+        Tokens { rest: line }
     }
 
     /// The octets of the next token, none at the line's end.
@@ -65,7 +69,7 @@ impl<'a> Reader<'a> {
         after_blanks(self.rest).is_empty()
     }
 
-    /// Goes past the next token where it is this one.
+    /// Goes past the next token where it is this one, and tells whether it is.
     pub fn takes(&mut self, text: &[u8]) -> bool
         ensures value { result ≡ is_next text.now self.old }
         ensures rest { self.new ≡ (if result then behind self.old else self.old) }
@@ -78,7 +82,7 @@ impl<'a> Reader<'a> {
         found
     }
 
-    /// Goes past the next token, which has to be this one.
+    /// Goes past the next token, which has to be this one: any other is at fault.
     #[tactic(auto, unfolding(crate::specs::Reading::the))]
     pub fn expect(&mut self, text: &[u8]) -> Option<()>
         ensures { the text.now self.old ≡ (result, self.new) }

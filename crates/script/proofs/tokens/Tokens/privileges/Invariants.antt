@@ -1,7 +1,7 @@
 use Rattle.std.proofs.Common.{◌≤◌, ◌-◌, codes}
 use Rattle.script.specs.Grammar as grammar
 use Rattle.script.proofs.Listing.{IsReading}
-use Rattle.script.proofs.reader.Reader.privileges.Given as goal
+use Rattle.script.proofs.tokens.Tokens.privileges.Given as goal
 
 abbrev pub invariant-loop-count : goal.invariant-loop-count
 invariant-loop-count l = record {

@@ -2,7 +2,7 @@ use Rattle.std.proofs.Common.{[], length, codes, sym, ap, arith}
 use Rattle.script.specs.Grammar as grammar
 use Rattle.script.specs.Grammar.{changes}
 use Rattle.script.proofs.Listing.{listed-fault, begins, goes_on, fails, ends, is_full}
-use Rattle.script.proofs.reader.Reader.changes.Goals as goal
+use Rattle.script.proofs.tokens.Tokens.changes.Goals as goal
 
 pub returns-in_err-with_change : goal.returns-in_err-with_change
 unfolding changes

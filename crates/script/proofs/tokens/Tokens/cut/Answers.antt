@@ -1,7 +1,7 @@
 use Rattle.std.proofs.Common.{sym, ◌∙◌, ap}
 use Rattle.script.specs.Reading.{behind, octets_of}
 use Rattle.script.proofs.Cutting.{behind-tokens, octets_of-tokens}
-use Rattle.script.proofs.reader.Reader.cut.Goals as goal
+use Rattle.script.proofs.tokens.Tokens.cut.Goals as goal
 
 pub returns-clause-token : goal.returns-clause-token
 returns-clause-token c = rw (c.split_at.ensures.front, c.token_len.ensures.value, c.after_blanks-line.ensures) (sym (octets_of-tokens c.self.inside.rest.now) ∙ ap octets_of c.self.view_is)

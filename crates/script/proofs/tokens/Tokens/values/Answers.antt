@@ -1,7 +1,7 @@
 use Rattle.std.proofs.Common.{option_map, sym, ap, arith}
 use Rattle.script.specs.Parsed.{row_of}
 use Rattle.script.proofs.ReadingRows.{row-begun, row-grown, row-fault, row-fails, row-ends, row-is_full, row-held}
-use Rattle.script.proofs.reader.Reader.values.Goals as goal
+use Rattle.script.proofs.tokens.Tokens.values.Goals as goal
 
 pub returns-in_err-with_value-clause-row : goal.returns-in_err-with_value-clause-row
 returns-in_err-with_value-clause-row c =

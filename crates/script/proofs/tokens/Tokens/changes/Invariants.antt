@@ -1,10 +1,10 @@
 use Rattle.std.proofs.Common.{◌-◌, length, codes}
 use Rattle.script.specs.Grammar as grammar
 use Rattle.script.proofs.Listing.{IsReading}
-use Rattle.script.proofs.reader.Reader.names.Given as goal
+use Rattle.script.proofs.tokens.Tokens.changes.Given as goal
 
 abbrev pub invariant-loop-self : goal.invariant-loop-self
-invariant-loop-self l = IsReading (15 - length l.names) (codes ",") grammar.with_name (grammar.names l.fn.self) l.names l.self
+invariant-loop-self l = IsReading (15 - length l.changes) (codes ",") grammar.with_change (grammar.changes l.fn.self) l.changes l.self
 
 abbrev pub decreases-loop-self : goal.decreases-loop-self
-decreases-loop-self l = 15 - length l.names
+decreases-loop-self l = 15 - length l.changes

@@ -2,7 +2,7 @@
 use Rattle.std.proofs.Common.{◌≤◌, ◌-◌}
 use Rattle.script.specs.Grammar.{literals}
 use Rattle.script.proofs.ReadingRows.{IsReadingRow}
-use Rattle.script.proofs.reader.Reader.values.Given as goal
+use Rattle.script.proofs.tokens.Tokens.values.Given as goal
 
 abbrev pub invariant-loop-count : goal.invariant-loop-count
 invariant-loop-count l = record {

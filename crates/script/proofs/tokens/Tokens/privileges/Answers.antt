@@ -2,8 +2,8 @@ use Rattle.std.proofs.Common.{codes, sym, arith}
 use Rattle.script.specs.Grammar as grammar
 use Rattle.script.specs.Grammar.{privileges}
 use Rattle.script.proofs.Listing.{listed-fault, begins, goes_on, fails, ends, is_full}
-use Rattle.script.proofs.reader.Reader.privileges.Goals as goal
-use Rattle.script.proofs.reader.Reader.privileges.Goals.{then-loop-count-test+else-takes, else-loop-count-test}
+use Rattle.script.proofs.tokens.Tokens.privileges.Goals as goal
+use Rattle.script.proofs.tokens.Tokens.privileges.Goals.{then-loop-count-test+else-takes, else-loop-count-test}
 
 pub returns-in_err-bits : goal.returns-in_err-bits
 unfolding privileges
