@@ -19,7 +19,7 @@ use Rattle.planner.proofs.Readings.{reading-kept, reads-on}
 use Rattle.planner.proofs.Settled.{settled, more-is}
 use Rattle.planner.proofs.StatementsLawful.{after-append, last-answer}
 use Rattle.planner.proofs.Turning.{next_of-below}
-use Rattle.card_asking.specs.Following.{Follows, IsEnded, whole_run, run_from, behind, after_all, given_by, to_go}
+use Rattle.card_asking.specs.Following.{Follows, IsEnded, whole_run, run_from, behind, after_all, given_by, heard_at, to_go, turn_by}
 use Rattle.card_asking.proofs.Moments.{one-before, one-next}
 
 -- a run with steps enough doesn't change with more
@@ -91,6 +91,14 @@ asked-follows is_at m p q step c next heard now (inl is) can answered is-turn =
     subst (λ (s : Step). IfSent s IsSendable → Follows is_at m p s (given_by p s) q next now) (sym is) (λ can. sent-follows is_at m p q c next heard now can answered is-turn) can
 asked-follows is_at m p q step c next heard now (inr is) can answered is-turn =
     subst (λ (s : Step). IfSent s IsSendable → Follows is_at m p s (given_by p s) q next now) (sym is) (λ can. row-follows is_at m p q c next now (sent-follows is_at m p q c next heard now can answered is-turn)) can
+
+pub asked-turn : (p q : Planned) (step next : Step) (c : Command) (heard : Reply) → (step ≡ Send c) ⊎ (step ≡ Row c) → next_of (Some heard) p ≡ record { plan = q; step = next } → turn_by p step heard ≡ record { plan = q; step = next }
+asked-turn p q step next c heard (inl is) is-turn = subst (λ (s : Step). turn_by p s heard ≡ record { plan = q; step = next }) (sym is) is-turn
+asked-turn p q step next c heard (inr is) is-turn = subst (λ (s : Step). turn_by p s heard ≡ record { plan = q; step = next }) (sym is) is-turn
+
+pub asked-reply : (m : Machine) (step : Step) (c : Command) (before heard : Reply) → (step ≡ Send c) ⊎ (step ≡ Row c) → heard ≡ (answer_to m c).reply → heard ≡ heard_at m step before
+asked-reply m step c before heard (inl is) same = subst (λ (s : Step). heard ≡ heard_at m s before) (sym is) same
+asked-reply m step c before heard (inr is) same = subst (λ (s : Step). heard ≡ heard_at m s before) (sym is) same
 
 -- The card was reset.
 pub reset-follows : {L : Type 0} (is_at : L → Machine → Type 0) (m : Machine) (p q : Planned) (next : Step) (now : L) → is_at now (reset m) → next_of None p ≡ record { plan = q; step = next } → Follows is_at m p ResetCard [] q next now

@@ -1,14 +1,15 @@
 -- A plan under way on a link: what is left of its run, and how the link goes on with it.
-use Rattle.std.specs.Prelude.{◌≡◌, ℕ, suc, List, [], ◌∷◌, ◌++◌, length, Option, None}
+use Rattle.std.specs.Prelude.{◌≡◌, ℕ, suc, List, [], ◌∷◌, ◌++◌, length, Option, Some, None}
 use Rattle.scql_model.specs.Database.{Database}
 use Rattle.scql_model.specs.Heard.{after_commits}
 use Rattle.scql_model.specs.Machine.{Machine}
 use Rattle.scql_model.specs.Replies.{Reply}
 use Rattle.planner.specs.declared.closing.Closing.{Closing}
 use Rattle.planner.specs.declared.step.Step.{Step}
-use Rattle.planner.specs.declared.step.Step.TheVariants.{Row, Done}
+use Rattle.planner.specs.declared.step.Step.TheVariants.{Send, Row, ResetCard, Done}
 use Rattle.planner.specs.Held.{transaction_channel}
-use Rattle.planner.specs.Planned.{Planned, next_of}
+use Rattle.planner.specs.Meaning.{answer_to}
+use Rattle.planner.specs.Planned.{Planned, Turn, next_of}
 use Rattle.planner.specs.Readings.{IsReadingAt}
 use Rattle.planner.specs.Turns.{turns_left}
 use Rattle.planner.specs.Running.{Ran, run, taken}
@@ -45,6 +46,19 @@ to_go p step = suc (turns_left p)
 abbrev pub given_by : Planned → Step → List (List ℕ)
 given_by p (Row command) = p.row ∷ []
 given_by p step = []
+
+-- the reply to the command that a step sends; where it sends none the reply stays
+abbrev pub heard_at : Machine → Step → Reply → Reply
+heard_at m (Send command) before = (answer_to m command).reply
+heard_at m (Row command) before = (answer_to m command).reply
+heard_at m step before = before
+
+-- how a plan goes on behind a step: by the reply to the command that it sent, if it sent one
+abbrev pub turn_by : Planned → Step → Reply → Turn
+turn_by p (Send command) reply = next_of (Some reply) p
+turn_by p (Row command) reply = next_of (Some reply) p
+turn_by p ResetCard reply = next_of None p
+turn_by p (Done closing) reply = record { plan = p; step = Done closing }
 
 -- A link that was at a machine and a step of a plan is at another machine and step: the run from there on follows these rows, and what was committed until then. A plan that
 -- reads reads on, and keeps the open transaction.

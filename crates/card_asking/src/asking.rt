@@ -1,6 +1,8 @@
 // A command is sent to a card, and its answer heard.
 ghost use Rattle.std.specs.Prelude.{◌≡◌, ◌<◌, ◌∷◌, IsTrue, OnOk, OnErr, true};
+ghost use Rattle.scql_base.specs.Words.{memory_failure};
 ghost use Rattle.scql_model.specs.Machine.{Machine};
+ghost use Rattle.scql_model.specs.Replies.{said};
 ghost use Rattle.scql_model.specs.Spelling as spelling;
 ghost use Rattle.scql_model.specs.Step.{step};
 ghost use Rattle.script.specs.Commands.{IsSendable};
@@ -21,7 +23,7 @@ pub fn ask<L: CardLink>(link: &mut L, command: &Command, reply: &mut Reply) -> R
     ensures moments { (m : Machine) → L.is_at link.old m
         → LeavesOpen (IsOneOf (L.mark link.old) (m.committed ∷ (answer_to m command.now).commits)) (L.chip link.old) (L.chip link.new) }
     ensures replied { OnOk result (IsTrue (L.is_live link.new) × (L.faults link.new ≡ L.faults link.old)) }
-    ensures mute { OnErr result (Mutes L.is_live L.faults link.old link.new) }
+    ensures mute { OnErr result (Mutes L.is_live L.faults link.old link.new × (reply.new ≡ said memory_failure)) }
     ensures mark { L.mark link.new ≡ L.mark link.old }
     ensures keeps { L.keeps link.old link.new }
     ensures goes_on { L.goes_on link.old link.new }
@@ -51,7 +53,7 @@ fn send_part<L: CardLink>(
     ensures moments { (m : Machine) → L.is_at link.old m
         → LeavesOpen (IsOneOf (L.mark link.old) (m.committed ∷ (step m (spelling.part_octets command.now part)).commits)) (L.chip link.old) (L.chip link.new) }
     ensures replied { OnOk result (IsTrue (L.is_live link.new) × (L.faults link.new ≡ L.faults link.old)) }
-    ensures mute { OnErr result (Mutes L.is_live L.faults link.old link.new) }
+    ensures mute { OnErr result (Mutes L.is_live L.faults link.old link.new × (reply.new ≡ said memory_failure)) }
     ensures mark { L.mark link.new ≡ L.mark link.old }
     ensures keeps { L.keeps link.old link.new }
     ensures goes_on { L.goes_on link.old link.new }

@@ -1,5 +1,5 @@
 -- How a statement goes on, on a desk: one step, and many.
-use Rattle.std.proofs.Common.{◌≡◌, ℕ, ◌≤◌, Bool, List, [], ◌∷◌, ◌++◌, map, Option, None, append_assoc, refl, sym, ◌∙◌, ap, subst, inl, arith}
+use Rattle.std.proofs.Common.{◌≡◌, ℕ, ◌≤◌, take, drop, take-append-drop, Bool, List, [], ◌∷◌, ◌++◌, map, Option, None, append_assoc, refl, sym, ◌∙◌, ap, subst, inl, arith}
 use Rattle.std.specs.Prelude.{Result, Err, IfErr}
 use Rattle.std.specs.List.{concat}
 use Rattle.std.proofs.lemmas.List.{append-nil}
@@ -33,6 +33,10 @@ prints-both x y old mid new first second = λ after is.
     let later = second after is in
     let before = first later.0 later.1 in
     (before.0, before.1, later.2 ∙ (ap (λ front. front ++ y) before.2 ∙ append_assoc before.0 x y))
+
+-- a prefix that went out is a start
+pub start-of : (text piece : List ℕ) (old new : Option (List ℕ)) → piece ≡ text → (count : ℕ) × Prints (take count piece) old new → IsStart text old new
+start-of text piece old new is went = record { said = take went.0 piece; rest = drop went.0 piece; start = sym (take-append-drop went.0 piece ∙ is); printed = went.1 }
 
 concat-append : (xs ys : List (List ℕ)) → concat (xs ++ ys) ≡ concat xs ++ concat ys
 concat-append [] ys = refl

@@ -2,6 +2,7 @@ pub mod Going
 pub mod Holding
 pub mod Line
 pub mod Load
+pub mod Noted
 pub mod Printed
 pub mod Quiet
 pub mod Stays

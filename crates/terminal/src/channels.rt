@@ -18,6 +18,8 @@ ghost use Rattle.terminal.specs.Going.{FailsSo, IsInRun, IsOver};
 ghost use Rattle.terminal.specs.Holding as holding;
 ghost use Rattle.terminal.specs.Holding.{IsStarted, Knows, terminal_at};
 ghost use Rattle.terminal.specs.Line as line_specs;
+ghost use Rattle.terminal.specs.Noted as noting;
+ghost use Rattle.terminal.specs.Noted.{noted};
 ghost use Rattle.terminal.specs.Line.{ClosesSo, EndsBy, EndsSo, IsMoment, refuses, rows_in};
 ghost use Rattle.terminal.specs.Quiet.{EndsQuietly, EndsQuietlyBy, closing_in};
 ghost use Rattle.terminal.specs.Stays.{Causes, Works};
@@ -29,7 +31,7 @@ use crate::{LineEnd, QuietEnd};
 use card_asking::Mute;
 use card_link::{CardLink, Desk};
 use planner::{Closing, Plan};
-use scql_base::Operation;
+use scql_base::{Operation, StatusWord};
 use script::{ScriptFault, Statement};
 use std::marker::Model;
 
@@ -189,6 +191,15 @@ impl Channels {
         }
     }
 
+    /// Goes on behind a command that was sent past the terminal and answered by this word.
+    pub(crate) fn note(&mut self, command: &[u8], word: StatusWord)
+        ensures { self.new ≡ record self.old { transaction = noted command.now word self.old.transaction } }
+    {
+        if word.word == StatusWord::DONE.word {
+            self.transaction = held_behind(command, self.transaction);
+        }
+    }
+
     // Goes on with a channel, and where a statement was done with what it made of the open transaction.
     fn go_on(&mut self, channel: u8, transaction: Option<u8>, closing: Closing)
         requires { channel ≤ 3 }
@@ -262,6 +273,29 @@ fn transaction_after(
             }
             | Statement::Reset,
         ) => None,
+        _ => transaction,
+    }
+}
+
+// The channel that has the open transaction behind the octets of a command that was done.
+fn held_behind(command: &[u8], transaction: Option<u8>) -> Option<u8>
+    ensures { result ≡ noting.held_behind command.now transaction }
+{
+    match command {
+        [class, ins, p1, p2, ..] => held_by_line(*ins, *p1, *p2, *class % 4, transaction),
+        _ => transaction,
+    }
+}
+
+fn held_by_line(ins: u8, p1: u8, p2: u8, channel: u8, transaction: Option<u8>) -> Option<u8>
+    ensures { result ≡ noting.held_by_line ins p1 p2 channel transaction }
+{
+    if ins != 0x12 || p1 != 0x00 {
+        return transaction;
+    }
+    match p2 {
+        0x80 => Some(channel),
+        0x81 | 0x82 => None,
         _ => transaction,
     }
 }

@@ -10,5 +10,6 @@ mod quiet_end;
 mod terminal;
 
 pub use line_end::LineEnd;
+pub use printing::{LONGEST_CLOSING, closing_text, fault_text, give_value};
 pub use quiet_end::QuietEnd;
 pub use terminal::Terminal;

@@ -1,12 +1,16 @@
 // What the terminal prints: rows, closing lines and errors.
-ghost use Rattle.std.specs.Prelude.{◌≡◌, ◌+◌, ◌*◌, ◌≤◌, ◌++◌, ◌<◌, [], length, codes};
+ghost use Rattle.std.specs.Prelude.{◌≡◌, ◌+◌, ◌*◌, ◌≤◌, ◌++◌, ◌<◌, [], length, codes, OnOk, OnErr};
 ghost use Rattle.std.specs.List.{list_all};
+ghost use Rattle.eeprom.specs.Fault.{Counts};
+ghost use Rattle.eeprom.specs.Output.{Prints};
 ghost use Rattle.hex.specs.Hex.{encode_upper};
 ghost use Rattle.planner.specs.Text as model;
 ghost use Rattle.terminal.specs.Going.{printed_row};
 ghost use Rattle.terminal.specs.Printed.{between_quotes, in_hexadecimal, lead};
+ghost use Rattle.terminal.specs.Stays.{IsStart};
 
 use arrayvec::ArrayVec;
+use eeprom::{Outlet, SinkFault};
 use itoa::Buffer;
 use planner::Closing;
 use scql_base::{Row, StatusWord};
@@ -16,7 +20,7 @@ use script::ScriptFault;
 pub(crate) const LONGEST_ROW: usize = 2086;
 
 /// The longest closing line.
-pub(crate) const LONGEST_CLOSING: usize = 50;
+pub const LONGEST_CLOSING: usize = 50;
 
 /// Makes the text of a row of an answer, on a line of its own.
 pub(crate) fn put_row_text(octets: &[u8], row: &mut Row, text: &mut ArrayVec<u8, LONGEST_ROW>)
@@ -50,6 +54,19 @@ fn put_between(text: &mut ArrayVec<u8, LONGEST_ROW>, place: usize)
     if place != 0 {
         put(text, b", ");
     }
+}
+
+/// Prints a value, as in a row: between quotes, or in hexadecimal where it has octets that aren't printed.
+pub fn give_value<O: Outlet>(outlet: &mut O, value: &[u8]) -> Result<(), SinkFault>
+    requires short { length value.now ≤ 200 }
+    ensures printed { OnOk result (Prints (model.value_text value.now) (O.given outlet.old) (O.given outlet.new)) }
+    ensures cut { OnErr result (IsStart (model.value_text value.now) (O.given outlet.old) (O.given outlet.new)) }
+    ensures rest { O.leaves outlet.old outlet.new }
+    ensures counts { Counts (O.sink_faults outlet.old) (O.sink_faults outlet.new) result }
+{
+    let mut text = ArrayVec::new();
+    put_value(&mut text, value);
+    outlet.give(&text)
 }
 
 // A value between quotes, or in hexadecimal where it has octets that aren't printed.
@@ -116,13 +133,16 @@ fn print_into(octets: &[u8], digits: &mut [u8])
 }
 
 /// How a statement ended, on a line of its own.
-pub(crate) fn closing_text(closing: Closing) -> ArrayVec<u8, LONGEST_CLOSING>
+pub fn closing_text(closing: Closing) -> ArrayVec<u8, LONGEST_CLOSING>
     ensures { result.items ≡ model.closing_text closing }
 {
     match closing {
         Closing::Nothing => ArrayVec::new(),
         Closing::Fine => line_of(b"ok", b""),
-        Closing::Rows { number } => line_of(b"rows ", Buffer::new().format(number).as_bytes()),
+        Closing::Rows { number } | Closing::Cut { number } => line_of(
+            b"rows ",
+            Buffer::new().format(number).as_bytes(),
+        ),
         Closing::Refused { word } => {
             let mut digits = [0; 4];
             print_into(&word.word.to_be_bytes(), &mut digits);
@@ -132,7 +152,7 @@ pub(crate) fn closing_text(closing: Closing) -> ArrayVec<u8, LONGEST_CLOSING>
 }
 
 /// Why a line is no statement, on a line of its own.
-pub(crate) fn fault_text(fault: ScriptFault) -> ArrayVec<u8, LONGEST_CLOSING>
+pub fn fault_text(fault: ScriptFault) -> ArrayVec<u8, LONGEST_CLOSING>
     ensures { result.items ≡ model.fault_text fault }
 {
     match fault {

@@ -2,11 +2,13 @@
 ghost use Rattle.std.specs.Prelude.{◌≡◌, ◌≤◌, [], ◌∷◌, length, IsTrue, true, false, None, Ok};
 ghost use Rattle.scql_model.specs.Machine.{Machine};
 ghost use Rattle.scql_model.specs.Lines.{line_effect, longest_line};
+ghost use Rattle.scql_model.specs.Step.{step};
 ghost use Rattle.script.specs.Line.{statement_of};
 ghost use Rattle.card_link.specs.Link.{IsOneOf, LeavesOpen};
 ghost use Rattle.planner.specs.StatementLines.{statement_lines};
 ghost use Rattle.terminal.specs.Holding.{Knows, terminal_at};
 ghost use Rattle.terminal.specs.Line.{EndsBy, EndsSo, IsMoment, refuses, rows_in};
+ghost use Rattle.terminal.specs.Noted.{noted};
 ghost use Rattle.terminal.specs.Quiet.{EndsQuietly, EndsQuietlyBy, closing_in};
 
 use crate::channels::{Channels, close};
@@ -15,6 +17,7 @@ use crate::printing::fault_text;
 use crate::{LineEnd, QuietEnd};
 use card_link::{CardLink, Desk};
 use planner::Plan;
+use scql_base::StatusWord;
 use script::Statement;
 use std::marker::Model;
 
@@ -94,5 +97,14 @@ impl Terminal {
                 .run_quietly(link, &mut self.plan, &mut self.room),
             Err(_) => QuietEnd::Faulty,
         }
+    }
+
+    /// Goes on behind a command that was sent to the terminal's card past the terminal, and answered by this word: the terminal knows which channel has
+    /// the open transaction as it did before.
+    pub fn note(&mut self, command: &[u8], word: StatusWord)
+        ensures knows { (m : Machine) → Knows self.old.transaction m → word ≡ (step m command.now).reply.word → Knows self.new.transaction (step m command.now).machine }
+        ensures noted { self.new ≡ record self.old { transaction = noted command.now word self.old.transaction } }
+    {
+        self.channels.note(command, word);
     }
 }

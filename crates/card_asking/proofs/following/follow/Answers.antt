@@ -3,7 +3,7 @@ use Rattle.planner.specs.declared.step.Step.{Step}
 use Rattle.planner.specs.Turns.{IfGoesOn}
 use Rattle.card_asking.specs.Following.{Follows, given_by, to_go}
 use Rattle.card_asking.proofs.Moments.{leaves-all}
-use Rattle.card_asking.proofs.Followed.{asked-follows, asked-less, asked-moment, reset-follows, less-seen}
+use Rattle.card_asking.proofs.Followed.{asked-follows, asked-less, asked-moment, asked-reply, asked-turn, reset-follows, less-seen}
 use Rattle.card_asking.proofs.Rows.{gives-on}
 use Rattle.card_asking.proofs.following.follow.Goals as goal
 
@@ -40,3 +40,9 @@ returns-in-ResetCard-clause-moments g c = λ m at. leaves-all g.L.CardLink.chip 
 pub returns-in-ResetCard-clause-less : goal.returns-in-ResetCard-clause-less
 returns-in-ResetCard-clause-less g c =
     subst (λ (s : Step). IfGoesOn s (to_go c.next_into.new.self c.next_into.new.step < to_go c.args.plan.now s)) (sym c.in-ResetCard.is) (less-seen None c.args.plan.now c.next_into.new.self c.next_into.new.step c.next_into.ensures.next)
+
+pub returns-in_ok-ask-in-Send-clause-turns : goal.returns-in_ok-ask-in-Send-clause-turns
+returns-in_ok-ask-in-Send-clause-turns g c = asked-turn c.args.plan.now c.next_into-in-Send.new.self c.args.step.now c.next_into-in-Send.new.step c.in-Send.command c.ask.new.reply c.in-Send.is c.next_into-in-Send.ensures.next
+
+pub returns-in_ok-ask-in-Send-clause-reply : goal.returns-in_ok-ask-in-Send-clause-reply
+returns-in_ok-ask-in-Send-clause-reply g c = λ m at. asked-reply m c.args.step.now c.in-Send.command c.args.reply.now c.ask.new.reply c.in-Send.is (c.in_ok-ask-in-Send.ensures.answer m at).reply
