@@ -1,14 +1,18 @@
 -- The rows that a plan of a SELECT is still to give: at its first step, behind each step, and at its last.
-use Rattle.std.proofs.Common.{◌≡◌, ℕ, Bool, true, List, [], ◌∷◌, ◌++◌, map, is_some, None, refl, sym, ◌∙◌, ap}
+use Rattle.std.proofs.Common.{◌≡◌, ℕ, Bool, true, List, [], ◌∷◌, ◌++◌, map, is_some, None, refl, sym, ◌∙◌, ap, subst, inl, inr}
 use Rattle.std.specs.List.{AllByRecursion}
 use Rattle.scql_base.specs.declared.operation.Command.{Command}
 use Rattle.scql_model.specs.Database.{Database}
-use Rattle.scql_model.specs.Machine.{Machine}
-use Rattle.scql_model.specs.Matching.{Values}
+use Rattle.scql_base.specs.declared.condition.Condition.{Condition}
+use Rattle.scql_model.specs.Machine.{Machine, base}
+use Rattle.scql_model.specs.Matching.{Columns, Values}
 use Rattle.scql_model.specs.ReadingCommands.{row_octets}
 use Rattle.scql_model.specs.Records.{is_row}
+use Rattle.scql_model.specs.Sessions.{is_channel_open}
+use Rattle.scql_model.specs.Shown.{shown_on}
+use Rattle.scql_model.proofs.ReadingIsShown.{IsReadable-valid}
 use Rattle.scql_model.specs.Transactions.{own_transaction}
-use Rattle.card_link.specs.Link.{IsOver}
+use Rattle.card_link.specs.Link.{Holds, IsOneOf, IsOver}
 use Rattle.script.specs.declared.statement.Statement.{Statement}
 use Rattle.script.specs.declared.statement.Statement.TheVariants.{Select}
 use Rattle.script.specs.Commands.{CanBeSent}
@@ -19,10 +23,12 @@ use Rattle.planner.specs.Meaning.{meaning}
 use Rattle.planner.specs.Planned.{Planned, next_of, started}
 use Rattle.planner.specs.Readings.{IsSelect}
 use Rattle.planner.specs.Running.{Ran, shown}
+use Rattle.planner.specs.Selecting.{closing_given, rows_given, select_shown}
 use Rattle.planner.proofs.Readings.{started-reads}
+use Rattle.planner.proofs.SelectsShown.{select-reads}
 use Rattle.card_asking.specs.Following.{Follows, after_all, run_from, run_of, given_by}
-use Rattle.card_asking.specs.Giving.{Gives, behind_step, IsNextRow, AreAllGiven, GivesMeaning}
-use Rattle.card_asking.proofs.Meant.{run-meant}
+use Rattle.card_asking.specs.Giving.{GivesShown, Gives, behind_step, IsNextRow, AreAllGiven, GivesMeaning}
+use Rattle.card_asking.proofs.Meant.{base-valid, run-meant}
 use Rattle.card_asking.proofs.Sound.{sound, select-commits}
 
 none-first : (xs ys : List Database) → xs ++ ys ≡ [] → xs ≡ []
@@ -111,3 +117,23 @@ gives-first is_at m channel s inside now is over can at =
       closes = ap (λ (ran : Ran). ran.closing) ran;
       silent = ap (λ (ran : Ran). ran.commits) ran ∙ select-silent m channel s over can is;
     }
+
+-- so, on an open channel, the rows that are shown there
+pub gives-shown : {L : Type 0} (is_at : L → Machine → Type 0) (m : Machine) (channel : ℕ) (object : List ℕ) (columns : Columns) (conditions : List Condition) (inside : Bool) (now : L) → is_channel_open m channel ≡ true
+    → IsOver m → CanBeSent channel (Select object columns conditions) → is_at now m
+    → GivesShown is_at m channel object columns conditions (next_of None (started (Select object columns conditions) channel inside)).plan (next_of None (started (Select object columns conditions) channel inside)).step now
+gives-shown is_at m channel object columns conditions inside now opened over can at =
+    let s : Statement = Select object columns conditions in
+    let reads = select-reads m channel object columns conditions opened (IsReadable-valid (base m channel) (base-valid m channel over)) in
+    let turn = next_of None (started s channel inside) in
+    subst (λ (rows : List Values). Gives is_at m (closing_given (select_shown (shown_on m channel) object columns conditions)) rows turn.plan turn.step now) reads.rows
+    (subst (λ (closing : Closing). Gives is_at m closing (meaning m channel s).rows turn.plan turn.step now) reads.closing (gives-first is_at m channel s inside now tt over can at))
+
+-- a moment of a step of such a plan
+pub gives-still : {L : Type 0} (is_at : L → Machine → Type 0) (mark : ℕ) (m : Machine) (closing : Closing) (rows : List Values) (p : Planned) (step : Step) (old : L) (g : ℕ) (left : Database)
+    → (gives : Gives is_at m closing rows p step old) → IsOneOf mark (gives.machine.committed ∷ (run_from gives.machine p step).commits) g left → Holds mark m.committed g left
+gives-still is_at mark m closing rows p step old g left gives is = go (subst (λ (commits : List Database). IsOneOf mark (gives.machine.committed ∷ commits) g left) gives.silent is)
+  where
+    go : IsOneOf mark (gives.machine.committed ∷ []) g left → Holds mark m.committed g left
+    go (inl here) = (here.0, here.1 ∙ gives.like.committed)
+    go (inr none) = absurd none

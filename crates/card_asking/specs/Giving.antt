@@ -1,10 +1,12 @@
 -- The rows that a plan of a SELECT is still to give.
 use Rattle.std.specs.Prelude.{◌≡◌, ℕ, true, List, [], ◌∷◌, map, drop}
 use Rattle.std.specs.List.{AllByRecursion}
+use Rattle.scql_base.specs.declared.condition.Condition.{Condition}
 use Rattle.scql_model.specs.Machine.{Machine}
-use Rattle.scql_model.specs.Matching.{Values}
+use Rattle.scql_model.specs.Matching.{Columns, Values}
 use Rattle.scql_model.specs.ReadingCommands.{row_octets}
 use Rattle.scql_model.specs.Records.{is_row}
+use Rattle.scql_model.specs.Shown.{shown_on}
 use Rattle.script.specs.declared.statement.Statement.{Statement}
 use Rattle.planner.specs.declared.closing.Closing.{Closing}
 use Rattle.planner.specs.declared.step.Step.{Step}
@@ -13,6 +15,7 @@ use Rattle.planner.specs.Held.{transaction_channel}
 use Rattle.planner.specs.Meaning.{meaning}
 use Rattle.planner.specs.Planned.{Planned}
 use Rattle.planner.specs.Readings.{IsReadingAt}
+use Rattle.planner.specs.Selecting.{closing_given, rows_given, select_shown}
 use Rattle.card_asking.specs.Following.{run_from}
 
 -- two machines have the same committed database, and the open transaction is the same channel's
@@ -52,3 +55,9 @@ pub record AreAllGiven (closing : Closing) (rows : List Values) (last : Closing)
 -- a plan is to give the rows of its statement's meaning, and to close as that does
 abbrev pub GivesMeaning : {L : Type 0} → (L → Machine → Type 0) → Machine → ℕ → Statement → Planned → Step → L → Type 0
 GivesMeaning is_at m channel s p step now = Gives is_at m (meaning m channel s).closing (meaning m channel s).rows p step now
+
+-- a plan is to give the rows that are shown to a channel, and to close as follows from that
+abbrev pub GivesShown : {L : Type 0} → (L → Machine → Type 0) → Machine → ℕ → List ℕ → Columns → List Condition → Planned → Step → L → Type 0
+GivesShown is_at m channel object columns conditions p step now =
+    let given = select_shown (shown_on m channel) object columns conditions in
+    Gives is_at m (closing_given given) (rows_given given) p step now

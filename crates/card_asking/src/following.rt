@@ -5,7 +5,7 @@ ghost use Rattle.scql_model.specs.Machine.{Machine};
 ghost use Rattle.scql_model.specs.Matching.{Values};
 ghost use Rattle.scql_model.specs.Replies.{said};
 ghost use Rattle.script.specs.Commands.{IsSendable};
-ghost use Rattle.card_link.specs.Link.{IsOneOf, LeavesOpen};
+ghost use Rattle.card_link.specs.Link.{Holds, IsOneOf, LeavesOpen};
 ghost use Rattle.planner.specs.declared.closing.Closing.{Closing as ModelClosing};
 ghost use Rattle.planner.specs.Planned.{IfSent};
 ghost use Rattle.planner.specs.Turns.{IfGoesOn};
@@ -32,6 +32,8 @@ pub fn follow<L: CardLink>(
     ensures reply { (m : Machine) → L.is_at link.old m → OnOk result (reply.new ≡ heard_at m step.old reply.old) }
     ensures gives { (m : Machine) (closing : ModelClosing) (rows : List Values) → Gives L.is_at m closing rows plan.old step.old link.old
         → OnOk result (Gives L.is_at m closing (behind_step step.old rows) plan.new step.new link.new) }
+    ensures still { (m : Machine) (closing : ModelClosing) (rows : List Values) → Gives L.is_at m closing rows plan.old step.old link.old
+        → LeavesOpen (Holds (L.mark link.old) m.committed) (L.chip link.old) (L.chip link.new) }
     ensures moments { (m : Machine) → L.is_at link.old m
         → LeavesOpen (IsOneOf (L.mark link.old) (m.committed ∷ (run_from m plan.old step.old).commits)) (L.chip link.old) (L.chip link.new) }
     ensures replied { OnOk result (IsTrue (L.is_live link.new) × (L.faults link.new ≡ L.faults link.old)) }

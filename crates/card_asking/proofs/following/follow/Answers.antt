@@ -4,7 +4,7 @@ use Rattle.planner.specs.Turns.{IfGoesOn}
 use Rattle.card_asking.specs.Following.{Follows, given_by, to_go}
 use Rattle.card_asking.proofs.Moments.{leaves-all}
 use Rattle.card_asking.proofs.Followed.{asked-follows, asked-less, asked-moment, asked-reply, asked-turn, reset-follows, less-seen}
-use Rattle.card_asking.proofs.Rows.{gives-on}
+use Rattle.card_asking.proofs.Rows.{gives-on, gives-still}
 use Rattle.card_asking.proofs.following.follow.Goals as goal
 
 pub returns-in_err-ask-in-Send-clause-moments : goal.returns-in_err-ask-in-Send-clause-moments
@@ -46,3 +46,17 @@ returns-in_ok-ask-in-Send-clause-turns g c = asked-turn c.args.plan.now c.next_i
 
 pub returns-in_ok-ask-in-Send-clause-reply : goal.returns-in_ok-ask-in-Send-clause-reply
 returns-in_ok-ask-in-Send-clause-reply g c = λ m at. asked-reply m c.args.step.now c.in-Send.command c.args.reply.now c.ask.new.reply c.in-Send.is (c.in_ok-ask-in-Send.ensures.answer m at).reply
+
+pub returns-in_err-ask-in-Send-clause-still : goal.returns-in_err-ask-in-Send-clause-still
+returns-in_err-ask-in-Send-clause-still g c = λ m closing rows gives.
+    leaves-all g.L.CardLink.chip _ _ c.args.link.now c.ask.new.link
+    (λ n left is. gives-still g.L.CardLink.is_at (g.L.CardLink.mark c.args.link.now) m closing rows c.args.plan.now c.args.step.now c.args.link.now n left gives
+    (asked-moment (g.L.CardLink.mark c.args.link.now) gives.machine c.args.plan.now c.args.step.now c.in-Send.command n left c.in-Send.is is))
+    (c.ask.ensures.moments gives.machine gives.at)
+
+pub returns-in_ok-ask-in-Send-clause-still : goal.returns-in_ok-ask-in-Send-clause-still
+returns-in_ok-ask-in-Send-clause-still g c = λ m closing rows gives.
+    leaves-all g.L.CardLink.chip _ _ c.args.link.now c.ask.new.link
+    (λ n left is. gives-still g.L.CardLink.is_at (g.L.CardLink.mark c.args.link.now) m closing rows c.args.plan.now c.args.step.now c.args.link.now n left gives
+    (asked-moment (g.L.CardLink.mark c.args.link.now) gives.machine c.args.plan.now c.args.step.now c.in-Send.command n left c.in-Send.is is))
+    (c.ask.ensures.moments gives.machine gives.at)
