@@ -22,6 +22,15 @@ use Rattle.planner.proofs.Turning.{next_of-below}
 use Rattle.card_asking.specs.Following.{Follows, IsEnded, whole_run, run_from, behind, after_all, given_by, heard_at, to_go, turn_by}
 use Rattle.card_asking.proofs.Moments.{one-before, one-next}
 
+-- lists that join to none
+pub none-before : {A : Type 0} (xs ys : List A) → xs ++ ys ≡ [] → xs ≡ []
+none-before [] ys none = refl
+none-before (x ∷ xs) ys none = absurd cc
+
+pub none-behind : {A : Type 0} (xs ys : List A) → xs ++ ys ≡ [] → ys ≡ []
+none-behind [] ys none = none
+none-behind (x ∷ xs) ys none = absurd cc
+
 -- a run with steps enough doesn't change with more
 enough : (k n : ℕ) (m : Machine) (last : Option Reply) (p : Planned) → turns_left p < k → k ≤ n → run k m last p ≡ run n m last p
 enough k n m last p some most =

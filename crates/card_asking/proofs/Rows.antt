@@ -28,16 +28,9 @@ use Rattle.planner.proofs.Readings.{started-reads}
 use Rattle.planner.proofs.SelectsShown.{select-reads}
 use Rattle.card_asking.specs.Following.{Follows, after_all, run_from, run_of, given_by}
 use Rattle.card_asking.specs.Giving.{GivesShown, Gives, behind_step, IsNextRow, AreAllGiven, GivesMeaning}
+use Rattle.card_asking.proofs.Followed.{none-before, none-behind}
 use Rattle.card_asking.proofs.Meant.{base-valid, run-meant}
 use Rattle.card_asking.proofs.Sound.{sound, select-commits}
-
-none-first : (xs ys : List Database) → xs ++ ys ≡ [] → xs ≡ []
-none-first [] ys none = refl
-none-first (x ∷ xs) ys none = absurd cc
-
-none-behind : (xs ys : List Database) → xs ++ ys ≡ [] → ys ≡ []
-none-behind [] ys none = none
-none-behind (x ∷ xs) ys none = absurd cc
 
 -- What is left of the rows behind a step.
 record LeavesRows (step : Step) (rows : List Values) (left : List (List ℕ)) : Type 0 where
@@ -65,7 +58,7 @@ gives-on is_at m closing rows p q step next old new gives e =
       machine = e.machine;
       at = e.at;
       like = record {
-        committed = e.committed ∙ (ap (after_all gives.machine.committed) (none-first e.commits (run_from e.machine q next).commits silent) ∙ gives.like.committed);
+        committed = e.committed ∙ (ap (after_all gives.machine.committed) (none-before e.commits (run_from e.machine q next).commits silent) ∙ gives.like.committed);
         transaction = reads.1 ∙ gives.like.transaction;
       };
       reads = reads.0;

@@ -69,6 +69,7 @@ pub fn carry_out<L: CardLink>(
 ) -> Result<Closing, Mute>
     requires live { IsTrue (L.is_live link.old) }
     ensures over { (m : Machine) → L.is_at link.old m → IfOk result (λ closing. IsEnded L.is_at (run_of m plan.old) closing link.new) }
+    ensures ended { IfOk result (λ closing. step.new ≡ Step.Done closing) }
     ensures moments { (m : Machine) → L.is_at link.old m
         → LeavesOpen (IsOneOf (L.mark link.old) (m.committed ∷ (run_of m plan.old).commits)) (L.chip link.old) (L.chip link.new) }
     ensures replied { OnOk result (IsTrue (L.is_live link.new) × (L.faults link.new ≡ L.faults link.old)) }

@@ -28,12 +28,13 @@ use Rattle.terminal.specs.declared.failure.Failure.TheVariants.{Card, Outlet}
 use Rattle.terminal.specs.declared.line_end.LineEnd.{LineEnd}
 use Rattle.terminal.specs.declared.line_end.LineEnd.TheVariants as ends
 use Rattle.card_asking.specs.Following.{after_all}
+use Rattle.card_asking.proofs.Followed.{none-before}
 use Rattle.card_asking.proofs.Moments.{one-last}
 use Rattle.card_asking.proofs.Sound.{IsSound, select-or-none, sound}
 use Rattle.terminal.specs.Going.{printed_row, rows_text, ran_text, IsInRun, IsMute, IsCut, IsOver, FailsSo}
 use Rattle.terminal.specs.Holding.{Holding, Knows, Sits, terminal_at, holding_after}
 use Rattle.terminal.specs.Line.{IsAnswered, IsCutOff, IsCutShort, EndsSo, EndsBy, ClosesSo, IsMoment, is_refusal, refuses, rows_in}
-use Rattle.terminal.specs.Stays.{Works}
+use Rattle.terminal.specs.Failing.{Works}
 use Rattle.terminal.proofs.Went.{prints-both, works-both}
 use Rattle.eeprom.specs.Fault.{Rose}
 use Rattle.eeprom.specs.Output.{Prints}
@@ -84,10 +85,6 @@ cut-off given x old new is mute =
           (ap rows_text s.same ∙ rows-again s.front (front-all s.front s.rest (subst (AllByRecursion (λ (values : Values). is_row values ≡ true)) s.split is.formed))) mute.printed;
     }
 
-none-first : (xs ys : List Database) → xs ++ ys ≡ [] → xs ≡ []
-none-first [] ys none = refl
-none-first (x ∷ xs) ys none = absurd cc
-
 cut-short : {L : Type 0} (is_at : L → Machine → Type 0) (given : L → Option (List ℕ)) (m : Machine) (channel : ℕ) (s : Statement) (holding : Holding) (old new : L) → IsSound (meaning m channel s)
     → Knows holding.transaction m → IsCut is_at given m (IsSelect s) (shown (meaning m channel s)) old new → IsCutShort is_at given m (read_effect (terminal_at m channel) (Ok s)) holding old new
 cut-short is_at given m channel s holding old new is knows cut =
@@ -104,7 +101,7 @@ cut-short is_at given m channel s holding old new is knows cut =
     }
   where
     go : ((meaning m channel s).commits ≡ []) ⊎ ((meaning m channel s).rows ≡ []) → after_all m.committed cut.committed.0 ≡ after_all m.committed (meaning m channel s).commits
-    go (inl none) = ap (after_all m.committed) (none-first cut.committed.0 cut.committed.1 (sym cut.committed.2 ∙ none)) ∙ ap (after_all m.committed) (sym none)
+    go (inl none) = ap (after_all m.committed) (none-before cut.committed.0 cut.committed.1 (sym cut.committed.2 ∙ none)) ∙ ap (after_all m.committed) (sym none)
     go (inr none) = absurd (cut.in_row (ap (map row_octets) none))
 
     kept : IsSelect s ⊎ ((meaning m channel s).rows ≡ []) → transaction_channel cut.machine ≡ transaction_channel m

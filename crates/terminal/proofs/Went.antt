@@ -2,7 +2,8 @@
 use Rattle.std.proofs.Common.{◌≡◌, ℕ, ◌≤◌, take, drop, take-append-drop, Bool, List, [], ◌∷◌, ◌++◌, map, Option, None, append_assoc, refl, sym, ◌∙◌, ap, subst, inl, arith}
 use Rattle.std.specs.Prelude.{Result, Err, IfErr}
 use Rattle.std.specs.List.{concat}
-use Rattle.std.proofs.lemmas.List.{append-nil}
+use Rattle.std.proofs.lemmas.List.{append-nil, map-append}
+use Rattle.std.proofs.lemmas.List.Folds.{concat-append}
 use Rattle.scql_model.specs.Database.{Database}
 use Rattle.scql_model.specs.Machine.{Machine}
 use Rattle.card_link.specs.Link.{HoldsWithin, IsOneOf}
@@ -15,12 +16,12 @@ use Rattle.planner.specs.Readings.{IsReadingAt}
 use Rattle.planner.specs.Text.{closing_text}
 use Rattle.planner.proofs.StatementsLawful.{after-append}
 use Rattle.card_asking.specs.Following.{Follows, run_from, after_all, given_by}
-use Rattle.card_asking.proofs.Followed.{first-follows, follows-both}
+use Rattle.card_asking.proofs.Followed.{first-follows, follows-both, none-before, none-behind}
 use Rattle.card_asking.proofs.Moments.{one-mark, one-next}
 use Rattle.terminal.specs.declared.failure.Failure.{Failure}
 use Rattle.terminal.specs.declared.failure.Failure.TheVariants.{Card, Outlet}
 use Rattle.terminal.specs.Going.{printed_row, rows_text, ran_text, FailsSo, IsInRun, Goes, IsMute, IsCut, IsOver}
-use Rattle.terminal.specs.Stays.{IsStart, Works, Causes}
+use Rattle.terminal.specs.Failing.{IsStart, Works, Causes}
 use Rattle.eeprom.specs.Fault.{Rose}
 use Rattle.eeprom.specs.Output.{Prints}
 
@@ -38,28 +39,12 @@ prints-both x y old mid new first second = λ after is.
 pub start-of : (text piece : List ℕ) (old new : Option (List ℕ)) → piece ≡ text → (count : ℕ) × Prints (take count piece) old new → IsStart text old new
 start-of text piece old new is went = record { said = take went.0 piece; rest = drop went.0 piece; start = sym (take-append-drop went.0 piece ∙ is); printed = went.1 }
 
-concat-append : (xs ys : List (List ℕ)) → concat (xs ++ ys) ≡ concat xs ++ concat ys
-concat-append [] ys = refl
-concat-append (x ∷ xs) ys = ap (λ rest. x ++ rest) (concat-append xs ys) ∙ sym (append_assoc x (concat xs) (concat ys))
-
-map-append : (xs ys : List (List ℕ)) → map printed_row (xs ++ ys) ≡ map printed_row xs ++ map printed_row ys
-map-append [] ys = refl
-map-append (x ∷ xs) ys = ap (λ rest. printed_row x ∷ rest) (map-append xs ys)
-
 pub rows-append : (xs ys : List (List ℕ)) → rows_text (xs ++ ys) ≡ rows_text xs ++ rows_text ys
-rows-append xs ys = ap concat (map-append xs ys) ∙ concat-append (map printed_row xs) (map printed_row ys)
+rows-append xs ys = ap concat (map-append printed_row xs ys) ∙ concat-append (map printed_row xs) (map printed_row ys)
 
 -- a row of its own
 pub row-text : (octets : List ℕ) → rows_text (octets ∷ []) ≡ printed_row octets
 row-text octets = append-nil (printed_row octets)
-
-none-before : (xs ys : List (List ℕ)) → xs ++ ys ≡ [] → xs ≡ []
-none-before [] ys none = refl
-none-before (x ∷ xs) ys none = absurd cc
-
-none-behind : (xs ys : List (List ℕ)) → xs ++ ys ≡ [] → ys ≡ []
-none-behind [] ys none = none
-none-behind (x ∷ xs) ys none = absurd cc
 
 -- The rows of a run from a step on begin with the row that the step has.
 given-first : (m : Machine) (p : Planned) (step : Step) → (rest : List (List ℕ)) × ((run_from m p step).rows ≡ given_by p step ++ rest)

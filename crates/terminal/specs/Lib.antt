@@ -1,3 +1,4 @@
+pub mod Failing
 pub mod Going
 pub mod Holding
 pub mod Line
@@ -5,4 +6,3 @@ pub mod Load
 pub mod Noted
 pub mod Printed
 pub mod Quiet
-pub mod Stays

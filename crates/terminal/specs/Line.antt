@@ -19,7 +19,7 @@ use Rattle.terminal.specs.declared.line_end.LineEnd.TheVariants as ends
 use Rattle.card_asking.specs.Following.{after_all}
 use Rattle.terminal.specs.Holding.{Holding, Knows, Sits}
 use Rattle.card_asking.specs.Asked.{Mutes}
-use Rattle.terminal.specs.Stays.{Breaks, IsStart, Works}
+use Rattle.terminal.specs.Failing.{Breaks, IsStart, Works}
 
 -- the closing line is a refusal, or an error
 abbrev pub is_refusal : Closing → Bool

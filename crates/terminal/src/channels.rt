@@ -22,7 +22,7 @@ ghost use Rattle.terminal.specs.Noted as noting;
 ghost use Rattle.terminal.specs.Noted.{noted};
 ghost use Rattle.terminal.specs.Line.{ClosesSo, EndsBy, EndsSo, IsMoment, refuses, rows_in};
 ghost use Rattle.terminal.specs.Quiet.{EndsQuietly, EndsQuietlyBy, closing_in};
-ghost use Rattle.terminal.specs.Stays.{Causes, Works};
+ghost use Rattle.terminal.specs.Failing.{Causes, Works};
 
 use crate::failure::Failure;
 use crate::following::{Room, carry_out, give};

@@ -9,7 +9,7 @@ ghost use Rattle.planner.specs.Readings.{IsReadingAt};
 ghost use Rattle.planner.specs.Turns.{IfGoesOn};
 ghost use Rattle.card_asking.specs.Following.{OnlyReads, given_by, run_from, run_of, to_go};
 ghost use Rattle.terminal.specs.Going.{Goes, FailsSo, IsInRun, IsOver, printed_row, rows_text};
-ghost use Rattle.terminal.specs.Stays.{Breaks, Causes, IsStart, Works};
+ghost use Rattle.terminal.specs.Failing.{Breaks, Causes, IsStart, Works};
 
 use crate::failure::Failure;
 use crate::printing::{LONGEST_ROW, put_row_text};

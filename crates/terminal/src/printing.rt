@@ -7,7 +7,7 @@ ghost use Rattle.hex.specs.Hex.{encode_upper};
 ghost use Rattle.planner.specs.Text as model;
 ghost use Rattle.terminal.specs.Going.{printed_row};
 ghost use Rattle.terminal.specs.Printed.{between_quotes, in_hexadecimal, lead};
-ghost use Rattle.terminal.specs.Stays.{IsStart};
+ghost use Rattle.terminal.specs.Failing.{IsStart};
 
 use arrayvec::ArrayVec;
 use eeprom::{Outlet, SinkFault};

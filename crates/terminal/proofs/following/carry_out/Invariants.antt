@@ -5,7 +5,7 @@ use Rattle.card_link.specs.Link.{LeavesOpen}
 use Rattle.planner.specs.Planned.{IfSent, next_of}
 use Rattle.card_asking.specs.Following.{run_of, to_go}
 use Rattle.terminal.specs.Going.{Goes, IsInRun}
-use Rattle.terminal.specs.Stays.{Works}
+use Rattle.terminal.specs.Failing.{Works}
 use Rattle.terminal.proofs.following.carry_out.Given as goal
 
 abbrev pub invariant-loop-room : goal.invariant-loop-room
