@@ -1,5 +1,5 @@
 -- Which channel has the open transaction after a statement.
-use Rattle.std.proofs.Common.{◌≡◌, ℕ, zero, suc, ◌==◌, not, Bool, true, false, List, [], ◌∷◌, Option, Some, None, is_some, Result, Ok, Err, if◌then◌else◌, refl, sym, ◌∙◌, ap, subst, inl, inr}
+use Rattle.std.proofs.Common.{◌≡◌, ℕ, zero, suc, ◌==◌, not, Bool, true, false, List, [], ◌∷◌, Option, Some, None, is_some, Result, Ok, Err, if◌then◌else◌, refl, sym, ◌∙◌, ap, subst, inl, inr, ◌⊎◌}
 use Rattle.std.specs.Prelude.{IfOk, option_map}
 use Rattle.std.specs.Option.{option_map_or}
 use Rattle.std.specs.Str.{bytes_eq}
@@ -14,7 +14,7 @@ use Rattle.scql_base.specs.declared.operation.Operation.{Operation}
 use Rattle.scql_base.specs.declared.operation.Operation.TheVariants.{Update, Delete, Begin, Commit, Rollback, PresentUser, DeleteUser, Verify, OpenChannel, CloseChannel}
 use Rattle.scql_base.specs.declared.operation.OperationKind.{OperationKind}
 use Rattle.scql_base.specs.declared.operation.OperationKind.TheVariants as kind
-use Rattle.scql_base.specs.Words.{authentication_blocked, channel_not_supported, conditions_not_satisfied, function_not_supported, not_found}
+use Rattle.scql_base.specs.Words.{done, authentication_blocked, channel_not_supported, conditions_not_satisfied, function_not_supported, not_found}
 use Rattle.scql_model.specs.Database.{Database, user_named, user_stamped}
 use Rattle.scql_model.specs.Machine.{Machine, Session, Transaction, open_channels, session_of, base, actor}
 use Rattle.scql_model.specs.Sessions.{changing_session, command_chain, cursor_of, without_chain, user_of, is_channel_open, least_closed}
@@ -152,46 +152,69 @@ kept-part m c place can other =
 pub answer-kept : (m : Machine) (c : Command) → IsSendable c → transacts (kind_of c.operation) ≡ false → Keeps m (answer_to m c).machine
 answer-kept m c can other = answer-holds IsKept c (λ n place. kept-part n c place can other) (λ n place next kept. kept ∙ kept-part n c place can other) m
 
--- BEGIN, COMMIT and ROLLBACK change it where they are done.
-abbrev pub Tells : Machine → ℕ → Operation → Answer → Type 0
+-- BEGIN, COMMIT and ROLLBACK change it where they are done, and else they are refused.
+abbrev pub Turns : Machine → ℕ → Operation → Answer → Type 0
+Turns m channel operation answer =
+    ((answer.reply.word ≡ done) × (transaction_channel answer.machine ≡ held_by operation channel (transaction_channel m)))
+    ⊎ ((answer.reply.word ≡ conditions_not_satisfied) × IsKept m answer)
+
+abbrev pub outcome_of : Machine → Command → Answer
+outcome_of m c = answered m (carried_out m c)
+
+turns-begun : (m : Machine) (channel : ℕ) (le : Option ℕ) (t : Option Transaction) → m.transaction ≡ t
+    → (let c : Command = record { channel = channel; operation = Begin; le = le } in Turns m channel Begin (outcome_of m c))
+turns-begun m channel le None is = inl (rw is (refl, refl))
+turns-begun m channel le (Some t) is = elim (cases_Bool (t.channel == channel)) [
+  | inl own ↦ inr (rw (is, own) (refl, refl))
+  | inr other ↦ inr (rw (is, other) (refl, refl))
+]
+
+turns-committed : (m : Machine) (channel : ℕ) (le : Option ℕ) (t : Option Transaction) → m.transaction ≡ t
+    → (let c : Command = record { channel = channel; operation = Commit; le = le } in Turns m channel Commit (outcome_of m c))
+turns-committed m channel le None is = inr (rw is (refl, refl))
+turns-committed m channel le (Some t) is = elim (cases_Bool (t.channel == channel)) [
+  | inl own ↦ inl (rw (is, own) (refl, refl))
+  | inr other ↦ inr (rw (is, other) (refl, refl))
+]
+
+turns-rolled_back : (m : Machine) (channel : ℕ) (le : Option ℕ) (t : Option Transaction) → m.transaction ≡ t
+    → (let c : Command = record { channel = channel; operation = Rollback; le = le } in Turns m channel Rollback (outcome_of m c))
+turns-rolled_back m channel le None is = inr (rw is (refl, refl))
+turns-rolled_back m channel le (Some t) is = elim (cases_Bool (t.channel == channel)) [
+  | inl own ↦ inl (rw (is, own) (refl, refl))
+  | inr other ↦ inr (rw (is, other) (refl, refl))
+]
+
+pub turns-so : (m : Machine) (channel : ℕ) (operation : Operation) (le : Option ℕ) → transacts (kind_of operation) ≡ true
+    → (let c : Command = record { channel = channel; operation = operation; le = le } in Turns m channel operation (outcome_of m c))
+turns-so m channel Begin le is = turns-begun m channel le m.transaction refl
+turns-so m channel Commit le is = turns-committed m channel le m.transaction refl
+turns-so m channel Rollback le is = turns-rolled_back m channel le m.transaction refl
+turns-so m channel operation le is = absurd (false≢true is)
+
+abbrev Tells : Machine → ℕ → Operation → Answer → Type 0
 Tells m channel operation answer = transaction_channel answer.machine ≡ held_when (closing_of answer.reply.word) (held_by operation channel (transaction_channel m)) (transaction_channel m)
 
-abbrev pub outcome_of : Machine → ℕ → Operation → Answer
-outcome_of m channel operation = answered m (carried_out m (asking channel operation))
-
-pub told-begun : (m : Machine) (channel : ℕ) (t : Option Transaction) → m.transaction ≡ t → Tells m channel Begin (outcome_of m channel Begin)
-told-begun m channel None is = rw is refl
-told-begun m channel (Some t) is = elim (cases_Bool (t.channel == channel)) [
-  | inl own ↦ rw (is, own) refl
-  | inr other ↦ rw (is, other) refl
-]
-
-pub told-committed : (m : Machine) (channel : ℕ) (t : Option Transaction) → m.transaction ≡ t → Tells m channel Commit (outcome_of m channel Commit)
-told-committed m channel None is = rw is refl
-told-committed m channel (Some t) is = elim (cases_Bool (t.channel == channel)) [
-  | inl own ↦ rw (is, own) refl
-  | inr other ↦ rw (is, other) refl
-]
-
-pub told-rolled_back : (m : Machine) (channel : ℕ) (t : Option Transaction) → m.transaction ≡ t → Tells m channel Rollback (outcome_of m channel Rollback)
-told-rolled_back m channel None is = rw is refl
-told-rolled_back m channel (Some t) is = elim (cases_Bool (t.channel == channel)) [
-  | inl own ↦ rw (is, own) refl
-  | inr other ↦ rw (is, other) refl
-]
+tells-turn : (m : Machine) (channel : ℕ) (operation : Operation) (answer : Answer) → Turns m channel operation answer → Tells m channel operation answer
+tells-turn m channel operation answer (inl (word, turned)) =
+    turned ∙ ap (λ (w : StatusWord). held_when (closing_of w) (held_by operation channel (transaction_channel m)) (transaction_channel m)) (sym word)
+tells-turn m channel operation answer (inr (word, kept)) =
+    kept ∙ ap (λ (w : StatusWord). held_when (closing_of w) (held_by operation channel (transaction_channel m)) (transaction_channel m)) (sym word)
 
 -- on a channel that isn't open they are refused
 told-alone : (m : Machine) (channel : ℕ) (operation : Operation) → IsSendable (asking channel operation) → comes_in_parts (kind_of operation) ≡ false → IsTaken (has_secrets operations) m.committed.limit operation
-    → Tells m channel operation (outcome_of (changing_session without_chain m channel) channel operation)
-    → Tells m channel operation (answer_to m (asking channel operation))
-told-alone m channel operation can alone taken tells = go (session_of m channel) refl
+    → transacts (kind_of operation) ≡ true → Tells m channel operation (answer_to m (asking channel operation))
+told-alone m channel operation can alone taken turns = go (session_of m channel) refl
   where
     go : (s : Option Session) → session_of m channel ≡ s → Tells m channel operation (answer_to m (asking channel operation))
-    go (Some s) is = subst (Tells m channel operation) (sym (answer-whole m (asking channel operation) s can alone taken is)) tells
+    go (Some s) is =
+        let ended : Machine = changing_session without_chain m channel in
+        subst (Tells m channel operation) (sym (answer-whole m (asking channel operation) s can alone taken is))
+        (tells-turn ended channel operation (outcome_of ended (asking channel operation)) (turns-so ended channel operation None turns))
     go None is = subst (Tells m channel operation) (sym (answer-closed m (asking channel operation) can alone (ap (λ (s : Option Session). is_some s) is))) refl
 
 -- A single operation.
-held_by-same : (operation : Operation) (channel : ℕ) (held : Option ℕ) → transacts (kind_of operation) ≡ false → held_by operation channel held ≡ held
+pub held_by-same : (operation : Operation) (channel : ℕ) (held : Option ℕ) → transacts (kind_of operation) ≡ false → held_by operation channel held ≡ held
 held_by-same Begin channel held other = absurd (false≢true (sym other))
 held_by-same Commit channel held other = absurd (false≢true (sym other))
 held_by-same Rollback channel held other = absurd (false≢true (sym other))
@@ -202,9 +225,9 @@ held_when-same Fine held = refl
 held_when-same closing held = refl
 
 told-single : (m : Machine) (channel : ℕ) (operation : Operation) → IsSendable (asking channel operation) → Tells m channel operation (answer_to m (asking channel operation))
-told-single m channel Begin can = told-alone m channel Begin can refl tt (told-begun (changing_session without_chain m channel) channel m.transaction refl)
-told-single m channel Commit can = told-alone m channel Commit can refl tt (told-committed (changing_session without_chain m channel) channel m.transaction refl)
-told-single m channel Rollback can = told-alone m channel Rollback can refl tt (told-rolled_back (changing_session without_chain m channel) channel m.transaction refl)
+told-single m channel Begin can = told-alone m channel Begin can refl tt refl
+told-single m channel Commit can = told-alone m channel Commit can refl tt refl
+told-single m channel Rollback can = told-alone m channel Rollback can refl tt refl
 told-single m channel operation can = answer-kept m (asking channel operation) can refl ∙ sym (held_when-same (closing_of (answer_to m (asking channel operation)).reply.word) (transaction_channel m))
 
 -- UPDATE and DELETE FROM stay in their transaction.
