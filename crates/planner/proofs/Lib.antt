@@ -8,6 +8,7 @@ pub mod GoingOn
 pub mod InTurn
 pub mod KindsRead
 pub mod OctetsTell
+pub mod OfRows
 pub mod Parts
 pub mod Readings
 pub mod Selected

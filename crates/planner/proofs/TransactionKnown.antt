@@ -11,7 +11,7 @@ use Rattle.scql_base.specs.declared.cursor.Cursor.{Cursor}
 use Rattle.scql_base.specs.declared.records.User.{User}
 use Rattle.scql_base.specs.declared.operation.Command.{Command}
 use Rattle.scql_base.specs.declared.operation.Operation.{Operation}
-use Rattle.scql_base.specs.declared.operation.Operation.TheVariants.{Update, Delete, Begin, Commit, Rollback, PresentUser, DeleteUser, Verify, OpenChannel, CloseChannel}
+use Rattle.scql_base.specs.declared.operation.Operation.TheVariants.{Begin, Commit, Rollback, PresentUser, DeleteUser, Verify, OpenChannel, CloseChannel}
 use Rattle.scql_base.specs.declared.operation.OperationKind.{OperationKind}
 use Rattle.scql_base.specs.declared.operation.OperationKind.TheVariants as kind
 use Rattle.scql_base.specs.Words.{done, authentication_blocked, channel_not_supported, conditions_not_satisfied, function_not_supported, not_found}
@@ -36,14 +36,16 @@ use Rattle.script.specs.declared.statement.Statement.{Statement}
 use Rattle.script.specs.declared.statement.Statement.TheVariants.{Blank, Single, Select, UpdateRows, DeleteRows, OpenNumber, CloseNumber, UseNumber, Reset}
 use Rattle.script.specs.Commands.{asking, IsSendable, CanBeSent}
 use Rattle.planner.specs.declared.closing.Closing.{Closing}
-use Rattle.planner.specs.declared.closing.Closing.TheVariants.{Fine, Refused}
+use Rattle.planner.specs.declared.closing.Closing.TheVariants.{Fine}
 use Rattle.planner.specs.Words.{closing_of}
-use Rattle.planner.specs.Meaning.{Meaning, Declared, Changed, answer_to, declared, ended, selects_all, all_changed, once_changed, row_changed, at_stamp, changed_by, changed_outside, committed_after, changed_in, on_open, begun, meaning}
+use Rattle.planner.specs.Meaning.{Meaning, answer_to, all_changed, once_changed, row_changed, at_stamp, meaning}
 use Rattle.planner.specs.Held.{transaction_channel, held_by, held_when, TellsWhoHolds}
 use Rattle.planner.proofs.Asking.{answer-whole}
 use Rattle.planner.proofs.Closed.{answer-closed}
 use Rattle.planner.proofs.InTurn.{answer-holds}
 use Rattle.planner.proofs.KindsRead.{kind-read}
+use Rattle.planner.proofs.OfRows.{HoldsOfRows, of-rows}
+use Rattle.planner.specs.Running.{IsOfRows}
 
 -- BEGIN, COMMIT and ROLLBACK
 abbrev pub transacts : OperationKind → Bool
@@ -248,45 +250,32 @@ same-rows committed a operation c (r ∷ rows) t = go (row_changed committed a o
     go (Err word) is rest = refl
     go (Ok next) is rest = rest next ∙ same-row committed a operation (at_stamp r.stamp c) t next is
 
-kept-changes : (m : Machine) (channel : ℕ) (operation : Operation) (d : Result Declared StatusWord) (own : Option Transaction) → own_transaction m.transaction channel ≡ own → Keeps m (changed_by m channel operation d own).machine
-kept-changes m channel operation (Err word) (Some t) is = refl
-kept-changes m channel operation (Ok d) (Some t) is = ap Some (same-rows m.committed (actor m channel) operation d.cursor d.rows t) ∙ own-channel m.transaction channel t is
-kept-changes m channel operation d None is = outside m.transaction d
-  where
-    committed : (d : Declared) (c : Changed) (refusal : Option StatusWord) → Keeps m (committed_after m channel d c refusal).machine
-    committed d c None = refl
-    committed d c (Some word) = refl
-
-    outside : (t : Option Transaction) (d : Result Declared StatusWord) → Keeps m (changed_outside m channel operation d t).machine
-    outside (Some t) d = refl
-    outside None (Err word) = refl
-    outside None (Ok d) = committed d (changed_in m channel operation d (begun m channel)) (changed_in m channel operation d (begun m channel)).refusal
-
-kept-selects : (m : Machine) (channel : ℕ) (d : Result Declared StatusWord) → Keeps m (selects_all m channel d).machine
-kept-selects m channel (Err word) = refl
-kept-selects m channel (Ok d) = refl
-
-kept-open : (m : Machine) (channel : ℕ) (x : Meaning) → Keeps m x.machine → Keeps m (on_open m channel x).machine
-kept-open m channel x kept = go (is_channel_open m channel)
-  where
-    go : (b : Bool) → Keeps m (if b then x else ended (Refused channel_not_supported) m channel).machine
-    go true = kept
-    go false = refl
+kept-rows : (m : Machine) (channel : ℕ) → HoldsOfRows (λ x. Keeps m x.machine) m channel
+kept-rows m channel = record {
+  closed = refl;
+  refused = λ word. refl;
+  selected = λ d. refl;
+  inside = λ operation t d is. ap Some (same-rows m.committed (actor m channel) operation d.cursor d.rows t) ∙ own-channel m.transaction channel t is;
+  rolled = λ word. refl;
+  committed = λ operation d none. refl;
+}
 
 -- Every statement.
 kept-told : (m : Machine) (x : Meaning) → Keeps m x.machine → transaction_channel x.machine ≡ held_when x.closing (transaction_channel m) (transaction_channel m)
 kept-told m x kept = kept ∙ sym (held_when-same x.closing (transaction_channel m))
 
+told-rows : (m : Machine) (channel : ℕ) (s : Statement) → IsOfRows s
+    → transaction_channel (meaning m channel s).machine ≡ held_when (meaning m channel s).closing (transaction_channel m) (transaction_channel m)
+told-rows m channel s is = kept-told m (meaning m channel s) (of-rows (λ x. Keeps m x.machine) m channel (kept-rows m channel) s is)
+
 pub transaction-told : (m : Machine) (channel : ℕ) (s : Statement) → CanBeSent channel s → TellsWhoHolds m channel s (meaning m channel s)
 unfolding meaning
 transaction-told m channel Blank can = refl
 transaction-told m channel (Single operation) can = told-single m channel operation can.commands.0
-transaction-told m channel (Select object columns conditions) can = kept-told m (meaning m channel (Select object columns conditions)) (kept-open m channel _ (kept-selects m channel (declared m channel object columns conditions)))
-transaction-told m channel (UpdateRows object changes conditions) can =
-    kept-told m (meaning m channel (UpdateRows object changes conditions)) (kept-open m channel _ (kept-changes m channel (Update changes) (declared m channel object [] conditions) (own_transaction m.transaction channel) refl))
-transaction-told m channel (DeleteRows object conditions) can =
-    kept-told m (meaning m channel (DeleteRows object conditions)) (kept-open m channel _ (kept-changes m channel Delete (declared m channel object [] conditions) (own_transaction m.transaction channel) refl))
 transaction-told m channel (OpenNumber number) can = kept-told m (meaning m channel (OpenNumber number)) (answer-kept m (asking 0 (OpenChannel number)) can.commands.0 refl)
 transaction-told m channel (CloseNumber number) can = kept-told m (meaning m channel (CloseNumber number)) (answer-kept m (asking 0 (CloseChannel number)) can.commands.0 refl)
 transaction-told m channel (UseNumber number) can = refl
 transaction-told m channel Reset can = refl
+transaction-told m channel (Select object columns conditions) can = told-rows m channel (Select object columns conditions) tt
+transaction-told m channel (UpdateRows object changes conditions) can = told-rows m channel (UpdateRows object changes conditions) tt
+transaction-told m channel (DeleteRows object conditions) can = told-rows m channel (DeleteRows object conditions) tt
