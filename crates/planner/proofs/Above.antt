@@ -1,8 +1,7 @@
 -- What a change of the row at a cursor leaves: all that stands above that row.
-use Rattle.std.proofs.Common.{◌≡◌, ℕ, zero, suc, ◌<◌, ◌≤◌, ◌==◌, nat_lt, Bool, true, false, List, [], ◌∷◌, map, filter, Option, Some, None, Result, Ok, if◌then◌else◌, refl, sym, ◌∙◌, ap, subst, inl, inr, arith}
+use Rattle.std.proofs.Common.{◌≡◌, ℕ, zero, suc, ◌<◌, ◌≤◌, ◌==◌, nat_lt, Bool, true, false, List, [], ◌∷◌, map, filter, Option, Some, None, Result, Ok, refl, sym, ◌∙◌, ap, subst, inl, inr, arith}
 use Rattle.std.specs.List.{find, AllByRecursion}
 use Rattle.std.proofs.lemmas.Bool.{cases_Bool, ltb-true, lt-ltb, le-ltb}
-use Rattle.std.proofs.lemmas.Option.{none-some, same_Some}
 use Rattle.eeprom.specs.Slots.{Rises}
 use Rattle.scql_base.specs.declared.words.Actor.{Actor}
 use Rattle.scql_base.specs.declared.words.Subject.{Subject}
@@ -57,14 +56,6 @@ filter-mapped p f (x ∷ xs) =
       | inl t ↦ rw t (ap (λ rest. f x ∷ rest) (filter-mapped p f xs))
       | inr g ↦ rw g (filter-mapped p f xs)
     ]
-
-pub found-first : {X : Type 0} (p : X → Bool) (xs : List X) (x : X) → find p xs ≡ Some x → p x ≡ true
-found-first p [] x is = absurd (none-some x is)
-found-first {X} p (y ∷ xs) x is = go (p y) refl is (found-first p xs x)
-  where
-    go : (b : Bool) → p y ≡ b → (if b then Some y else find p xs) ≡ Some x → (find p xs ≡ Some x → p x ≡ true) → p x ≡ true
-    go true at is later = subst (λ (z : X). p z ≡ true) (same_Some y x is) at
-    go false at is later = later is
 
 first-found : (p : StampedRow → Bool) (rows : List StampedRow) → find p rows ≡ first_row (filter p rows)
 first-found p [] = refl

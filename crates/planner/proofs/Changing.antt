@@ -27,9 +27,10 @@ use Rattle.scql_model.specs.Changing.{edits_of, transaction_after}
 use Rattle.scql_model.specs.Writing.{Assignment, written_through, record_at_cursor, row_after, row_updated, row_deleted}
 use Rattle.scql_model.proofs.ChangeLaws.{AreMade-with_edits}
 use Rattle.scql_model.proofs.RefusalWords.{Refuses, Gives, behind, asked, or_word, gives-written_through, gives-with_edits}
+use Rattle.scql_model.proofs.LongerLists.{find-passes}
 use Rattle.planner.specs.Words.{is_refusal}
 use Rattle.planner.specs.Meaning.{at_stamp, row_changed}
-use Rattle.planner.proofs.Above.{record_stamp, above, found-first}
+use Rattle.planner.proofs.Above.{record_stamp, above}
 use Rattle.planner.proofs.Stepping.{ChangesRow}
 
 -- a word of a refusal is one to a plan
@@ -76,8 +77,8 @@ record-stamp db c stamp r is = go (row_at stamp (chosen (contents_of db c.object
     go : (x : Option StampedRow) → row_at stamp (chosen (contents_of db c.object) c) ≡ x → option_and_then (λ (y : StampedRow). find (λ (s : RowRecord). s.stamp == y.stamp) db.rows) x ≡ Some r → r.stamp ≡ stamp
     go None at is = absurd (none-some r is)
     go (Some x) at is =
-        eqb-true r.stamp x.stamp (found-first (λ (s : RowRecord). s.stamp == x.stamp) db.rows r is)
-        ∙ eqb-true x.stamp stamp (found-first (λ (y : StampedRow). y.stamp == stamp) (chosen (contents_of db c.object) c) x at)
+        eqb-true r.stamp x.stamp (find-passes (λ (s : RowRecord). s.stamp == x.stamp) db.rows r is)
+        ∙ eqb-true x.stamp stamp (find-passes (λ (y : StampedRow). y.stamp == stamp) (chosen (contents_of db c.object) c) x at)
 
 -- a database after edits of that row
 pub record LeavesAbove (stamp : ℕ) (db new : Database) : Type 0 where

@@ -7,6 +7,8 @@ pub mod Closed
 pub mod GoingOn
 pub mod InTurn
 pub mod KindsRead
+pub mod OctetsTell
+pub mod OfRows
 pub mod Parts
 pub mod Readings
 pub mod Selected

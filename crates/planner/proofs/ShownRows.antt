@@ -38,9 +38,8 @@ use Rattle.scql_model.proofs.Creating.{name-size}
 use Rattle.scql_model.proofs.CutRows.{narrow-cut, size-cut}
 use Rattle.scql_model.proofs.Keeping.{IsThere-found}
 use Rattle.scql_model.proofs.KeepsViews.{among-wanted}
-use Rattle.scql_model.proofs.LongerLists.{find-all}
+use Rattle.scql_model.proofs.LongerLists.{find-all, find-passes}
 use Rattle.planner.specs.Meaning.{Declared, cursor_on, declared}
-use Rattle.planner.proofs.Above.{found-first}
 
 -- No more records than cells.
 records-few : (records : List StoredRecord) → list_all is_storable records ≡ true → length records ≤ cells_of_records records
@@ -343,7 +342,7 @@ module _ (db : Database) (valid : IsValid db) where
       go : (found : Option Object) → object_stamped db.objects stamp ≡ found → ((base : ℕ) → IsShownWell (contents_below n db base)) → IsShownWell (contents_in (contents_below n db) db found)
       go None is well = record { few = omega arith; under = tt }
       go (Some o) is well =
-          let same : o.stamp ≡ stamp = eqb-true o.stamp stamp (found-first (λ (x : Object). x.stamp == stamp) db.objects o is) in
+          let same : o.stamp ≡ stamp = eqb-true o.stamp stamp (find-passes (λ (x : Object). x.stamp == stamp) db.objects o is) in
           let rows = rows-well (contents_below n db) o (ap (object_stamped db.objects) same ∙ is) (find-all (is_founded db.objects) (λ (x : Object). x.stamp == stamp) db.objects o valid.objects.founded is)
           well (has-columns n) o.kind refl in
           record { few = rows.0; under = rows.1 }

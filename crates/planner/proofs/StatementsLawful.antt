@@ -5,29 +5,26 @@ use Rattle.std.specs.Fmt.{decimal}
 use Rattle.hex.specs.Hex.{encode_upper}
 use Rattle.scql_base.specs.declared.words.StatusWord.{StatusWord}
 use Rattle.scql_base.specs.declared.operation.Command.{Command}
-use Rattle.scql_base.specs.declared.operation.Operation.{Operation}
-use Rattle.scql_base.specs.declared.operation.Operation.TheVariants.{Update, Delete, OpenChannel, CloseChannel}
-use Rattle.scql_base.specs.Words.{channel_not_supported}
+use Rattle.scql_base.specs.declared.operation.Operation.TheVariants.{OpenChannel, CloseChannel}
 use Rattle.scql_model.specs.Database.{Database}
 use Rattle.scql_model.specs.Heard.{IsLawful, after_commits}
-use Rattle.scql_model.specs.Machine.{Machine, Transaction}
-use Rattle.scql_model.specs.Sessions.{is_channel_open}
+use Rattle.scql_model.specs.Machine.{Machine}
 use Rattle.scql_model.specs.Spelling.{part_octets}
 use Rattle.scql_model.specs.Step.{step}
-use Rattle.scql_model.specs.Transactions.{own_transaction}
 use Rattle.scql_model.proofs.LastCommits.{last-step}
 use Rattle.script.specs.declared.fault.ScriptFault.{ScriptFault}
 use Rattle.script.specs.declared.statement.Statement.{Statement}
-use Rattle.script.specs.declared.statement.Statement.TheVariants.{Blank, Single, Select, UpdateRows, DeleteRows, OpenNumber, CloseNumber, UseNumber, Reset}
+use Rattle.script.specs.declared.statement.Statement.TheVariants.{Blank, Single, OpenNumber, CloseNumber, UseNumber, Reset}
 use Rattle.script.specs.Commands.{asking}
 use Rattle.script.specs.Line.{statement_of}
 use Rattle.planner.specs.declared.closing.Closing.{Closing}
 use Rattle.planner.specs.declared.closing.Closing.TheVariants.{Nothing, Fine, Rows, Cut, Refused}
 use Rattle.planner.specs.Words.{is_refusal}
-use Rattle.planner.specs.Meaning.{Meaning, Declared, Changed, answer_to, declared, ended, selects_all, changed_by, changed_outside, committed_after, changed_in, on_open, begun, meaning}
+use Rattle.planner.specs.Meaning.{Meaning, answer_to, meaning}
 use Rattle.planner.specs.Text.{row_text, word_octets, closing_text, meaning_text}
 use Rattle.planner.specs.StatementLines.{TerminalState, read_effect, statement_effect, statement_lines}
 use Rattle.planner.proofs.InTurn.{answer-holds}
+use Rattle.planner.proofs.OfRows.{HoldsOfRows, of-rows}
 
 -- the database after all of some commits
 abbrev pub after_all : Database → List Database → Database
@@ -47,42 +44,25 @@ last-answer m c =
 abbrev IsLast : Machine → Meaning → Type 0
 IsLast m x = after_all m.committed x.commits ≡ x.machine.committed
 
-last-open : (m : Machine) (channel : ℕ) (x : Meaning) → IsLast m x → IsLast m (on_open m channel x)
-last-open m channel x last = go (is_channel_open m channel)
-  where
-    go : (b : Bool) → IsLast m (if b then x else ended (Refused channel_not_supported) m channel)
-    go true = last
-    go false = refl
-
-last-selects : (m : Machine) (channel : ℕ) (d : Result Declared StatusWord) → IsLast m (selects_all m channel d)
-last-selects m channel (Err word) = refl
-last-selects m channel (Ok d) = refl
-
-last-changes : (m : Machine) (channel : ℕ) (operation : Operation) (d : Result Declared StatusWord) (own : Option Transaction) → IsLast m (changed_by m channel operation d own)
-last-changes m channel operation (Err word) (Some t) = refl
-last-changes m channel operation (Ok d) (Some t) = refl
-last-changes m channel operation d None = outside m.transaction d
-  where
-    committed : (d : Declared) (c : Changed) (refusal : Option StatusWord) → IsLast m (committed_after m channel d c refusal)
-    committed d c None = refl
-    committed d c (Some word) = refl
-
-    outside : (t : Option Transaction) (d : Result Declared StatusWord) → IsLast m (changed_outside m channel operation d t)
-    outside (Some t) d = refl
-    outside None (Err word) = refl
-    outside None (Ok d) = committed d (changed_in m channel operation d (begun m channel)) (changed_in m channel operation d (begun m channel)).refusal
+last-rows : (m : Machine) (channel : ℕ) → HoldsOfRows (IsLast m) m channel
+last-rows m channel = record {
+  closed = refl;
+  refused = λ word. refl;
+  selected = λ d. refl;
+  inside = λ operation t d is. refl;
+  rolled = λ word. refl;
+  committed = λ operation d none. refl;
+}
 
 pub last-meaning : (m : Machine) (channel : ℕ) (s : Statement) → IsLast m (meaning m channel s)
 unfolding meaning
 last-meaning m channel Blank = refl
 last-meaning m channel (Single operation) = last-answer m (asking channel operation)
-last-meaning m channel (Select object columns conditions) = last-open m channel _ (last-selects m channel (declared m channel object columns conditions))
-last-meaning m channel (UpdateRows object changes conditions) = last-open m channel _ (last-changes m channel (Update changes) (declared m channel object [] conditions) (own_transaction m.transaction channel))
-last-meaning m channel (DeleteRows object conditions) = last-open m channel _ (last-changes m channel Delete (declared m channel object [] conditions) (own_transaction m.transaction channel))
 last-meaning m channel (OpenNumber number) = last-answer m (asking 0 (OpenChannel number))
 last-meaning m channel (CloseNumber number) = last-answer m (asking 0 (CloseChannel number))
 last-meaning m channel (UseNumber number) = refl
 last-meaning m channel Reset = refl
+last-meaning m channel s = of-rows (IsLast m) m channel (last-rows m channel) s tt
 
 -- What has no closing line commits nothing.
 abbrev IsSaid : Closing → Type 0
@@ -99,42 +79,25 @@ said-single word = go (is_refusal word)
     go true = tt
     go false = tt
 
-silent-open : (m : Machine) (channel : ℕ) (x : Meaning) → IsSilent x → IsSilent (on_open m channel x)
-silent-open m channel x silent = go (is_channel_open m channel)
-  where
-    go : (b : Bool) → IsSilent (if b then x else ended (Refused channel_not_supported) m channel)
-    go true = silent
-    go false = inr tt
-
-silent-selects : (m : Machine) (channel : ℕ) (d : Result Declared StatusWord) → IsSilent (selects_all m channel d)
-silent-selects m channel (Err word) = inr tt
-silent-selects m channel (Ok d) = inr tt
-
-silent-changes : (m : Machine) (channel : ℕ) (operation : Operation) (d : Result Declared StatusWord) (own : Option Transaction) → IsSilent (changed_by m channel operation d own)
-silent-changes m channel operation (Err word) (Some t) = inr tt
-silent-changes m channel operation (Ok d) (Some t) = inl refl
-silent-changes m channel operation d None = outside m.transaction d
-  where
-    committed : (d : Declared) (c : Changed) (refusal : Option StatusWord) → IsSilent (committed_after m channel d c refusal)
-    committed d c None = inr tt
-    committed d c (Some word) = inr tt
-
-    outside : (t : Option Transaction) (d : Result Declared StatusWord) → IsSilent (changed_outside m channel operation d t)
-    outside (Some t) d = inr tt
-    outside None (Err word) = inr tt
-    outside None (Ok d) = committed d (changed_in m channel operation d (begun m channel)) (changed_in m channel operation d (begun m channel)).refusal
+silent-rows : (m : Machine) (channel : ℕ) → HoldsOfRows IsSilent m channel
+silent-rows m channel = record {
+  closed = inr tt;
+  refused = λ word. inr tt;
+  selected = λ d. inr tt;
+  inside = λ operation t d is. inl refl;
+  rolled = λ word. inr tt;
+  committed = λ operation d none. inr tt;
+}
 
 silent-meaning : (m : Machine) (channel : ℕ) (s : Statement) → IsSilent (meaning m channel s)
 unfolding meaning
 silent-meaning m channel Blank = inl refl
 silent-meaning m channel (Single operation) = inr (said-single (answer_to m (asking channel operation)).reply.word)
-silent-meaning m channel (Select object columns conditions) = silent-open m channel _ (silent-selects m channel (declared m channel object columns conditions))
-silent-meaning m channel (UpdateRows object changes conditions) = silent-open m channel _ (silent-changes m channel (Update changes) (declared m channel object [] conditions) (own_transaction m.transaction channel))
-silent-meaning m channel (DeleteRows object conditions) = silent-open m channel _ (silent-changes m channel Delete (declared m channel object [] conditions) (own_transaction m.transaction channel))
 silent-meaning m channel (OpenNumber number) = inr (said-single (answer_to m (asking 0 (OpenChannel number))).reply.word)
 silent-meaning m channel (CloseNumber number) = inr (said-single (answer_to m (asking 0 (CloseChannel number))).reply.word)
 silent-meaning m channel (UseNumber number) = inl refl
 silent-meaning m channel Reset = inl refl
+silent-meaning m channel s = of-rows IsSilent m channel (silent-rows m channel) s tt
 
 said-closing : (closing : Closing) → IsSaid closing → 1 ≤ length (closing_text closing)
 said-closing Nothing said = absurd said

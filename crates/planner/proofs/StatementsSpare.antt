@@ -1,21 +1,18 @@
 -- The language of statements spares a user's tries.
-use Rattle.std.proofs.Common.{◌≡◌, ℕ, Bool, true, false, List, [], ◌∷◌, Option, Some, None, Result, Ok, Err, if◌then◌else◌, refl, sym, subst, inr}
+use Rattle.std.proofs.Common.{ℕ, List, [], ◌∷◌, Option, Some, None, Result, Ok, Err, sym, subst, inr}
 use Rattle.std.specs.Prelude.{IfOk}
 use Rattle.scql_base.specs.declared.words.Actor.{Actor}
 use Rattle.scql_base.specs.declared.words.StatusWord.{StatusWord}
 use Rattle.scql_base.specs.declared.cursor.Cursor.{Cursor}
 use Rattle.scql_base.specs.declared.operation.Command.{Command}
 use Rattle.scql_base.specs.declared.operation.Operation.{Operation}
-use Rattle.scql_base.specs.declared.operation.Operation.TheVariants.{Update, Delete, OpenChannel, CloseChannel}
-use Rattle.scql_base.specs.Words.{channel_not_supported}
+use Rattle.scql_base.specs.declared.operation.Operation.TheVariants.{OpenChannel, CloseChannel}
 use Rattle.scql_model.specs.Changing.{edits_of, with_edits}
 use Rattle.scql_model.specs.Database.{Database}
 use Rattle.scql_model.specs.Machine.{Machine, Session, Transaction, actor}
 use Rattle.scql_model.specs.Objects.{StampedRow}
-use Rattle.scql_model.specs.Sessions.{is_channel_open}
 use Rattle.scql_model.specs.Spelling.{part_octets}
 use Rattle.scql_model.specs.Step.{step}
-use Rattle.scql_model.specs.Transactions.{own_transaction}
 use Rattle.scql_model.specs.Tries.{AreSpared, IsGuardedMachine, IsGuardedWork, SparesTries}
 use Rattle.scql_model.proofs.FourCommits.{spared-append}
 use Rattle.scql_model.proofs.LastCommits.{last-step}
@@ -24,13 +21,13 @@ use Rattle.scql_model.proofs.SparingSteps.{guarded-begun, guarded-closed, guarde
 use Rattle.scql_model.proofs.ValidSteps.{bound-ok}
 use Rattle.script.specs.declared.fault.ScriptFault.{ScriptFault}
 use Rattle.script.specs.declared.statement.Statement.{Statement}
-use Rattle.script.specs.declared.statement.Statement.TheVariants.{Blank, Single, Select, UpdateRows, DeleteRows, OpenNumber, CloseNumber, UseNumber, Reset}
+use Rattle.script.specs.declared.statement.Statement.TheVariants.{Blank, Single, OpenNumber, CloseNumber, UseNumber, Reset}
 use Rattle.script.specs.Commands.{asking}
 use Rattle.script.specs.Line.{statement_of}
-use Rattle.planner.specs.declared.closing.Closing.TheVariants.{Refused}
-use Rattle.planner.specs.Meaning.{Meaning, Declared, Changed, all_changed, answer_to, at_stamp, begun, changed_by, changed_in, changed_inside, changed_outside, committed_after, declared, ended, on_open, once_changed, row_changed, selects_all, meaning}
+use Rattle.planner.specs.Meaning.{Meaning, all_changed, answer_to, at_stamp, begun, changed_in, once_changed, row_changed, meaning}
 use Rattle.planner.specs.StatementLines.{TerminalState, read_effect, statement_effect, statement_lines}
 use Rattle.planner.proofs.InTurn.{answer-holds}
+use Rattle.planner.proofs.OfRows.{HoldsOfRows, of-rows}
 
 -- A machine is guarded, and the commits that led to it are spared.
 record Spares (stamp : ℕ) (db : Database) (next : Machine) (made : List Database) : Type 0 where
@@ -81,65 +78,35 @@ IsSparing stamp m x = Spares stamp m.committed x.machine x.commits
 sparing-none : (stamp : ℕ) (m : Machine) (sessions : List (Option Session)) → IsGuardedMachine stamp m → Spares stamp m.committed (record m { sessions = sessions }) []
 sparing-none stamp m sessions guarded = record { machine = guarded-sessions stamp m sessions guarded; commits = tt }
 
-sparing-open : (stamp : ℕ) (m : Machine) (channel : ℕ) (x : Meaning) → IsGuardedMachine stamp m → IsSparing stamp m x → IsSparing stamp m (on_open m channel x)
-sparing-open stamp m channel x guarded sparing = go (is_channel_open m channel)
-  where
-    go : (b : Bool) → IsSparing stamp m (if b then x else ended (Refused channel_not_supported) m channel)
-    go true = sparing
-    go false = record { machine = guarded; commits = tt }
-
-sparing-selects : (stamp : ℕ) (m : Machine) (channel : ℕ) (d : Result Declared StatusWord) → IsGuardedMachine stamp m → IsSparing stamp m (selects_all m channel d)
-sparing-selects stamp m channel (Err word) guarded = sparing-none stamp m _ guarded
-sparing-selects stamp m channel (Ok d) guarded = sparing-none stamp m _ guarded
-
-sparing-inside : (stamp : ℕ) (m : Machine) (channel : ℕ) (operation : Operation) (t : Transaction) (d : Result Declared StatusWord) → IsGuardedMachine stamp m → IsGuardedWork stamp m.committed t
-    → IsSparing stamp m (changed_inside m channel operation t d)
-sparing-inside stamp m channel operation t (Err word) guarded work = sparing-none stamp m _ guarded
-sparing-inside stamp m channel operation t (Ok d) guarded work =
-    sparing-none stamp (record m { transaction = Some (changed_in m channel operation d t).transaction }) _ (record {
-      committed = guarded.committed;
-      transaction = guarded-rows stamp m.committed (actor m channel) operation d.cursor d.rows t work;
-    })
-
-sparing-committed : (stamp : ℕ) (m : Machine) (channel : ℕ) (d : Declared) (c : Changed) (refusal : Option StatusWord) → m.transaction ≡ None → IsGuardedMachine stamp m
-    → IsGuardedWork stamp m.committed c.transaction → IsSparing stamp m (committed_after m channel d c refusal)
-sparing-committed stamp m channel d c (Some word) none guarded work = sparing-none stamp m _ guarded
-sparing-committed stamp m channel d c None none guarded work = record {
-  machine = guarded-sessions stamp (record m { committed = c.transaction.working }) _ (guarded-closed stamp m c.transaction.working none work.working);
-  commits = ((work.working, inr work.spared), tt);
+sparing-rows : (stamp : ℕ) (m : Machine) (channel : ℕ) → IsGuardedMachine stamp m → HoldsOfRows (IsSparing stamp m) m channel
+sparing-rows stamp m channel guarded = record {
+  closed = record { machine = guarded; commits = tt };
+  refused = λ word. sparing-none stamp m _ guarded;
+  selected = λ d. sparing-none stamp m _ guarded;
+  inside = λ operation t d is.
+      sparing-none stamp (record m { transaction = Some (changed_in m channel operation d t).transaction }) _ (record {
+        committed = guarded.committed;
+        transaction = guarded-rows stamp m.committed (actor m channel) operation d.cursor d.rows t (guarded-own stamp m channel t is guarded);
+      });
+  rolled = λ word. sparing-none stamp m _ guarded;
+  committed = λ operation d none.
+      let c = changed_in m channel operation d (begun m channel) in
+      let work = guarded-rows stamp m.committed (actor m channel) operation d.cursor d.rows (begun m channel) (guarded-begun stamp m.committed channel guarded.committed) in
+      record {
+        machine = guarded-sessions stamp (record m { committed = c.transaction.working }) _ (guarded-closed stamp m c.transaction.working none work.working);
+        commits = ((work.working, inr work.spared), tt);
+      };
 }
-
-sparing-outside : (stamp : ℕ) (m : Machine) (channel : ℕ) (operation : Operation) (d : Result Declared StatusWord) (t : Option Transaction) → m.transaction ≡ t → IsGuardedMachine stamp m
-    → IsSparing stamp m (changed_outside m channel operation d t)
-sparing-outside stamp m channel operation d (Some t) is guarded = sparing-none stamp m _ guarded
-sparing-outside stamp m channel operation (Err word) None is guarded = sparing-none stamp m _ guarded
-sparing-outside stamp m channel operation (Ok d) None is guarded =
-    let c = changed_in m channel operation d (begun m channel) in
-    sparing-committed stamp m channel d c c.refusal is guarded
-    (guarded-rows stamp m.committed (actor m channel) operation d.cursor d.rows (begun m channel) (guarded-begun stamp m.committed channel guarded.committed))
-
-sparing-changes : (stamp : ℕ) (m : Machine) (channel : ℕ) (operation : Operation) (d : Result Declared StatusWord) → IsGuardedMachine stamp m
-    → IsSparing stamp m (changed_by m channel operation d (own_transaction m.transaction channel))
-sparing-changes stamp m channel operation d guarded = go (own_transaction m.transaction channel) refl
-  where
-    go : (own : Option Transaction) → own_transaction m.transaction channel ≡ own → IsSparing stamp m (changed_by m channel operation d own)
-    go (Some t) is = sparing-inside stamp m channel operation t d guarded (guarded-own stamp m channel t is guarded)
-    go None is = sparing-outside stamp m channel operation d m.transaction refl guarded
 
 sparing-meaning : (stamp : ℕ) (m : Machine) (channel : ℕ) (s : Statement) → IsGuardedMachine stamp m → IsSparing stamp m (meaning m channel s)
 unfolding meaning
 sparing-meaning stamp m channel Blank guarded = record { machine = guarded; commits = tt }
 sparing-meaning stamp m channel (Single operation) guarded = spares-answer stamp m (asking channel operation) guarded
-sparing-meaning stamp m channel (Select object columns conditions) guarded =
-    sparing-open stamp m channel _ guarded (sparing-selects stamp m channel (declared m channel object columns conditions) guarded)
-sparing-meaning stamp m channel (UpdateRows object changes conditions) guarded =
-    sparing-open stamp m channel _ guarded (sparing-changes stamp m channel (Update changes) (declared m channel object [] conditions) guarded)
-sparing-meaning stamp m channel (DeleteRows object conditions) guarded =
-    sparing-open stamp m channel _ guarded (sparing-changes stamp m channel Delete (declared m channel object [] conditions) guarded)
 sparing-meaning stamp m channel (OpenNumber number) guarded = spares-answer stamp m (asking 0 (OpenChannel number)) guarded
 sparing-meaning stamp m channel (CloseNumber number) guarded = spares-answer stamp m (asking 0 (CloseChannel number)) guarded
 sparing-meaning stamp m channel (UseNumber number) guarded = record { machine = guarded; commits = tt }
 sparing-meaning stamp m channel Reset guarded = record { machine = record { committed = guarded.committed; transaction = tt }; commits = tt }
+sparing-meaning stamp m channel s guarded = of-rows (IsSparing stamp m) m channel (sparing-rows stamp m channel guarded) s tt
 
 -- Lines.
 sparing-read : (stamp : ℕ) (state : TerminalState) (read : Result Statement ScriptFault) → IsGuardedMachine stamp state.machine

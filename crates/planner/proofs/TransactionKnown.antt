@@ -1,5 +1,5 @@
 -- Which channel has the open transaction after a statement.
-use Rattle.std.proofs.Common.{◌≡◌, ℕ, zero, suc, ◌==◌, not, Bool, true, false, List, [], ◌∷◌, Option, Some, None, is_some, Result, Ok, Err, if◌then◌else◌, refl, sym, ◌∙◌, ap, subst, inl, inr}
+use Rattle.std.proofs.Common.{◌≡◌, ℕ, zero, suc, ◌==◌, not, Bool, true, false, List, [], ◌∷◌, Option, Some, None, is_some, Result, Ok, Err, if◌then◌else◌, refl, sym, ◌∙◌, ap, subst, inl, inr, ◌⊎◌}
 use Rattle.std.specs.Prelude.{IfOk, option_map}
 use Rattle.std.specs.Option.{option_map_or}
 use Rattle.std.specs.Str.{bytes_eq}
@@ -11,10 +11,10 @@ use Rattle.scql_base.specs.declared.cursor.Cursor.{Cursor}
 use Rattle.scql_base.specs.declared.records.User.{User}
 use Rattle.scql_base.specs.declared.operation.Command.{Command}
 use Rattle.scql_base.specs.declared.operation.Operation.{Operation}
-use Rattle.scql_base.specs.declared.operation.Operation.TheVariants.{Update, Delete, Begin, Commit, Rollback, PresentUser, DeleteUser, Verify, OpenChannel, CloseChannel}
+use Rattle.scql_base.specs.declared.operation.Operation.TheVariants.{Begin, Commit, Rollback, PresentUser, DeleteUser, Verify, OpenChannel, CloseChannel}
 use Rattle.scql_base.specs.declared.operation.OperationKind.{OperationKind}
 use Rattle.scql_base.specs.declared.operation.OperationKind.TheVariants as kind
-use Rattle.scql_base.specs.Words.{authentication_blocked, channel_not_supported, conditions_not_satisfied, function_not_supported, not_found}
+use Rattle.scql_base.specs.Words.{done, authentication_blocked, channel_not_supported, conditions_not_satisfied, function_not_supported, not_found}
 use Rattle.scql_model.specs.Database.{Database, user_named, user_stamped}
 use Rattle.scql_model.specs.Machine.{Machine, Session, Transaction, open_channels, session_of, base, actor}
 use Rattle.scql_model.specs.Sessions.{changing_session, command_chain, cursor_of, without_chain, user_of, is_channel_open, least_closed}
@@ -36,14 +36,16 @@ use Rattle.script.specs.declared.statement.Statement.{Statement}
 use Rattle.script.specs.declared.statement.Statement.TheVariants.{Blank, Single, Select, UpdateRows, DeleteRows, OpenNumber, CloseNumber, UseNumber, Reset}
 use Rattle.script.specs.Commands.{asking, IsSendable, CanBeSent}
 use Rattle.planner.specs.declared.closing.Closing.{Closing}
-use Rattle.planner.specs.declared.closing.Closing.TheVariants.{Fine, Refused}
+use Rattle.planner.specs.declared.closing.Closing.TheVariants.{Fine}
 use Rattle.planner.specs.Words.{closing_of}
-use Rattle.planner.specs.Meaning.{Meaning, Declared, Changed, answer_to, declared, ended, selects_all, all_changed, once_changed, row_changed, at_stamp, changed_by, changed_outside, committed_after, changed_in, on_open, begun, meaning}
+use Rattle.planner.specs.Meaning.{Meaning, answer_to, all_changed, once_changed, row_changed, at_stamp, meaning}
 use Rattle.planner.specs.Held.{transaction_channel, held_by, held_when, TellsWhoHolds}
 use Rattle.planner.proofs.Asking.{answer-whole}
 use Rattle.planner.proofs.Closed.{answer-closed}
 use Rattle.planner.proofs.InTurn.{answer-holds}
 use Rattle.planner.proofs.KindsRead.{kind-read}
+use Rattle.planner.proofs.OfRows.{HoldsOfRows, of-rows}
+use Rattle.planner.specs.Running.{IsOfRows}
 
 -- BEGIN, COMMIT and ROLLBACK
 abbrev pub transacts : OperationKind → Bool
@@ -152,46 +154,69 @@ kept-part m c place can other =
 pub answer-kept : (m : Machine) (c : Command) → IsSendable c → transacts (kind_of c.operation) ≡ false → Keeps m (answer_to m c).machine
 answer-kept m c can other = answer-holds IsKept c (λ n place. kept-part n c place can other) (λ n place next kept. kept ∙ kept-part n c place can other) m
 
--- BEGIN, COMMIT and ROLLBACK change it where they are done.
-abbrev pub Tells : Machine → ℕ → Operation → Answer → Type 0
+-- BEGIN, COMMIT and ROLLBACK change it where they are done, and else they are refused.
+abbrev pub Turns : Machine → ℕ → Operation → Answer → Type 0
+Turns m channel operation answer =
+    ((answer.reply.word ≡ done) × (transaction_channel answer.machine ≡ held_by operation channel (transaction_channel m)))
+    ⊎ ((answer.reply.word ≡ conditions_not_satisfied) × IsKept m answer)
+
+abbrev pub outcome_of : Machine → Command → Answer
+outcome_of m c = answered m (carried_out m c)
+
+turns-begun : (m : Machine) (channel : ℕ) (le : Option ℕ) (t : Option Transaction) → m.transaction ≡ t
+    → (let c : Command = record { channel = channel; operation = Begin; le = le } in Turns m channel Begin (outcome_of m c))
+turns-begun m channel le None is = inl (rw is (refl, refl))
+turns-begun m channel le (Some t) is = elim (cases_Bool (t.channel == channel)) [
+  | inl own ↦ inr (rw (is, own) (refl, refl))
+  | inr other ↦ inr (rw (is, other) (refl, refl))
+]
+
+turns-committed : (m : Machine) (channel : ℕ) (le : Option ℕ) (t : Option Transaction) → m.transaction ≡ t
+    → (let c : Command = record { channel = channel; operation = Commit; le = le } in Turns m channel Commit (outcome_of m c))
+turns-committed m channel le None is = inr (rw is (refl, refl))
+turns-committed m channel le (Some t) is = elim (cases_Bool (t.channel == channel)) [
+  | inl own ↦ inl (rw (is, own) (refl, refl))
+  | inr other ↦ inr (rw (is, other) (refl, refl))
+]
+
+turns-rolled_back : (m : Machine) (channel : ℕ) (le : Option ℕ) (t : Option Transaction) → m.transaction ≡ t
+    → (let c : Command = record { channel = channel; operation = Rollback; le = le } in Turns m channel Rollback (outcome_of m c))
+turns-rolled_back m channel le None is = inr (rw is (refl, refl))
+turns-rolled_back m channel le (Some t) is = elim (cases_Bool (t.channel == channel)) [
+  | inl own ↦ inl (rw (is, own) (refl, refl))
+  | inr other ↦ inr (rw (is, other) (refl, refl))
+]
+
+pub turns-so : (m : Machine) (channel : ℕ) (operation : Operation) (le : Option ℕ) → transacts (kind_of operation) ≡ true
+    → (let c : Command = record { channel = channel; operation = operation; le = le } in Turns m channel operation (outcome_of m c))
+turns-so m channel Begin le is = turns-begun m channel le m.transaction refl
+turns-so m channel Commit le is = turns-committed m channel le m.transaction refl
+turns-so m channel Rollback le is = turns-rolled_back m channel le m.transaction refl
+turns-so m channel operation le is = absurd (false≢true is)
+
+abbrev Tells : Machine → ℕ → Operation → Answer → Type 0
 Tells m channel operation answer = transaction_channel answer.machine ≡ held_when (closing_of answer.reply.word) (held_by operation channel (transaction_channel m)) (transaction_channel m)
 
-abbrev pub outcome_of : Machine → ℕ → Operation → Answer
-outcome_of m channel operation = answered m (carried_out m (asking channel operation))
-
-pub told-begun : (m : Machine) (channel : ℕ) (t : Option Transaction) → m.transaction ≡ t → Tells m channel Begin (outcome_of m channel Begin)
-told-begun m channel None is = rw is refl
-told-begun m channel (Some t) is = elim (cases_Bool (t.channel == channel)) [
-  | inl own ↦ rw (is, own) refl
-  | inr other ↦ rw (is, other) refl
-]
-
-pub told-committed : (m : Machine) (channel : ℕ) (t : Option Transaction) → m.transaction ≡ t → Tells m channel Commit (outcome_of m channel Commit)
-told-committed m channel None is = rw is refl
-told-committed m channel (Some t) is = elim (cases_Bool (t.channel == channel)) [
-  | inl own ↦ rw (is, own) refl
-  | inr other ↦ rw (is, other) refl
-]
-
-pub told-rolled_back : (m : Machine) (channel : ℕ) (t : Option Transaction) → m.transaction ≡ t → Tells m channel Rollback (outcome_of m channel Rollback)
-told-rolled_back m channel None is = rw is refl
-told-rolled_back m channel (Some t) is = elim (cases_Bool (t.channel == channel)) [
-  | inl own ↦ rw (is, own) refl
-  | inr other ↦ rw (is, other) refl
-]
+tells-turn : (m : Machine) (channel : ℕ) (operation : Operation) (answer : Answer) → Turns m channel operation answer → Tells m channel operation answer
+tells-turn m channel operation answer (inl (word, turned)) =
+    turned ∙ ap (λ (w : StatusWord). held_when (closing_of w) (held_by operation channel (transaction_channel m)) (transaction_channel m)) (sym word)
+tells-turn m channel operation answer (inr (word, kept)) =
+    kept ∙ ap (λ (w : StatusWord). held_when (closing_of w) (held_by operation channel (transaction_channel m)) (transaction_channel m)) (sym word)
 
 -- on a channel that isn't open they are refused
 told-alone : (m : Machine) (channel : ℕ) (operation : Operation) → IsSendable (asking channel operation) → comes_in_parts (kind_of operation) ≡ false → IsTaken (has_secrets operations) m.committed.limit operation
-    → Tells m channel operation (outcome_of (changing_session without_chain m channel) channel operation)
-    → Tells m channel operation (answer_to m (asking channel operation))
-told-alone m channel operation can alone taken tells = go (session_of m channel) refl
+    → transacts (kind_of operation) ≡ true → Tells m channel operation (answer_to m (asking channel operation))
+told-alone m channel operation can alone taken turns = go (session_of m channel) refl
   where
     go : (s : Option Session) → session_of m channel ≡ s → Tells m channel operation (answer_to m (asking channel operation))
-    go (Some s) is = subst (Tells m channel operation) (sym (answer-whole m (asking channel operation) s can alone taken is)) tells
+    go (Some s) is =
+        let ended : Machine = changing_session without_chain m channel in
+        subst (Tells m channel operation) (sym (answer-whole m (asking channel operation) s can alone taken is))
+        (tells-turn ended channel operation (outcome_of ended (asking channel operation)) (turns-so ended channel operation None turns))
     go None is = subst (Tells m channel operation) (sym (answer-closed m (asking channel operation) can alone (ap (λ (s : Option Session). is_some s) is))) refl
 
 -- A single operation.
-held_by-same : (operation : Operation) (channel : ℕ) (held : Option ℕ) → transacts (kind_of operation) ≡ false → held_by operation channel held ≡ held
+pub held_by-same : (operation : Operation) (channel : ℕ) (held : Option ℕ) → transacts (kind_of operation) ≡ false → held_by operation channel held ≡ held
 held_by-same Begin channel held other = absurd (false≢true (sym other))
 held_by-same Commit channel held other = absurd (false≢true (sym other))
 held_by-same Rollback channel held other = absurd (false≢true (sym other))
@@ -202,9 +227,9 @@ held_when-same Fine held = refl
 held_when-same closing held = refl
 
 told-single : (m : Machine) (channel : ℕ) (operation : Operation) → IsSendable (asking channel operation) → Tells m channel operation (answer_to m (asking channel operation))
-told-single m channel Begin can = told-alone m channel Begin can refl tt (told-begun (changing_session without_chain m channel) channel m.transaction refl)
-told-single m channel Commit can = told-alone m channel Commit can refl tt (told-committed (changing_session without_chain m channel) channel m.transaction refl)
-told-single m channel Rollback can = told-alone m channel Rollback can refl tt (told-rolled_back (changing_session without_chain m channel) channel m.transaction refl)
+told-single m channel Begin can = told-alone m channel Begin can refl tt refl
+told-single m channel Commit can = told-alone m channel Commit can refl tt refl
+told-single m channel Rollback can = told-alone m channel Rollback can refl tt refl
 told-single m channel operation can = answer-kept m (asking channel operation) can refl ∙ sym (held_when-same (closing_of (answer_to m (asking channel operation)).reply.word) (transaction_channel m))
 
 -- UPDATE and DELETE FROM stay in their transaction.
@@ -225,45 +250,32 @@ same-rows committed a operation c (r ∷ rows) t = go (row_changed committed a o
     go (Err word) is rest = refl
     go (Ok next) is rest = rest next ∙ same-row committed a operation (at_stamp r.stamp c) t next is
 
-kept-changes : (m : Machine) (channel : ℕ) (operation : Operation) (d : Result Declared StatusWord) (own : Option Transaction) → own_transaction m.transaction channel ≡ own → Keeps m (changed_by m channel operation d own).machine
-kept-changes m channel operation (Err word) (Some t) is = refl
-kept-changes m channel operation (Ok d) (Some t) is = ap Some (same-rows m.committed (actor m channel) operation d.cursor d.rows t) ∙ own-channel m.transaction channel t is
-kept-changes m channel operation d None is = outside m.transaction d
-  where
-    committed : (d : Declared) (c : Changed) (refusal : Option StatusWord) → Keeps m (committed_after m channel d c refusal).machine
-    committed d c None = refl
-    committed d c (Some word) = refl
-
-    outside : (t : Option Transaction) (d : Result Declared StatusWord) → Keeps m (changed_outside m channel operation d t).machine
-    outside (Some t) d = refl
-    outside None (Err word) = refl
-    outside None (Ok d) = committed d (changed_in m channel operation d (begun m channel)) (changed_in m channel operation d (begun m channel)).refusal
-
-kept-selects : (m : Machine) (channel : ℕ) (d : Result Declared StatusWord) → Keeps m (selects_all m channel d).machine
-kept-selects m channel (Err word) = refl
-kept-selects m channel (Ok d) = refl
-
-kept-open : (m : Machine) (channel : ℕ) (x : Meaning) → Keeps m x.machine → Keeps m (on_open m channel x).machine
-kept-open m channel x kept = go (is_channel_open m channel)
-  where
-    go : (b : Bool) → Keeps m (if b then x else ended (Refused channel_not_supported) m channel).machine
-    go true = kept
-    go false = refl
+kept-rows : (m : Machine) (channel : ℕ) → HoldsOfRows (λ x. Keeps m x.machine) m channel
+kept-rows m channel = record {
+  closed = refl;
+  refused = λ word. refl;
+  selected = λ d. refl;
+  inside = λ operation t d is. ap Some (same-rows m.committed (actor m channel) operation d.cursor d.rows t) ∙ own-channel m.transaction channel t is;
+  rolled = λ word. refl;
+  committed = λ operation d none. refl;
+}
 
 -- Every statement.
 kept-told : (m : Machine) (x : Meaning) → Keeps m x.machine → transaction_channel x.machine ≡ held_when x.closing (transaction_channel m) (transaction_channel m)
 kept-told m x kept = kept ∙ sym (held_when-same x.closing (transaction_channel m))
 
+told-rows : (m : Machine) (channel : ℕ) (s : Statement) → IsOfRows s
+    → transaction_channel (meaning m channel s).machine ≡ held_when (meaning m channel s).closing (transaction_channel m) (transaction_channel m)
+told-rows m channel s is = kept-told m (meaning m channel s) (of-rows (λ x. Keeps m x.machine) m channel (kept-rows m channel) s is)
+
 pub transaction-told : (m : Machine) (channel : ℕ) (s : Statement) → CanBeSent channel s → TellsWhoHolds m channel s (meaning m channel s)
 unfolding meaning
 transaction-told m channel Blank can = refl
 transaction-told m channel (Single operation) can = told-single m channel operation can.commands.0
-transaction-told m channel (Select object columns conditions) can = kept-told m (meaning m channel (Select object columns conditions)) (kept-open m channel _ (kept-selects m channel (declared m channel object columns conditions)))
-transaction-told m channel (UpdateRows object changes conditions) can =
-    kept-told m (meaning m channel (UpdateRows object changes conditions)) (kept-open m channel _ (kept-changes m channel (Update changes) (declared m channel object [] conditions) (own_transaction m.transaction channel) refl))
-transaction-told m channel (DeleteRows object conditions) can =
-    kept-told m (meaning m channel (DeleteRows object conditions)) (kept-open m channel _ (kept-changes m channel Delete (declared m channel object [] conditions) (own_transaction m.transaction channel) refl))
 transaction-told m channel (OpenNumber number) can = kept-told m (meaning m channel (OpenNumber number)) (answer-kept m (asking 0 (OpenChannel number)) can.commands.0 refl)
 transaction-told m channel (CloseNumber number) can = kept-told m (meaning m channel (CloseNumber number)) (answer-kept m (asking 0 (CloseChannel number)) can.commands.0 refl)
 transaction-told m channel (UseNumber number) can = refl
 transaction-told m channel Reset can = refl
+transaction-told m channel (Select object columns conditions) can = told-rows m channel (Select object columns conditions) tt
+transaction-told m channel (UpdateRows object changes conditions) can = told-rows m channel (UpdateRows object changes conditions) tt
+transaction-told m channel (DeleteRows object conditions) can = told-rows m channel (DeleteRows object conditions) tt

@@ -8,11 +8,12 @@ ghost use Rattle.scql_model.specs.Machine.{Machine, base, start};
 ghost use Rattle.scql_model.specs.ReadingLaws.{IsReadable};
 ghost use Rattle.scql_model.specs.Replies.{Reply};
 ghost use Rattle.scql_model.specs.Sessions.{is_channel_open};
+ghost use Rattle.scql_model.specs.Step.{step};
 ghost use Rattle.scql_model.specs.Tries.{SparesTries};
 ghost use Rattle.script.specs.declared.statement.Statement.{Statement};
 ghost use Rattle.script.specs.declared.statement.Statement.TheVariants.{Select};
 ghost use Rattle.script.specs.Commands.{CanBeSent};
-ghost use Rattle.planner.specs.Held.{TellsWhoHolds};
+ghost use Rattle.planner.specs.Held.{TellsWhoHolds, held_after_octets, transaction_channel};
 ghost use Rattle.planner.specs.Meaning.{meaning};
 ghost use Rattle.planner.specs.Planned.{Planned, next_of, started};
 ghost use Rattle.planner.specs.Readings.{IsReadingAt, IsSelect};
@@ -84,6 +85,12 @@ pub fn statements_spare_tries()
 /// After every statement it is told from how it closed which channel has the open transaction.
 pub fn a_closing_tells_of_the_transaction()
     ensures { (m : Machine) (channel : ℕ) (s : Statement) → CanBeSent channel s → TellsWhoHolds m channel s (meaning m channel s) }
+{}
+
+/// After any octets it is told from them, and from the word of their answer, which channel has the open transaction.
+pub fn octets_tell_of_the_transaction()
+    ensures { (m : Machine) (octets : List ℕ)
+        → transaction_channel (step m octets).machine ≡ held_after_octets octets (step m octets).reply.word (transaction_channel m) }
 {}
 
 /// A terminal that begins on channel 0 of a card that was opened with a valid database is on a valid machine. Each line of statements leaves it on

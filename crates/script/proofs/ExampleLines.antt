@@ -1,10 +1,12 @@
 -- What lines are, computed.
-use Rattle.std.proofs.Common.{◌≡◌, ℕ, List, [], ◌∷◌, replicate, true, false, Ok, Err, codes, refl}
+use Rattle.std.proofs.Common.{◌≡◌, ℕ, List, [], ◌∷◌, replicate, true, false, Result, Ok, Err, codes, refl}
 use Rattle.hex.specs.Hex.{decode_pairs}
 use Rattle.scql_base.specs.declared.words.Comparison.TheVariants.{Equal, Greater, NotEqual}
 use Rattle.scql_base.specs.declared.condition.Condition.{Condition}
 use Rattle.scql_base.specs.declared.operation.Operation.TheVariants.{DropTable, Grant, Insert}
+use Rattle.script.specs.declared.fault.ScriptFault.{ScriptFault}
 use Rattle.script.specs.declared.fault.ScriptFault.TheVariants.{At}
+use Rattle.script.specs.declared.statement.Statement.{Statement}
 use Rattle.script.specs.declared.statement.Statement.TheVariants.{Blank, Single, Select, UpdateRows, DeleteRows}
 use Rattle.script.specs.Tokens.{closed, tokens_from, tokens_of}
 use Rattle.script.specs.Reading.{one, optional, the, more, listed}
@@ -13,99 +15,109 @@ use Rattle.script.specs.Grammar.{with_name, names, columns, with_condition, cond
 use Rattle.script.specs.Sizes.{is_too_large}
 use Rattle.script.specs.Line.{statement_of}
 
--- the line ends where columns may stand
-select_alone : statement_of (codes "SELECT") ≡ Err (At 6)
+-- the statement of a line, with all definitions open
+unfoldable read : List ℕ → Result Statement ScriptFault
 unfolding closed tokens_from tokens_of undoubled one optional the more listed name literal with_name names columns with_condition conditions where_conditions with_literal literals with_change changes with_privilege privileges create_table create_view create_dictionary create_user create drop_table drop_view dropping grant revoke insert select update delete_rows delete_user delete present verify open_channel close_channel use_channel about_channels about_transactions about_users about_objects about_rows statement at_end whole decode_pairs
+read line = statement_of line
+
+-- the line ends where columns may stand
+select_alone : read (codes "SELECT") ≡ Err (At 6)
+unfolding read
 select_alone = refl
 
 -- an unclosed literal begins no token
-unclosed : statement_of (codes "INSERT INTO T VALUES ('a") ≡ Err (At 22)
-unfolding closed tokens_from tokens_of undoubled one optional the more listed name literal with_name names columns with_condition conditions where_conditions with_literal literals with_change changes with_privilege privileges create_table create_view create_dictionary create_user create drop_table drop_view dropping grant revoke insert select update delete_rows delete_user delete present verify open_channel close_channel use_channel about_channels about_transactions about_users about_objects about_rows statement at_end whole decode_pairs
+unclosed : read (codes "INSERT INTO T VALUES ('a") ≡ Err (At 22)
+unfolding read
 unclosed = refl
 
 -- small letters begin no token
-small_letters : statement_of (codes "select * from T") ≡ Err (At 0)
-unfolding closed tokens_from tokens_of undoubled one optional the more listed name literal with_name names columns with_condition conditions where_conditions with_literal literals with_change changes with_privilege privileges create_table create_view create_dictionary create_user create drop_table drop_view dropping grant revoke insert select update delete_rows delete_user delete present verify open_channel close_channel use_channel about_channels about_transactions about_users about_objects about_rows statement at_end whole decode_pairs
+small_letters : read (codes "select * from T") ≡ Err (At 0)
+unfolding read
 small_letters = refl
 
+-- no statement has a full stop
+full_stop : read (codes "SELECT T.A FROM T") ≡ Err (At 8)
+unfolding read
+full_stop = refl
+
 -- a name that stands a second time
-second_name : statement_of (codes "SELECT A, A FROM T") ≡ Err (At 10)
-unfolding closed tokens_from tokens_of undoubled one optional the more listed name literal with_name names columns with_condition conditions where_conditions with_literal literals with_change changes with_privilege privileges create_table create_view create_dictionary create_user create drop_table drop_view dropping grant revoke insert select update delete_rows delete_user delete present verify open_channel close_channel use_channel about_channels about_transactions about_users about_objects about_rows statement at_end whole decode_pairs
+second_name : read (codes "SELECT A, A FROM T") ≡ Err (At 10)
+unfolding read
 second_name = refl
 
 -- a name behind a name
-no_comma : statement_of (codes "SELECT A B FROM T") ≡ Err (At 9)
-unfolding closed tokens_from tokens_of undoubled one optional the more listed name literal with_name names columns with_condition conditions where_conditions with_literal literals with_change changes with_privilege privileges create_table create_view create_dictionary create_user create drop_table drop_view dropping grant revoke insert select update delete_rows delete_user delete present verify open_channel close_channel use_channel about_channels about_transactions about_users about_objects about_rows statement at_end whole decode_pairs
+no_comma : read (codes "SELECT A B FROM T") ≡ Err (At 9)
+unfolding read
 no_comma = refl
 
 -- the longest literal is a token, and the quote behind it begins none
-quote_behind : statement_of (codes "VERIFY 'a''") ≡ Err (At 10)
-unfolding closed tokens_from tokens_of undoubled one optional the more listed name literal with_name names columns with_condition conditions where_conditions with_literal literals with_change changes with_privilege privileges create_table create_view create_dictionary create_user create drop_table drop_view dropping grant revoke insert select update delete_rows delete_user delete present verify open_channel close_channel use_channel about_channels about_transactions about_users about_objects about_rows statement at_end whole decode_pairs
+quote_behind : read (codes "VERIFY 'a''") ≡ Err (At 10)
+unfolding read
 quote_behind = refl
 
 -- a line that is one ;
-only_end : statement_of (codes ";") ≡ Err (At 0)
-unfolding closed tokens_from tokens_of undoubled one optional the more listed name literal with_name names columns with_condition conditions where_conditions with_literal literals with_change changes with_privilege privileges create_table create_view create_dictionary create_user create drop_table drop_view dropping grant revoke insert select update delete_rows delete_user delete present verify open_channel close_channel use_channel about_channels about_transactions about_users about_objects about_rows statement at_end whole decode_pairs
+only_end : read (codes ";") ≡ Err (At 0)
+unfolding read
 only_end = refl
 
 -- 01 is no number of a channel
-two_digits : statement_of (codes "CHANNEL 01") ≡ Err (At 8)
-unfolding closed tokens_from tokens_of undoubled one optional the more listed name literal with_name names columns with_condition conditions where_conditions with_literal literals with_change changes with_privilege privileges create_table create_view create_dictionary create_user create drop_table drop_view dropping grant revoke insert select update delete_rows delete_user delete present verify open_channel close_channel use_channel about_channels about_transactions about_users about_objects about_rows statement at_end whole decode_pairs
+two_digits : read (codes "CHANNEL 01") ≡ Err (At 8)
+unfolding read
 two_digits = refl
 
 -- < > are two tokens
-two_signs : statement_of (codes "DELETE FROM T WHERE A < > '1'") ≡ Err (At 24)
-unfolding closed tokens_from tokens_of undoubled one optional the more listed name literal with_name names columns with_condition conditions where_conditions with_literal literals with_change changes with_privilege privileges create_table create_view create_dictionary create_user create drop_table drop_view dropping grant revoke insert select update delete_rows delete_user delete present verify open_channel close_channel use_channel about_channels about_transactions about_users about_objects about_rows statement at_end whole decode_pairs
+two_signs : read (codes "DELETE FROM T WHERE A < > '1'") ≡ Err (At 24)
+unfolding read
 two_signs = refl
 
 -- a name of nine letters
-nine_letters : statement_of (codes "DROP TABLE ABCDEFGHI") ≡ Err (At 11)
-unfolding closed tokens_from tokens_of undoubled one optional the more listed name literal with_name names columns with_condition conditions where_conditions with_literal literals with_change changes with_privilege privileges create_table create_view create_dictionary create_user create drop_table drop_view dropping grant revoke insert select update delete_rows delete_user delete present verify open_channel close_channel use_channel about_channels about_transactions about_users about_objects about_rows statement at_end whole decode_pairs
+nine_letters : read (codes "DROP TABLE ABCDEFGHI") ≡ Err (At 11)
+unfolding read
 nine_letters = refl
 
 -- X is a word where its literal has an odd number of digits
-odd_digits : statement_of (codes "VERIFY X'1'") ≡ Err (At 7)
-unfolding closed tokens_from tokens_of undoubled one optional the more listed name literal with_name names columns with_condition conditions where_conditions with_literal literals with_change changes with_privilege privileges create_table create_view create_dictionary create_user create drop_table drop_view dropping grant revoke insert select update delete_rows delete_user delete present verify open_channel close_channel use_channel about_channels about_transactions about_users about_objects about_rows statement at_end whole decode_pairs
+odd_digits : read (codes "VERIFY X'1'") ≡ Err (At 7)
+unfolding read
 odd_digits = refl
 
 -- a line without tokens
-empty_line : statement_of (codes " ") ≡ Ok Blank
-unfolding closed tokens_from tokens_of undoubled one optional the more listed name literal with_name names columns with_condition conditions where_conditions with_literal literals with_change changes with_privilege privileges create_table create_view create_dictionary create_user create drop_table drop_view dropping grant revoke insert select update delete_rows delete_user delete present verify open_channel close_channel use_channel about_channels about_transactions about_users about_objects about_rows statement at_end whole decode_pairs
+empty_line : read (codes " ") ≡ Ok Blank
+unfolding read
 empty_line = refl
 
 -- a note
-note_line : statement_of (codes " # SELECT") ≡ Ok Blank
-unfolding closed tokens_from tokens_of undoubled one optional the more listed name literal with_name names columns with_condition conditions where_conditions with_literal literals with_change changes with_privilege privileges create_table create_view create_dictionary create_user create drop_table drop_view dropping grant revoke insert select update delete_rows delete_user delete present verify open_channel close_channel use_channel about_channels about_transactions about_users about_objects about_rows statement at_end whole decode_pairs
+note_line : read (codes " # SELECT") ≡ Ok Blank
+unfolding read
 note_line = refl
 
 -- no word is reserved
-table_named_select : statement_of (codes "DROP TABLE SELECT;") ≡ Ok (Single (DropTable (codes "SELECT")))
-unfolding closed tokens_from tokens_of undoubled one optional the more listed name literal with_name names columns with_condition conditions where_conditions with_literal literals with_change changes with_privilege privileges create_table create_view create_dictionary create_user create drop_table drop_view dropping grant revoke insert select update delete_rows delete_user delete present verify open_channel close_channel use_channel about_channels about_transactions about_users about_objects about_rows statement at_end whole decode_pairs
+table_named_select : read (codes "DROP TABLE SELECT;") ≡ Ok (Single (DropTable (codes "SELECT")))
+unfolding read
 table_named_select = refl
 
 -- * is all columns
-all_columns : statement_of (codes "SELECT*FROM T") ≡ Ok (Select (codes "T") [] [])
-unfolding closed tokens_from tokens_of undoubled one optional the more listed name literal with_name names columns with_condition conditions where_conditions with_literal literals with_change changes with_privilege privileges create_table create_view create_dictionary create_user create drop_table drop_view dropping grant revoke insert select update delete_rows delete_user delete present verify open_channel close_channel use_channel about_channels about_transactions about_users about_objects about_rows statement at_end whole decode_pairs
+all_columns : read (codes "SELECT*FROM T") ≡ Ok (Select (codes "T") [] [])
+unfolding read
 all_columns = refl
 
 -- a doubled quote is one, and hexadecimal digits are octets
-literals_read : statement_of (codes "INSERT INTO T VALUES ('a''b', X'0fF0')") ≡ Ok (Single (Insert (codes "T") (codes "a'b" ∷ (0x0F ∷ 0xF0 ∷ []) ∷ [])))
-unfolding closed tokens_from tokens_of undoubled one optional the more listed name literal with_name names columns with_condition conditions where_conditions with_literal literals with_change changes with_privilege privileges create_table create_view create_dictionary create_user create drop_table drop_view dropping grant revoke insert select update delete_rows delete_user delete present verify open_channel close_channel use_channel about_channels about_transactions about_users about_objects about_rows statement at_end whole decode_pairs
+literals_read : read (codes "INSERT INTO T VALUES ('a''b', X'0fF0')") ≡ Ok (Single (Insert (codes "T") (codes "a'b" ∷ (0x0F ∷ 0xF0 ∷ []) ∷ [])))
+unfolding read
 literals_read = refl
 
 -- privileges may repeat
-privileges_joined : statement_of (codes "GRANT SELECT, UPDATE, SELECT ON T TO ANN") ≡ Ok (Single (Grant 5 (codes "T") (codes "ANN")))
-unfolding closed tokens_from tokens_of undoubled one optional the more listed name literal with_name names columns with_condition conditions where_conditions with_literal literals with_change changes with_privilege privileges create_table create_view create_dictionary create_user create drop_table drop_view dropping grant revoke insert select update delete_rows delete_user delete present verify open_channel close_channel use_channel about_channels about_transactions about_users about_objects about_rows statement at_end whole decode_pairs
+privileges_joined : read (codes "GRANT SELECT, UPDATE, SELECT ON T TO ANN") ≡ Ok (Single (Grant 5 (codes "T") (codes "ANN")))
+unfolding read
 privileges_joined = refl
 
 -- a condition
-condition_read : statement_of (codes "DELETE FROM T WHERE A<>'1'") ≡ Ok (DeleteRows (codes "T") (record { column = codes "A"; comparison = NotEqual; value = codes "1" } ∷ []))
-unfolding closed tokens_from tokens_of undoubled one optional the more listed name literal with_name names columns with_condition conditions where_conditions with_literal literals with_change changes with_privilege privileges create_table create_view create_dictionary create_user create drop_table drop_view dropping grant revoke insert select update delete_rows delete_user delete present verify open_channel close_channel use_channel about_channels about_transactions about_users about_objects about_rows statement at_end whole decode_pairs
+condition_read : read (codes "DELETE FROM T WHERE A<>'1'") ≡ Ok (DeleteRows (codes "T") (record { column = codes "A"; comparison = NotEqual; value = codes "1" } ∷ []))
+unfolding read
 condition_read = refl
 
 -- a change
-change_read : statement_of (codes "UPDATE T SET A = 'x'") ≡ Ok (UpdateRows (codes "T") ((codes "A", codes "x") ∷ []) [])
-unfolding closed tokens_from tokens_of undoubled one optional the more listed name literal with_name names columns with_condition conditions where_conditions with_literal literals with_change changes with_privilege privileges create_table create_view create_dictionary create_user create drop_table drop_view dropping grant revoke insert select update delete_rows delete_user delete present verify open_channel close_channel use_channel about_channels about_transactions about_users about_objects about_rows statement at_end whole decode_pairs
+change_read : read (codes "UPDATE T SET A = 'x'") ≡ Ok (UpdateRows (codes "T") ((codes "A", codes "x") ∷ []) [])
+unfolding read
 change_read = refl
 
 -- two conditions on column A, with values of so many letters a

@@ -2,6 +2,7 @@ pub mod Closing
 pub mod Completing
 pub mod Cutting
 mod ExampleLines
+pub mod FaultPlaces
 pub mod Formed
 pub mod FormedRules
 pub mod Fresh

@@ -16,5 +16,6 @@ mod values;
 mod words;
 
 pub use fault::ScriptFault;
+pub use reading::is_nothing;
 pub use statement::Statement;
 pub use tokens::Tokens;

@@ -3,6 +3,7 @@ ghost use Rattle.std.specs.Prelude.{◌≡◌, ◌≤◌, IfOk, length, OnOk, If
 ghost use Rattle.scql_model.specs.Lines.{longest_line};
 ghost use Rattle.script.specs.Commands.{CanAlwaysBeSent};
 ghost use Rattle.script.specs.Line as lines;
+ghost use Rattle.script.specs.Tokens.{after_blanks};
 
 use crate::parsed::Parsed;
 use crate::size::is_too_large;
@@ -44,7 +45,7 @@ fn read_statement(line: &[u8], place: &mut Statement) -> Result<(), ScriptFault>
     ensures statement { OnOk result (lines.statement_of line.now ≡ Ok place.new) }
     ensures fault { IfErr result (λ fault. lines.statement_of line.now ≡ Err fault) }
 {
-    if is_nothing(after_blanks(line)) {
+    if is_nothing(line) {
         *place = Statement::Blank;
         return Ok(());
     }
@@ -58,10 +59,11 @@ fn read_statement(line: &[u8], place: &mut Statement) -> Result<(), ScriptFault>
     }
 }
 
-fn is_nothing(line: &[u8]) -> bool
-    ensures { result ≡ lines.is_nothing line.now }
+/// Does a line ask for nothing? It has no tokens, or its first octet that isn't blank is `#`.
+pub fn is_nothing(line: &[u8]) -> bool
+    ensures { result ≡ lines.is_nothing (after_blanks line.now) }
 {
-    match line {
+    match after_blanks(line) {
         [first, ..] => *first == b'#',
         [] => true,
     }

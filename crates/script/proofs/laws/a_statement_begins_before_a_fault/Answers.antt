@@ -1,4 +1,4 @@
-use Rattle.script.proofs.Completing.{begun_before_fault}
+use Rattle.script.proofs.FaultPlaces.{begun_before_fault}
 use Rattle.script.proofs.laws.a_statement_begins_before_a_fault.Goals as goal
 
 pub returns : goal.returns

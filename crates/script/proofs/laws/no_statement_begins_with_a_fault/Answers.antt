@@ -1,4 +1,4 @@
-use Rattle.script.proofs.Locality.{first_fault}
+use Rattle.script.proofs.FaultPlaces.{first_fault}
 use Rattle.script.proofs.laws.no_statement_begins_with_a_fault.Goals as goal
 
 pub returns : goal.returns
