@@ -1,3 +1,4 @@
+pub mod Failing
 pub mod Link
 pub mod Recording
 pub mod RecordingLaws
