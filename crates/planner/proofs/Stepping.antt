@@ -1,5 +1,5 @@
--- The answers to BEGIN, COMMIT, ROLLBACK, UPDATE and DELETE.
-use Rattle.std.proofs.Common.{◌≡◌, ℕ, ◌≤◌, ◌==◌, true, false, List, [], ◌∷◌, Option, Some, None, Result, Ok, Err, if◌then◌else◌, refl, ◌∙◌, ap}
+-- The answers to BEGIN, COMMIT, ROLLBACK, UPDATE, DELETE and INSERT.
+use Rattle.std.proofs.Common.{◌≡◌, ℕ, ◌≤◌, ◌==◌, nat_le, true, false, List, [], ◌∷◌, Option, Some, None, Result, Ok, Err, if◌then◌else◌, refl, ◌∙◌, ap}
 use Rattle.std.specs.Prelude.{option_and_then}
 use Rattle.std.specs.Option.{option_map_or}
 use Rattle.scql_base.specs.declared.words.Actor.{Actor}
@@ -7,11 +7,13 @@ use Rattle.scql_base.specs.declared.words.Actor.TheVariants.{Public}
 use Rattle.scql_base.specs.declared.words.StatusWord.{StatusWord}
 use Rattle.scql_base.specs.declared.cursor.Cursor.{Cursor}
 use Rattle.scql_base.specs.declared.operation.Operation.{Operation}
-use Rattle.scql_base.specs.declared.operation.Operation.TheVariants.{Update, Delete, Begin, Commit, Rollback}
-use Rattle.scql_base.specs.Words.{done, conditions_not_satisfied}
+use Rattle.scql_base.specs.declared.operation.Operation.TheVariants.{Insert, Update, Delete, Begin, Commit, Rollback}
+use Rattle.scql_base.specs.Row.{row_size}
+use Rattle.scql_base.specs.Words.{done, conditions_not_satisfied, wrong_data}
 use Rattle.scql_model.specs.Refusals.{◌>>=◌}
 use Rattle.scql_model.specs.Replies.{said}
 use Rattle.scql_model.specs.Database.{Database}
+use Rattle.scql_model.specs.Matching.{Values}
 use Rattle.scql_model.specs.Machine.{Machine, Session, Transaction, no_reading, session_of, base, actor_of, actor}
 use Rattle.scql_model.specs.Sessions.{changing_session, cursor_of, without_chain, without_pending, without_cursor}
 use Rattle.scql_model.specs.Transactions.{own_transaction}
@@ -28,7 +30,7 @@ use Rattle.script.specs.Commands.{asking, IsSendable}
 use Rattle.script.proofs.Sendable.{asked-sent}
 use Rattle.planner.specs.Meaning.{answer_to, begun, row_changed}
 use Rattle.planner.proofs.Asking.{set-there, answer-whole, in_session, moved_answer, answer-read}
-use Rattle.planner.proofs.Parts.{answer-in_parts}
+use Rattle.planner.proofs.Parts.{answer-in_parts, answer-beyond}
 
 -- UPDATE and DELETE
 abbrev pub ChangesRow : Operation → Type 0
@@ -109,58 +111,83 @@ module _ (m : Machine) (channel : ℕ) (s : Session) (near : channel ≤ 3) (the
       ∙ ap (λ mine. let db : Database = if mine then t.working else m.committed in
       moved_answer (record m { transaction = Some t }) channel x (move_of db (who_in db x) x.reading command)) own
 
-  -- UPDATE and DELETE: the row at the cursor is changed, or refused
+  -- what changes rows is done in the transaction, or refused
   abbrev pub change_answer : Transaction → Session → Result Transaction StatusWord → Answer
   change_answer t x (Ok next) = record { reply = said done; machine = machine_with (Some next) x; commits = [] }
   change_answer t x (Err word) = record { reply = said word; machine = machine_with (Some t) x; commits = [] }
 
   -- nothing is pending at such a session, and no part of a command came
-  abbrev pub resting : Cursor → Session
-  resting c = record { user = s.user; reading = record { cursor = Some c; pending = [] }; chain = None }
+  abbrev pub waiting : Option Cursor → Session
+  waiting cursor = record { user = s.user; reading = record { cursor = cursor; pending = [] }; chain = None }
 
-  change-outcome : (operation : Operation) (t : Transaction) (c : Cursor) → (t.channel == channel) ≡ true
-      → answered (machine_with (Some t) (resting c)) (changed (machine_with (Some t) (resting c)) channel operation)
-      ≡ change_answer t (resting c) (row_changed m.committed (who_in t.working s) operation c t)
-  unfolding row_changed
-  change-outcome operation t c own =
-      let x : Session = resting c in
+  abbrev pub resting : Cursor → Session
+  resting c = waiting (Some c)
+
+  abbrev pub changed_so : Operation → Transaction → Option Cursor → Result Transaction StatusWord
+  changed_so operation t cursor = do
+    edits ← edits_of t.working (who_in t.working s) cursor operation
+    db ← with_edits t.working edits
+    Ok (transaction_after m.committed t edits db)
+
+  change-outcome : (operation : Operation) (t : Transaction) (cursor : Option Cursor) → (t.channel == channel) ≡ true
+      → answered (machine_with (Some t) (waiting cursor)) (changed (machine_with (Some t) (waiting cursor)) channel operation)
+      ≡ change_answer t (waiting cursor) (changed_so operation t cursor)
+  change-outcome operation t cursor own =
+      let x : Session = waiting cursor in
       let n : Machine = machine_with (Some t) x in
       let F : Database → Actor → Option Cursor → Option Transaction → Answer =
       λ db a cursor mine. answered n (edits_of db a cursor operation >>= λ edits. (with_edits db edits >>= λ new. Ok (changed_to n channel edits new mine))) in
       let acts : actor n channel ≡ who_in (base n channel) x =
       ap (λ (session : Option Session). option_map_or (actor_of (base n channel)) (option_and_then (λ (y : Session). y.user) session) Public) (now (Some t) x) in
-      let points : cursor_of n channel ≡ Some c =
+      let points : cursor_of n channel ≡ cursor =
       ap (λ (session : Option Session). (option_map_or (λ (y : Session). y.reading) session no_reading).cursor) (now (Some t) x) in
       ap (λ (a : Actor). F (base n channel) a (cursor_of n channel) (own_transaction (Some t) channel)) acts
-      ∙ (ap (λ (cursor : Option Cursor). F (base n channel) (who_in (base n channel) x) cursor (own_transaction (Some t) channel)) points
+      ∙ (ap (λ (at : Option Cursor). F (base n channel) (who_in (base n channel) x) at (own_transaction (Some t) channel)) points
       ∙ (ap (λ mine. let db : Database = if mine then t.working else m.committed in
       let own : Option Transaction = if mine then Some t else None in
-      F db (who_in db x) (Some c) own) own
-      ∙ made (edits_of t.working (who_in t.working s) (Some c) operation)))
+      F db (who_in db x) cursor own) own
+      ∙ made (edits_of t.working (who_in t.working s) cursor operation)))
     where
       room : (edits : List Edit) (new : Result Database StatusWord)
-          → answered (machine_with (Some t) (resting c)) (new >>= λ db. Ok (changed_to (machine_with (Some t) (resting c)) channel edits db (Some t)))
-          ≡ change_answer t (resting c) (new >>= λ db. Ok (transaction_after m.committed t edits db))
+          → answered (machine_with (Some t) (waiting cursor)) (new >>= λ db. Ok (changed_to (machine_with (Some t) (waiting cursor)) channel edits db (Some t)))
+          ≡ change_answer t (waiting cursor) (new >>= λ db. Ok (transaction_after m.committed t edits db))
       room edits (Err word) = refl
-      room edits (Ok db) = settled (Some (transaction_after m.committed t edits db)) (resting c) []
+      room edits (Ok db) = settled (Some (transaction_after m.committed t edits db)) (waiting cursor) []
 
       made : (edits : Result (List Edit) StatusWord)
-          → answered (machine_with (Some t) (resting c)) (edits >>= λ edits. (with_edits t.working edits >>= λ new. Ok (changed_to (machine_with (Some t) (resting c)) channel edits new (Some t))))
-          ≡ change_answer t (resting c) (edits >>= λ edits. (with_edits t.working edits >>= λ db. Ok (transaction_after m.committed t edits db)))
+          → answered (machine_with (Some t) (waiting cursor)) (edits >>= λ edits. (with_edits t.working edits >>= λ new. Ok (changed_to (machine_with (Some t) (waiting cursor)) channel edits new (Some t))))
+          ≡ change_answer t (waiting cursor) (edits >>= λ edits. (with_edits t.working edits >>= λ db. Ok (transaction_after m.committed t edits db)))
       made (Err word) = refl
       made (Ok edits) = room edits (with_edits t.working edits)
 
+  -- UPDATE and DELETE: the row at the cursor is changed
   pub answer-changed : (operation : Operation) (t : Transaction) (c : Cursor) → ChangesRow operation → IsSendable (asking channel operation) → (t.channel == channel) ≡ true
       → answer_to (machine_with (Some t) (resting c)) (asking channel operation) ≡ change_answer t (resting c) (row_changed m.committed (who_in t.working s) operation c t)
+  unfolding row_changed
   answer-changed (Update changes) t c is can own =
       answer-in_parts (record m { transaction = Some t }) channel s there s.user (Some c) (Update changes) refl can tt
-      ∙ (ended-outcome (Update changes) (Some t) (resting c) ∙ (goes ∙ change-outcome (Update changes) t c own))
+      ∙ (ended-outcome (Update changes) (Some t) (resting c) ∙ (goes ∙ change-outcome (Update changes) t (Some c) own))
     where
       goes : outcome (Update changes) (Some t) (resting c) ≡ answered (machine_with (Some t) (resting c)) (changed (machine_with (Some t) (resting c)) channel (Update changes))
       goes = rw own refl
   answer-changed Delete t c is can own =
-      answer-alone Delete (Some t) (resting c) refl can tt ∙ (goes ∙ change-outcome Delete t c own)
+      answer-alone Delete (Some t) (resting c) refl can tt ∙ (goes ∙ change-outcome Delete t (Some c) own)
     where
       goes : outcome Delete (Some t) (resting c) ≡ answered (machine_with (Some t) (resting c)) (changed (machine_with (Some t) (resting c)) channel Delete)
       goes = rw own refl
   answer-changed operation t c is can own = absurd is
+
+  -- INSERT: a row within the limit is added, and one beyond it is refused
+  pub answer-inserted : (table : List ℕ) (row : Values) (t : Transaction) (cursor : Option Cursor) → IsSendable (asking channel (Insert table row)) → (t.channel == channel) ≡ true
+      → nat_le (row_size row) m.committed.limit ≡ true
+      → answer_to (machine_with (Some t) (waiting cursor)) (asking channel (Insert table row)) ≡ change_answer t (waiting cursor) (changed_so (Insert table row) t cursor)
+  answer-inserted table row t cursor can own short =
+      answer-in_parts (record m { transaction = Some t }) channel s there s.user cursor (Insert table row) refl can short
+      ∙ (ended-outcome (Insert table row) (Some t) (waiting cursor) ∙ (goes ∙ change-outcome (Insert table row) t cursor own))
+    where
+      goes : outcome (Insert table row) (Some t) (waiting cursor) ≡ answered (machine_with (Some t) (waiting cursor)) (changed (machine_with (Some t) (waiting cursor)) channel (Insert table row))
+      goes = rw own refl
+
+  pub answer-too_long : (table : List ℕ) (row : Values) (t : Transaction) (cursor : Option Cursor) → IsSendable (asking channel (Insert table row)) → nat_le (row_size row) m.committed.limit ≡ false
+      → answer_to (machine_with (Some t) (waiting cursor)) (asking channel (Insert table row)) ≡ change_answer t (waiting cursor) (Err wrong_data)
+  answer-too_long table row t cursor can long = answer-beyond (record m { transaction = Some t }) channel s there s.user cursor (Insert table row) refl can table row refl long
