@@ -12,8 +12,6 @@ ghost use Rattle.planner.specs.Meaning.{meaning};
 ghost use Rattle.planner.specs.Readings.{IsSelect};
 ghost use Rattle.planner.specs.Running.{shown};
 ghost use Rattle.planner.specs.StatementLines.{read_effect};
-ghost use Rattle.card_asking.specs.Asked.{Mutes};
-ghost use Rattle.card_asking.specs.Following.{IsEnded};
 ghost use Rattle.terminal.specs.Going.{FailsSo, IsInRun, IsOver};
 ghost use Rattle.terminal.specs.Holding as holding;
 ghost use Rattle.terminal.specs.Holding.{IsStarted, Knows, terminal_at};
@@ -28,7 +26,6 @@ use crate::failure::Failure;
 use crate::following::{Room, carry_out, give};
 use crate::printing::closing_text;
 use crate::{LineEnd, QuietEnd};
-use card_asking::Mute;
 use card_link::{CardLink, Desk};
 use planner::{Closing, Plan};
 use scql_base::{Operation, StatusWord};
@@ -152,42 +149,14 @@ impl Channels {
         ensures moments { (m : Machine) → L.is_at link.old m → Knows self.old.transaction m
             → LeavesOpen (IsOneOf (L.mark link.old) (m.committed ∷ (read_effect (terminal_at m self.old.channel) (Ok plan.old.statement)).commits)) (L.chip link.old) (L.chip link.new) }
     {
-        match self.carry_quietly(link, plan, room) {
-            Ok(closing) => QuietEnd::Closed { closing },
-            Err(_) => QuietEnd::Mute,
-        }
-    }
-
-    // Carries out the plan of a statement, and drops its rows.
-    fn carry_quietly<L: CardLink>(
-        &mut self,
-        link: &mut L,
-        plan: &mut Plan,
-        room: &mut Room,
-    ) -> Result<Closing, Mute>
-        requires live { IsTrue (L.is_live link.old) }
-        requires sendable { CanAlwaysBeSent plan.old.statement }
-        requires started { IsStarted self.old plan.old }
-        ensures sent { CanBeSent self.old.channel plan.old.statement }
-        ensures holds { IfOk result (λ closing. self.new ≡ holding.holding_after plan.old.statement closing self.old) }
-        ensures over { (m : Machine) → L.is_at link.old m → Knows self.old.transaction m
-            → IfOk result (λ closing. IsEnded L.is_at (shown (meaning m self.old.channel plan.old.statement)) closing link.new) }
-        ensures moments { (m : Machine) → L.is_at link.old m → Knows self.old.transaction m
-            → LeavesOpen (IsOneOf (L.mark link.old) (m.committed ∷ (meaning m self.old.channel plan.old.statement).commits)) (L.chip link.old) (L.chip link.new) }
-        ensures replied { OnOk result (IsTrue (L.is_live link.new) × (L.faults link.new ≡ L.faults link.old)) }
-        ensures mute { OnErr result (Mutes L.is_live L.faults link.old link.new) }
-        ensures mark { L.mark link.new ≡ L.mark link.old }
-        ensures keeps { L.keeps link.old link.new }
-        ensures goes_on { L.goes_on link.old link.new }
-    {
         let channel = channel_after(plan.statement(), self.channel);
         let transaction = transaction_after(plan.statement(), self.channel, self.transaction);
         match card_asking::carry_out(link, plan, &mut room.step, &mut room.reply) {
             Ok(closing) => {
                 self.go_on(channel, transaction, closing);
-                Ok(closing)
+                QuietEnd::Closed { closing }
             }
-            Err(mute) => Err(mute),
+            Err(_) => QuietEnd::Mute,
         }
     }
 
