@@ -5,6 +5,8 @@ mod asking;
 mod following;
 pub mod laws;
 mod mute;
+#[cfg(test)]
+mod tests;
 
 pub use asking::ask;
 pub use following::{carry_out, follow};
