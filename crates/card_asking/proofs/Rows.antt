@@ -23,7 +23,7 @@ use Rattle.planner.specs.Meaning.{meaning}
 use Rattle.planner.specs.Planned.{Planned, next_of, started}
 use Rattle.planner.specs.Readings.{IsSelect}
 use Rattle.planner.specs.Running.{Ran, shown}
-use Rattle.planner.specs.Selecting.{closing_given, rows_given, select_shown}
+use Rattle.planner.specs.Selecting.{closing_given, select_shown}
 use Rattle.planner.proofs.Readings.{started-reads}
 use Rattle.planner.proofs.SelectsShown.{select-reads}
 use Rattle.card_asking.specs.Following.{Follows, after_all, run_from, run_of, given_by}
