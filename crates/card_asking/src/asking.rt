@@ -6,9 +6,8 @@ ghost use Rattle.scql_model.specs.Replies.{said};
 ghost use Rattle.scql_model.specs.Spelling as spelling;
 ghost use Rattle.scql_model.specs.Step.{step};
 ghost use Rattle.script.specs.Commands.{IsSendable};
-ghost use Rattle.card_link.specs.Link.{Answered, IsOneOf, LeavesOpen};
+ghost use Rattle.card_link.specs.Link.{Answered, IsOneOf, LeavesOpen, Mutes};
 ghost use Rattle.planner.specs.Meaning.{answer_to};
-ghost use Rattle.card_asking.specs.Asked.{Mutes};
 
 use crate::Mute;
 use apdu::{CommandApdu, CommandOctets, Reply};

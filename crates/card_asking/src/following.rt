@@ -5,11 +5,10 @@ ghost use Rattle.scql_model.specs.Machine.{Machine};
 ghost use Rattle.scql_model.specs.Matching.{Values};
 ghost use Rattle.scql_model.specs.Replies.{said};
 ghost use Rattle.script.specs.Commands.{IsSendable};
-ghost use Rattle.card_link.specs.Link.{Holds, IsOneOf, LeavesOpen};
+ghost use Rattle.card_link.specs.Link.{Holds, IsOneOf, LeavesOpen, Mutes};
 ghost use Rattle.planner.specs.declared.closing.Closing.{Closing as ModelClosing};
 ghost use Rattle.planner.specs.Planned.{IfSent};
 ghost use Rattle.planner.specs.Turns.{IfGoesOn};
-ghost use Rattle.card_asking.specs.Asked.{Mutes};
 ghost use Rattle.card_asking.specs.Following.{Follows, IsEnded, given_by, heard_at, run_from, run_of, to_go, turn_by};
 ghost use Rattle.card_asking.specs.Giving.{Gives, behind_step};
 

@@ -1,6 +1,7 @@
 -- What a call of a link makes of its card, and which moments it adds.
-use Rattle.std.specs.Prelude.{◌≡◌, ◌⊎◌, ℕ, ◌≤◌, Bool, List, [], ◌∷◌, IfSome}
+use Rattle.std.specs.Prelude.{◌≡◌, ◌⊎◌, ℕ, ◌≤◌, Bool, false, List, [], ◌∷◌, IfSome}
 use Rattle.eeprom.specs.Chip.{Chip, Throughout}
+use Rattle.eeprom.specs.Fault.{Rose}
 use Rattle.scql_model.specs.Replies.{Reply}
 use Rattle.scql_model.specs.Database.{Database, IsValid}
 use Rattle.scql_model.specs.Machine.{Machine, Transaction}
@@ -11,6 +12,12 @@ use Rattle.scql_model.specs.Step.{Answer}
 pub record Answered {L : Type 0} (is_at : L → Machine → Type 0) (answer : Answer) (heard : Reply) (link : L) : Type 0 where
   pub reply : heard ≡ answer.reply
   pub at : is_at link answer.machine
+
+-- a card answers no more, and its count rose
+pub record Mutes {L : Type 0} (is_live : L → Bool) (faults : L → ℕ) (old new : L) : Type 0 where
+  pub gone : is_live new ≡ false
+  pub rose : Rose (faults old) (faults new)
+  pub later : faults old ≤ faults new
 
 -- with this mark, the database is this one, or one of these
 abbrev pub Holds : ℕ → Database → ℕ → Database → Type 0

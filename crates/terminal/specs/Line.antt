@@ -6,7 +6,7 @@ use Rattle.scql_model.specs.Database.{Database}
 use Rattle.scql_model.specs.Lines.{Effect}
 use Rattle.scql_model.specs.Machine.{Machine}
 use Rattle.scql_model.specs.Matching.{Values}
-use Rattle.card_link.specs.Link.{IsOneOf}
+use Rattle.card_link.specs.Link.{IsOneOf, Mutes}
 use Rattle.script.specs.declared.fault.ScriptFault.{ScriptFault}
 use Rattle.script.specs.declared.statement.Statement.{Statement}
 use Rattle.planner.specs.declared.closing.Closing.{Closing}
@@ -18,7 +18,6 @@ use Rattle.terminal.specs.declared.line_end.LineEnd.{LineEnd}
 use Rattle.terminal.specs.declared.line_end.LineEnd.TheVariants as ends
 use Rattle.card_asking.specs.Following.{after_all}
 use Rattle.terminal.specs.Holding.{Holding, Knows, Sits}
-use Rattle.card_asking.specs.Asked.{Mutes}
 use Rattle.terminal.specs.Failing.{Breaks, IsStart, Works}
 
 -- the closing line is a refusal, or an error

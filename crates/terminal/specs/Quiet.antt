@@ -10,7 +10,7 @@ use Rattle.planner.specs.StatementLines.{TerminalState}
 use Rattle.terminal.specs.declared.quiet_end.QuietEnd.{QuietEnd}
 use Rattle.terminal.specs.declared.quiet_end.QuietEnd.TheVariants as ends
 use Rattle.terminal.specs.Holding.{Holding, Sits}
-use Rattle.card_asking.specs.Asked.{Mutes}
+use Rattle.card_link.specs.Link.{Mutes}
 
 -- how a line closes that is a statement
 abbrev pub closing_in : TerminalState → Result Statement ScriptFault → Option Closing
