@@ -48,9 +48,9 @@ rows-behind p ResetCard rows left is formed = record { same = is; formed = forme
 rows-behind p (Done closing) rows left is formed = record { same = is; formed = formed }
 
 -- what is left behind a step that was followed
-pub gives-on : {L : Type 0} (is_at : L → Machine → Type 0) (m : Machine) (closing : Closing) (rows : List Values) (p q : Planned) (step next : Step) (old new : L)
-    → (gives : Gives is_at m closing rows p step old) → Follows is_at gives.machine p step (given_by p step) q next new → Gives is_at m closing (behind_step step rows) q next new
-gives-on is_at m closing rows p q step next old new gives e =
+pub gives-on : {L : Type 0} (is_at : L → Machine → Type 0) (m : Machine) (closing : Closing) (last : Machine) (rows : List Values) (p q : Planned) (step next : Step) (old new : L)
+    → (gives : Gives is_at m closing last rows p step old) → Follows is_at gives.machine p step (given_by p step) q next new → Gives is_at m closing last (behind_step step rows) q next new
+gives-on is_at m closing last rows p q step next old new gives e =
     let reads = e.reads gives.reads in
     let left = rows-behind p step rows (run_from e.machine q next).rows (sym (ap (λ (ran : Ran). ran.rows) e.left) ∙ gives.rows_left) gives.formed in
     let silent : e.commits ++ (run_from e.machine q next).commits ≡ [] = sym (ap (λ (ran : Ran). ran.commits) e.left) ∙ gives.silent in
@@ -65,13 +65,14 @@ gives-on is_at m closing rows p q step next old new gives e =
       rows_left = left.same;
       formed = left.formed;
       closes = sym (ap (λ (ran : Ran). ran.closing) e.left) ∙ gives.closes;
+      ends = sym (ap (λ (ran : Ran). ran.machine) e.left) ∙ gives.ends;
       silent = none-behind e.commits (run_from e.machine q next).commits silent;
     }
 
 -- a step with a row has the first of those that are left
-pub next-row : {L : Type 0} (is_at : L → Machine → Type 0) (m : Machine) (closing : Closing) (rows : List Values) (p : Planned) (c : Command) (now : L) → Gives is_at m closing rows p (Row c) now → IsNextRow rows p.row
-next-row is_at m closing [] p c now gives = absurd (let none : p.row ∷ (run_from gives.machine p (Send c)).rows ≡ [] = gives.rows_left in cc)
-next-row is_at m closing (values ∷ rest) p c now gives = record {
+pub next-row : {L : Type 0} (is_at : L → Machine → Type 0) (m : Machine) (closing : Closing) (last : Machine) (rows : List Values) (p : Planned) (c : Command) (now : L) → Gives is_at m closing last rows p (Row c) now → IsNextRow rows p.row
+next-row is_at m closing last [] p c now gives = absurd (let none : p.row ∷ (run_from gives.machine p (Send c)).rows ≡ [] = gives.rows_left in cc)
+next-row is_at m closing last (values ∷ rest) p c now gives = record {
   values = values;
   rest = rest;
   split = refl;
@@ -80,9 +81,10 @@ next-row is_at m closing (values ∷ rest) p c now gives = record {
 }
 
 -- at the last step none are left
-pub all-given : {L : Type 0} (is_at : L → Machine → Type 0) (m : Machine) (closing : Closing) (rows : List Values) (p : Planned) (last : Closing) (now : L) → Gives is_at m closing rows p (Done last) now → AreAllGiven closing rows last
-all-given is_at m closing [] p last now gives = record { none = refl; closes = gives.closes }
-all-given is_at m closing (values ∷ rest) p last now gives = absurd (let none : [] ≡ row_octets values ∷ map row_octets rest = gives.rows_left in cc)
+pub all-given : {L : Type 0} (is_at : L → Machine → Type 0) (m : Machine) (closing : Closing) (last : Machine) (rows : List Values) (p : Planned) (closed : Closing) (now : L) → Gives is_at m closing last rows p (Done closed) now
+    → AreAllGiven is_at closing last rows closed now
+all-given is_at m closing last [] p closed now gives = record { none = refl; closes = gives.closes; at = subst (is_at now) gives.ends gives.at }
+all-given is_at m closing last (values ∷ rest) p closed now gives = absurd (let none : [] ≡ row_octets values ∷ map row_octets rest = gives.rows_left in cc)
 
 -- a SELECT in and outside of its channel's transaction
 either-inside : (s : Statement) (channel : ℕ) (one other : Bool) → IsSelect s → started s channel one ≡ started s channel other
@@ -108,6 +110,7 @@ gives-first is_at m channel s inside now is over can at =
       rows_left = ap (λ (ran : Ran). ran.rows) ran;
       formed = (sound m channel s over can).formed;
       closes = ap (λ (ran : Ran). ran.closing) ran;
+      ends = ap (λ (ran : Ran). ran.machine) ran;
       silent = ap (λ (ran : Ran). ran.commits) ran ∙ select-silent m channel s over can is;
     }
 
@@ -119,13 +122,13 @@ gives-shown is_at m channel object columns conditions inside now opened over can
     let s : Statement = Select object columns conditions in
     let reads = select-reads m channel object columns conditions opened (IsReadable-valid (base m channel) (base-valid m channel over)) in
     let turn = next_of None (started s channel inside) in
-    subst (λ (rows : List Values). Gives is_at m (closing_given (select_shown (shown_on m channel) object columns conditions)) rows turn.plan turn.step now) reads.rows
-    (subst (λ (closing : Closing). Gives is_at m closing (meaning m channel s).rows turn.plan turn.step now) reads.closing (gives-first is_at m channel s inside now tt over can at))
+    subst (λ (rows : List Values). Gives is_at m (closing_given (select_shown (shown_on m channel) object columns conditions)) (meaning m channel s).machine rows turn.plan turn.step now) reads.rows
+    (subst (λ (closing : Closing). Gives is_at m closing (meaning m channel s).machine (meaning m channel s).rows turn.plan turn.step now) reads.closing (gives-first is_at m channel s inside now tt over can at))
 
 -- a moment of a step of such a plan
-pub gives-still : {L : Type 0} (is_at : L → Machine → Type 0) (mark : ℕ) (m : Machine) (closing : Closing) (rows : List Values) (p : Planned) (step : Step) (old : L) (g : ℕ) (left : Database)
-    → (gives : Gives is_at m closing rows p step old) → IsOneOf mark (gives.machine.committed ∷ (run_from gives.machine p step).commits) g left → Holds mark m.committed g left
-gives-still is_at mark m closing rows p step old g left gives is = go (subst (λ (commits : List Database). IsOneOf mark (gives.machine.committed ∷ commits) g left) gives.silent is)
+pub gives-still : {L : Type 0} (is_at : L → Machine → Type 0) (mark : ℕ) (m : Machine) (closing : Closing) (last : Machine) (rows : List Values) (p : Planned) (step : Step) (old : L) (g : ℕ) (left : Database)
+    → (gives : Gives is_at m closing last rows p step old) → IsOneOf mark (gives.machine.committed ∷ (run_from gives.machine p step).commits) g left → Holds mark m.committed g left
+gives-still is_at mark m closing last rows p step old g left gives is = go (subst (λ (commits : List Database). IsOneOf mark (gives.machine.committed ∷ commits) g left) gives.silent is)
   where
     go : IsOneOf mark (gives.machine.committed ∷ []) g left → Holds mark m.committed g left
     go (inl here) = (here.0, here.1 ∙ gives.like.committed)

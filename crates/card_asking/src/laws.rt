@@ -16,7 +16,7 @@ ghost use Rattle.card_asking.specs.Giving.{AreAllGiven, Gives, GivesMeaning, Giv
 
 use card_link::CardLink;
 
-/// At its first step a plan of a SELECT is to give the rows of the SELECT's meaning, and to close as that does.
+/// At its first step a plan of a SELECT is to give the rows of the SELECT's meaning, to close as that does, and to leave the link at its machine.
 pub fn a_select_is_to_give_its_rows<L: CardLink>()
     ensures { (m : Machine) (channel : ℕ) (s : Statement) (inside : Bool) (now : L) → IsSelect s → CanBeSent channel s → L.is_at now m
         → GivesMeaning L.is_at m channel s (next_of None (started s channel inside)).plan (next_of None (started s channel inside)).step now }
@@ -31,12 +31,12 @@ pub fn a_select_is_to_give_what_is_shown<L: CardLink>()
 
 /// A step with a row has the first of the rows that are left.
 pub fn a_row_is_the_next<L: CardLink>()
-    ensures { (m : Machine) (closing : Closing) (rows : List Values) (p : Planned) (c : Command) (now : L) → Gives L.is_at m closing rows p (Row c) now
+    ensures { (m : Machine) (closing : Closing) (last : Machine) (rows : List Values) (p : Planned) (c : Command) (now : L) → Gives L.is_at m closing last rows p (Row c) now
         → IsNextRow rows p.row }
 {}
 
-/// At the last step all rows were given, and it closes as it was to.
+/// At the last step all rows were given, it closes as it was to, and the link is at the machine that it was to be left at.
 pub fn all_rows_are_given<L: CardLink>()
-    ensures { (m : Machine) (closing : Closing) (rows : List Values) (p : Planned) (last : Closing) (now : L) → Gives L.is_at m closing rows p (Done last) now
-        → AreAllGiven closing rows last }
+    ensures { (m : Machine) (closing : Closing) (last : Machine) (rows : List Values) (p : Planned) (closed : Closing) (now : L) → Gives L.is_at m closing last rows p (Done closed) now
+        → AreAllGiven L.is_at closing last rows closed now }
 {}

@@ -21,8 +21,8 @@ returns-in_ok-ask-in-Send-clause-follows g c = λ m at.
     (c.in_ok-ask-in-Send.ensures.answer m at) c.next_into-in-Send.ensures.next
 
 pub returns-in_ok-ask-in-Send-clause-gives : goal.returns-in_ok-ask-in-Send-clause-gives
-returns-in_ok-ask-in-Send-clause-gives g c = λ m closing rows gives.
-    gives-on g.L.CardLink.is_at m closing rows c.args.plan.now c.next_into-in-Send.new.self c.args.step.now c.next_into-in-Send.new.step c.args.link.now c.ask.new.link gives
+returns-in_ok-ask-in-Send-clause-gives g c = λ m last closing rows gives.
+    gives-on g.L.CardLink.is_at m closing last rows c.args.plan.now c.next_into-in-Send.new.self c.args.step.now c.next_into-in-Send.new.step c.args.link.now c.ask.new.link gives
     (asked-follows g.L.CardLink.is_at gives.machine c.args.plan.now c.next_into-in-Send.new.self c.args.step.now c.in-Send.command c.next_into-in-Send.new.step c.ask.new.reply c.ask.new.link c.in-Send.is c.requires.sendable
     (c.in_ok-ask-in-Send.ensures.answer gives.machine gives.at) c.next_into-in-Send.ensures.next)
 
@@ -48,15 +48,15 @@ pub returns-in_ok-ask-in-Send-clause-reply : goal.returns-in_ok-ask-in-Send-clau
 returns-in_ok-ask-in-Send-clause-reply g c = λ m at. asked-reply m c.args.step.now c.in-Send.command c.args.reply.now c.ask.new.reply c.in-Send.is (c.in_ok-ask-in-Send.ensures.answer m at).reply
 
 pub returns-in_err-ask-in-Send-clause-still : goal.returns-in_err-ask-in-Send-clause-still
-returns-in_err-ask-in-Send-clause-still g c = λ m closing rows gives.
+returns-in_err-ask-in-Send-clause-still g c = λ m last closing rows gives.
     leaves-all g.L.CardLink.chip _ _ c.args.link.now c.ask.new.link
-    (λ n left is. gives-still g.L.CardLink.is_at (g.L.CardLink.mark c.args.link.now) m closing rows c.args.plan.now c.args.step.now c.args.link.now n left gives
+    (λ n left is. gives-still g.L.CardLink.is_at (g.L.CardLink.mark c.args.link.now) m closing last rows c.args.plan.now c.args.step.now c.args.link.now n left gives
     (asked-moment (g.L.CardLink.mark c.args.link.now) gives.machine c.args.plan.now c.args.step.now c.in-Send.command n left c.in-Send.is is))
     (c.ask.ensures.moments gives.machine gives.at)
 
 pub returns-in_ok-ask-in-Send-clause-still : goal.returns-in_ok-ask-in-Send-clause-still
-returns-in_ok-ask-in-Send-clause-still g c = λ m closing rows gives.
+returns-in_ok-ask-in-Send-clause-still g c = λ m last closing rows gives.
     leaves-all g.L.CardLink.chip _ _ c.args.link.now c.ask.new.link
-    (λ n left is. gives-still g.L.CardLink.is_at (g.L.CardLink.mark c.args.link.now) m closing rows c.args.plan.now c.args.step.now c.args.link.now n left gives
+    (λ n left is. gives-still g.L.CardLink.is_at (g.L.CardLink.mark c.args.link.now) m closing last rows c.args.plan.now c.args.step.now c.args.link.now n left gives
     (asked-moment (g.L.CardLink.mark c.args.link.now) gives.machine c.args.plan.now c.args.step.now c.in-Send.command n left c.in-Send.is is))
     (c.ask.ensures.moments gives.machine gives.at)
