@@ -3,6 +3,5 @@ pub mod Going
 pub mod Holding
 pub mod Line
 pub mod Load
-pub mod Noted
 pub mod Printed
 pub mod Quiet

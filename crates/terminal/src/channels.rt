@@ -16,8 +16,6 @@ ghost use Rattle.terminal.specs.Going.{FailsSo, IsInRun, IsOver};
 ghost use Rattle.terminal.specs.Holding as holding;
 ghost use Rattle.terminal.specs.Holding.{IsStarted, Knows, terminal_at};
 ghost use Rattle.terminal.specs.Line as line_specs;
-ghost use Rattle.terminal.specs.Noted as noting;
-ghost use Rattle.terminal.specs.Noted.{noted};
 ghost use Rattle.terminal.specs.Line.{ClosesSo, EndsBy, EndsSo, IsMoment, refuses, rows_in};
 ghost use Rattle.terminal.specs.Quiet.{EndsQuietly, EndsQuietlyBy, closing_in};
 ghost use Rattle.terminal.specs.Failing.{Causes, Works};
@@ -162,7 +160,7 @@ impl Channels {
 
     /// Goes on behind a command that was sent past the terminal and answered by this word.
     pub(crate) fn note(&mut self, command: &[u8], word: StatusWord)
-        ensures { self.new ≡ record self.old { transaction = noted command.now word self.old.transaction } }
+        ensures { self.new ≡ record self.old { transaction = held.held_after_octets command.now word self.old.transaction } }
     {
         if word.word == StatusWord::DONE.word {
             self.transaction = held_behind(command, self.transaction);
@@ -248,23 +246,11 @@ fn transaction_after(
 
 // The channel that has the open transaction behind the octets of a command that was done.
 fn held_behind(command: &[u8], transaction: Option<u8>) -> Option<u8>
-    ensures { result ≡ noting.held_behind command.now transaction }
+    ensures { result ≡ held.held_by_octets command.now transaction }
 {
     match command {
-        [class, ins, p1, p2, ..] => held_by_line(*ins, *p1, *p2, *class % 4, transaction),
-        _ => transaction,
-    }
-}
-
-fn held_by_line(ins: u8, p1: u8, p2: u8, channel: u8, transaction: Option<u8>) -> Option<u8>
-    ensures { result ≡ noting.held_by_line ins p1 p2 channel transaction }
-{
-    if ins != 0x12 || p1 != 0x00 {
-        return transaction;
-    }
-    match p2 {
-        0x80 => Some(channel),
-        0x81 | 0x82 => None,
+        [class, 0x12, 0x00, 0x80, ..] => Some(class % 4),
+        [_, 0x12, 0x00, 0x81 | 0x82, ..] => None,
         _ => transaction,
     }
 }

@@ -5,10 +5,10 @@ ghost use Rattle.scql_model.specs.Lines.{line_effect, longest_line};
 ghost use Rattle.scql_model.specs.Step.{step};
 ghost use Rattle.script.specs.Line.{statement_of};
 ghost use Rattle.card_link.specs.Link.{IsOneOf, LeavesOpen};
+ghost use Rattle.planner.specs.Held.{held_after_octets};
 ghost use Rattle.planner.specs.StatementLines.{statement_lines};
 ghost use Rattle.terminal.specs.Holding.{Knows, terminal_at};
 ghost use Rattle.terminal.specs.Line.{EndsBy, EndsSo, IsMoment, refuses, rows_in};
-ghost use Rattle.terminal.specs.Noted.{noted};
 ghost use Rattle.terminal.specs.Quiet.{EndsQuietly, EndsQuietlyBy, closing_in};
 
 use crate::channels::{Channels, close};
@@ -103,7 +103,7 @@ impl Terminal {
     /// the open transaction as it did before.
     pub fn note(&mut self, command: &[u8], word: StatusWord)
         ensures knows { (m : Machine) → Knows self.old.transaction m → word ≡ (step m command.now).reply.word → Knows self.new.transaction (step m command.now).machine }
-        ensures noted { self.new ≡ record self.old { transaction = noted command.now word self.old.transaction } }
+        ensures noted { self.new ≡ record self.old { transaction = held_after_octets command.now word self.old.transaction } }
     {
         self.channels.note(command, word);
     }
