@@ -50,29 +50,25 @@ on-open-rows m channel x none = go (is_channel_open m channel)
     go true = none
     go false = refl
 
+-- a SELECT commits nothing
+pub select-commits : (m : Machine) (channel : ℕ) (object : List ℕ) (columns : Columns) (conditions : List Condition) → (meaning m channel (Select object columns conditions)).commits ≡ []
+unfolding meaning
+select-commits m channel object columns conditions = go (is_channel_open m channel) (declared m channel object columns conditions)
+  where
+    go : (b : Bool) (d : Result Declared StatusWord) → (if b then selects_all m channel d else ended (Refused channel_not_supported) m channel).commits ≡ []
+    go true (Err word) = refl
+    go true (Ok d) = refl
+    go false d = refl
+
 pub select-sound : (m : Machine) (channel : ℕ) (object : List ℕ) (columns : Columns) (conditions : List Condition) → IsValid (base m channel) → CanBeSent channel (Select object columns conditions)
     → IsSound (meaning m channel (Select object columns conditions))
 unfolding meaning
-select-sound m channel object columns conditions valid can = go (is_channel_open m channel) refl
+select-sound m channel object columns conditions valid can = record { formed = formed (is_channel_open m channel) refl; either = inl (select-commits m channel object columns conditions) }
   where
-    selected : Meaning
-    selected = selects_all m channel (declared m channel object columns conditions)
-
-    none : (d : Result Declared StatusWord) → (selects_all m channel d).commits ≡ []
-    none (Err word) = refl
-    none (Ok d) = refl
-
-    commits : (b : Bool) → (if b then selects_all m channel (declared m channel object columns conditions) else ended (Refused channel_not_supported) m channel).commits ≡ []
-    commits true = none (declared m channel object columns conditions)
-    commits false = refl
-
     formed : (b : Bool) → is_channel_open m channel ≡ b → AllByRecursion (λ (values : Values). is_row values ≡ true) (on_open m channel (selects_all m channel (declared m channel object columns conditions))).rows
     formed true is = (select-rows m channel object columns conditions is valid can.commands.0.formed.form.1).formed
     formed false is =
         subst (λ b. AllByRecursion (λ (values : Values). is_row values ≡ true) (if b then selects_all m channel (declared m channel object columns conditions) else ended (Refused channel_not_supported) m channel).rows) (sym is) tt
-
-    go : (b : Bool) → is_channel_open m channel ≡ b → IsSound (on_open m channel (selects_all m channel (declared m channel object columns conditions)))
-    go b is = record { formed = formed b is; either = inl (commits (is_channel_open m channel)) }
 
 -- a SELECT alone gives rows
 pub select-or-none : (m : Machine) (channel : ℕ) (s : Statement) → IsSelect s ⊎ ((meaning m channel s).rows ≡ [])
@@ -97,13 +93,3 @@ sound m channel s over can = go (select-or-none m channel s)
     go : IsSelect s ⊎ ((meaning m channel s).rows ≡ []) → IsSound (meaning m channel s)
     go (inl is) = select s is can
     go (inr none) = no-rows (meaning m channel s) none
-
--- a SELECT commits nothing
-pub select-commits : (m : Machine) (channel : ℕ) (object : List ℕ) (columns : Columns) (conditions : List Condition) → (meaning m channel (Select object columns conditions)).commits ≡ []
-unfolding meaning
-select-commits m channel object columns conditions = go (is_channel_open m channel) (declared m channel object columns conditions)
-  where
-    go : (b : Bool) (d : Result Declared StatusWord) → (if b then selects_all m channel d else ended (Refused channel_not_supported) m channel).commits ≡ []
-    go true (Err word) = refl
-    go true (Ok d) = refl
-    go false d = refl
