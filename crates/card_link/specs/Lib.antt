@@ -1,1 +1,3 @@
 pub mod Link
+pub mod Recording
+pub mod RecordingLaws

@@ -27,7 +27,7 @@ impl<L: CardLink> FailingLink<L> {
 }
 
 impl<L: CardLink> CardLink for FailingLink<L> {
-    ghost use Rattle.std.specs.Prelude.{◌≡◌, ◌⊎◌, ◌+◌, ◌&&◌, not, if◌then◌else◌};
+    ghost use Rattle.std.specs.Prelude.{◌+◌, ◌&&◌, not, if◌then◌else◌};
 
     ghost is_at = { λ f m. L.is_at f.inner m };
 
@@ -39,7 +39,7 @@ impl<L: CardLink> CardLink for FailingLink<L> {
 
     ghost chip = { λ f. L.chip f.inner };
 
-    ghost keeps = { λ old new. (new.inner ≡ old.inner) ⊎ L.keeps old.inner new.inner };
+    ghost keeps = { λ old new. L.keeps old.inner new.inner };
 
     ghost goes_on = { λ old new. L.goes_on old.inner new.inner };
 
@@ -65,6 +65,10 @@ impl<L: CardLink> CardLink for FailingLink<L> {
     ghost marks = { λ f. L.marks f.inner };
 
     ghost opens = { λ f m at. L.opens f.inner m at };
+
+    ghost keeps_same = { λ f. L.keeps_same f.inner };
+
+    ghost keeps_then = { λ old mid new first second. L.keeps_then old.inner mid.inner new.inner first second };
 
     ghost goes_on_same = { λ f. L.goes_on_same f.inner };
 

@@ -4,7 +4,9 @@
 mod failing_link;
 mod link;
 mod outcome;
+mod recorder;
 
 pub use failing_link::FailingLink;
 pub use link::{CardLink, Desk};
 pub use outcome::Outcome;
+pub use recorder::Recorder;

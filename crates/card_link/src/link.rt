@@ -1,5 +1,5 @@
 // A link to a card, and a link with an outlet for what is printed.
-ghost use Rattle.std.specs.Prelude.{◌≡◌, ◌≤◌, ℕ, List, ◌∷◌, IsTrue, IfSome, Bool, false, length};
+ghost use Rattle.std.specs.Prelude.{◌≡◌, ◌≤◌, ℕ, List, ◌∷◌, IsTrue, IsSome, IfSome, Bool, false, length};
 ghost use Rattle.eeprom.specs.Chip.{Chip};
 ghost use Rattle.eeprom.specs.Fault.{Rose};
 ghost use Rattle.scql_base.specs.Words.{memory_failure};
@@ -71,6 +71,11 @@ pub trait CardLink: Drop {
     /// The image, where told, opens to the machine's committed database.
     ghost opens: { (l : Self) (m : machine.Machine) → is_at l m → IfSome (chip l).image (λ image. Opens image m.committed) };
 
+    /// No call at all keeps the rest, and so do calls one after another.
+    ghost keeps_same: { (l : Self) → keeps l l };
+
+    ghost keeps_then: { (old mid new : Self) → keeps old mid → keeps mid new → keeps old new };
+
     /// It goes on by no call at all, and by calls one after another.
     ghost goes_on_same: { (l : Self) → goes_on l l };
 
@@ -85,8 +90,8 @@ pub trait Desk: CardLink + Outlet {
     /// A command and a reset leave what was given, and the outlet's count.
     ghost kept: { (old new : Self) → Self.keeps old new → (Self.given new ≡ Self.given old) × (Self.sink_faults new ≡ Self.sink_faults old) };
 
-    /// The mark is the length of what was given, where told.
-    ghost marked: { (d : Self) → IfSome (Self.given d) (λ given. Self.mark d ≡ length given) };
+    /// Where moments are told, the mark is the length of what was given, if that is told.
+    ghost marked: { (d : Self) → IsSome (Self.chip d).past → IfSome (Self.given d) (λ given. Self.mark d ≡ length given) };
 
     /// Giving leaves the machine, whether the card answers, and its count. The mark rises, and at each moment meanwhile the database is the committed one.
     ghost gives: { (old new : Self) → Self.leaves old new → Gives Self.is_at Self.is_live Self.faults Self.mark Self.chip old new };
