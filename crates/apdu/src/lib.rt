@@ -15,7 +15,7 @@ mod tail;
 mod writing;
 
 pub use command::{CommandApdu, field_fits};
-pub use line::{LONGEST_COMMAND, LONGEST_LINE, LineContent, read_line};
+pub use line::{LONGEST_COMMAND, LineContent, read_line};
 pub use parts::{comes_in_parts, goes_on};
 pub use reading::{Apdu, Refusal};
 pub use reply::Reply;

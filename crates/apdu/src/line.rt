@@ -1,13 +1,13 @@
 // Lines that ask a card: a command in hexadecimal, or the word `reset`.
-ghost use Rattle.std.specs.Prelude.{◌≡◌, ◌≤◌, length};
+ghost use Rattle.std.specs.Prelude.{◌≡◌, ◌≤◌, IfSome, length, option_map};
 ghost use Rattle.hex.specs.Hex.{decode_of};
 ghost use Rattle.scql_model.specs.Lines as model;
 ghost use Rattle.apdu.specs.Line.{IsWithinPlace, content_view};
 
 use arrayvec::ArrayVec;
 
-/// How many octets a line has at most.
-pub const LONGEST_LINE: usize = 1000;
+// How many octets a line has at most.
+const LONGEST_LINE: usize = 1000;
 
 /// How many octets a command has at most that is written in a line.
 pub const LONGEST_COMMAND: usize = LONGEST_LINE / 2;
@@ -27,16 +27,17 @@ pub enum LineContent {
     Command { size: usize },
 }
 
-/// Reads a whole line, without its line feed. Spaces, tabs and carriage returns count for nothing, and a note begins with `#`. A command's octets
-/// are put to the front of the place; where there is no command, what the place has is left open.
-pub fn read_line(line: &[u8], place: &mut [u8; LONGEST_COMMAND]) -> LineContent
-    ensures content { content_view place.new result ≡ model.content_of (model.taken_line line.now) }
+/// Reads a whole line, without its line feed; there is none where it is too long. Spaces, tabs and carriage returns count for nothing, and a
+/// note begins with `#`. A command's octets are put to the front of the place; where there is no command, what the place has is left open.
+pub fn read_line(line: Option<&[u8]>, place: &mut [u8; LONGEST_COMMAND]) -> LineContent
+    requires { IfSome line (λ octets. length octets.now ≤ model.longest_line) }
+    ensures content { content_view place.new result ≡ model.content_of (option_map (λ octets. octets.now) line.entry) }
     ensures within { IsWithinPlace result }
 {
-    if LONGEST_LINE < line.len() {
-        return LineContent::TooLong;
+    match line {
+        None => LineContent::TooLong,
+        Some(octets) => read_octets(octets, place),
     }
-    read_octets(line, place)
 }
 
 // Most lines are hexadecimal as they are. Of the others the blanks are taken out.
