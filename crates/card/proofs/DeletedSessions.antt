@@ -27,7 +27,8 @@ use Rattle.card.specs.declared.session.Session.{Session as Kept_session}
 use Rattle.record_store.specs.Held.{Held}
 use Rattle.row_index.specs.Index.{Index}
 use Rattle.card.proofs.Performing.{refused-not_done}
-use Rattle.card.proofs.FreeCommands.{changed-outcome, committed-base}
+use Rattle.apdu_chain.proofs.CarriedOut.{committed-base}
+use Rattle.card.proofs.FreeCommands.{changed-outcome}
 
 -- One session more is changed, of all in turn.
 pub mapped-more : {X : Type 0} (f : X → X) (xs : List X) (i : ℕ) (d : X) → i < length xs

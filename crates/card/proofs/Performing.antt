@@ -37,7 +37,8 @@ use Rattle.card.specs.Sessions.{proved_stamp, proved_user}
 use Rattle.card.proofs.Leaving.{rises-none, unwritten_leaves}
 use Rattle.card.proofs.SlotCount.{length-committed_slots}
 use Rattle.card.proofs.Told.{if_some-at}
-use Rattle.card.proofs.FreeCommands.{committed-base, changed-outcome, octets-changed}
+use Rattle.apdu_chain.proofs.CarriedOut.{committed-base}
+use Rattle.card.proofs.FreeCommands.{changed-outcome, octets-changed}
 
 -- a command that writes nothing
 pub Performs-unwritten : (card new_card : Kept) (old new : Chip) (m : Machine) (answer : Answer) (most : ℕ) (body : List ℕ) (result : Result StatusWord EepromFault) → StandsOver card old → IsAt card old m → new ≡ old

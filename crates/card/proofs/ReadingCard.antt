@@ -28,7 +28,7 @@ use Rattle.card.specs.Reading.{is_reading}
 use Rattle.card.specs.Sessions.{reading_in, session_seen, sessions_of}
 use Rattle.card.specs.declared.session.Session.{Session}
 use Rattle.card.proofs.Performing.{HoldsMachine-changing}
-use Rattle.card.proofs.FreeCommands.{carried_out-reads}
+use Rattle.apdu_chain.proofs.CarriedOut.{carried_out-reads}
 
 -- a command of a reading operation is a reading command
 pub reads-command : (c : Command) → IsWellFormed c → is_reading (kind_of c.operation) ≡ true → (command : ReadingCommand) × (reading_command c.operation c.le ≡ Some command)

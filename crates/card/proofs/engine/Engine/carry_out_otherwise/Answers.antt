@@ -22,7 +22,8 @@ use Rattle.card.specs.Waiting.{keeps_waiting}
 use Rattle.card.proofs.OtherCommands.{IsChange-others, IsNoneOfThose}
 use Rattle.record_table.proofs.AtRest.{Keeps-none}
 use Rattle.card.proofs.Performing.{Performs-unwritten}
-use Rattle.card.proofs.FreeCommands.{any-none, carried_out-arm, carried_out-changes, carried_out-waits, octets-arm, octets-carried_out, waiting-at, waits-changes}
+use Rattle.apdu_chain.proofs.CarriedOut.{carried_out-arm, carried_out-waits, octets-arm}
+use Rattle.card.proofs.FreeCommands.{any-none, carried_out-changes, octets-carried_out, waiting-at, waits-changes}
 use Rattle.card.proofs.engine.Engine.carry_out_otherwise.Goals.{In_default}
 use Rattle.card.proofs.engine.Engine.carry_out_otherwise.Goals as goal
 
