@@ -2,13 +2,10 @@
 use Rattle.std.proofs.Common.{◌≡◌, ◌==◌, ℕ, true, false, not, List, Option, Some, None, option_map, Result, Ok, Err, refl, ap, sym, subst, ◌∙◌, inl, inr}
 use Rattle.std.specs.Option.{option_map_or}
 use Rattle.std.proofs.lemmas.Bool.{cases_Bool}
-use Rattle.std.proofs.lemmas.Option.{none-some}
 use Rattle.scql_base.specs.declared.words.StatusWord.{StatusWord}
 use Rattle.scql_base.specs.declared.words.Actor.{Actor}
-use Rattle.scql_base.specs.declared.operation.Command.{Command}
 use Rattle.scql_base.specs.declared.operation.Operation.{Operation}
 use Rattle.scql_base.specs.declared.operation.Operation.TheVariants as asks
-use Rattle.scql_base.specs.Words.{conditions_not_satisfied}
 use Rattle.scql_model.specs.Refusals.{◌>>=◌}
 use Rattle.scql_model.specs.Database.{Database}
 use Rattle.scql_model.specs.Machine.{Machine, Transaction, base_of, base, actor}
@@ -18,8 +15,8 @@ use Rattle.scql_model.specs.Operations.{kind_of}
 use Rattle.scql_model.specs.Edits.{Edit}
 use Rattle.scql_model.specs.Bound.{octets_for_change, octets_changed, octets_operated, octets_carried_out, or_nothing}
 use Rattle.scql_model.specs.Changing.{edits_of, with_edits}
-use Rattle.scql_model.specs.ReadingCommands.{ReadingCommand, reading_command}
-use Rattle.scql_model.specs.Step.{Answer, changed_to, changed, reading_done, operated, carried_out}
+use Rattle.scql_model.specs.ReadingCommands.{reading_command}
+use Rattle.scql_model.specs.Step.{changed_to, changed, reading_done, operated, carried_out}
 use Rattle.apdu_chain.proofs.CarriedOut.{carried_out-free, committed-base, octets_carried_out-free}
 use Rattle.card.specs.Answering.{committed_at_once}
 use Rattle.card.specs.Changing.{is_changing, new_of, octets_of}

@@ -1,5 +1,5 @@
 -- An operation changes the database, reads, or has an arm of its own.
-use Rattle.std.proofs.Common.{◌≡◌, ◌||◌, ℕ, false, List, refl}
+use Rattle.std.proofs.Common.{◌≡◌, ℕ, false, List, refl}
 use Rattle.scql_base.specs.declared.operation.Operation.{Operation}
 use Rattle.scql_base.specs.declared.operation.Operation.TheVariants as asks
 use Rattle.scql_model.specs.Operations.{kind_of}
