@@ -42,9 +42,7 @@ outcome_of m (a_command c) = carried_out m c
 
 stepped-taken : (m : Machine) (form : Form) → stepped m form ≡ answered (taken_at m form) (outcome_of (taken_at m form) form)
 stepped-taken m (refused word) = refl
-stepped-taken m (refused_on channel word) = refl
-stepped-taken m (part_on channel kind octets) = refl
-stepped-taken m (a_command c) = refl
+stepped-taken m form = refl
 
 -- So the step to octets is that to what they are read as, at the machine,
 pub step-read : (m : Machine) (octets : List ℕ) (form : Form) → form_of operations octets (open_channels m) (command_chain m) m.committed.limit ≡ form
@@ -61,9 +59,7 @@ octets_taken m (a_command c) = or_nothing (octets_carried_out m c)
 
 octets_stepped-taken : (m : Machine) (form : Form) → octets_stepped m form ≡ octets_taken (taken_at m form) form
 octets_stepped-taken m (refused word) = refl
-octets_stepped-taken m (refused_on channel word) = refl
-octets_stepped-taken m (part_on channel kind octets) = refl
-octets_stepped-taken m (a_command c) = refl
+octets_stepped-taken m form = refl
 
 -- and so many octets are written for them at most.
 pub bound-read : (m : Machine) (octets : List ℕ) (form : Form) → form_of operations octets (open_channels m) (command_chain m) m.committed.limit ≡ form
@@ -74,15 +70,11 @@ bound-read m octets form is = ap (octets_stepped m) is ∙ octets_stepped-taken 
 -- Sessions alone change.
 pub taken-committed : (m : Machine) (form : Form) → (taken_at m form).committed ≡ m.committed
 taken-committed m (refused word) = refl
-taken-committed m (refused_on channel word) = refl
-taken-committed m (part_on channel kind octets) = refl
-taken-committed m (a_command c) = refl
+taken-committed m form = refl
 
 pub taken-transaction : (m : Machine) (form : Form) → (taken_at m form).transaction ≡ m.transaction
 taken-transaction m (refused word) = refl
-taken-transaction m (refused_on channel word) = refl
-taken-transaction m (part_on channel kind octets) = refl
-taken-transaction m (a_command c) = refl
+taken-transaction m form = refl
 
 -- what a channel reads stays where a session changes that reads the same
 reading-changed : (change : Session → Session) → ((s : Session) → (change s).reading ≡ s.reading) → (sessions : List (Option Session)) (i j : ℕ)

@@ -69,19 +69,8 @@ carried_out-changes m channel operation le changes other free = carried_out-free
   where
     of : (operation : Operation) → is_changing (kind_of operation) ≡ true → ((name : List ℕ) → operation ≡ asks.DeleteUser name → ⊥)
         → option_map_or (λ command. Ok (reading_done m channel command)) (reading_command operation le) (operated m channel operation) ≡ changed m channel operation
-    of (asks.CreateTable name columns) is other = refl
-    of (asks.CreateView name base columns conditions) is other = refl
-    of (asks.CreateDictionary name subject) is other = refl
-    of (asks.DropTable name) is other = refl
-    of (asks.DropView name) is other = refl
-    of (asks.Grant privileges object grantee) is other = refl
-    of (asks.Revoke privileges object grantee) is other = refl
-    of (asks.Insert table row) is other = refl
-    of (asks.Update assignments) is other = refl
-    of asks.Delete is other = refl
-    of (asks.CreateUser name profile secret) is other = refl
     of (asks.DeleteUser name) is other = absurd (other name refl)
-    of operation is other = absurd cc
+    of operation is other = cc
 
 pub octets-carried_out : (m : Machine) (channel : ℕ) (operation : Operation) (le : Option ℕ) → is_changing (kind_of operation) ≡ true → is_kept_waiting (waits (kind_of operation)) m.transaction channel ≡ false
     → octets_carried_out m (record { channel = channel; operation = operation; le = le }) ≡ octets_changed m channel operation
@@ -94,19 +83,8 @@ octets-carried_out m channel operation le changes free = octets_carried_out-free
 
 -- such a change waits for the transactions of other channels
 pub waits-changes : (operation : Operation) → is_changing (kind_of operation) ≡ true → ((name : List ℕ) → operation ≡ asks.DeleteUser name → ⊥) → waits (kind_of operation) ≡ for_others
-waits-changes (asks.CreateTable name columns) is other = refl
-waits-changes (asks.CreateView name base columns conditions) is other = refl
-waits-changes (asks.CreateDictionary name subject) is other = refl
-waits-changes (asks.DropTable name) is other = refl
-waits-changes (asks.DropView name) is other = refl
-waits-changes (asks.Grant privileges object grantee) is other = refl
-waits-changes (asks.Revoke privileges object grantee) is other = refl
-waits-changes (asks.Insert table row) is other = refl
-waits-changes (asks.Update assignments) is other = refl
-waits-changes asks.Delete is other = refl
-waits-changes (asks.CreateUser name profile secret) is other = refl
 waits-changes (asks.DeleteUser name) is other = absurd (other name refl)
-waits-changes operation is other = absurd cc
+waits-changes operation is other = cc
 
 -- what becomes of the machine by a change that is committed at once
 pub changed-outcome : (m : Machine) (channel : ℕ) (operation : Operation) → m.transaction ≡ None

@@ -134,11 +134,6 @@ asks-none operation le command goes is = absurd cc
 -- What doesn't read is no reading command.
 pub reads-none : (operation : Operation) (le : Option ℕ) (command : ReadingCommand) → is_reading (kind_of operation) ≡ false → reading_command operation le ≡ Some command → ⊥
 reads-none (asks.DeclareCursor object columns conditions) le command none is = absurd cc
-reads-none asks.OpenCursor le command none is = absurd cc
-reads-none asks.Next le command none is = absurd cc
-reads-none asks.Fetch le command none is = absurd cc
-reads-none asks.FetchNext le command none is = absurd cc
-reads-none asks.GetResponse le command none is = absurd cc
 reads-none operation le command none is = absurd cc
 
 -- and what reads waits for no transaction
