@@ -1,3 +1,4 @@
+mod Blanks
 pub mod TableLines
 pub mod FieldsRead
 pub mod FieldsWritten
@@ -5,3 +6,4 @@ pub mod FormsRead
 pub mod ListsRead
 pub mod NamesRead
 pub mod PartsWritten
+pub mod HexadecimalTexts

@@ -1,2 +1,4 @@
+pub mod CarriedOut
 pub mod ChainsSet
 pub mod PartsJoined
+pub mod TakenForms

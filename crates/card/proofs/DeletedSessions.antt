@@ -26,8 +26,9 @@ use Rattle.card.specs.Sessions.{left_session, session_seen, sessions_of}
 use Rattle.card.specs.declared.session.Session.{Session as Kept_session}
 use Rattle.record_store.specs.Held.{Held}
 use Rattle.row_index.specs.Index.{Index}
-use Rattle.card.proofs.Performing.{refused-not_done}
-use Rattle.card.proofs.FreeCommands.{changed-outcome, committed-base}
+use Rattle.card.proofs.Performing.{HoldsMachine-sessions, refused-not_done}
+use Rattle.apdu_chain.proofs.CarriedOut.{committed-base}
+use Rattle.card.proofs.FreeCommands.{changed-outcome}
 
 -- One session more is changed, of all in turn.
 pub mapped-more : {X : Type 0} (f : X → X) (xs : List X) (i : ℕ) (d : X) → i < length xs
@@ -65,15 +66,7 @@ abbrev pub left_card : ℕ → Kept → Kept
 left_card stamp card = record card { sessions = map (option_map (left_by stamp)) card.sessions }
 
 HoldsMachine-left : (card : Kept) (chip : Chip) (m : Machine) (stamp : ℕ) → HoldsMachine card chip m → HoldsMachine (left_card stamp card) chip (without_user m stamp)
-HoldsMachine-left card chip m stamp at = record {
-  slots = at.slots;
-  committed = at.committed;
-  limit = at.limit;
-  holds = at.holds;
-  transaction = at.transaction;
-  works = at.works;
-  sessions = ap (map (option_map (left_by stamp))) at.sessions;
-}
+HoldsMachine-left card chip m stamp at = HoldsMachine-sessions (map (option_map (left_by stamp))) card chip m at
 
 -- the card after a change that answers this word, where this user has the name
 abbrev pub left_after : User → StatusWord → Kept → Kept

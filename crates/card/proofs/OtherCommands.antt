@@ -1,5 +1,5 @@
 -- An operation changes the database, reads, or has an arm of its own.
-use Rattle.std.proofs.Common.{◌≡◌, ◌||◌, ℕ, false, List, refl}
+use Rattle.std.proofs.Common.{◌≡◌, ℕ, false, List, refl}
 use Rattle.scql_base.specs.declared.operation.Operation.{Operation}
 use Rattle.scql_base.specs.declared.operation.Operation.TheVariants as asks
 use Rattle.scql_model.specs.Operations.{kind_of}
@@ -19,17 +19,6 @@ pub record IsNoneOfThose (operation : Operation) : Type 0 where
   pub not_rolls_back : operation ≡ asks.Rollback → ⊥
 
 pub IsChange-others : (operation : Operation) → IsNoneOfThose operation → IsChange operation
-IsChange-others (asks.CreateTable name columns) others = refl
-IsChange-others (asks.CreateView name base columns conditions) others = refl
-IsChange-others (asks.CreateDictionary name subject) others = refl
-IsChange-others (asks.DropTable name) others = refl
-IsChange-others (asks.DropView name) others = refl
-IsChange-others (asks.Grant privileges object grantee) others = refl
-IsChange-others (asks.Revoke privileges object grantee) others = refl
-IsChange-others (asks.Insert table values) others = refl
-IsChange-others (asks.Update changes) others = refl
-IsChange-others (asks.CreateUser name profile secret) others = refl
-IsChange-others asks.Delete others = refl
 IsChange-others asks.Begin others = absurd (others.not_begins refl)
 IsChange-others asks.Commit others = absurd (others.not_commits refl)
 IsChange-others asks.Rollback others = absurd (others.not_rolls_back refl)
@@ -38,4 +27,4 @@ IsChange-others (asks.DeleteUser name) others = absurd (others.not_deletes name 
 IsChange-others (asks.Verify secret) others = absurd (others.not_verifies secret refl)
 IsChange-others (asks.OpenChannel number) others = absurd (others.not_opens number refl)
 IsChange-others (asks.CloseChannel number) others = absurd (others.not_closes number refl)
-IsChange-others operation others = (let reads = others.not_reading in absurd cc)
+IsChange-others operation others = let reads = others.not_reading in cc

@@ -37,7 +37,8 @@ use Rattle.card.specs.Sessions.{proved_stamp, proved_user}
 use Rattle.card.proofs.Leaving.{rises-none, unwritten_leaves}
 use Rattle.card.proofs.SlotCount.{length-committed_slots}
 use Rattle.card.proofs.Told.{if_some-at}
-use Rattle.card.proofs.FreeCommands.{committed-base, changed-outcome, octets-changed}
+use Rattle.apdu_chain.proofs.CarriedOut.{committed-base}
+use Rattle.card.proofs.FreeCommands.{changed-outcome, octets-changed}
 
 -- a command that writes nothing
 pub Performs-unwritten : (card new_card : Kept) (old new : Chip) (m : Machine) (answer : Answer) (most : ℕ) (body : List ℕ) (result : Result StatusWord EepromFault) → StandsOver card old → IsAt card old m → new ≡ old
@@ -104,31 +105,29 @@ HoldsMachine-rest card store index chip m db none closed sessions rest = record 
   sessions = sessions;
 }
 
--- A channel of a card that holds a machine has this session, or none, and so has the machine's.
-pub HoldsMachine-set : (card : Kept) (chip : Chip) (m : Machine) (channel : ℕ) (session : Option Session) → HoldsMachine card chip m
-    → HoldsMachine (with_session card channel session) chip (sessions.with_session m channel session)
-HoldsMachine-set card chip m channel session at = record {
+-- The sessions of a card that holds a machine become others, and so do the machine's.
+pub HoldsMachine-sessions : (change : List (Option Session) → List (Option Session)) (card : Kept) (chip : Chip) (m : Machine) → HoldsMachine card chip m
+    → HoldsMachine (record card { sessions = change card.sessions }) chip (record m { sessions = change m.sessions })
+HoldsMachine-sessions change card chip m at = record {
   slots = at.slots;
   committed = at.committed;
   limit = at.limit;
   holds = at.holds;
   transaction = at.transaction;
   works = at.works;
-  sessions = ap (λ (others : List (Option Session)). slice_set others channel session) at.sessions;
+  sessions = ap change at.sessions;
 }
 
--- or its session changes, and so does the machine's
+-- a channel has this session, or none,
+pub HoldsMachine-set : (card : Kept) (chip : Chip) (m : Machine) (channel : ℕ) (session : Option Session) → HoldsMachine card chip m
+    → HoldsMachine (with_session card channel session) chip (sessions.with_session m channel session)
+HoldsMachine-set card chip m channel session at = HoldsMachine-sessions (λ others. slice_set others channel session) card chip m at
+
+-- or its session changes
 pub HoldsMachine-changing : (change : Session → Session) (card : Kept) (chip : Chip) (m : Machine) (channel : ℕ) → HoldsMachine card chip m
     → HoldsMachine (changing_session change card channel) chip (sessions.changing_session change m channel)
-HoldsMachine-changing change card chip m channel at = record {
-  slots = at.slots;
-  committed = at.committed;
-  limit = at.limit;
-  holds = at.holds;
-  transaction = at.transaction;
-  works = at.works;
-  sessions = ap (λ (others : List (Option Session)). slice_set others channel (option_map change (option_flatten (slice_get others channel)))) at.sessions;
-}
+HoldsMachine-changing change card chip m channel at =
+    HoldsMachine-sessions (λ others. slice_set others channel (option_map change (option_flatten (slice_get others channel)))) card chip m at
 
 -- what is done drops what is pending on its channel
 pub HoldsAnswer-done : (card after : Kept) (chip : Chip) (m : Machine) (channel : ℕ) (commits : List Database) → HoldsMachine card chip m → after ≡ changing_session without_pending card channel

@@ -22,13 +22,14 @@ use Rattle.scql_model.specs.Sessions as sessions
 use Rattle.scql_model.specs.Sessions.{cursor_of, reading_of, reading_so}
 use Rattle.scql_model.specs.Step.{Answer, answered, carried_out}
 use Rattle.scql_model.specs.WellFormed.{IsWellFormed}
-use Rattle.card.specs.Answering.{HoldsAnswer, changing_session, replied}
+use Rattle.record_table.specs.AtRest.{LeavesOneOf}
+use Rattle.card.specs.Answering.{HoldsAnswer, Performs, changing_session, replied}
 use Rattle.card.specs.Card.{Kept, HoldsMachine, IsAt}
 use Rattle.card.specs.Reading.{is_reading}
 use Rattle.card.specs.Sessions.{reading_in, session_seen, sessions_of}
 use Rattle.card.specs.declared.session.Session.{Session}
 use Rattle.card.proofs.Performing.{HoldsMachine-changing}
-use Rattle.card.proofs.FreeCommands.{carried_out-reads}
+use Rattle.apdu_chain.proofs.CarriedOut.{carried_out-reads}
 
 -- a command of a reading operation is a reading command
 pub reads-command : (c : Command) → IsWellFormed c → is_reading (kind_of c.operation) ≡ true → (command : ReadingCommand) × (reading_command c.operation c.le ≡ Some command)
@@ -73,6 +74,11 @@ err-ok P Q (Err fault) is = tt
 pub err-on : (P : EepromFault → Type 0) (X : Type 0) (r : Result StatusWord EepromFault) → IsErrAnd r P → OnOk r X
 err-on P X (Ok word) is = absurd is
 err-on P X (Err fault) is = tt
+
+-- a call that failed left what a command may leave
+pub Performs-err : (P : EepromFault → Type 0) {m : Machine} {answer : Answer} {most : ℕ} {body : List ℕ} {result : Result StatusWord EepromFault} {card : Kept} {old new : Chip} → IsErrAnd result P → LeavesOneOf (m.committed ∷ answer.commits) old new
+    → Performs m answer most body result card old new
+Performs-err P {result = result} is moments = record { step = err-ok _ _ result is; moments = moments; unwritten = err-on _ _ result is; octets = err-on _ _ result is }
 
 pub on-any : (X : Type 0) (r : Result StatusWord EepromFault) → X → OnOk r X
 on-any X (Ok word) x = x

@@ -38,15 +38,13 @@ use Rattle.record_table.specs.Listed.{cells_marked, slots_of}
 use Rattle.record_table.specs.Making.{IsHeld}
 use Rattle.cursor.specs.Costs.{RisesBetween, least_read}
 use Rattle.cursor.specs.Moved.{refuses}
-use Rattle.apdu_chain.specs.declared.chains.Taken.TheVariants as taken
-use Rattle.apdu_chain.specs.Chaining.{taken_of}
+use Rattle.apdu_chain.proofs.TakenForms.{taken_at}
 use Rattle.db_read.specs.Answered.{given}
 use Rattle.db_read.proofs.HeldCosts.{catalogue-held}
 use Rattle.card.specs.ReadCosts.{GoesWithin, ReadsAsked, ReadsFor, ReadsOctets, ReadsOn, ReadsWithin, asks_for_row, goes_over_rows, row_answered, size_given}
 use Rattle.card.specs.Reading.{is_going, is_reading}
-use Rattle.card.proofs.FreeCommands.{carried_out-reads, carried_out-waits}
+use Rattle.apdu_chain.proofs.CarriedOut.{carried_out-reads, carried_out-waits}
 use Rattle.card.proofs.ReadingMoves.{given-word, stays-answered}
-use Rattle.card.proofs.TakenForms.{taken_at}
 
 pub on-then : {P Q : Type 0} (r : Result StatusWord EepromFault) → (P → Q) → OnOk r P → OnOk r Q
 on-then (Ok word) then' holds = then' holds
@@ -136,11 +134,6 @@ asks-none operation le command goes is = absurd cc
 -- What doesn't read is no reading command.
 pub reads-none : (operation : Operation) (le : Option ℕ) (command : ReadingCommand) → is_reading (kind_of operation) ≡ false → reading_command operation le ≡ Some command → ⊥
 reads-none (asks.DeclareCursor object columns conditions) le command none is = absurd cc
-reads-none asks.OpenCursor le command none is = absurd cc
-reads-none asks.Next le command none is = absurd cc
-reads-none asks.Fetch le command none is = absurd cc
-reads-none asks.FetchNext le command none is = absurd cc
-reads-none asks.GetResponse le command none is = absurd cc
 reads-none operation le command none is = absurd cc
 
 -- and what reads waits for no transaction
@@ -167,9 +160,3 @@ module _ (m : Machine) (octets : List ℕ) (a b : Option ℕ) where
       subst (λ (channel : ℕ). ReadsOn m channel command a b) on
       (reads-there (base m c.channel) (actor (changing_session without_chain m c.channel) c.channel) (actor m c.channel) (reading_of (changing_session without_chain m c.channel) c.channel) (reading_of m c.channel) command a b
       (sym (ended-actor m c.channel)) (sym (ended-reading m c.channel)) (there command asks_so))
-
-pub refused-untaken : (form : Form) (word : StatusWord) → taken.Refused word ≡ taken_of form → (c : Command) → form ≡ a_command c → ⊥
-refused-untaken form word is c same = let wrong : taken.Refused word ≡ taken.Whole = is ∙ ap taken_of same in absurd cc
-
-pub kept-untaken : (form : Form) → taken.Kept ≡ taken_of form → (c : Command) → form ≡ a_command c → ⊥
-kept-untaken form is c same = let wrong : taken.Kept ≡ taken.Whole = is ∙ ap taken_of same in absurd cc

@@ -43,7 +43,8 @@ use Rattle.card.specs.Changing.{Changes, ConcludesWithin, new_of}
 use Rattle.card.specs.Waiting.{keeps_waiting}
 use Rattle.card.specs.Sessions.{proved_user}
 use Rattle.record_table.proofs.AtRest.{held-same, leaves-committed, leaves-kept, opens-rest, over-begun, same-slots, slots-committed, Keeps-none}
-use Rattle.card.proofs.FreeCommands.{base-own, changed-own, committed-base, outcome_with, own-open}
+use Rattle.apdu_chain.proofs.CarriedOut.{base-own, changed-own, committed-base, outcome_with}
+use Rattle.card.proofs.FreeCommands.{own-open}
 use Rattle.card.proofs.Leaving.{rises-none}
 use Rattle.card.proofs.IndexedStore.{Indexes-begun, Indexes-ended}
 use Rattle.card.proofs.Performing.{HoldsAnswer-done, HoldsMachine-changing, HoldsMachine-rest, IsAtRest-at, Performs-changed, Performs-unwritten, actor-at, refused-not_done}

@@ -1,7 +1,7 @@
 -- The moments while a piece of output goes out, and lemmas on them and on what lies behind an image meanwhile, in specs/ since `LiveCardLaws.antt` cites them.
 use Rattle.std.proofs.Common.{◌≡◌, ◌≤◌, inl, inr, ℕ, List, [], ◌∷◌, ◌++◌, length, drop, Some, IfSome, refl, sym, ap, subst, ◌∙◌, arith}
 use Rattle.std.proofs.lemmas.Option.{same_Some}
-use Rattle.eeprom.specs.Chip.{Chip, Stretch, giving, LeftIn, MayBeLeftSince, Gives, Keeps, Throughout}
+use Rattle.eeprom.specs.Chip.{Becomes, Chip, Stretch, giving, LeftIn, MayBeLeftSince, Gives, Keeps, Throughout}
 use Rattle.eeprom.specs.StoreOf.{image_size}
 use Rattle.eeprom.proofs.Moments.{left-in-more, left-in-longer, drop-more, left-told, left-cases, may-be-left, may-be-cases, throughout-weaker}
 use Rattle.card.specs.Behind.{KeepsBehind}
@@ -78,9 +78,9 @@ behind-keeps cells old new keeps = record {
   now = keeps.image;
 }
 
--- or so do two calls that speak of as many cells.
-pub behind-both : (cells : ℕ) (old mid new : Chip) → KeepsBehind (λ was. cells) old mid → KeepsBehind (λ was. cells) mid new → KeepsBehind (λ was. cells) old new
-behind-both cells old mid new before after = record {
+-- or one call does, and then another that speaks of as many cells,
+pub behind-then : (first second : List ℕ → ℕ) (old mid new : Chip) → Becomes (λ was between. second between ≡ first was) old.image mid.image → KeepsBehind first old mid → KeepsBehind second mid new → KeepsBehind first old new
+behind-then first second old mid new alike before after = record {
   later = omega (arith, before.later, after.later);
   only = λ t g left since there. elim (after.only t g left (omega (arith, since, before.later)) there) [
     | inl earlier ↦ before.only t g left since earlier
@@ -90,6 +90,16 @@ behind-both cells old mid new before after = record {
   now = λ image told. let now = after.now image told in both image now.0 now.1 now.2;
 }
   where
-    both : (left between : List ℕ) → mid.image ≡ Some between → drop (image_size cells) left ≡ drop (image_size cells) between
-        → (was : List ℕ) × (old.image ≡ Some was) × (drop (image_size cells) left ≡ drop (image_size cells) was)
-    both left between told stays = let from = before.now between told in (from.0, from.1, stays ∙ from.2)
+    both : (left between : List ℕ) → mid.image ≡ Some between → drop (image_size (second between)) left ≡ drop (image_size (second between)) between
+        → (was : List ℕ) × (old.image ≡ Some was) × (drop (image_size (first was)) left ≡ drop (image_size (first was)) was)
+    both left between told stays =
+        let from = before.now between told in
+        let cells = alike between told in
+        let same : cells.0 ≡ from.0 = cc (cells.1, from.1) in
+        let number : second between ≡ first from.0 = subst (λ (was : List ℕ). second between ≡ first was) same cells.2 in
+        (from.0, from.1, subst (λ (n : ℕ). drop (image_size n) left ≡ drop (image_size n) between) number stays ∙ from.2)
+
+-- as of a card whose number of cells stays.
+pub behind-on : (first second : ℕ) (old mid new : Chip) → second ≡ first → KeepsBehind (λ was. first) old mid → KeepsBehind (λ was. second) mid new → KeepsBehind (λ was. first) old new
+behind-on first second old mid new same before after =
+    behind-then (λ was. first) (λ was. second) old mid new (λ between told. let from = before.now between told in (from.0, from.1, same)) before after

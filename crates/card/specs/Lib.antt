@@ -19,5 +19,6 @@ pub mod ReadCosts
 pub mod Reading
 pub mod Sessions
 pub mod Showing
+pub mod SlotCard
 pub mod Validity
 pub mod Waiting

@@ -1,4 +1,4 @@
--- Lemmas, in specs/ since the ghost members of a link's implementations cite them: what the calls of a live card keep, one after another, and its moments, as its link tells them.
+-- Lemmas, in specs/ since the ghost members of links cite them: what the calls of a card in a link keep, one after another, and its moments, as its link tells them.
 use Rattle.std.proofs.Common.{◌≡◌, ◌≤◌, ◌∙◌, ℕ, Bool, true, false, List, length, drop, Option, Some, None, IfSome, IsTrue, refl, sym, subst, inl, inr, [], ◌∷◌, ap, arith}
 use Rattle.eeprom.specs.Chip.{Chip, Gives, Keeps, Still, Throughout}
 use Rattle.eeprom.specs.StoreOf.{image_size}
@@ -10,7 +10,7 @@ use Rattle.card_link.specs.Link.{Gives as LinkGives, Holds, IsOneOf, IsOver, Lea
 use Rattle.card.specs.Behind.{KeepsBehind}
 use Rattle.card.specs.Card.{Kept}
 use Rattle.card.specs.LiveCard.{Lasts, LastsOn, OnBench, IsReadyAt}
-use Rattle.card.specs.GivenMoments.{behind-same, behind-gives, behind-keeps, behind-both, gives-throughout, throughout-same}
+use Rattle.card.specs.GivenMoments.{behind-same, behind-gives, behind-keeps, behind-on, gives-throughout, throughout-same}
 use Rattle.scql_model.specs.Opens.{Opens, OpensToOneOf}
 use Rattle.record_table.specs.AtRest.{LeavesOneOf}
 use Rattle.card.specs.CardLaws.{IsReady-given, IsAt-given, Opens-at}
@@ -27,23 +27,26 @@ over-at m valid = record { committed = valid.committed; transaction = if-working
 pub lasts-unwritten : (was now : Kept) (chip : Chip) → (IsTrue now.live → IsTrue was.live) → now.store.chains.cells ≡ was.store.chains.cells → Lasts was now chip chip
 lasts-unwritten was now chip live cells = record { live = live; cells = λ _. cells; behind = behind-same _ chip chip refl; mute = λ _ n. behind-same _ chip chip refl; later = omega arith; marks = throughout-same chip _ (λ image told. omega arith) }
 
+pub lasts-itself : (card : Kept) (chip : Chip) → Lasts card card chip chip
+lasts-itself card chip = lasts-unwritten card card chip (λ live. live) refl
+
 pub lasts-same : {B : Type 0} (chip : B → Chip) (l : OnBench B) → LastsOn chip l l
-lasts-same chip l = record { name = refl; lasts = lasts-unwritten l.card l.card (chip l.bench) (λ live. live) refl }
+lasts-same chip l = record { name = refl; lasts = lasts-itself l.card (chip l.bench) }
 
 -- one call, and then another
-both-last : (was mid now : Kept) (old between new : Chip) → Lasts was mid old between → Lasts mid now between new → Lasts was now old new
-both-last was mid now old between new first second = record {
+pub lasts-both : (was mid now : Kept) (old between new : Chip) → Lasts was mid old between → Lasts mid now between new → Lasts was now old new
+lasts-both was mid now old between new first second = record {
   live = λ live. first.live (second.live live);
   cells = λ live. second.cells live ∙ first.cells (second.live live);
   behind = go mid.live refl;
-  mute = λ mute n. behind-both n old between new (first.mute mute n) (second.mute (still mid.live refl mute) n);
+  mute = λ mute n. behind-on n n old between new refl (first.mute mute n) (second.mute (still mid.live refl mute) n);
   later = omega (arith, first.later, second.later);
   marks = throughout-then old between new _ (throughout-weaker old between _ _ first.marks (λ g left within. omega (arith, within, second.later))) second.marks;
 }
   where
     go : (b : Bool) → mid.live ≡ b → KeepsBehind (λ image. was.store.chains.cells) old new
-    go true live = behind-both was.store.chains.cells old between new first.behind (subst (λ (n : ℕ). KeepsBehind (λ image. n) between new) (first.cells live) second.behind)
-    go false live = behind-both was.store.chains.cells old between new first.behind (second.mute live was.store.chains.cells)
+    go true live = behind-on was.store.chains.cells mid.store.chains.cells old between new (first.cells live) first.behind second.behind
+    go false live = behind-on was.store.chains.cells was.store.chains.cells old between new refl first.behind (second.mute live was.store.chains.cells)
 
     still : (b : Bool) → mid.live ≡ b → was.live ≡ false → mid.live ≡ false
     still false live mute = live
@@ -51,7 +54,7 @@ both-last was mid now old between new first second = record {
 
 pub lasts-then : {B : Type 0} (chip : B → Chip) (old mid new : OnBench B) → LastsOn chip old mid → LastsOn chip mid new → LastsOn chip old new
 lasts-then chip old mid new first second =
-    record { name = second.name ∙ first.name; lasts = both-last old.card mid.card new.card (chip old.bench) (chip mid.bench) (chip new.bench) first.lasts second.lasts }
+    record { name = second.name ∙ first.name; lasts = lasts-both old.card mid.card new.card (chip old.bench) (chip mid.bench) (chip new.bench) first.lasts second.lasts }
 
 -- where nothing is given the mark stays
 marks-kept : (look : List ℕ → List ℕ) (old new : Chip) → Keeps look old new → Throughout old new (λ g left. g ≤ new.still.mark)

@@ -32,10 +32,9 @@ use crate::opening::open_records;
 use crate::outcome::Outcome;
 use apdu::Reply;
 use catalog_codec::{Counter, Record};
-use eeprom::{Eeprom, EepromFault};
+use eeprom::{Eeprom, EepromFault, Heap};
 use record_store::{FormatRefusal, OpenRefusal, RecordOctets, Store};
 use scql_base::{Command, Name, Octets, Operation, Profile, StatusWord, User};
-use std::alloc::Global;
 use std::marker::Model;
 
 /// A card, which answers commands over the EEPROM that it was opened on.
@@ -79,7 +78,7 @@ impl Card {
 
     /// Opens the card of an EEPROM, where its image opens to a database. Channel 0 is open, without a user. A commit that was cut
     /// short behind an open gate is redone first. The records are let go at the end.
-    pub fn open<B: Eeprom>(alloc: Global, bench: &mut B) -> Result<Card, OpenRefusal>
+    pub fn open<B: Eeprom>(alloc: Heap, bench: &mut B) -> Result<Card, OpenRefusal>
         ensures opens { IfOk result (λ card. IfSome (B.chip bench.old).image (λ image. (db : Database) × Opens image db)) }
         ensures starts { IfOk result (λ card. IfSome (B.chip bench.old).image (λ image.
             (db : Database) → Opens image db → IsAt card (B.chip bench.new) (machine.start db))) }

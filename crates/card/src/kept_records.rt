@@ -11,7 +11,8 @@ ghost use Rattle.card.specs.declared.kept_record.KeptRecord as kept;
 
 use crate::kept_record::KeptRecord;
 use crate::spelled_record::SpelledRecord;
-use std::alloc::{AllocError, Global};
+use eeprom::Heap;
+use std::alloc::AllocError;
 use std::marker::Model;
 
 /// How many octets of a record a cell has at most.
@@ -30,8 +31,8 @@ pub(crate) struct RecordPlace {
 /// The records of a card while it is opened. All memory is taken when it is made.
 #[derive(Drop)]
 pub(crate) struct KeptRecords {
-    octets: Vec<u8>,
-    places: Vec<RecordPlace>,
+    octets: Vec<u8, Heap>,
+    places: Vec<RecordPlace, Heap>,
 }
 
 impl Model for KeptRecords {
@@ -47,7 +48,7 @@ impl Model for KeptRecords {
 
 impl KeptRecords {
     /// Room for the records of a store of so many cells.
-    pub(crate) fn for_cells(alloc: Global, cells: u16) -> Result<KeptRecords, AllocError>
+    pub(crate) fn for_cells(alloc: Heap, cells: u16) -> Result<KeptRecords, AllocError>
         ensures { IfOk result (λ records. records ≡ record { items = []; size = 0; cells = cells }) }
     {
         let cells = usize::from(cells);

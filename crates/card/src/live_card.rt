@@ -46,7 +46,7 @@ impl<'a, B: Bench> LiveCard<'a, B> {
 }
 
 impl<'a, B: Bench> CardLink for LiveCard<'a, B> {
-    ghost use Rattle.std.specs.Prelude.{refl};
+    ghost use Rattle.std.proofs.Common.{◌∙◌, refl};
     ghost use Rattle.card.specs.LiveCard.{IsReadyAt, KeepsStill, LastsOn};
     ghost use Rattle.card.specs.LiveCardLaws.{lasts-same, lasts-then, opens-at, over-at};
 
@@ -80,6 +80,10 @@ impl<'a, B: Bench> CardLink for LiveCard<'a, B> {
 
     ghost opens = { λ l m at. opens-at l.card (B.chip l.bench) m at };
 
+    ghost keeps_same = { λ l. refl };
+
+    ghost keeps_then = { λ old mid new first second. second ∙ first };
+
     ghost goes_on_same = { lasts-same B.chip };
 
     ghost goes_on_then = { lasts-then B.chip };
@@ -106,7 +110,7 @@ impl<'a, B: Bench> Desk for LiveCard<'a, B> {
 
     ghost kept = { λ old new same. still-kept (B.chip old.bench).still (B.chip new.bench).still same (B.output old.bench) (B.output new.bench) };
 
-    ghost marked = { λ d. B.mark d.bench };
+    ghost marked = { λ d told. B.mark d.bench };
 
     ghost gives = { λ old new left. gives-on B.chip B.faults old new left.card (B.clocked old.bench) (B.gives old.bench new.bench left.bench).0 (B.gives old.bench new.bench left.bench).1 };
 

@@ -24,10 +24,10 @@ ghost use Rattle.card.specs.Opening.{PassTest, ReadsCard, is_admitted, record_in
 use crate::kept_records::KeptRecords;
 use crate::slot_record::SlotRecord;
 use crate::validity::are_valid;
-use eeprom::Eeprom;
+use eeprom::{Eeprom, Heap};
 use record_store::{OpenRefusal, Opening, RecordOctets, Store};
 use row_index::{RowIndex, RowPlace};
-use std::alloc::{AllocError, Global};
+use std::alloc::AllocError;
 
 /// A store that was opened, and the index of its rows.
 #[derive(Drop)]
@@ -47,14 +47,14 @@ struct Gathered {
 #[derive(Drop)]
 struct Room {
     index: RowIndex,
-    places: Vec<RowPlace>,
-    numbers: Vec<u64>,
+    places: Vec<RowPlace, Heap>,
+    numbers: Vec<u64, Heap>,
 }
 
 /// Opens the store of an image, where its records are those of a valid database. A journal behind an open gate is replayed first.
 /// All memory is taken before the first record is read: beyond what a card keeps, for each cell 30 octets and the place of a record,
 /// the place of a row and a number, which are at most 2,048 * (30 + 12 + 12 + 8) = 126,976 octets.
-pub(crate) fn open_records<B: Eeprom>(alloc: Global, bench: &mut B) -> Result<Opened, OpenRefusal>
+pub(crate) fn open_records<B: Eeprom>(alloc: Heap, bench: &mut B) -> Result<Opened, OpenRefusal>
     ensures over { IfOk result (λ opened. IsOver opened.store (B.chip bench.new)) }
     ensures told { OnOk result (is_some (B.chip bench.new).image ≡ is_some (B.chip bench.old).image) }
     ensures stored { IfOk result (λ opened. IfSome (B.chip bench.new).image (λ image. store_of image ≡ stored opened.store Committed image)) }
@@ -94,7 +94,7 @@ pub(crate) fn open_records<B: Eeprom>(alloc: Global, bench: &mut B) -> Result<Op
 
 impl Room {
     // Room for what a store of so many cells has.
-    fn for_cells(alloc: Global, cells: u16) -> Result<Room, AllocError>
+    fn for_cells(alloc: Heap, cells: u16) -> Result<Room, AllocError>
         ensures index { IfOk result (λ room. room.index ≡ record { cells = cells; begun = false; committed = []; working = [] }) }
         ensures places { IfOk result (λ room. (room.places.items ≡ []) × (vec_capacity room.places ≡ cells)) }
         ensures numbers { IfOk result (λ room. vec_capacity room.numbers ≡ cells) }
@@ -173,7 +173,7 @@ impl Gathered {
     }
 
     // The records in rising order of their stamps, where they are those of a valid database.
-    fn tested(self, numbers: &mut Vec<u64>) -> Option<KeptRecords>
+    fn tested(self, numbers: &mut Vec<u64, Heap>) -> Option<KeptRecords>
         requires room { length self.records.items ≤ vec_capacity numbers.old }
         ensures records { IfSome result (λ records. records.items ≡ in_order stamp_of self.records.items) }
         ensures passed { IfSome result (λ records. (next : ℕ) × (self.counter ≡ Some next) × PassTest next self.records.items) }

@@ -15,12 +15,13 @@ use crate::apart::Label;
 use crate::founded::is_founded;
 use crate::kept_records::KeptRecords;
 use crate::spelled_record::SpelledRecord;
+use eeprom::Heap;
 use scql_base::{Grant, Name, Object, ObjectKind, Profile, RowRecord, User};
 
 /// Whether records are those of a valid database, where each is within its limits. They stand in rising order of their stamps,
 /// and there is room for as many numbers.
 #[tactic(auto, using(crate::proofs::Grouped::grouped))]
-pub(crate) fn are_valid(next: u32, records: &KeptRecords, numbers: &mut Vec<u64>) -> bool
+pub(crate) fn are_valid(next: u32, records: &KeptRecords, numbers: &mut Vec<u64, Heap>) -> bool
     requires rises { Rises stamp_of records.now.items }
     requires room { length records.now.items ≤ vec_capacity numbers.old }
     ensures { result ≡ validity.is_valid_database next (users_in records.now.items) (objects_in records.now.items) (grants_in records.now.items) (rows_in records.now.items) }
@@ -32,7 +33,7 @@ pub(crate) fn are_valid(next: u32, records: &KeptRecords, numbers: &mut Vec<u64>
 }
 
 // Whether no two users have one name, no two objects, and no two grants are of one object to one grantee.
-fn is_nothing_shared(records: &KeptRecords, numbers: &mut Vec<u64>) -> bool
+fn is_nothing_shared(records: &KeptRecords, numbers: &mut Vec<u64, Heap>) -> bool
     requires room { length records.now.items ≤ vec_capacity numbers.old }
     ensures { result ≡ (apart.is_never_shared UserName records.now.items && apart.is_never_shared ObjectName records.now.items && apart.is_never_shared GrantPair records.now.items) }
 {

@@ -22,7 +22,8 @@ use Rattle.card.specs.Waiting.{keeps_waiting}
 use Rattle.card.proofs.OtherCommands.{IsChange-others, IsNoneOfThose}
 use Rattle.record_table.proofs.AtRest.{Keeps-none}
 use Rattle.card.proofs.Performing.{Performs-unwritten}
-use Rattle.card.proofs.FreeCommands.{any-none, carried_out-arm, carried_out-changes, carried_out-waits, octets-arm, octets-carried_out, waiting-at, waits-changes}
+use Rattle.apdu_chain.proofs.CarriedOut.{carried_out-arm, carried_out-waits, octets-arm}
+use Rattle.card.proofs.FreeCommands.{any-none, carried_out-changes, octets-carried_out, waiting-at, waits-changes}
 use Rattle.card.proofs.engine.Engine.carry_out_otherwise.Goals.{In_default}
 use Rattle.card.proofs.engine.Engine.carry_out_otherwise.Goals as goal
 
@@ -31,19 +32,26 @@ told-waiting : (card : Kept) (chip : Chip) (m : Machine) (c : Command) (told ans
     → is_kept_waiting (waits (kind_of c.operation)) m.transaction c.channel ≡ answer
 told-waiting card chip m c told answer at says is = waiting-at (waits (kind_of c.operation)) m.transaction card.transaction c.channel at.transaction ∙ (sym says ∙ is)
 
--- a command that leaves the EEPROM as it is is carried out so
-of_sessions : (card after : Kept) (old new : Chip) (m : Machine) (c : Command) (outcome : Result Answer StatusWord) (body : List ℕ) (result : Result StatusWord EepromFault) → StandsOver card old → IsAt card old m → new ≡ old
-    → carried_out m c ≡ outcome → IfOk result (λ word. HoldsAnswer (answered m outcome) (replied body word) after new) → Performs m (answered m (carried_out m c)) (or_nothing (octets_carried_out m c)) body result after old new
-of_sessions card after old new m c outcome body result ready at same is step =
-    subst (λ (outcome : Result Answer StatusWord). Performs m (answered m outcome) (or_nothing (octets_carried_out m c)) body result after old new) (sym is)
-    (Performs-unwritten card after old new m _ _ body result ready at same step)
+-- A command is carried out as its outcome is, and says what is said.
+as_outcome : (m : Machine) (c : Command) (outcome : Result Answer StatusWord) (most : Result ℕ StatusWord) (heard body : List ℕ) (result : Result StatusWord EepromFault) (after : Kept) (old new : Chip)
+    → carried_out m c ≡ outcome → octets_carried_out m c ≡ most → heard ≡ body → Performs m (answered m outcome) (or_nothing most) body result after old new
+    → Performs m (answered m (carried_out m c)) (or_nothing (octets_carried_out m c)) heard result after old new
+as_outcome m c outcome most heard body result after old new is written same performs =
+    subst (λ (body : List ℕ). Performs m (answered m (carried_out m c)) (or_nothing (octets_carried_out m c)) body result after old new) (sym same)
+    (subst (λ (outcome : Result Answer StatusWord). Performs m (answered m outcome) (or_nothing (octets_carried_out m c)) body result after old new) (sym is)
+    (subst (λ (most : Result ℕ StatusWord). Performs m (answered m outcome) (or_nothing most) body result after old new) (sym written) performs))
+
+-- one that leaves the EEPROM as it is writes nothing
+of_sessions : (card after : Kept) (old new : Chip) (m : Machine) (c : Command) (outcome : Result Answer StatusWord) (heard body : List ℕ) (result : Result StatusWord EepromFault) → StandsOver card old → IsAt card old m → new ≡ old
+    → carried_out m c ≡ outcome → heard ≡ body → IfOk result (λ word. HoldsAnswer (answered m outcome) (replied body word) after new) → Performs m (answered m (carried_out m c)) (or_nothing (octets_carried_out m c)) heard result after old new
+of_sessions card after old new m c outcome heard body result ready at same is said step =
+    as_outcome m c outcome (octets_carried_out m c) heard body result after old new is refl said (Performs-unwritten card after old new m _ _ body result ready at same step)
 
 pub returns-then-keeps_waiting-clause-performs : goal.returns-then-keeps_waiting-clause-performs
 returns-then-keeps_waiting-clause-performs g c = λ m at.
     let old = g.B.Eeprom.chip c.args.bench.now in
-    subst (λ (body : List ℕ). Performs m (answered m (carried_out m c.args.command.now)) (or_nothing (octets_carried_out m c.args.command.now)) body (Ok conditions_not_satisfied) c.args.self.now old old) (sym c.requires.empty)
-    (of_sessions c.args.self.now c.args.self.now old old m c.args.command.now (Err conditions_not_satisfied) [] (Ok conditions_not_satisfied) c.requires.ready at refl
-    (carried_out-waits m c.args.command.now (told-waiting c.args.self.now old m c.args.command.now c.keeps_waiting.result true at.held c.keeps_waiting.ensures c.if-keeps_waiting.true)) (record { reply = refl; held = at.held }))
+    let waits = carried_out-waits m c.args.command.now (told-waiting c.args.self.now old m c.args.command.now c.keeps_waiting.result true at.held c.keeps_waiting.ensures c.if-keeps_waiting.true) in
+    of_sessions c.args.self.now c.args.self.now old old m c.args.command.now (Err conditions_not_satisfied) _ [] (Ok conditions_not_satisfied) c.requires.ready at refl waits c.requires.empty (record { reply = refl; held = at.held })
 
 pub returns-then-keeps_waiting-clause-behind : goal.returns-then-keeps_waiting-clause-behind
 returns-then-keeps_waiting-clause-behind g c = Keeps-none (drop (image_size c.args.self.now.store.chains.cells)) (g.B.Eeprom.chip c.args.bench.now) (g.B.Eeprom.chip c.args.bench.now) refl
@@ -52,9 +60,8 @@ pub returns-in-Begin-clause-performs : goal.returns-in-Begin-clause-performs
 returns-in-Begin-clause-performs g c = λ m at.
     let old = g.B.Eeprom.chip c.args.bench.now in
     let free = told-waiting c.args.self.now old m c.args.command.now c.keeps_waiting.result false at.held c.keeps_waiting.ensures c.if-keeps_waiting.false in
-    subst (λ (body : List ℕ). Performs m (answered m (carried_out m c.args.command.now)) (or_nothing (octets_carried_out m c.args.command.now)) body (Ok c.begin.result) c.begin.new.self old old) (sym c.requires.empty)
-    (of_sessions c.args.self.now c.begin.new.self old old m c.args.command.now (transaction_begun m c.args.command.now.channel) [] (Ok c.begin.result) c.requires.ready at refl
-    (carried_out-arm m c.args.command.now Begin c.in-Begin.is free refl) (c.begin.ensures.step old m at))
+    of_sessions c.args.self.now c.begin.new.self old old m c.args.command.now (transaction_begun m c.args.command.now.channel) _ [] (Ok c.begin.result) c.requires.ready at refl
+    (carried_out-arm m c.args.command.now Begin c.in-Begin.is free refl) c.requires.empty (c.begin.ensures.step old m at)
 
 pub returns-in-Begin-clause-behind : goal.returns-in-Begin-clause-behind
 returns-in-Begin-clause-behind g c = Keeps-none (drop (image_size c.args.self.now.store.chains.cells)) (g.B.Eeprom.chip c.args.bench.now) (g.B.Eeprom.chip c.args.bench.now) refl
@@ -65,19 +72,15 @@ returns-in-Commit-clause-performs g c = λ m at.
     let old = g.B.Eeprom.chip c.args.bench.now in
     let new = g.B.Eeprom.chip c.commit.new.bench in
     let free = told-waiting c.args.self.now old m c.args.command.now c.keeps_waiting.result false at.held c.keeps_waiting.ensures c.if-keeps_waiting.false in
-    subst (λ (body : List ℕ). Performs m (answered m (carried_out m c.args.command.now)) (or_nothing (octets_carried_out m c.args.command.now)) body c.commit.result c.commit.new.self old new) (sym c.requires.empty)
-    (subst (λ (outcome : Result Answer StatusWord). Performs m (answered m outcome) (or_nothing (octets_carried_out m c.args.command.now)) [] c.commit.result c.commit.new.self old new)
-    (sym (carried_out-arm m c.args.command.now Commit c.in-Commit.is free refl))
-    (subst (λ (most : Result ℕ StatusWord). Performs m (answered m (transaction_committed m channel)) (or_nothing most) [] c.commit.result c.commit.new.self old new)
-    (sym (octets-arm m c.args.command.now Commit c.in-Commit.is free)) (c.commit.ensures.performs m at)))
+    as_outcome m c.args.command.now (transaction_committed m channel) _ _ [] c.commit.result c.commit.new.self old new
+    (carried_out-arm m c.args.command.now Commit c.in-Commit.is free refl) (octets-arm m c.args.command.now Commit c.in-Commit.is free) c.requires.empty (c.commit.ensures.performs m at)
 
 pub returns-in-Rollback-clause-performs : goal.returns-in-Rollback-clause-performs
 returns-in-Rollback-clause-performs g c = λ m at.
     let old = g.B.Eeprom.chip c.args.bench.now in
     let free = told-waiting c.args.self.now old m c.args.command.now c.keeps_waiting.result false at.held c.keeps_waiting.ensures c.if-keeps_waiting.false in
-    subst (λ (body : List ℕ). Performs m (answered m (carried_out m c.args.command.now)) (or_nothing (octets_carried_out m c.args.command.now)) body (Ok c.roll_back.result) c.roll_back.new.self old old) (sym c.requires.empty)
-    (of_sessions c.args.self.now c.roll_back.new.self old old m c.args.command.now (transaction_rolled_back m c.args.command.now.channel) [] (Ok c.roll_back.result) c.requires.ready at refl
-    (carried_out-arm m c.args.command.now Rollback c.in-Rollback.is free refl) (c.roll_back.ensures.step old m at.held))
+    of_sessions c.args.self.now c.roll_back.new.self old old m c.args.command.now (transaction_rolled_back m c.args.command.now.channel) _ [] (Ok c.roll_back.result) c.requires.ready at refl
+    (carried_out-arm m c.args.command.now Rollback c.in-Rollback.is free refl) c.requires.empty (c.roll_back.ensures.step old m at.held)
 
 pub returns-in-Rollback-clause-behind : goal.returns-in-Rollback-clause-behind
 returns-in-Rollback-clause-behind g c = Keeps-none (drop (image_size c.args.self.now.store.chains.cells)) (g.B.Eeprom.chip c.args.bench.now) (g.B.Eeprom.chip c.args.bench.now) refl
@@ -93,9 +96,8 @@ returns-in-PresentUser-clause-performs g c = λ m at.
     let new = g.B.Eeprom.chip c.present_user.new.bench in
     let free = told-waiting c.args.self.now old m c.args.command.now c.keeps_waiting.result false at.held c.keeps_waiting.ensures c.if-keeps_waiting.false in
     let presents = carried_out-arm m c.args.command.now (PresentUser c.in-PresentUser.name) c.in-PresentUser.is free refl in
-    subst (λ (body : List ℕ). Performs m (answered m (carried_out m c.args.command.now)) (or_nothing (octets_carried_out m c.args.command.now)) body c.present_user.result c.present_user.new.self old new) (sym c.requires.empty)
-    (of_sessions c.args.self.now c.present_user.new.self old new m c.args.command.now (user_presented m c.args.command.now.channel c.in-PresentUser.name) [] c.present_user.result c.requires.ready at c.present_user.ensures.same presents
-    (rw c.copy.ensures at (c.present_user.ensures.step m at)))
+    of_sessions c.args.self.now c.present_user.new.self old new m c.args.command.now (user_presented m c.args.command.now.channel c.in-PresentUser.name) _ [] c.present_user.result c.requires.ready at c.present_user.ensures.same presents c.requires.empty
+    (rw c.copy.ensures at (c.present_user.ensures.step m at))
 
 pub returns-in-PresentUser-clause-behind : goal.returns-in-PresentUser-clause-behind
 returns-in-PresentUser-clause-behind g c =
@@ -109,7 +111,7 @@ returns-in-OpenChannel-clause-performs g c = λ m at.
     let old = g.B.Eeprom.chip c.args.bench.now in
     let free = told-waiting c.args.self.now old m c.args.command.now c.keeps_waiting.result false at.held c.keeps_waiting.ensures c.if-keeps_waiting.false in
     let opens = carried_out-arm m c.args.command.now (OpenChannel c.in-OpenChannel.number) c.in-OpenChannel.is free refl in
-    of_sessions c.args.self.now c.open_channel.new.self old old m c.args.command.now (channel_opened m c.args.command.now.channel c.in-OpenChannel.number) c.open_channel.new.reply.body (Ok c.open_channel.result) c.requires.ready at refl opens
+    of_sessions c.args.self.now c.open_channel.new.self old old m c.args.command.now (channel_opened m c.args.command.now.channel c.in-OpenChannel.number) _ c.open_channel.new.reply.body (Ok c.open_channel.result) c.requires.ready at refl opens refl
     (c.open_channel.ensures.step old m at.held)
 
 pub returns-in-OpenChannel-clause-behind : goal.returns-in-OpenChannel-clause-behind
@@ -125,9 +127,8 @@ returns-in-CloseChannel-clause-performs g c = λ m at.
     let free = told-waiting c.args.self.now old m c.args.command.now c.keeps_waiting.result false at.held c.keeps_waiting.ensures c.if-keeps_waiting.false in
     let closes : carried_out m c.args.command.now ≡ channel_closed m c.args.command.now.channel c.channel_meant.result =
     carried_out-arm m c.args.command.now (CloseChannel c.in-CloseChannel.number) c.in-CloseChannel.is free refl ∙ ap (channel_closed m c.args.command.now.channel) (sym c.channel_meant.ensures.meant) in
-    subst (λ (body : List ℕ). Performs m (answered m (carried_out m c.args.command.now)) (or_nothing (octets_carried_out m c.args.command.now)) body (Ok c.close_channel.result) c.close_channel.new.self old old) (sym c.requires.empty)
-    (of_sessions c.args.self.now c.close_channel.new.self old old m c.args.command.now (channel_closed m c.args.command.now.channel c.channel_meant.result) [] (Ok c.close_channel.result) c.requires.ready at refl closes
-    (c.close_channel.ensures.step old m at.held))
+    of_sessions c.args.self.now c.close_channel.new.self old old m c.args.command.now (channel_closed m c.args.command.now.channel c.channel_meant.result) _ [] (Ok c.close_channel.result) c.requires.ready at refl closes c.requires.empty
+    (c.close_channel.ensures.step old m at.held)
 
 pub returns-in-CloseChannel-clause-behind : goal.returns-in-CloseChannel-clause-behind
 returns-in-CloseChannel-clause-behind g c =
@@ -166,11 +167,8 @@ returns-in_default-clause-performs g c = λ m at.
     let new = g.B.Eeprom.chip c.change.new.bench in
     let free = told-waiting c.args.self.now old m c.args.command.now c.keeps_waiting.result false at.held c.keeps_waiting.ensures c.if-keeps_waiting.false in
     let others = subst (λ (w : Waits). keeps_waiting w c.args.self.now.transaction channel ≡ false) (waits-changes operation changes c.in_default.not-DeleteUser) (sym c.keeps_waiting.ensures ∙ c.if-keeps_waiting.false) in
-    subst (λ (body : List ℕ). Performs m (answered m (carried_out m c.args.command.now)) (or_nothing (octets_carried_out m c.args.command.now)) body c.change.result c.change.new.self old new) (sym c.requires.empty)
-    (subst (λ (outcome : Result Answer StatusWord). Performs m (answered m outcome) (or_nothing (octets_carried_out m c.args.command.now)) [] c.change.result c.change.new.self old new)
-    (sym (carried_out-changes m channel operation c.args.command.now.le changes c.in_default.not-DeleteUser free))
-    (subst (λ (most : Result ℕ StatusWord). Performs m (answered m (changed m channel operation)) (or_nothing most) [] c.change.result c.change.new.self old new)
-    (sym (octets-carried_out m channel operation c.args.command.now.le changes free)) (c.change.ensures.performs m at others)))
+    as_outcome m c.args.command.now (changed m channel operation) _ _ [] c.change.result c.change.new.self old new
+    (carried_out-changes m channel operation c.args.command.now.le changes c.in_default.not-DeleteUser free) (octets-carried_out m channel operation c.args.command.now.le changes free) c.requires.empty (c.change.ensures.performs m at others)
 
 -- VERIFY and DELETE USER wait for any transaction, so none is open.
 pub verify-requires-clause-closed : goal.verify-requires-clause-closed
@@ -186,9 +184,7 @@ returns-in-Verify-clause-performs g c = λ m at.
     let free = told-waiting c.args.self.now old m c.args.command.now c.keeps_waiting.result false at.held c.keeps_waiting.ensures c.if-keeps_waiting.false in
     let carried : carried_out m c.args.command.now ≡ verified m channel c.as_slice.result.now = rw c.as_slice.ensures.octets (carried_out-arm m c.args.command.now (Verify _) c.in-Verify.is free refl) in
     let most : octets_carried_out m c.args.command.now ≡ octets_verified m channel c.as_slice.result.now = rw c.as_slice.ensures.octets (octets-arm m c.args.command.now (Verify _) c.in-Verify.is free) in
-    subst (λ (body : List ℕ). Performs m (answered m (carried_out m c.args.command.now)) (or_nothing (octets_carried_out m c.args.command.now)) body c.verify.result c.verify.new.self old new) (sym c.requires.empty)
-    (subst (λ (outcome : Result Answer StatusWord). Performs m (answered m outcome) (or_nothing (octets_carried_out m c.args.command.now)) [] c.verify.result c.verify.new.self old new) (sym carried)
-    (subst (λ (most : Result ℕ StatusWord). Performs m (answered m (verified m channel c.as_slice.result.now)) (or_nothing most) [] c.verify.result c.verify.new.self old new) (sym most) (c.verify.ensures.performs m at)))
+    as_outcome m c.args.command.now (verified m channel c.as_slice.result.now) (octets_verified m channel c.as_slice.result.now) _ [] c.verify.result c.verify.new.self old new carried most c.requires.empty (c.verify.ensures.performs m at)
 
 pub delete_user-requires-clause-closed : goal.delete_user-requires-clause-closed
 delete_user-requires-clause-closed g c =
@@ -204,10 +200,8 @@ returns-in-DeleteUser-clause-performs g c = λ m at.
     let carried : carried_out m c.args.command.now ≡ user_and_sessions_deleted m channel c.in-DeleteUser.name = carried_out-arm m c.args.command.now (DeleteUser c.in-DeleteUser.name) c.in-DeleteUser.is free refl in
     let most : octets_carried_out m c.args.command.now ≡ octets_changed m channel c.args.command.now.operation =
     octets-carried_out m channel c.args.command.now.operation c.args.command.now.le (rw c.in-DeleteUser.is refl) free in
-    subst (λ (body : List ℕ). Performs m (answered m (carried_out m c.args.command.now)) (or_nothing (octets_carried_out m c.args.command.now)) body c.delete_user.result c.delete_user.new.self old new) (sym c.requires.empty)
-    (subst (λ (outcome : Result Answer StatusWord). Performs m (answered m outcome) (or_nothing (octets_carried_out m c.args.command.now)) [] c.delete_user.result c.delete_user.new.self old new) (sym carried)
-    (subst (λ (most : Result ℕ StatusWord). Performs m (answered m (user_and_sessions_deleted m channel c.in-DeleteUser.name)) (or_nothing most) [] c.delete_user.result c.delete_user.new.self old new) (sym most)
-    (rw c.copy-in-DeleteUser.ensures at (c.delete_user.ensures.performs m at))))
+    as_outcome m c.args.command.now (user_and_sessions_deleted m channel c.in-DeleteUser.name) (octets_changed m channel c.args.command.now.operation) _ [] c.delete_user.result c.delete_user.new.self old new carried most c.requires.empty
+    (rw c.copy-in-DeleteUser.ensures at (c.delete_user.ensures.performs m at))
 
 -- VERIFY alone commits a second database.
 not_twice : (m : Machine) (c : Command) (result : Result StatusWord EepromFault) (old new : Chip) → ((secret : List ℕ) → c.operation ≡ Verify secret → ⊥) → OnOk result (LeavesFirstOfTwo (answered m (carried_out m c)) old new)

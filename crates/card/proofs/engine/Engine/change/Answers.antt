@@ -17,7 +17,7 @@ use Rattle.card.specs.Card.{Kept, StandsOver}
 use Rattle.card.specs.Acting.{acting}
 use Rattle.card.specs.Changing.{Changes, ConcludesWithin}
 use Rattle.card.specs.Sessions as opened
-use Rattle.card.proofs.ReadingCard.{cursor-card, err-ok, err-on}
+use Rattle.card.proofs.ReadingCard.{Performs-err, cursor-card}
 use Rattle.card.proofs.SeenSessions.{closed-none, index-there}
 use Rattle.card.proofs.Sides.{StandsOver-idle, StandsOver-settled, StandsOver-within, last-works}
 use Rattle.card.proofs.Transacting.{Performs-at_once, Performs-in_transaction}
@@ -46,12 +46,7 @@ returns-in_err-word-in-None-clause-performs g c = λ m at others.
     (ap (λ (kept : Kept). kept.transaction) (sym c.self.view_is) ∙ c.in-None.is) c.proved_user-user.ensures reads (rw c.in_err-word-in-None.was tt)
     (subst (λ (kept : Kept). (db : Database) → IsAtRest kept.store old db → IfSome c.in-Some.session.cursor (IsCursorOf db)
     → Changes db (edits_of db (acting db c.proved_user-user.result) c.in-Some.session.cursor c.args.operation.now) c.change.result c.change.new.store old new) c.self.view_is c.change.ensures.changes) in
-    record {
-      step = err-ok _ _ c.from_residual.result c.from_residual.ensures.1;
-      moments = by.moments;
-      unwritten = err-on _ _ c.from_residual.result c.from_residual.ensures.1;
-      octets = err-on _ _ c.from_residual.result c.from_residual.ensures.1;
-    }
+    Performs-err _ c.from_residual.ensures.1 by.moments
 
 pub returns-in_err-word-in-Some-transaction-clause-performs : goal.returns-in_err-word-in-Some-transaction-clause-performs
 returns-in_err-word-in-Some-transaction-clause-performs g c = λ m at others.
@@ -65,12 +60,7 @@ returns-in_err-word-in-Some-transaction-clause-performs g c = λ m at others.
     (subst (λ (kept : Kept). (db : Database) → IsHeld kept.store Working old db → IfSome c.in-Some.session.cursor (IsCursorOf db)
     → IfOk c.change_within.result (λ word. ConcludesWithin db (edits_of db (acting db c.proved_user-user.result) c.in-Some.session.cursor c.args.operation.now) word kept.store c.change_within.new.store old new)) c.self.view_is c.change_within.ensures.changes)
     (rw c.in_err-word-in-Some-transaction.was tt) (rw c.in_err-word-in-Some-transaction.was tt) c.change_within.ensures.moments in
-    record {
-      step = err-ok _ _ c.from_residual-in_err-word-in-Some-transaction.result c.from_residual-in_err-word-in-Some-transaction.ensures.1;
-      moments = by.moments;
-      unwritten = err-on _ _ c.from_residual-in_err-word-in-Some-transaction.result c.from_residual-in_err-word-in-Some-transaction.ensures.1;
-      octets = err-on _ _ c.from_residual-in_err-word-in-Some-transaction.result c.from_residual-in_err-word-in-Some-transaction.ensures.1;
-    }
+    Performs-err _ c.from_residual-in_err-word-in-Some-transaction.ensures.1 by.moments
 
 pub returns-clause-performs : goal.returns-clause-performs
 returns-clause-performs g c = λ m at others.

@@ -21,7 +21,7 @@ use Rattle.card.specs.Card.{Kept, IsAt}
 use Rattle.card.specs.Waiting.{keeps_waiting}
 use Rattle.card.proofs.DeletedSessions.{Performs-deleted, left_after, left_card, refused-nobody}
 use Rattle.card.proofs.Performing.{IsAtRest-at, Performs-unwritten}
-use Rattle.card.proofs.ReadingCard.{err-ok, err-on}
+use Rattle.card.proofs.ReadingCard.{Performs-err, err-ok}
 use Rattle.card.proofs.Sides.{StandsOver-sessions}
 use Rattle.card.proofs.Transacting.{none-of}
 use Rattle.card.proofs.Verifying.{other_number}
@@ -70,12 +70,7 @@ returns-in_err-word-clause-performs g c = λ m from.
     let w = (goal.at.returns-in_err-word-clause-performs g c).After-change in
     let by = Performs-deleted m c.args.channel c.args.name (none-of m.transaction c.args.self.now.transaction from.held.transaction c.requires.closed) (or_nothing (octets_changed m c.args.channel c.args.operation.now)) c.change.result c.change.new.self c.change.new.self (g.B.Eeprom.chip c.args.bench.now)
     (g.B.Eeprom.chip c.change.new.bench) c.in-Some.user.value (named-user g w m from) (from_before g w m c.change.result from c.change.ensures.performs) (rw c.in_err-word.was tt) in
-    record {
-      step = err-ok _ _ c.from_residual-in_err-word.result c.from_residual-in_err-word.ensures.1;
-      moments = by.moments;
-      unwritten = err-on _ _ c.from_residual-in_err-word.result c.from_residual-in_err-word.ensures.1;
-      octets = err-on _ _ c.from_residual-in_err-word.result c.from_residual-in_err-word.ensures.1;
-    }
+    Performs-err _ c.from_residual-in_err-word.ensures.1 by.moments
 
 pub returns-then-word-clause-performs : goal.returns-then-word-clause-performs
 returns-then-word-clause-performs g c = λ m from.

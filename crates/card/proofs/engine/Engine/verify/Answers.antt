@@ -10,7 +10,7 @@ use Rattle.db_access.specs.Verifying.{HoldsSecret}
 use Rattle.card.specs.Answering.{Performs, changing_session, settled}
 use Rattle.card.specs.Card.{Kept, StandsOver, IsAt}
 use Rattle.card.specs.Sessions.{sessions_of}
-use Rattle.card.proofs.ReadingCard.{err-ok, err-on}
+use Rattle.card.proofs.ReadingCard.{Performs-err}
 use Rattle.card.proofs.Verifying.{StandsOver-proved, StandsOver-verified, IsUnproved, Performs-nobody, Performs-verified, lowered-first, other_number, secret-held, unproved-there}
 use Rattle.card.proofs.engine.Engine.verify.Goals.{After-settle, After-verify, then-word, else-word}
 use Rattle.card.proofs.engine.Engine.verify.Goals as goal
@@ -40,12 +40,7 @@ pub returns-in_err-word-clause-performs : goal.returns-in_err-word-clause-perfor
 returns-in_err-word-clause-performs g c = λ m from.
     let w = (goal.at.returns-in_err-word-clause-performs g c).After-verify in
     let by = performs g w m c.args.self.now from (rw c.in_err-word.was tt) in
-    record {
-      step = err-ok _ _ c.from_residual.result c.from_residual.ensures.1;
-      moments = by.moments;
-      unwritten = err-on _ _ c.from_residual.result c.from_residual.ensures.1;
-      octets = err-on _ _ c.from_residual.result c.from_residual.ensures.1;
-    }
+    Performs-err _ c.from_residual.ensures.1 by.moments
 
 -- the card once VERIFY has ended, before it is settled
 chosen : (g : _) (c : After-settle g) → (let next : Kept = record c.args.self.now { store = c.verify.new.store } in c.if-word.self ≡ (if c.in_ok-word.word.word == done.word then changing_session proving next c.args.channel else next))

@@ -15,11 +15,12 @@ use Rattle.scql_model.specs.Replies.{said}
 use Rattle.scql_model.specs.Step.{Answer, answered, carried_out, done_with, step}
 use Rattle.scql_model.specs.WellFormed.{FitsCard}
 use Rattle.apdu_chain.specs.Chaining.{chain_on}
+use Rattle.apdu_chain.proofs.TakenForms.{taken_at, outcome_of, octets_taken, octets-whole, taken-committed, taken-refused, taken-kept, length-after, named-taken, outcome-whole, fits-taken, kept-untaken, refused-untaken}
 use Rattle.card.specs.Card.{Kept, IsAt, IsReady}
 use Rattle.card.specs.Answering.{HoldsAnswer, LeavesFirstOfTwo, Performs}
 use Rattle.card.specs.Sessions.{sessions_of}
-use Rattle.card.proofs.ReadingCosts.{kept-untaken, on-then, reads-taken, reads-untaken, refused-untaken}
-use Rattle.card.proofs.TakenForms.{form-card, taken_at, outcome_of, step-taken, IsAt-taken, bound-taken, octets_taken, octets-whole, taken-committed, taken-refused, taken-kept, length-after, named-taken, open-taken, outcome-whole, fits-taken}
+use Rattle.card.proofs.ReadingCosts.{on-then, reads-taken, reads-untaken}
+use Rattle.card.proofs.TakenForms.{form-card, step-taken, IsAt-taken, bound-taken, open-taken}
 use Rattle.record_table.proofs.AtRest.{Keeps-none}
 use Rattle.card.proofs.Performing.{HoldsAnswer-done, Performs-found, Performs-from, Performs-unwritten}
 use Rattle.card.proofs.Sides.{IsReady-none, IsReady-sessions, StandsOver-sessions}
