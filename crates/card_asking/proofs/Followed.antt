@@ -19,7 +19,8 @@ use Rattle.planner.proofs.Readings.{reading-kept, reads-on}
 use Rattle.planner.proofs.Settled.{settled, more-is}
 use Rattle.planner.proofs.StatementsLawful.{after-append, last-answer}
 use Rattle.planner.proofs.Turning.{next_of-below}
-use Rattle.card_asking.specs.Following.{Follows, IsEnded, whole_run, run_from, behind, after_all, given_by, heard_at, to_go, turn_by}
+use Rattle.scql_model.specs.Lives.{after_all}
+use Rattle.card_asking.specs.Following.{Follows, IsEnded, whole_run, run_from, behind, given_by, heard_at, to_go, turn_by}
 use Rattle.card_asking.proofs.Moments.{one-before, one-next}
 
 -- lists that join to none

@@ -5,7 +5,7 @@ use Rattle.eeprom.proofs.Moments.{throughout-then, throughout-weaker}
 use Rattle.scql_model.specs.Database.{Database}
 use Rattle.scql_model.specs.Opens.{Opens}
 use Rattle.card_link.specs.Link.{IsOneOf, LeavesOpen}
-use Rattle.card_asking.specs.Following.{after_all}
+use Rattle.scql_model.specs.Lives.{after_all}
 
 pub one-behind : (mark : ℕ) (xs ys : List Database) (g : ℕ) (left : Database) → IsOneOf mark ys g left → IsOneOf mark (xs ++ ys) g left
 one-behind mark [] ys g left is = is

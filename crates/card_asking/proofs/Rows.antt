@@ -26,7 +26,8 @@ use Rattle.planner.specs.Running.{Ran, shown}
 use Rattle.planner.specs.Selecting.{closing_given, select_shown}
 use Rattle.planner.proofs.Readings.{started-reads}
 use Rattle.planner.proofs.SelectsShown.{select-reads}
-use Rattle.card_asking.specs.Following.{Follows, after_all, run_from, run_of, given_by}
+use Rattle.scql_model.specs.Lives.{after_all}
+use Rattle.card_asking.specs.Following.{Follows, run_from, run_of, given_by}
 use Rattle.card_asking.specs.Giving.{GivesShown, Gives, behind_step, IsNextRow, AreAllGiven, GivesMeaning}
 use Rattle.card_asking.proofs.Followed.{none-before, none-behind}
 use Rattle.card_asking.proofs.Meant.{base-valid, run-meant}

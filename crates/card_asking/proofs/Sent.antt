@@ -15,7 +15,7 @@ use Rattle.planner.specs.Words.{is_done}
 use Rattle.planner.proofs.StatementsLawful.{after-append}
 use Rattle.planner.specs.Meaning.{answer_to, followed_by, in_turn, parts_from, all_in_turn}
 use Rattle.card_link.specs.Link.{Answered, IsOneOf, LeavesOpen}
-use Rattle.card_asking.specs.Following.{after_all}
+use Rattle.scql_model.specs.Lives.{after_all}
 use Rattle.card_asking.proofs.Moments.{leaves-all, leaves-both, one-before, one-next}
 
 -- What is left of a command at a part.

@@ -1,7 +1,7 @@
 -- A plan under way on a link: what is left of its run, and how the link goes on with it.
 use Rattle.std.specs.Prelude.{◌≡◌, ℕ, suc, List, [], ◌∷◌, ◌++◌, length, Option, Some, None}
 use Rattle.scql_model.specs.Database.{Database}
-use Rattle.scql_model.specs.Heard.{after_commits}
+use Rattle.scql_model.specs.Lives.{after_all}
 use Rattle.scql_model.specs.Machine.{Machine}
 use Rattle.scql_model.specs.Replies.{Reply}
 use Rattle.planner.specs.declared.closing.Closing.{Closing}
@@ -32,10 +32,6 @@ OnlyReads p = IsReadingAt (next_of None p).plan (next_of None p).step
 -- a run behind rows that were given before it, and databases that were committed
 abbrev pub behind : List (List ℕ) → List Database → Ran → Ran
 behind rows commits ran = record ran { rows = rows ++ ran.rows; commits = commits ++ ran.commits }
-
--- the database after all commits
-abbrev pub after_all : Database → List Database → Database
-after_all db commits = after_commits db commits (length commits)
 
 -- how many steps are left
 abbrev pub to_go : Planned → Step → ℕ

@@ -16,32 +16,6 @@ use Rattle.card_cli.specs.Behind.{run_cells}
 use Rattle.card_cli.proofs.Finishing.{front-cells}
 use Rattle.card_cli.proofs.Preparing.{IsFound}
 
--- one call, and then another that speaks of as many cells
-pub behind-then : (first second : List ℕ → ℕ) (old mid new : Chip) → Becomes (λ was between. second between ≡ first was) old.image mid.image → KeepsBehind first old mid → KeepsBehind second mid new → KeepsBehind first old new
-behind-then first second old mid new alike before after = record {
-  later = omega (arith, before.later, after.later);
-  only = λ t g left since there. elim (after.only t g left (omega (arith, since, before.later)) there) [
-    | inl earlier ↦ before.only t g left since earlier
-    | inr now ↦ inr (both left now.0 now.1 now.2)
-  ];
-  stays = λ t g left since there. after.stays t g left (omega (arith, since, before.later)) (before.stays t g left since there);
-  now = λ image told. let now = after.now image told in both image now.0 now.1 now.2;
-}
-  where
-    both : (left between : List ℕ) → mid.image ≡ Some between → drop (image_size (second between)) left ≡ drop (image_size (second between)) between
-        → (was : List ℕ) × (old.image ≡ Some was) × (drop (image_size (first was)) left ≡ drop (image_size (first was)) was)
-    both left between told stays =
-        let from = before.now between told in
-        let cells = alike between told in
-        let same : cells.0 ≡ from.0 = cc (cells.1, from.1) in
-        let number : second between ≡ first from.0 = subst (λ (was : List ℕ). second between ≡ first was) same cells.2 in
-        (from.0, from.1, subst (λ (n : ℕ). drop (image_size n) left ≡ drop (image_size n) between) number stays ∙ from.2)
-
--- the same over a card whose number of cells stays
-pub behind-on : (first second : ℕ) (old mid new : Chip) → second ≡ first → KeepsBehind (λ was. first) old mid → KeepsBehind (λ was. second) mid new → KeepsBehind (λ was. first) old new
-behind-on first second old mid new same before after =
-    behind-then (λ was. first) (λ was. second) old mid new (λ between told. let from = before.now between told in (from.0, from.1, same)) before after
-
 -- The number of cells of a run's card.
 
 -- a new card has those that it is to have

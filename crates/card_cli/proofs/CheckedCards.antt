@@ -7,8 +7,8 @@ use Rattle.record_store.specs.Recovery.{KeepsStore}
 use Rattle.scql_model.specs.Database.{Database}
 use Rattle.card.specs.Counting.{check_text}
 use Rattle.card.specs.GivenMoments.{IsInPiece, throughout-same}
-use Rattle.card_cli.specs.declared.status.Status.{Status}
-use Rattle.card_cli.specs.declared.status.Status.TheVariants.{Done, Eeprom, WriteFault, NoMemory}
+use Rattle.program.specs.declared.status.Status.{Status}
+use Rattle.program.specs.declared.status.Status.TheVariants.{Done, Eeprom, WriteFault, NoMemory}
 use Rattle.card_cli.specs.Beginning.{IsOpenTo}
 use Rattle.card_cli.specs.Checking.{Checks, Says}
 use Rattle.card_cli.specs.Ends.{AllFaults, EndsBy, ends_opening}

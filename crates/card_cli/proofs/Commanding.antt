@@ -10,12 +10,12 @@ use Rattle.scql_model.specs.Lines.{Effect, Language, LineContent, command_lines,
 use Rattle.scql_model.specs.Opens.{Opens}
 use Rattle.card.specs.Card.{Kept, IsReady, IsAt}
 use Rattle.card.proofs.Leaving.{Opens-at}
-use Rattle.card_cli.specs.declared.stop.FailedDevice.{FailedDevice}
-use Rattle.card_cli.specs.declared.stop.FailedDevice.TheVariants.{Outlet}
-use Rattle.card_cli.specs.Answering.{Answered, Failed}
-use Rattle.card_cli.specs.CutOff.{FailsIn, IsCutShort}
-use Rattle.card_cli.specs.Moments.{IsInAnswered, IsAnswered, IsInStopped, IfGiven}
-use Rattle.card_cli.specs.RunState.{Prints}
+use Rattle.line_run.specs.declared.line_stop.LineStop.{LineStop}
+use Rattle.line_run.specs.declared.line_stop.LineStop.TheVariants.{Outlet}
+use Rattle.line_run.specs.Answering.{Answered, Failed}
+use Rattle.line_run.specs.CutOff.{FailsIn, IsCutShort}
+use Rattle.line_run.specs.Moments.{IsInAnswered, IsAnswered, IsInStopped, IfGiven}
+use Rattle.eeprom.specs.Output.{Prints}
 use Rattle.card_cli.proofs.Moving.{noted-moments, noted-answered}
 use Rattle.card_cli.proofs.Stopping.{fails_giving}
 
@@ -50,13 +50,13 @@ unfolding encode_with
 mute_text-reply body word empty is = rw (empty, is) refl
 
 -- what a call tells of a line that it answered, and of one in which a device failed
-pub told-answered : {S : Type 0} (L : Language S) (state : S) (does : Effect S) (at : S → Type 0) (old new : Chip) (result : Result (Unit {0}) FailedDevice) → OnOk result (at does.next)
+pub told-answered : {S : Type 0} (L : Language S) (state : S) (does : Effect S) (at : S → Type 0) (old new : Chip) (result : Result (Unit {0}) LineStop) → OnOk result (at does.next)
     → OnOk result (Prints does.text old.still.given new.still.given) → OnOk result (IfGiven new (IsAnswered L state does old new)) → OnOk result (Answered L state does at old new)
 told-answered L state does at old new (Ok x) here text moments = record { at = here; text = text; moments = moments }
 told-answered L state does at old new (Err stop) here text moments = tt
 
-pub told-failed : {S : Type 0} (L : Language S) (state : S) (does : Effect S) (old new : Chip) (result : Result (Unit {0}) FailedDevice)
-    → IfErr result (λ (stop : FailedDevice). FailsIn stop L [] state does old.still.given new) → IfErr result (λ (stop : FailedDevice). IfGiven new (Throughout old new (IsInStopped stop L state does old.still.mark)))
-    → IfErr result (λ (stop : FailedDevice). Failed stop L state does old new)
+pub told-failed : {S : Type 0} (L : Language S) (state : S) (does : Effect S) (old new : Chip) (result : Result (Unit {0}) LineStop)
+    → IfErr result (λ (stop : LineStop). FailsIn stop L [] state does old.still.given new) → IfErr result (λ (stop : LineStop). IfGiven new (Throughout old new (IsInStopped stop L state does old.still.mark)))
+    → IfErr result (λ (stop : LineStop). Failed stop L state does old new)
 told-failed L state does old new (Ok x) fails moments = tt
 told-failed L state does old new (Err stop) fails moments = record { fails = fails; moments = moments }

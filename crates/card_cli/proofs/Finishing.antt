@@ -23,15 +23,21 @@ use Rattle.card_cli.specs.declared.words.Form.{Form}
 use Rattle.card_cli.specs.declared.words.Form.TheVariants.{New}
 use Rattle.card_cli.specs.Beginning.{IsOpenTo, Begins, BeginsWith, LacksCard, LeavesUntilOpen}
 use Rattle.card_cli.specs.Words.{IsWithinLimits}
-use Rattle.card_cli.specs.declared.status.Status.{Status}
-use Rattle.card_cli.specs.declared.status.Status.TheVariants.{Done, Refused, Eeprom, ReadFault, WriteFault, NoMemory, TooLong}
-use Rattle.card_cli.specs.declared.stop.FailedDevice.{FailedDevice}
-use Rattle.card_cli.specs.declared.stop.FailedDevice.TheVariants as stop
-use Rattle.card_cli.specs.StatusNumber.{status_of}
-use Rattle.card_cli.specs.RunState.{Prints}
-use Rattle.card_cli.specs.Ends.{AllFaults, EndsBy, ends_as, is_of_opened, ends_opening, longest_input, reads_all}
-use Rattle.card_cli.specs.Extent.{Extent, to_end, stopped_in, EndsAt, Runs, RunsInput}
-use Rattle.card_cli.specs.Run.{IsQuiet, AnswersAll, RunsLines, TellsRefusals}
+use Rattle.program.specs.declared.status.Status.{Status}
+use Rattle.program.specs.declared.status.Status.TheVariants.{Done, Refused, Eeprom, ReadFault, WriteFault, NoMemory, TooLong}
+use Rattle.line_run.specs.declared.line_stop.LineStop.{LineStop}
+use Rattle.line_run.specs.declared.line_stop.LineStop.TheVariants as stops
+use Rattle.line_run.specs.Causes.{CausesEnd, Faults}
+use Rattle.line_input.specs.declared.input.InputEnd.{InputEnd}
+use Rattle.line_input.specs.declared.input.InputEnd.TheVariants as ends
+use Rattle.line_input.specs.Reading.{CountsSource}
+use Rattle.program.specs.Numbers.{status_at, status_of}
+use Rattle.eeprom.specs.Output.{Prints}
+use Rattle.program.specs.Numbers.{ends_as}
+use Rattle.card_cli.specs.Ends.{AllFaults, EndsBy, is_of_opened, ends_opening, reads_all}
+use Rattle.line_input.specs.Reading.{longest_input}
+use Rattle.line_run.specs.Extent.{Extent, to_end, stopped_in, EndsAt, Runs, RunsInput}
+use Rattle.card_cli.specs.Run.{IsQuiet, AnswersAll, RunsLines, RunsTo, TellsRefusals}
 use Rattle.card_cli.proofs.Asking.{eeprom-rose, limits-asked, unopened}
 
 -- the card that was opened is at the start of the database to which its EEPROM opens
@@ -76,31 +82,41 @@ becomes-at P start now input left from to becomes =
     let same : b.0 ≡ input = cc (b.1, from) in
     subst (λ (i : List ℕ). P i left) same b.2
 
-not_done : (status : Status) (stop : FailedDevice) → reads_all status ≡ true → status ≡ status_of stop → ⊥
-not_done status stop.Eeprom whole is = false≢true (subst (λ (s : Status). reads_all s ≡ true) is whole)
-not_done status stop.Outlet whole is = false≢true (subst (λ (s : Status). reads_all s ≡ true) is whole)
-not_done status stop.Both whole is = false≢true (subst (λ (s : Status). reads_all s ≡ true) is whole)
+-- a run that read its input to its end came to the end of its lines
+not_done : (stop : LineStop) → reads_all (status_of stop) ≡ true → ⊥
+not_done stops.Eeprom whole = false≢true whole
+not_done stops.Outlet whole = false≢true whole
+not_done stops.Both whole = false≢true whole
+not_done stops.NoMemory whole = false≢true whole
 
--- a run that is done came to the end of its lines
-said-done : {S X : Type 0} (chip : X → Chip) (eeprom : X → ℕ) (L : Language S) (state : S) (status : Status) (taken : List (List ℕ)) (extent : Extent) (old new : X) → reads_all status ≡ true → EndsAt chip eeprom L state extent status old new → Runs L state taken extent (chip old) (chip new)
+ends-whole : (end : InputEnd LineStop) (refused : Bool) → reads_all (status_at end refused) ≡ true → end ≡ ends.Ended
+ends-whole ends.Ended refused whole = refl
+ends-whole ends.ReadFault refused whole = absurd (false≢true whole)
+ends-whole ends.TooLong refused whole = absurd (false≢true whole)
+ends-whole (ends.Stopped stop) refused whole = absurd (not_done stop whole)
+
+said-done : {S X : Type 0} (chip : X → Chip) (eeprom : X → ℕ) (L : Language S) (state : S) (taken : List (List ℕ)) (extent : Extent) (old new : X) → EndsAt chip eeprom L state extent ends.Ended old new → Runs L state taken extent (chip old) (chip new)
     → Prints (run_text L state taken) (chip old).still.given (chip new).still.given
-said-done chip eeprom L state status taken to_end old new whole ends runs = subst (λ (said : List ℕ). Prints said (chip old).still.given (chip new).still.given) runs.text.1 runs.text.2
-said-done chip eeprom L state status taken (stopped_in stop answered line) old new whole ends runs = absurd (not_done status stop whole ends.0)
+said-done chip eeprom L state taken to_end old new ends runs = subst (λ (said : List ℕ). Prints said (chip old).still.given (chip new).still.given) runs.text.1 runs.text.2
+said-done chip eeprom L state taken (stopped_in stop answered line) old new ends runs = absurd cc
 
 -- and said the text of its whole input
 said-whole : {S X : Type 0} (chip : X → Chip) (eeprom : X → ℕ) (L : Language S) (state : S) (status : Status) (input left : List ℕ) (before : Still) (old new : X) → (chip old).still ≡ before → reads_all status ≡ true
-    → (ran : RunsInput chip eeprom L state status input left old new) → ran.taken ≡ lines input true → Prints (run_text L state (lines input true)) before.given (chip new).still.given
-said-whole chip eeprom L state status input left before old new still whole ran taken_is =
+    → RunsTo chip eeprom L state status input left old new → Prints (run_text L state (lines input true)) before.given (chip new).still.given
+said-whole {S} {X} chip eeprom L state status input left before old new still whole ran =
+    let ended : ran.end ≡ ends.Ended = ends-whole ran.end ran.refused (subst (λ (s : Status). reads_all s ≡ true) ran.ends whole) in
     subst (λ (s : Still). Prints (run_text L state (lines input true)) s.given (chip new).still.given) still
-    (subst (λ (taken : List (List ℕ)). Prints (run_text L state taken) (chip old).still.given (chip new).still.given) taken_is
-    (said-done chip eeprom L state status ran.taken ran.extent old new whole ran.ends ran.runs))
+    (said-ended (subst (λ (end : InputEnd LineStop). RunsInput chip eeprom L state end input left old new) ended ran.runs))
+  where
+    said-ended : RunsInput chip eeprom L state ends.Ended input left old new → Prints (run_text L state (lines input true)) (chip old).still.given (chip new).still.given
+    said-ended runs = subst (λ (taken : List (List ℕ)). Prints (run_text L state taken) (chip old).still.given (chip new).still.given) runs.are_taken (said-done chip eeprom L state runs.taken runs.extent old new runs.ends runs.runs)
 
 -- and so, without a fault, it answers all of its input
 answers_all : {S X : Type 0} (chip : X → Chip) (eeprom : X → ℕ) (L : Language S) (refused : S → Bool) (state : S) (status : Status) (was now : AllFaults) (input left : List ℕ) (before : Still) (old new : X) → (chip old).still ≡ before → is_of_opened status ≡ true → EndsBy status was now → IsQuiet was now
     → length input ≤ longest_input → (status ≡ TooLong → longest_input < length input) → (reads_all status ≡ true → status ≡ ends_as (refused (state_after L state (lines input true))))
-    → RunsInput chip eeprom L state status input left old new → AnswersAll (ends_as (refused (state_after L state (lines input true)))) status (run_text L state (lines input true)) before.given (chip new).still.given
-answers_all chip eeprom L refused state Done was now input left before old new still over ends quiet short long closes ran = inl (closes refl, said-whole chip eeprom L state Done input left before old new still refl ran ran.are_taken)
-answers_all chip eeprom L refused state Refused was now input left before old new still over ends quiet short long closes ran = inl (closes refl, said-whole chip eeprom L state Refused input left before old new still refl ran ran.are_taken)
+    → RunsTo chip eeprom L state status input left old new → AnswersAll (ends_as (refused (state_after L state (lines input true)))) status (run_text L state (lines input true)) before.given (chip new).still.given
+answers_all chip eeprom L refused state Done was now input left before old new still over ends quiet short long closes ran = inl (closes refl, said-whole chip eeprom L state Done input left before old new still refl ran)
+answers_all chip eeprom L refused state Refused was now input left before old new still over ends quiet short long closes ran = inl (closes refl, said-whole chip eeprom L state Refused input left before old new still refl ran)
 answers_all chip eeprom L refused state TooLong was now input left before old new still over ends quiet short long closes ran = absurd (omega (arith, long refl, short))
 answers_all chip eeprom L refused state Eeprom was now input left before old new still over ends quiet short long closes ran = absurd (quiet.eeprom ends.0)
 answers_all chip eeprom L refused state ReadFault was now input left before old new still over ends quiet short long closes ran = absurd (quiet.source ends.0)
@@ -153,7 +169,7 @@ pub Lines-opened : {S T X : Type 0} (chip : X → Chip) (eeprom : X → ℕ) (L 
     → ((db : Database) → Begins form (chip old) db → IfSome (chip mid).image (λ image. Opens image db))
     → (reads_all status ≡ true → Becomes (λ input left. (left ≡ []) × (length input ≤ longest_input)) start end) → (status ≡ TooLong → Becomes (λ input left. longest_input < length input) start end) → EndsBy status was now
     → ((db : Database) → Begins form (chip old) db → TellsRefusals L refused (first db) status start end)
-    → ((db : Database) → Begins form (chip old) db → Becomes (λ input left. RunsInput chip eeprom L (first db) status input left mid new) start end)
+    → ((db : Database) → Begins form (chip old) db → Becomes (λ input left. RunsTo chip eeprom L (first db) status input left mid new) start end)
     → RunsLines chip eeprom L refused first form status source after start end old new was now
 Lines-opened chip eeprom L refused first form status source after start end old mid new was now over begins still counted until opens whole long ends tells runs =
     record {
@@ -164,7 +180,7 @@ Lines-opened chip eeprom L refused first form status source after start end old 
       text = λ db begins quiet input left from to short.
           answers_all chip eeprom L refused (first db) status was now input left (chip old).still mid new still over ends quiet short (λ is. becomes-at (λ (i l : List ℕ). longest_input < length i) start end input left from to (long is))
           (λ all. becomes-at (λ (i l : List ℕ). status ≡ ends_as (refused (state_after L (first db) (lines i true)))) start end input left from to (tells db begins all))
-          (becomes-at (λ (i l : List ℕ). RunsInput chip eeprom L (first db) status i l mid new) start end input left from to (runs db begins));
+          (becomes-at (λ (i l : List ℕ). RunsTo chip eeprom L (first db) status i l mid new) start end input left from to (runs db begins));
       longer = λ db begins quiet input left from to long.
           inl (ends-longer status was now over ends quiet (λ all. not-longer input (becomes-at (λ (i l : List ℕ). (l ≡ []) × (length i ≤ longest_input)) start end input left from to (whole all)).1 long));
       runs = λ db begins. inr (λ left told.
@@ -274,16 +290,90 @@ never-tells L state Refused start end never whole all = absurd (never refl)
 never-tells L state status start end never whole all = absurd (false≢true all)
 
 -- A run over what has a bench is one over the bench.
-ends-through : {S X Y : Type 0} (bench : X → Y) (chip : Y → Chip) (eeprom : Y → ℕ) (L : Language S) (state : S) (extent : Extent) (status : Status) (old new : X)
-    → EndsAt (λ (x : X). chip (bench x)) (λ (x : X). eeprom (bench x)) L state extent status old new → EndsAt chip eeprom L state extent status (bench old) (bench new)
-ends-through bench chip eeprom L state to_end status old new ends = ends
-ends-through bench chip eeprom L state (stopped_in stop answered line) status old new ends =
+ends-through : {S X Y : Type 0} (bench : X → Y) (chip : Y → Chip) (eeprom : Y → ℕ) (L : Language S) (state : S) (extent : Extent) (end : InputEnd LineStop) (old new : X)
+    → EndsAt (λ (x : X). chip (bench x)) (λ (x : X). eeprom (bench x)) L state extent end old new → EndsAt chip eeprom L state extent end (bench old) (bench new)
+ends-through bench chip eeprom L state to_end end old new ends = ends
+ends-through bench chip eeprom L state (stopped_in stop answered line) end old new ends =
     let begins = ends.2 in (ends.0, bench ends.1, record { quiet = begins.quiet; text = begins.text; image = begins.image }, ends.3)
 
-pub runs-through : {S X Y : Type 0} (old new : X) (bench : X → Y) (chip : Y → Chip) (eeprom : Y → ℕ) (L : Language S) (state : S) (status : Status) (start end : Option (List ℕ))
-    → Becomes (λ (input left : List ℕ). RunsInput (λ (x : X). chip (bench x)) (λ (x : X). eeprom (bench x)) L state status input left old new) start end
-    → Becomes (λ (input left : List ℕ). RunsInput chip eeprom L state status input left (bench old) (bench new)) start end
-runs-through old new bench chip eeprom L state status start end runs = λ left told.
+pub runs-through : {S X Y : Type 0} (old new : X) (bench : X → Y) (chip : Y → Chip) (eeprom : Y → ℕ) (L : Language S) (state : S) (end : InputEnd LineStop) (refused : Bool) (status : Status) (start now : Option (List ℕ)) → status ≡ status_at end refused
+    → Becomes (λ (input left : List ℕ). RunsInput (λ (x : X). chip (bench x)) (λ (x : X). eeprom (bench x)) L state end input left old new) start now
+    → Becomes (λ (input left : List ℕ). RunsTo chip eeprom L state status input left (bench old) (bench new)) start now
+runs-through old new bench chip eeprom L state end refused status start now is runs = λ left told.
     let last = runs left told in
-    let ran = last.2 in
-    (last.0, last.1, record { taken = ran.taken; are_taken = ran.are_taken; extent = ran.extent; ends = ends-through bench chip eeprom L state ran.extent status old new ran.ends; runs = ran.runs })
+    let ran = last.2 in (
+      last.0,
+      last.1,
+      record {
+        end = end;
+        refused = refused;
+        ends = is;
+        runs = record { taken = ran.taken; are_taken = ran.are_taken; extent = ran.extent; ends = ends-through bench chip eeprom L state ran.extent end old new ran.ends; runs = ran.runs };
+      },
+    )
+
+-- How a run over its input ends, by how its lines came to an end.
+
+-- no count rose
+same_all : (a b c d s t : ℕ) → (let was : Faults = record { eeprom = a; outlet = c } in let now : Faults = record { eeprom = b; outlet = d } in now ≡ was) → t ≡ s
+    → (let was : AllFaults = record { eeprom = a; source = s; outlet = c } in let now : AllFaults = record { eeprom = b; source = t; outlet = d } in now ≡ was)
+same_all a b c d s t same source =
+    let eeprom : b ≡ a = ap (λ (f : Faults). f.eeprom) same in
+    let outlet : d ≡ c = ap (λ (f : Faults). f.outlet) same in
+    rw (eeprom, outlet, source) refl
+
+-- commands aren't refused
+pub never-refused : (end : InputEnd LineStop) → status_at end false ≡ Refused → ⊥
+never-refused ends.Ended is = absurd cc
+never-refused ends.ReadFault is = absurd cc
+never-refused ends.TooLong is = absurd cc
+never-refused (ends.Stopped stops.Eeprom) is = absurd cc
+never-refused (ends.Stopped stops.Outlet) is = absurd cc
+never-refused (ends.Stopped stops.Both) is = absurd cc
+never-refused (ends.Stopped stops.NoMemory) is = absurd cc
+
+-- a run of statements tells whether one was refused
+pub tells-refused : {S : Type 0} (L : Language S) (state : S) (refused_in : S → Bool) (end : InputEnd LineStop) (refused : Bool) (at : S → Type 0) (start now : Option (List ℕ)) → ((s : S) → at s → refused ≡ refused_in s)
+    → (end ≡ ends.Ended → Becomes (λ input left. at (state_after L state (lines input true))) start now) → TellsRefusals L refused_in state (status_at end refused) start now
+tells-refused L state refused_in end refused at start now tells ended whole = λ left told.
+    let is = ends-whole end refused whole in
+    let last = ended is left told in
+    (last.0, last.1, ap (λ (e : InputEnd LineStop). status_at e refused) is ∙ ap ends_as (tells (state_after L state (lines last.0 true)) last.2))
+
+-- all of its input was read
+pub at-whole : {P : List ℕ → List ℕ → Type 0} (end : InputEnd LineStop) (refused : Bool) (start now : Option (List ℕ)) → (end ≡ ends.Ended → Becomes P start now) → reads_all (status_at end refused) ≡ true → Becomes P start now
+at-whole end refused start now becomes whole = becomes (ends-whole end refused whole)
+
+-- or more came than is taken
+pub at-longer : {P : List ℕ → List ℕ → Type 0} (end : InputEnd LineStop) (refused : Bool) (start now : Option (List ℕ)) → (end ≡ ends.TooLong → Becomes P start now) → status_at end refused ≡ TooLong → Becomes P start now
+at-longer ends.TooLong refused start now becomes long = becomes refl
+at-longer ends.Ended true start now becomes long = absurd cc
+at-longer ends.Ended false start now becomes long = absurd cc
+at-longer ends.ReadFault refused start now becomes long = absurd cc
+at-longer (ends.Stopped stops.Eeprom) refused start now becomes long = absurd cc
+at-longer (ends.Stopped stops.Outlet) refused start now becomes long = absurd cc
+at-longer (ends.Stopped stops.Both) refused start now becomes long = absurd cc
+at-longer (ends.Stopped stops.NoMemory) refused start now becomes long = absurd cc
+
+-- its end is one of a run whose card was opened, where memory isn't wanting in a line
+pub of-opened : (end : InputEnd LineStop) (refused : Bool) → (end ≡ ends.Stopped stops.NoMemory → false ≡ true) → is_of_opened (status_at end refused) ≡ true
+of-opened ends.Ended true memory = refl
+of-opened ends.Ended false memory = refl
+of-opened ends.ReadFault refused memory = refl
+of-opened ends.TooLong refused memory = refl
+of-opened (ends.Stopped stops.Eeprom) refused memory = refl
+of-opened (ends.Stopped stops.Outlet) refused memory = refl
+of-opened (ends.Stopped stops.Both) refused memory = refl
+of-opened (ends.Stopped stops.NoMemory) refused memory = absurd (false≢true (memory refl))
+
+-- each fault has its cause
+pub input-causes : (end : InputEnd LineStop) (refused : Bool) (eeprom eeprom_now outlet outlet_now source source_now : ℕ) → CausesEnd end (record { eeprom = eeprom; outlet = outlet }) (record { eeprom = eeprom_now; outlet = outlet_now }) → CountsSource end source source_now
+    → EndsBy (status_at end refused) (record { eeprom = eeprom; source = source; outlet = outlet }) (record { eeprom = eeprom_now; source = source_now; outlet = outlet_now })
+input-causes ends.Ended true eeprom eeprom_now outlet outlet_now source source_now causes counts = same_all eeprom eeprom_now outlet outlet_now source source_now causes counts
+input-causes ends.Ended false eeprom eeprom_now outlet outlet_now source source_now causes counts = same_all eeprom eeprom_now outlet outlet_now source source_now causes counts
+input-causes ends.ReadFault refused eeprom eeprom_now outlet outlet_now source source_now causes counts = (counts.1, ap (λ (f : Faults). f.eeprom) causes, ap (λ (f : Faults). f.outlet) causes)
+input-causes ends.TooLong refused eeprom eeprom_now outlet outlet_now source source_now causes counts = same_all eeprom eeprom_now outlet outlet_now source source_now causes counts
+input-causes (ends.Stopped stops.Eeprom) refused eeprom eeprom_now outlet outlet_now source source_now causes counts = (causes.eeprom refl, counts, causes.outlet_stays refl)
+input-causes (ends.Stopped stops.Outlet) refused eeprom eeprom_now outlet outlet_now source source_now causes counts = (causes.outlet refl, counts, causes.eeprom_later)
+input-causes (ends.Stopped stops.Both) refused eeprom eeprom_now outlet outlet_now source source_now causes counts = ((causes.both refl).1, counts, causes.eeprom_later)
+input-causes (ends.Stopped stops.NoMemory) refused eeprom eeprom_now outlet outlet_now source source_now causes counts = same_all eeprom eeprom_now outlet outlet_now source source_now (causes.both_stay refl) counts

@@ -1,14 +1,9 @@
 mod Asking
 mod Behind
-mod Blanks
 mod CheckedCards
 mod Commanding
-mod Feeding
 mod Finishing
-mod HexadecimalTexts
 mod InsertedRows
-mod Keeping
-mod LineEnds
 mod Living
 mod LoadedCards
 mod LoadedLines
@@ -21,6 +16,4 @@ mod ShownRows
 mod Showing
 pub mod Sittings
 mod Stopping
-mod Streaming
-mod Taking
 mod Watching

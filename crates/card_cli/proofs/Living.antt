@@ -1,5 +1,5 @@
 -- A run that meets its clause of the program's one call is a power cycle of a card's life.
-use Rattle.std.proofs.Common.{◌≡◌, ◌⊎◌, inl, inr, ℕ, ◌+◌, ◌-◌, ◌<◌, ◌≤◌, Bool, true, false, List, [], ◌∷◌, ◌++◌, length, Option, Some, if◌then◌else◌, refl, sym, ap, subst, ◌∙◌, arith, length-append}
+use Rattle.std.proofs.Common.{◌≡◌, ◌⊎◌, inl, inr, ℕ, ◌+◌, ◌-◌, Bool, true, false, List, [], ◌∷◌, ◌++◌, length, Option, Some, if◌then◌else◌, refl, sym, ap, subst, ◌∙◌, arith, length-append}
 use Rattle.std.proofs.lemmas.Bool.{cases_Bool}
 use Rattle.std.specs.Prelude.{IsSome, IfSome, codes, ◌==◌}
 use Rattle.eeprom.specs.Chip.{Chip, Still, Throughout}
@@ -19,26 +19,32 @@ use Rattle.scql_model.proofs.Hearing.{commands-lawful, kept-answered, kept-faili
 use Rattle.scql_model.proofs.JoinedLives.{joined-cycle, joined-lawful, joined-spare}
 use Rattle.scql_model.proofs.LivesRestore.{lines-guarded, lines-spared}
 use Rattle.scql_model.proofs.SparingSteps.{commands-spare}
-use Rattle.planner.specs.StatementLines.{statement_lines}
+use Rattle.planner.specs.StatementLines.{TerminalState, statement_lines}
 use Rattle.planner.proofs.StatementsLawful.{statements-lawful}
 use Rattle.planner.proofs.StatementsSpare.{statements-spare}
 use Rattle.std.specs.Fmt.{decimal}
 use Rattle.terminal.specs.Load.{LoadCounts, counts_text, load_counts, load_script}
 use Rattle.card.proofs.Starting.{opens-same}
-use Rattle.card_cli.specs.declared.status.Status.{Status}
-use Rattle.card_cli.specs.declared.status.Status.TheVariants.{Done, Refused, Eeprom, WriteFault}
+use Rattle.program.specs.declared.status.Status.{Status}
+use Rattle.program.specs.declared.status.Status.TheVariants.{Done, Refused, Eeprom, WriteFault}
 use Rattle.card_cli.specs.declared.words.Form.{Form}
 use Rattle.card_cli.specs.declared.words.Form.TheVariants.{New, Apdu, Term, Check, Load, Migrate}
 use Rattle.card_cli.specs.Beginning.{Begins, EndsUnread, IsOpenTo, LeavesUntilOpen}
 use Rattle.card_cli.specs.Checking.{Checks}
-use Rattle.card_cli.specs.Ends.{AllFaults, ends_opening}
-use Rattle.card_cli.specs.Extent.{AreTaken, carried_out}
-use Rattle.card_cli.specs.Living.{AreLinesOf, CardState, IsCycle, IsCycleAt, MakesAndLives, ReadInEach, StateOf, card_lines, first_state, lines_of, migrate_lines}
+use Rattle.card_cli.specs.Ends.{AllFaults}
+use Rattle.eeprom.specs.Output.{Prints}
+use Rattle.line_input.specs.declared.input.InputEnd.{InputEnd}
+use Rattle.line_run.specs.declared.line_stop.LineStop.{LineStop}
+use Rattle.line_run.specs.declared.line_stop.LineStop.TheVariants as stops
+use Rattle.line_run.specs.Answering.{Failed}
+use Rattle.line_run.specs.Extent.{AreTaken, EndsAt, Extent, Runs, carried_out, stopped_in, to_end}
+use Rattle.program.specs.Numbers.{status_at}
+use Rattle.card_cli.specs.Living.{AreClean, AreRead, CardState, IsCycle, IsCycleAt, MakesAndLives, ReadInEach, StateOf, card_lines, first_state, lines_of, migrate_lines}
 use Rattle.card_cli.specs.Loading.{Loads, LoadsTo, script_effect, script_lines}
 use Rattle.card_cli.specs.Migrating.{IsInMigration, Migrates}
-use Rattle.card_cli.specs.Moments.{IsInAnswered, IsInLine}
+use Rattle.line_run.specs.Moments.{IsInAnswered, IsInLine}
 use Rattle.card_cli.specs.Run.{OpensAndRuns, RunsLines}
-use Rattle.card_cli.specs.SittingLaws.{term-lawful}
+use Rattle.card_cli.specs.ResponderLaws.{term-lawful}
 use Rattle.card_cli.specs.Statements.{opened, term_lines, was_refused}
 use Rattle.card_cli.proofs.LongerRows.{same-migrated}
 use Rattle.card_cli.proofs.Selecting.{term-lines-select-shown}
@@ -188,36 +194,55 @@ kept-cycles : (form : Form) (db : Database) (lines : List (List ℕ)) (clean : �
     → KeptFrom form db lines clean mark g left → IsCycleAt form db lines clean image mark g left
 kept-cycles form db lines clean image mark g left opens kept = cycle-kept form db lines clean image mark g kept.0 left kept.1 opens kept.2
 
+-- how many lines are clean, by the extent of the run
+clean-of : {X : Type 0} (chip : X → Chip) (eeprom : X → ℕ) (form : Form) (db : Database) (status : Status) (end : InputEnd LineStop) (refused : Bool) (lines : List (List ℕ)) (extent : Extent) (old new : X) → status ≡ status_at end refused
+    → EndsAt chip eeprom (lines_of form) (first_state form db) extent end old new → Runs (lines_of form) (first_state form db) lines extent (chip old) (chip new)
+    → AreClean form db status lines (carried_out extent lines) (chip old).still.given (chip new).still.given
+clean-of chip eeprom form db status end refused lines to_end old new is ends runs = inl refl
+clean-of chip eeprom form db status end refused lines (stopped_in stop answered line) old new is ends runs = inr (record {
+  stop = stop;
+  answered = answered;
+  line = line;
+  within = runs.within;
+  ends = is ∙ ap (λ (e : InputEnd LineStop). status_at e refused) ends.0;
+  count = refl;
+  text = runs.text;
+})
+
 -- The card was opened, and lines were taken.
 opens-cycle : {X : Type 0} (chip : X → Chip) (eeprom : X → ℕ) (form : Form) (db : Database) (status : Status) (input left image : List ℕ) (old new : X)
-    → ((lines : List (List ℕ)) → ((ends_opening status ≡ true) × (lines ≡ [])) ⊎ AreTaken status input left lines → AreLinesOf form status input left lines)
+    → ((lines : List (List ℕ)) → ((end : InputEnd LineStop) × (refused : Bool) × (status ≡ status_at end refused) × AreTaken end input left lines) → AreRead form status input left lines)
     → ((opened : Chip) → LeavesUntilOpen form (chip old) opened → KeepsStore (chip old) opened)
     → (chip old).image ≡ Some image → Opens image db → IsSome (chip new).still.given
     → OpensAndRuns chip eeprom (lines_of form) form db (first_state form db) status input left old new → IsCycle form db status input left image (chip old) (chip new)
-opens-cycle chip eeprom form db status input left image old new are until told opens given runs = record {
-  lines = runs.runs.taken;
-  are = are runs.runs.taken (inr runs.runs.are_taken);
-  clean = carried_out runs.runs.extent runs.runs.taken;
-  moments = cycles-then form db runs.runs.taken (carried_out runs.runs.extent runs.runs.taken) image (chip old) (chip runs.opened) (chip new)
-      (KeptFrom form db runs.runs.taken (carried_out runs.runs.extent runs.runs.taken) (chip runs.opened).still.mark) told opens (until (chip runs.opened) runs.until) (runs.runs.runs.moments given)
-      (λ g left kept. kept-cycles form db runs.runs.taken (carried_out runs.runs.extent runs.runs.taken) image (chip runs.opened).still.mark g left opens kept);
-}
+opens-cycle chip eeprom form db status input left image old new are until told opens given opened =
+    let ran = opened.runs.runs in
+    let clean : ℕ = carried_out ran.extent ran.taken in
+    record {
+      lines = ran.taken;
+      are = inr (are ran.taken (opened.runs.end, opened.runs.refused, opened.runs.ends, ran.are_taken));
+      clean = clean;
+      are_clean = subst (λ (s : Still). AreClean form db status ran.taken clean s.given (chip new).still.given) opened.still
+          (clean-of chip eeprom form db status opened.runs.end opened.runs.refused ran.taken ran.extent opened.opened new opened.runs.ends ran.ends ran.runs);
+      moments = cycles-then form db ran.taken clean image (chip old) (chip opened.opened) (chip new) (KeptFrom form db ran.taken clean (chip opened.opened).still.mark) told opens (until (chip opened.opened) opened.until) (ran.runs.moments given)
+          (λ g left kept. kept-cycles form db ran.taken clean image (chip opened.opened).still.mark g left opens kept);
+    }
 
 -- Or no line was read.
 unread-cycle : {T : Type 0} (form : Form) (db : Database) (status : Status) (input left image : List ℕ) (source after : T) (old new : Chip)
-    → ((lines : List (List ℕ)) → ((ends_opening status ≡ true) × (lines ≡ [])) ⊎ AreTaken status input left lines → AreLinesOf form status input left lines)
     → (LeavesUntilOpen form old new → KeepsStore old new) → old.image ≡ Some image → Opens image db → EndsUnread form status source after old new → IsCycle form db status input left image old new
-unread-cycle form db status input left image source after old new are until told opens unread = record {
+unread-cycle form db status input left image source after old new until told opens unread = record {
   lines = [];
-  are = are [] (inl (unread.opening, refl));
+  are = inl (unread.opening, refl);
   clean = 0;
+  are_clean = inl refl;
   moments = cycles-until form db [] 0 image old new told opens (until unread.leaves);
 }
 
 pub commands-cycle : {T X : Type 0} (chip : X → Chip) (eeprom : X → ℕ) (status : Status) (source after : T) (input left : List ℕ) (old new : X) (was now : AllFaults) (db : Database) (opens : IsOpenTo (chip old) db)
     → IsSome (chip new).still.given → RunsLines chip eeprom (lines_of Apdu) (λ m. false) start Apdu status source after (Some input) (Some left) old new was now → IsCycle Apdu db status input left opens.0 (chip old) (chip new)
 commands-cycle chip eeprom status source after input left old new was now db opens given lines = elim (lines.runs db opens) [
-  | inl unread ↦ unread-cycle Apdu db status input left opens.0 source after (chip old) (chip new) (λ lines is. is) (λ leaves. leaves) opens.1 opens.2 unread
+  | inl unread ↦ unread-cycle Apdu db status input left opens.0 source after (chip old) (chip new) (λ leaves. leaves) opens.1 opens.2 unread
   | inr runs ↦
       let told = runs left refl in
       opens-cycle chip eeprom Apdu db status input left opens.0 old new (λ lines is. is) (λ opened leaves. leaves) opens.1 opens.2 given
@@ -227,7 +252,7 @@ commands-cycle chip eeprom status source after input left old new was now db ope
 pub statements-cycle : {T X : Type 0} (chip : X → Chip) (eeprom : X → ℕ) (status : Status) (source after : T) (input left : List ℕ) (old new : X) (was now : AllFaults) (db : Database) (opens : IsOpenTo (chip old) db)
     → IsSome (chip new).still.given → RunsLines chip eeprom term_lines was_refused opened Term status source after (Some input) (Some left) old new was now → IsCycle Term db status input left opens.0 (chip old) (chip new)
 statements-cycle chip eeprom status source after input left old new was now db opens given lines = elim (lines.runs db opens) [
-  | inl unread ↦ unread-cycle Term db status input left opens.0 source after (chip old) (chip new) (λ lines is. is) (λ leaves. leaves) opens.1 opens.2 unread
+  | inl unread ↦ unread-cycle Term db status input left opens.0 source after (chip old) (chip new) (λ leaves. leaves) opens.1 opens.2 unread
   | inr runs ↦
       let told = runs left refl in
       opens-cycle chip eeprom Term db status input left opens.0 old new (λ lines is. is) (λ opened leaves. leaves) opens.1 opens.2 given
@@ -237,20 +262,24 @@ statements-cycle chip eeprom status source after input left old new was now db o
 -- A run of `new` makes its card first.
 made-cycle : {X : Type 0} (chip : X → Chip) (eeprom : X → ℕ) (n : ℕ) (db : Database) (status : Status) (input left : List ℕ) (old new : X) → IsSome (chip new).still.given
     → OpensAndRuns chip eeprom (lines_of (New n)) (New n) db (start db) status input left old new → MakesAndLives n db status input left (chip old) (chip new)
-made-cycle chip eeprom n db status input left old new given runs = record {
-  opened = chip runs.opened;
-  made = runs.until;
-  lives = λ image told.
-      let opens : Opens image db = subst (λ (o : Option (List ℕ)). IfSome o (λ image. Opens image db)) told runs.opens in
-      record {
-        lines = runs.runs.taken;
-        are = inr runs.runs.are_taken;
-        clean = carried_out runs.runs.extent runs.runs.taken;
-        moments = throughout-weaker (chip runs.opened) (chip new) (KeptFrom (New n) db runs.runs.taken (carried_out runs.runs.extent runs.runs.taken) (chip runs.opened).still.mark)
-            (IsCycleAt (New n) db runs.runs.taken (carried_out runs.runs.extent runs.runs.taken) image (chip runs.opened).still.mark) (runs.runs.runs.moments given)
-            (λ g left kept. kept-cycles (New n) db runs.runs.taken (carried_out runs.runs.extent runs.runs.taken) image (chip runs.opened).still.mark g left opens kept);
-      };
-}
+made-cycle chip eeprom n db status input left old new given opened =
+    let ran = opened.runs.runs in
+    let clean : ℕ = carried_out ran.extent ran.taken in
+    let mid : Chip = chip opened.opened in
+    record {
+      opened = mid;
+      made = opened.until;
+      lives = λ image told.
+          let opens : Opens image db = subst (λ (o : Option (List ℕ)). IfSome o (λ image. Opens image db)) told opened.opens in
+          record {
+            lines = ran.taken;
+            are = inr (opened.runs.end, opened.runs.refused, opened.runs.ends, ran.are_taken);
+            clean = clean;
+            are_clean = clean-of chip eeprom (New n) db status opened.runs.end opened.runs.refused ran.taken ran.extent opened.opened new opened.runs.ends ran.ends ran.runs;
+            moments = throughout-weaker mid (chip new) (KeptFrom (New n) db ran.taken clean mid.still.mark) (IsCycleAt (New n) db ran.taken clean image mid.still.mark) (ran.runs.moments given)
+                (λ g left kept. kept-cycles (New n) db ran.taken clean image mid.still.mark g left opens kept);
+          };
+    }
 
 pub new-cycle : {T X : Type 0} (chip : X → Chip) (eeprom : X → ℕ) (n : ℕ) (status : Status) (source after : T) (input left : List ℕ) (old new : X) (was now : AllFaults) (db : Database) → Begins (New n) (chip old) db
     → IsSome (chip new).still.given → RunsLines chip eeprom (lines_of (New n)) (λ m. false) start (New n) status source after (Some input) (Some left) old new was now
@@ -282,40 +311,49 @@ failing-cycle form db image mark g left opens failing =
 -- the moments of a script behind the opening
 loads-cycle : (rows seed : ℕ) (db : Database) (status : Status) (input left image : List ℕ) (from to : ℕ) (old opened new : Chip) → old.image ≡ Some image → Opens image db → KeepsStore old opened → IsSome new.still.given
     → LoadsTo rows seed status (first_state (Load rows seed) db) from to opened new → IsCycle (Load rows seed) db status input left image old new
-loads-cycle rows seed db status input left image from to old opened new told opens keeps given loads = go status loads
+loads-cycle rows seed db status input left image from to old opened new told opens keeps given loads = go status refl loads
   where
-    answered : Throughout opened new (IsInAnswered (script_lines rows seed) (first_state (Load rows seed) db) (script_effect rows seed (first_state (Load rows seed) db)) opened.still.mark) → IsCycle (Load rows seed) db status input left image old new
+    state : TerminalState
+    state = first_state (Load rows seed) db
+
+    answered : Throughout opened new (IsInAnswered (script_lines rows seed) state (script_effect rows seed state) opened.still.mark) → IsCycle (Load rows seed) db status input left image old new
     answered during = record {
       lines = [] ∷ [];
-      are = refl;
+      are = inr refl;
       clean = 1;
-      moments = cycles-then (Load rows seed) db ([] ∷ []) 1 image old opened new (IsInAnswered (script_lines rows seed) (first_state (Load rows seed) db) (script_effect rows seed (first_state (Load rows seed) db)) opened.still.mark) told opens keeps during (λ g left at. answered-cycle (Load rows seed) db image opened.still.mark g left opens at);
+      are_clean = inl refl;
+      moments = cycles-then (Load rows seed) db ([] ∷ []) 1 image old opened new (IsInAnswered (script_lines rows seed) state (script_effect rows seed state) opened.still.mark) told opens keeps during (λ g left at. answered-cycle (Load rows seed) db image opened.still.mark g left opens at);
     }
 
-    failed : Throughout opened new (IsInLine (script_lines rows seed) (first_state (Load rows seed) db) (script_effect rows seed (first_state (Load rows seed) db)) opened.still.mark) → IsCycle (Load rows seed) db status input left image old new
-    failed during = record {
+    -- the EEPROM failed in the script, of which nothing was said
+    failed : status ≡ Eeprom → Failed stops.Eeprom (script_lines rows seed) state (script_effect rows seed state) opened new → IsCycle (Load rows seed) db status input left image old new
+    failed is fails = record {
       lines = [] ∷ [];
-      are = refl;
+      are = inr refl;
       clean = 0;
-      moments = cycles-then (Load rows seed) db ([] ∷ []) 0 image old opened new (IsInLine (script_lines rows seed) (first_state (Load rows seed) db) (script_effect rows seed (first_state (Load rows seed) db)) opened.still.mark) told opens keeps during (λ g left at. failing-cycle (Load rows seed) db image opened.still.mark g left opens at);
+      are_clean = inr (record {
+        stop = stops.Eeprom;
+        answered = [];
+        line = [];
+        within = ([], refl);
+        ends = is;
+        count = refl;
+        text = (fails.fails.said, (fails.fails.said, fails.fails.says, refl), subst (λ (s : Still). Prints fails.fails.said s.given new.still.given) keeps.keeps.still fails.fails.given);
+      });
+      moments = cycles-then (Load rows seed) db ([] ∷ []) 0 image old opened new (IsInLine (script_lines rows seed) state (script_effect rows seed state) opened.still.mark) told opens keeps (fails.moments given) (λ g left at. failing-cycle (Load rows seed) db image opened.still.mark g left opens at);
     }
 
-    go : (end : Status) → LoadsTo rows seed end (first_state (Load rows seed) db) from to opened new → IsCycle (Load rows seed) db status input left image old new
-    go Done loads = answered (loads.0.moments given).moments
-    go Refused loads = answered (loads.0.moments given).moments
-    go WriteFault loads = answered (loads.0.moments given)
-    go Eeprom loads = failed (loads.moments given)
-    go end loads = absurd loads
+    go : (end : Status) → status ≡ end → LoadsTo rows seed end (first_state (Load rows seed) db) from to opened new → IsCycle (Load rows seed) db status input left image old new
+    go Done is loads = answered (loads.0.moments given).moments
+    go Refused is loads = answered (loads.0.moments given).moments
+    go WriteFault is loads = answered (loads.0.moments given)
+    go Eeprom is loads = failed is loads
+    go end is loads = absurd loads
 
 pub load-cycle : {T : Type 0} (rows seed : ℕ) (status : Status) (source after : T) (input left : List ℕ) (old new : Chip) (was now : AllFaults) (db : Database) (opens : IsOpenTo old db)
     → IsSome new.still.given → Loads rows seed status source after old new was now → IsCycle (Load rows seed) db status input left opens.0 old new
 load-cycle rows seed status source after input left old new was now db opens given loads = elim (loads.runs db opens) [
-  | inl unread ↦ record {
-    lines = [] ∷ [];
-    are = refl;
-    clean = 0;
-    moments = cycles-until (Load rows seed) db ([] ∷ []) 0 opens.0 old new opens.1 opens.2 unread.leaves;
-  }
+  | inl unread ↦ unread-cycle (Load rows seed) db status input left opens.0 source after old new (λ leaves. leaves) opens.1 opens.2 unread
   | inr runs ↦ loads-cycle rows seed db status input left opens.0 was.eeprom now.eeprom old runs.opened new opens.1 opens.2 runs.until given runs.loads
 ]
 
@@ -330,8 +368,9 @@ pub migrate-cycle : {T : Type 0} (status : Status) (source after : T) (input lef
     → IsSome new.still.given → Migrates status source after old new was now → IsCycle Migrate db status input left opens.0 old new
 migrate-cycle status source after input left old new was now db opens given migrates = record {
   lines = [] ∷ [];
-  are = refl;
+  are = inr refl;
   clean = 1;
+  are_clean = inl refl;
   moments = throughout-weaker old new (IsInMigration db old.still.mark) (IsCycleAt Migrate db ([] ∷ []) 1 opens.0 old.still.mark) (migrates.moments db opens given)
       (λ g left at. answered-cycle Migrate db opens.0 old.still.mark g left opens.2 (record {
         line = record { later = at.later; opens = at.opens };
@@ -349,8 +388,9 @@ check-cycle status source after input left old new was now db opens checks =
     let still = keeps-opening old opened opens.0 db opens.1 opens.2 keeps in
     record {
       lines = [];
-      are = refl;
+      are = inr refl;
       clean = 0;
+      are_clean = inl refl;
       moments = throughout-then old opened new (IsCycleAt Check db [] 0 opens.0 old.still.mark) (cycles-until Check db [] 0 opens.0 old opened opens.1 opens.2 keeps)
           (throughout-weaker opened new (λ g left. opened.image ≡ Some left) (IsCycleAt Check db [] 0 opens.0 old.still.mark) checks.nothing.2.moments (λ g left told. cycle-checked db opens.0 old.still.mark g left opens.2 (still.now left told).1));
     }

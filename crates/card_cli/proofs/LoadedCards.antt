@@ -14,21 +14,22 @@ use Rattle.card.specs.LiveCardLaws.{opens-at}
 use Rattle.planner.specs.StatementLines.{TerminalState, statement_lines}
 use Rattle.terminal.specs.Holding.{terminal_at}
 use Rattle.terminal.specs.Load.{counts_text, load_counts, load_script, load_text}
-use Rattle.card_cli.specs.declared.status.Status.{Status}
-use Rattle.card_cli.specs.declared.status.Status.TheVariants as status
-use Rattle.card_cli.specs.declared.stop.FailedDevice.TheVariants.{Eeprom, Outlet}
+use Rattle.program.specs.declared.status.Status.{Status}
+use Rattle.program.specs.declared.status.Status.TheVariants as status
+use Rattle.line_run.specs.declared.line_stop.LineStop.TheVariants.{Eeprom, Outlet}
 use Rattle.card_cli.specs.declared.words.Form.TheVariants.{Load}
-use Rattle.card_cli.specs.Answering.{Failed}
+use Rattle.line_run.specs.Answering.{Failed}
 use Rattle.card_cli.specs.Beginning.{IsOpenTo}
-use Rattle.card_cli.specs.CutOff.{IsCutShort}
-use Rattle.card_cli.specs.Ends.{AllFaults, EndsBy, ends_as, ends_opened, ends_opening}
+use Rattle.line_run.specs.CutOff.{IsCutShort}
+use Rattle.program.specs.Numbers.{ends_as}
+use Rattle.card_cli.specs.Ends.{AllFaults, EndsBy, ends_opened, ends_opening}
 use Rattle.card_cli.specs.Loading.{CarriesOut, FailsAmong, IsIn, IsInLines, IsLoaded, Loader, Loads, LoadsTo, script_effect, script_lines, script_refused}
-use Rattle.card_cli.specs.Moments.{IfGiven, IsInAnswered}
+use Rattle.line_run.specs.Moments.{IfGiven, IsInAnswered}
 use Rattle.card_cli.specs.Run.{AnswersAll, IsQuiet}
-use Rattle.card_cli.specs.RunState.{Prints}
+use Rattle.eeprom.specs.Output.{Prints}
 use Rattle.card_cli.proofs.Asking.{eeprom-rose, unopened}
 use Rattle.card_cli.proofs.LongerRows.{open-told}
-use Rattle.card_cli.proofs.Moving.{throughout-both}
+use Rattle.line_run.specs.AnswersLaws.{throughout-both}
 
 -- The script was carried out, and its text went out, or the start of it.
 

@@ -24,7 +24,7 @@ use Rattle.terminal.specs.Holding.{Knows, terminal_at}
 use Rattle.terminal.specs.Load.{change_line, closings, delete_line, filling_lines, is_refused, load_counts, load_script, number_of, select_line}
 use Rattle.terminal.specs.Quiet.{closing_in}
 use Rattle.card_cli.specs.Loading.{CarriesOut, FailsAmong, IsIn, IsInLines, Loader, PassesLines, refused_in}
-use Rattle.card_cli.proofs.Moving.{throughout-both}
+use Rattle.line_run.specs.AnswersLaws.{throughout-both}
 use Rattle.card_cli.proofs.Sittings.{one-opens}
 
 -- Lines and then others.

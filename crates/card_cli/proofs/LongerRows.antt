@@ -19,16 +19,16 @@ use Rattle.card.specs.Card.{Kept, IsReady, IsAt, committed_slots}
 use Rattle.card.proofs.Leaving.{Opens-at}
 use Rattle.card.proofs.Starting.{opens-same}
 use Rattle.card.specs.GivenMoments.{IsInPiece, throughout-same}
-use Rattle.card_cli.specs.declared.status.Status.{Status}
-use Rattle.card_cli.specs.declared.status.Status.TheVariants.{Done, Eeprom, WriteFault, NoMemory}
+use Rattle.program.specs.declared.status.Status.{Status}
+use Rattle.program.specs.declared.status.Status.TheVariants.{Done, Eeprom, WriteFault, NoMemory}
 use Rattle.card_cli.specs.Beginning.{IsOpenTo}
 use Rattle.card_cli.specs.Ends.{AllFaults, EndsBy, ends_opening}
 use Rattle.card_cli.specs.Migrating.{IsInMigration, IsMigratedFrom, KeepsOthers, LeavesLongRows, WritesNothing, MigratesTo, Migrates, StaysMigrating}
 use Rattle.card_cli.specs.Run.{IsQuiet, AnswersAll}
-use Rattle.card_cli.proofs.Behind.{behind-then}
+use Rattle.card.specs.GivenMoments.{behind-then}
 use Rattle.card_cli.proofs.Asking.{unopened}
 use Rattle.card_cli.proofs.Finishing.{kept_open}
-use Rattle.card_cli.proofs.Moving.{throughout-both}
+use Rattle.line_run.specs.AnswersLaws.{throughout-both}
 
 -- the image that is told opens to the database
 opens-told : (chip : Chip) (db : Database) (image : List ℕ) → IsOpenTo chip db → chip.image ≡ Some image → Opens image db

@@ -6,7 +6,7 @@ use Rattle.planner.specs.StatementLines.{TerminalState}
 use Rattle.terminal.specs.Holding.{terminal_at}
 use Rattle.terminal.specs.Load.{load_counts}
 use Rattle.card_cli.specs.declared.progress.Progress.{Progress}
-use Rattle.card_cli.specs.declared.status.Status.{Status}
+use Rattle.program.specs.declared.status.Status.{Status}
 use Rattle.card_cli.specs.Ends.{has_opened}
 use Rattle.card_cli.specs.Progress.{Reached, Shows, ShowsLoad}
 use Rattle.card_cli.specs.Watching.{IsWhole, PassesLoad, PassesRows, ended_text, standing_text}

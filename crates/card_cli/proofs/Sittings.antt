@@ -1,7 +1,7 @@
 -- A terminal that answers a line of a run: from what it says of the line to what the run is owed.
 use Rattle.std.proofs.Common.{◌≡◌, ◌⊎◌, ℕ, ◌+◌, ◌≤◌, ◌<◌, Bool, true, false, List, [], ◌∷◌, ◌++◌, length, map, Option, Some, None, Result, Ok, Err, IfSome, IsSome, IsTrue, inl, inr, refl, sym, ap, subst, ◌∙◌, arith, length-append}
 use Rattle.std.specs.List.{concat}
-use Rattle.std.specs.Prelude.{OnOk, IfOk, IfErr}
+use Rattle.std.specs.Prelude.{OnOk, IfOk, IfErr, IsErrOf}
 use Rattle.eeprom.specs.Chip.{Chip, LeftSince, Throughout}
 use Rattle.eeprom.proofs.Moments.{throughout-weaker}
 use Rattle.scql_model.specs.Database.{Database}
@@ -24,11 +24,12 @@ use Rattle.terminal.specs.Holding.{Holding, Sits, terminal_at}
 use Rattle.terminal.specs.Line as terminal
 use Rattle.terminal.specs.Line.{IsMoment, refuses, rows_in}
 use Rattle.terminal.proofs.Ended.{line-is}
-use Rattle.card_cli.specs.declared.stop.FailedDevice.TheVariants.{Eeprom, Outlet}
-use Rattle.card_cli.specs.Answering.{Answered, Failed}
-use Rattle.card_cli.specs.CutOff.{IsOneOf}
-use Rattle.card_cli.specs.Moments.{IsInAnswered, IsInLine}
-use Rattle.card_cli.specs.RunState.{Causes, Prints}
+use Rattle.line_run.specs.declared.line_stop.LineStop.TheVariants.{Eeprom, Outlet, NoMemory}
+use Rattle.line_run.specs.Answering.{Answered, Failed}
+use Rattle.line_run.specs.CutOff.{IsOneOf}
+use Rattle.line_run.specs.Moments.{IsInAnswered, IsInLine}
+use Rattle.line_run.specs.Causes.{Causes}
+use Rattle.eeprom.specs.Output.{Prints}
 use Rattle.card_cli.specs.Statements.{Sitting, SitsSo, heard_as, opened, term_lines}
 
 -- two things that hold at each moment hold together
@@ -215,6 +216,7 @@ quiet-causes eeprom eeprom_now outlet outlet_now value eeprom_same outlet_same =
   outlet = λ is. absurd cc;
   eeprom_stays = λ is. absurd cc;
   both = λ is. absurd cc;
+  both_stay = λ is. absurd cc;
   eeprom_later = omega (arith, eeprom_same);
   outlet_later = omega (arith, outlet_same);
 }
@@ -230,6 +232,7 @@ heard-causes is_live faults sink_faults ends.Mute old new mute = record {
   outlet = λ is. absurd cc;
   eeprom_stays = λ is. absurd cc;
   both = λ is. absurd cc;
+  both_stay = λ is. absurd cc;
   eeprom_later = mute.0.later;
   outlet_later = omega (arith, mute.1);
 }
@@ -240,6 +243,7 @@ heard-causes is_live faults sink_faults ends.SinkFault old new broke = record {
   outlet = λ is. broke.0.rose;
   eeprom_stays = λ is. broke.0.same;
   both = λ is. absurd cc;
+  both_stay = λ is. absurd cc;
   eeprom_later = omega (arith, broke.0.same);
   outlet_later = broke.0.later;
 }
@@ -251,12 +255,12 @@ heard-live is_live faults sink_faults ends.Refused old new works live = subst Is
 heard-live is_live faults sink_faults ends.Mute old new mute live = tt
 heard-live is_live faults sink_faults ends.SinkFault old new broke live = tt
 
--- what holds while it does
-pub heard-while : {P Q : Type 0} (end : LineEnd) → OnOk (heard_as end) P → (P → Q) → OnOk (heard_as end) Q
-heard-while ends.Answered holds then' = then' holds
-heard-while ends.Refused holds then' = then' holds
-heard-while ends.Mute holds then' = tt
-heard-while ends.SinkFault holds then' = tt
+-- and no line wants memory
+pub heard-memory : (end : LineEnd) → IsErrOf (heard_as end) NoMemory → ⊥
+heard-memory ends.Answered is = absurd cc
+heard-memory ends.Refused is = absurd cc
+heard-memory ends.Mute is = absurd cc
+heard-memory ends.SinkFault is = absurd cc
 
 -- What a terminal tells of the state that it holds is told of where the run is.
 pub read-ends : {L : Type 0} (is_at : L → Machine → Type 0) (given : L → Option (List ℕ)) (state : TerminalState) (channel : ℕ) (octets : List ℕ) (holding : Holding) (end : LineEnd) (old new : L) → length octets ≤ 1000 → channel ≡ state.channel

@@ -6,9 +6,9 @@ use Rattle.std.proofs.lemmas.List.Sums.{sum_by-append}
 use Rattle.eeprom.proofs.InOrder.{count_by-cons}
 use Rattle.card_cli.specs.declared.progress.Progress.{Progress}
 use Rattle.card_cli.specs.Progress.{IsShown, Reached, Shows, has_line, inserted_among, progress_line, progress_text, reached_text, rows_text}
-use Rattle.card_cli.specs.RunState.{Prints}
+use Rattle.eeprom.specs.Output.{Prints}
 use Rattle.card_cli.specs.Watching.{HasShown, counted_of, ended_text, none_yet, passed_text, standing_text, with_row}
-use Rattle.card_cli.proofs.Feeding.{Prints-nothing, Prints-then}
+use Rattle.line_run.specs.AnswersLaws.{Prints-nothing, Prints-then}
 
 -- Texts that are shown one after another.
 

@@ -9,7 +9,7 @@ use Rattle.record_store.specs.Recovery.{KeepsStore}
 use Rattle.card.specs.Making.{LeavesMade, OpensToNone}
 use Rattle.card_cli.specs.declared.words.Form.{Form}
 use Rattle.card_cli.specs.declared.words.Form.TheVariants.{New}
-use Rattle.card_cli.specs.declared.status.Status.{Status}
+use Rattle.program.specs.declared.status.Status.{Status}
 use Rattle.card_cli.specs.Ends.{ends_opening}
 use Rattle.card_cli.specs.Words.{form_in, answers_commands}
 

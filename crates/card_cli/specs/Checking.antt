@@ -4,14 +4,14 @@ use Rattle.eeprom.specs.Chip.{Chip}
 use Rattle.record_store.specs.Recovery.{KeepsStore}
 use Rattle.scql_model.specs.Database.{Database}
 use Rattle.card.specs.Counting.{check_text}
-use Rattle.card_cli.specs.declared.status.Status.{Status}
-use Rattle.card_cli.specs.declared.status.Status.TheVariants.{Done, Eeprom, WriteFault, NoMemory}
+use Rattle.program.specs.declared.status.Status.{Status}
+use Rattle.program.specs.declared.status.Status.TheVariants.{Done, Eeprom, WriteFault, NoMemory}
 use Rattle.card_cli.specs.Beginning.{IsOpenTo}
-use Rattle.card_cli.specs.CutOff.{IsCutShort}
+use Rattle.line_run.specs.CutOff.{IsCutShort}
 use Rattle.card_cli.specs.Ends.{AllFaults, has_opened}
 use Rattle.card_cli.specs.Migrating.{WritesNothing}
 use Rattle.card_cli.specs.Run.{AnswersAll, IsQuiet}
-use Rattle.card_cli.specs.RunState.{Prints}
+use Rattle.eeprom.specs.Output.{Prints}
 
 -- How a check of this database ends so, where the EEPROM's count of faults goes from one number to another: with its text; or with the start of it, where the outlet alone fails; or without it, where the EEPROM fails, or memory is missing.
 abbrev pub Says : Status → Database → ℕ → ℕ → Option (List ℕ) → Option (List ℕ) → Type 0

@@ -1,14 +1,10 @@
 -- How a run over its input ends.
 use Rattle.std.specs.Prelude.{◌≡◌, ◌≤◌, ℕ, ◌&&◌, Bool, true, false}
 use Rattle.eeprom.specs.Fault.{Rose}
-use Rattle.card_cli.specs.declared.status.Status.{Status}
+use Rattle.program.specs.declared.status.Status.{Status}
 use Rattle.card_cli.specs.declared.words.Form.{Form}
 use Rattle.card_cli.specs.Words.{carries_out_statements, makes_card, reads_input}
-use Rattle.card_cli.specs.declared.status.Status.TheVariants.{Done, Refused, Usage, Eeprom, ReadFault, WriteFault, NotACard, NoMemory, TooLong, TooSmall}
-
--- how many octets of input a run takes
-abbrev pub longest_input : ℕ
-longest_input = 67108864
+use Rattle.program.specs.declared.status.Status.TheVariants.{Done, Refused, Usage, Eeprom, ReadFault, WriteFault, NotACard, NoMemory, TooLong, TooSmall}
 
 -- the counts of faults of all devices
 pub record AllFaults : Type 0 where
@@ -67,21 +63,8 @@ has_opened ReadFault = true
 has_opened WriteFault = true
 has_opened status = false
 
--- the ends of a run over its input that no device ended in a line
-abbrev pub comes_to_its_end : Status → Bool
-comes_to_its_end Done = true
-comes_to_its_end Refused = true
-comes_to_its_end TooLong = true
-comes_to_its_end ReadFault = true
-comes_to_its_end status = false
-
 -- the ends of a run that read its input to its end
 abbrev pub reads_all : Status → Bool
 reads_all Done = true
 reads_all Refused = true
 reads_all status = false
-
--- how such a run ends in which a line was refused, or none
-abbrev pub ends_as : Bool → Status
-ends_as true = Refused
-ends_as false = Done

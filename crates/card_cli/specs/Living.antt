@@ -1,5 +1,5 @@
 -- A run of the program is a power cycle of a card's life, whatever its form.
-use Rattle.std.specs.Prelude.{◌≡◌, ◌⊎◌, ◌-◌, ℕ, true, List, [], ◌∷◌, Some}
+use Rattle.std.specs.Prelude.{◌≡◌, ◌⊎◌, ◌-◌, ℕ, Bool, true, List, [], ◌∷◌, length, Option, Some}
 use Rattle.std.specs.List.{AllByRecursion}
 use Rattle.eeprom.specs.Chip.{Chip, Throughout}
 use Rattle.scql_model.specs.Database.{Database}
@@ -12,15 +12,19 @@ use Rattle.scql_model.specs.Migrating.{migrate_commits, migrate_text}
 use Rattle.planner.specs.StatementLines.{TerminalState}
 use Rattle.terminal.specs.Holding.{terminal_at}
 use Rattle.card.specs.Making.{LeavesMade}
-use Rattle.card_cli.specs.declared.status.Status.{Status}
+use Rattle.program.specs.declared.status.Status.{Status}
 use Rattle.card_cli.specs.declared.words.Form.{Form}
 use Rattle.card_cli.specs.declared.words.Form.TheVariants.{New, Apdu, Term, Check, Load, Migrate}
 use Rattle.card_cli.specs.Ends.{ends_opening}
-use Rattle.card_cli.specs.Extent.{AreTaken}
+use Rattle.line_input.specs.declared.input.InputEnd.{InputEnd}
+use Rattle.line_run.specs.declared.line_stop.LineStop.{LineStop}
+use Rattle.line_run.specs.Extent.{AreTaken, IsSaid, IsWithin, carried_out, stopped_in}
+use Rattle.eeprom.specs.Output.{Prints}
 use Rattle.card_cli.specs.Loading.{script_lines}
 use Rattle.card_cli.specs.Selecting.{TermLinesSelectShown}
 use Rattle.card_cli.specs.Showing.{LinesReadShown}
 use Rattle.card_cli.specs.Statements.{Sitting, opened, term_lines}
+use Rattle.program.specs.Numbers.{status_at, status_of}
 
 -- The languages of the forms, as one.
 
@@ -67,12 +71,30 @@ card_lines = joined_lines lines_of
 
 -- Runs as power cycles.
 
--- the lines of a power cycle in a run of this form that ended so, where this is left of its input: none where its card wasn't opened, and else those that it took
+-- The lines that a run of this form took that ended so, where this is left of its input: `check` takes none, and a script and a migration are one.
+abbrev pub AreRead : Form → Status → List ℕ → List ℕ → List (List ℕ) → Type 0
+AreRead Check status input left lines = lines ≡ []
+AreRead (Load rows seed) status input left lines = lines ≡ [] ∷ []
+AreRead Migrate status input left lines = lines ≡ [] ∷ []
+AreRead form status input left lines = (end : InputEnd LineStop) × (refused : Bool) × (status ≡ status_at end refused) × AreTaken end input left lines
+
+-- the lines of a power cycle in such a run: none where its card wasn't opened, and else those that it took
 abbrev pub AreLinesOf : Form → Status → List ℕ → List ℕ → List (List ℕ) → Type 0
-AreLinesOf Check status input left lines = lines ≡ []
-AreLinesOf (Load rows seed) status input left lines = lines ≡ [] ∷ []
-AreLinesOf Migrate status input left lines = lines ≡ [] ∷ []
-AreLinesOf form status input left lines = ((ends_opening status ≡ true) × (lines ≡ [])) ⊎ AreTaken status input left lines
+AreLinesOf form status input left lines = ((ends_opening status ≡ true) × (lines ≡ [])) ⊎ AreRead form status input left lines
+
+-- The run stopped in one of these lines, behind others that were answered, as its end and its text tell; and clean are those that were carried out.
+pub record StopsIn (form : Form) (db : Database) (status : Status) (lines : List (List ℕ)) (clean : ℕ) (before now : Option (List ℕ)) : Type 0 where
+  pub stop : LineStop
+  pub answered : List (List ℕ)
+  pub line : List ℕ
+  pub within : IsWithin (stopped_in stop answered line) lines
+  pub ends : status ≡ status_of stop
+  pub count : clean ≡ carried_out (stopped_in stop answered line) lines
+  pub text : (said : List ℕ) × IsSaid (lines_of form) (first_state form db) (stopped_in stop answered line) lines said × Prints said before now
+
+-- So many lines of a power cycle are clean: all, or those that were carried out before the run stopped in one.
+abbrev pub AreClean : Form → Database → Status → List (List ℕ) → ℕ → Option (List ℕ) → Option (List ℕ) → Type 0
+AreClean form db status lines clean before now = (clean ≡ length lines) ⊎ StopsIn form db status lines clean before now
 
 -- Where power is lost in a run of this form, which began with this database over this image, while the mark is g, and leaves this image: it was a power cycle of these lines, of which the first so many are clean.
 abbrev pub IsCycleAt : Form → Database → List (List ℕ) → ℕ → List ℕ → ℕ → ℕ → List ℕ → Type 0
@@ -84,6 +106,7 @@ pub record IsCycle (form : Form) (db : Database) (status : Status) (input left :
   pub lines : List (List ℕ)
   pub are : AreLinesOf form status input left lines
   pub clean : ℕ
+  pub are_clean : AreClean form db status lines clean old.still.given new.still.given
   pub moments : Throughout old new (IsCycleAt form db lines clean image old.still.mark)
 
 -- A run of `new` makes its card, and its power cycle is over the image that it made; or its card wasn't opened.

@@ -13,16 +13,17 @@ use Rattle.card.specs.LiveCard.{IsReadyAt, LastsOn, OnBench}
 use Rattle.planner.specs.StatementLines.{TerminalState, statement_lines}
 use Rattle.terminal.specs.Holding.{Holding, Sits, terminal_at}
 use Rattle.terminal.specs.Load.{closings, is_refused, load_counts, load_script, load_text, script_text}
-use Rattle.card_cli.specs.declared.status.Status.{Status}
-use Rattle.card_cli.specs.declared.status.Status.TheVariants.{Done, Refused, Eeprom as EepromFault, WriteFault}
-use Rattle.card_cli.specs.declared.stop.FailedDevice.TheVariants.{Eeprom, Outlet}
+use Rattle.program.specs.declared.status.Status.{Status}
+use Rattle.program.specs.declared.status.Status.TheVariants.{Done, Refused, Eeprom as EepromFault, WriteFault}
+use Rattle.line_run.specs.declared.line_stop.LineStop.TheVariants.{Eeprom, Outlet}
 use Rattle.card_cli.specs.declared.words.Form.TheVariants.{Load}
-use Rattle.card_cli.specs.Answering.{Failed}
+use Rattle.line_run.specs.Answering.{Failed}
 use Rattle.card_cli.specs.Beginning.{EndsUnread, IsOpenTo}
-use Rattle.card_cli.specs.Ends.{AllFaults, ends_as, has_opened}
-use Rattle.card_cli.specs.Moments.{IfGiven, IsAnswered}
+use Rattle.program.specs.Numbers.{ends_as}
+use Rattle.card_cli.specs.Ends.{AllFaults, has_opened}
+use Rattle.line_run.specs.Moments.{IfGiven, IsAnswered}
 use Rattle.card_cli.specs.Run.{AnswersAll, IsQuiet}
-use Rattle.card_cli.specs.RunState.{Prints}
+use Rattle.eeprom.specs.Output.{Prints}
 
 -- Lines that are carried out.
 

@@ -8,14 +8,14 @@ use Rattle.record_store.specs.Recovery.{KeepsStore}
 use Rattle.scql_model.specs.Database.{Database}
 use Rattle.scql_model.specs.Migrating.{migrated, migrate_text, migrate_commits}
 use Rattle.scql_model.specs.Opens.{Opens, OpensToOneOf}
-use Rattle.card_cli.specs.declared.status.Status.{Status}
-use Rattle.card_cli.specs.declared.status.Status.TheVariants.{Done, Eeprom, WriteFault, NoMemory}
+use Rattle.program.specs.declared.status.Status.{Status}
+use Rattle.program.specs.declared.status.Status.TheVariants.{Done, Eeprom, WriteFault, NoMemory}
 use Rattle.card_cli.specs.Beginning.{IsOpenTo}
-use Rattle.card_cli.specs.CutOff.{IsCutShort}
+use Rattle.line_run.specs.CutOff.{IsCutShort}
 use Rattle.card_cli.specs.Ends.{AllFaults, has_opened}
-use Rattle.card_cli.specs.Moments.{IfGiven}
+use Rattle.line_run.specs.Moments.{IfGiven}
 use Rattle.card_cli.specs.Run.{IsQuiet, AnswersAll}
-use Rattle.card_cli.specs.RunState.{Prints}
+use Rattle.eeprom.specs.Output.{Prints}
 
 -- While a card of this database is migrated, from this mark on: the image opens to it, or to the one that is committed. At most the text goes out, and the first octet of it not before the rows are longer.
 pub record IsInMigration (db : Database) (mark g : ℕ) (image : List ℕ) : Type 0 where

@@ -8,10 +8,10 @@ use Rattle.scql_model.specs.Machine.{start}
 use Rattle.planner.specs.StatementLines.{TerminalState, statement_lines}
 use Rattle.terminal.specs.Holding.{terminal_at}
 use Rattle.terminal.specs.Load.{closings, filling_lines, insert_lines, is_refused, load_counts}
-use Rattle.card_cli.specs.declared.status.Status.{Status}
-use Rattle.card_cli.specs.CutOff.{IsCutShort}
+use Rattle.program.specs.declared.status.Status.{Status}
+use Rattle.line_run.specs.CutOff.{IsCutShort}
 use Rattle.card_cli.specs.Ends.{has_opened}
-use Rattle.card_cli.specs.RunState.{Prints}
+use Rattle.eeprom.specs.Output.{Prints}
 
 -- A person.
 

@@ -5,13 +5,18 @@ use Rattle.eeprom.specs.Fault.{Rose}
 use Rattle.scql_model.specs.Database.{Database}
 use Rattle.scql_model.specs.Lines.{Language, lines, run_text, state_after}
 use Rattle.scql_model.specs.Opens.{Opens}
-use Rattle.card_cli.specs.declared.status.Status.{Status}
-use Rattle.card_cli.specs.declared.status.Status.TheVariants.{Eeprom, NotACard, NoMemory, TooLong}
+use Rattle.program.specs.declared.status.Status.{Status}
+use Rattle.program.specs.declared.status.Status.TheVariants.{Eeprom, NotACard, NoMemory, TooLong}
 use Rattle.card_cli.specs.declared.words.Form.{Form}
 use Rattle.card_cli.specs.Beginning.{Begins, EndsUnread, LeavesUntilOpen}
-use Rattle.card_cli.specs.Ends.{AllFaults, ends_as, has_opened, longest_input, reads_all}
-use Rattle.card_cli.specs.Extent.{RunsInput}
-use Rattle.card_cli.specs.RunState.{Prints}
+use Rattle.program.specs.Numbers.{ends_as}
+use Rattle.card_cli.specs.Ends.{AllFaults, has_opened, reads_all}
+use Rattle.line_input.specs.Reading.{longest_input}
+use Rattle.line_input.specs.declared.input.InputEnd.{InputEnd}
+use Rattle.line_run.specs.declared.line_stop.LineStop.{LineStop}
+use Rattle.line_run.specs.Extent.{RunsInput}
+use Rattle.program.specs.Numbers.{status_at}
+use Rattle.eeprom.specs.Output.{Prints}
 
 -- no count of faults rose
 pub record IsQuiet (old new : AllFaults) : Type 0 where
@@ -32,6 +37,13 @@ TellsRefusals language refused state status start end =
 abbrev pub IsWithoutCard : Status → Type 0
 IsWithoutCard status = (status ≡ NotACard) ⊎ ((status ≡ NoMemory) ⊎ (status ≡ Eeprom))
 
+-- A run over its input, of which this is left, ended so: its lines came to an end, in which one was refused or none.
+pub record RunsTo {S X : Type 0} (chip : X → Chip) (eeprom : X → ℕ) (language : Language S) (state : S) (status : Status) (input left : List ℕ) (old new : X) : Type 0 where
+  pub end : InputEnd LineStop
+  pub refused : Bool
+  pub ends : status ≡ status_at end refused
+  pub runs : RunsInput chip eeprom language state end input left old new
+
 -- The card of this form was opened at this database, without a fault of the EEPROM, and from this state on its run over the input ended so. Until it was open a power loss leaves what it leaves in that form.
 pub record OpensAndRuns {S X : Type 0} (chip : X → Chip) (eeprom : X → ℕ) (language : Language S) (form : Form) (db : Database) (state : S) (status : Status) (input left : List ℕ) (old new : X) : Type 0 where
   pub opened : X
@@ -39,7 +51,7 @@ pub record OpensAndRuns {S X : Type 0} (chip : X → Chip) (eeprom : X → ℕ) 
   pub quiet : eeprom opened ≡ eeprom old
   pub opens : IfSome (chip opened).image (λ image. Opens image db)
   pub until : LeavesUntilOpen form (chip old) (chip opened)
-  pub runs : RunsInput chip eeprom language state status input left opened new
+  pub runs : RunsTo chip eeprom language state status input left opened new
 
 -- What a run of this form owes over the lines of its input, from the first state of a database on, that ended so, where a state of the language tells whether a line was refused so far. The source went from one state to another, and this was left in it
 -- before and after; and so did the bench, a state of which tells its chip and its EEPROM's count of faults.

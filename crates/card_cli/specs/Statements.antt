@@ -9,8 +9,8 @@ use Rattle.terminal.specs.declared.line_end.LineEnd.{LineEnd}
 use Rattle.terminal.specs.declared.line_end.LineEnd.TheVariants as ends
 use Rattle.terminal.specs.Holding.{Holding, Sits}
 use Rattle.terminal.specs.Line.{refuses}
-use Rattle.card_cli.specs.declared.stop.FailedDevice.{FailedDevice}
-use Rattle.card_cli.specs.declared.stop.FailedDevice.TheVariants.{Eeprom, Outlet}
+use Rattle.line_run.specs.declared.line_stop.LineStop.{LineStop}
+use Rattle.line_run.specs.declared.line_stop.LineStop.TheVariants.{Eeprom, Outlet}
 
 -- where the terminal of a run is, and whether a line was refused so far
 pub record Sitting : Type 0 where
@@ -46,7 +46,7 @@ pub record SitsSo {L : Type 0} (is_at : L → Machine → Type 0) (holding : Hol
   pub tells : refused ≡ sitting.refused
 
 -- whether a line was refused, by how it ended, or which device failed in it
-abbrev pub heard_as : LineEnd → Result Bool FailedDevice
+abbrev pub heard_as : LineEnd → Result Bool LineStop
 heard_as ends.Answered = Ok false
 heard_as ends.Refused = Ok true
 heard_as ends.Mute = Err Eeprom

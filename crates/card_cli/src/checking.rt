@@ -10,12 +10,12 @@ ghost use Rattle.card_cli.specs.Ends.{AllFaults, EndsBy, ends_opened};
 ghost use Rattle.card_cli.specs.Migrating.{WritesNothing};
 
 use crate::output::give;
-use crate::status::Status;
 use crate::words::Form;
 use arrayvec::ArrayVec;
 use card::{Card, Counts};
 use eeprom::Bench;
 use itoa::Buffer;
+use program::Status;
 
 /// The longest line: its words, and six numbers of at most five digits.
 const LONGEST_TEXT: usize = 71;

@@ -1,43 +1,46 @@
 // Lines of commands in hexadecimal, and a card that answers them.
-ghost use Rattle.std.specs.Prelude.{◌≡◌, ◌+◌, ◌*◌, ◌<◌, ◌≤◌, [], true, length, take, OnOk, IfErr};
-ghost use Rattle.hex.specs.Hex.{encode_lower, encode_upper};
+ghost use Rattle.std.specs.Prelude.{◌≡◌, ◌+◌, ◌*◌, ◌<◌, ◌≤◌, [], true, length, take, option_map, IfSome, OnOk, IfErr, IsErrOf};
 ghost use Rattle.scql_model.specs.Machine.{Machine};
 ghost use Rattle.scql_model.specs.Step.{step};
 ghost use Rattle.scql_model.specs.Lines as model;
-ghost use Rattle.scql_model.specs.Lines.{command_lines};
+ghost use Rattle.scql_model.specs.Lines.{command_lines, longest_line};
 ghost use Rattle.card.specs.Behind.{KeepsBehind};
 ghost use Rattle.card.specs.Card.{IsReady, IsAt};
-ghost use Rattle.card_cli.specs.RunState.{Prints, Faults, Causes};
-ghost use Rattle.card_cli.specs.CutOff.{FailsIn};
-ghost use Rattle.card_cli.specs.Moments.{IsInStopped, IsAnswered, IfGiven};
+ghost use Rattle.eeprom.specs.Output.{Prints};
+ghost use Rattle.line_run.specs.Causes.{Faults, Causes};
+ghost use Rattle.line_run.specs.CutOff.{FailsIn};
+ghost use Rattle.line_run.specs.Moments.{IsInStopped, IsAnswered, IfGiven};
 ghost use Rattle.eeprom.specs.Chip.{Becomes, Throughout};
-ghost use Rattle.card_cli.specs.Ends.{AllFaults, EndsBy, is_of_opened, longest_input, reads_all};
-ghost use Rattle.card_cli.specs.Extent.{RunsInput};
+ghost use Rattle.card_cli.specs.Ends.{AllFaults, EndsBy, is_of_opened, reads_all};
+ghost use Rattle.line_input.specs.Reading.{longest_input};
+ghost use Rattle.card_cli.specs.Behind.{StaysBehind};
+ghost use Rattle.card_cli.specs.Run.{RunsTo};
 
-use crate::input::answer_input;
-use crate::line::{LONGEST_COMMAND, LineContent, read_line};
 use crate::output::give;
-use crate::responder::Responder;
-use crate::status::Status;
-use crate::stop::FailedDevice;
-use apdu::Reply;
+use apdu::{LONGEST_COMMAND, LONGEST_REPLY_LINE, LineContent, Reply, read_line, write_reply};
 use arrayvec::ArrayVec;
 use card::{Card, Outcome};
 use eeprom::{Bench, Source};
+use line_run::{LineStop, Responder, run_lines};
+use program::Status;
 use scql_base::StatusWord;
-
-/// The longest answer: 256 data octets and a status word in hexadecimal, and a line feed.
-const LONGEST_ANSWER: usize = 517;
-
-/// How many digits a status word has.
-const WORD_DIGITS: usize = 4;
 
 /// A card over its bench, which is asked by commands.
 #[derive(Drop)]
 pub(crate) struct CommandCard<'a, B: Bench> {
-    pub(crate) card: &'a mut Card,
+    pub(crate) card: Card,
     pub(crate) bench: &'a mut B,
     pub(crate) places: Places,
+}
+
+impl<'a, B: Bench> CommandCard<'a, B> {
+    // The bench, as the card has left it.
+    fn into_bench(self) -> &'a mut B
+        ensures name { result.ghost_name ≡ self.entry.bench.ghost_name }
+        ensures bench { result.now ≡ self.entry.bench.now }
+    {
+        self.bench
+    }
 }
 
 /// Places for a command, and for the reply to it.
@@ -60,7 +63,7 @@ impl Places {
 #[derive(Drop)]
 pub(crate) struct ReplyPlace {
     reply: Reply,
-    text: [u8; LONGEST_ANSWER],
+    text: [u8; LONGEST_REPLY_LINE],
 }
 
 impl ReplyPlace {
@@ -70,7 +73,7 @@ impl ReplyPlace {
                 body: ArrayVec::new(),
                 word: StatusWord::DONE,
             },
-            text: [0; LONGEST_ANSWER],
+            text: [0; LONGEST_REPLY_LINE],
         }
     }
 
@@ -84,56 +87,56 @@ impl ReplyPlace {
 }
 
 impl<'a, B: Bench> Responder for CommandCard<'a, B> {
-    ghost use Rattle.std.specs.Prelude.{ℕ, false};
+    ghost use Rattle.std.specs.Prelude.{◌≡◌, false};
+    ghost use Rattle.std.proofs.Common.{refl, ◌∙◌};
     ghost use Rattle.scql_model.specs.Machine.{Machine};
-    ghost use Rattle.scql_model.specs.Lines.{command_lines};
+    ghost use Rattle.scql_model.specs.Lines.{command_lines, longest_line};
     ghost use Rattle.scql_model.proofs.Hearing.{commands-lawful};
     ghost use Rattle.card.specs.Card.{IsReady, IsAt};
     ghost use Rattle.card.proofs.Leaving.{Opens-at};
+    ghost use Rattle.card_cli.specs.Behind.{StaysBehind};
+    ghost use Rattle.card_cli.specs.ResponderLaws.{stays-same, stays-then};
 
     ghost State = { Machine };
 
     ghost language = { command_lines };
 
-    ghost is_at = { λ r m. IsAt r.card.now (B.chip r.bench.now) m };
+    ghost is_at = { λ r m. IsAt r.card (B.chip r.bench.now) m };
 
-    ghost is_ready = { λ r. IsReady r.card.now (B.chip r.bench.now) };
+    ghost is_ready = { λ r. IsReady r.card (B.chip r.bench.now) };
 
     ghost chip = { λ r. B.chip r.bench.now };
 
     ghost faults = { λ r. record { eeprom = B.faults r.bench.now; outlet = B.sink_faults r.bench.now } };
 
-    ghost cells = { λ r. r.card.now.store.chains.cells };
+    ghost takes_memory = { false };
 
-    // No command is refused in the sense of a run: each has its answer.
-    ghost has_refused = { λ r. false };
+    // It is over the same bench still.
+    ghost goes_on = { λ old new. (new.bench.ghost_name ≡ old.bench.ghost_name) × StaysBehind old.card new.card (B.chip old.bench.now) (B.chip new.bench.now) };
 
-    ghost Kept = { ℕ };
-
-    ghost kept = { λ r. r.bench.ghost_name };
-
-    fn has_refused(&self) -> bool {
-        false
-    }
-
-    fn answer_line(&mut self, line: &[u8]) -> Result<(), FailedDevice> {
-        answer_line(self.card, self.bench, line, &mut self.places)
+    fn answer_line(&mut self, line: Option<&[u8]>) -> Result<(), LineStop> {
+        answer_line(&mut self.card, self.bench, line, &mut self.places)
     }
 
     ghost lawful = { commands-lawful };
 
-    ghost over = { λ r ready m at. Opens-at r.card.now (B.chip r.bench.now) m ready at };
+    ghost over = { λ r ready m at. Opens-at r.card (B.chip r.bench.now) m ready at };
+
+    ghost goes_on_same = { λ r. (refl, stays-same r.card (B.chip r.bench.now)) };
+
+    ghost goes_on_then = { λ old mid new ready first second.
+        (second.0 ∙ first.0, stays-then old.card mid.card new.card (B.chip old.bench.now) (B.chip mid.bench.now) (B.chip new.bench.now) ready first.1 second.1) };
 }
 
 /// Answers the lines of the input as commands.
 pub(crate) fn answer_commands<S: Source, B: Bench>(
-    card: &mut Card,
+    card: Card,
     source: &mut S,
     bench: &mut B,
 ) -> Status
-    requires { IsReady card.old (B.chip bench.old) }
-    ensures runs { (m : Machine) → IsAt card.old (B.chip bench.old) m
-        → Becomes (λ input left. RunsInput B.chip B.faults command_lines m result input left bench.old bench.new) (S.left source.old) (S.left source.new) }
+    requires { IsReady card (B.chip bench.old) }
+    ensures runs { (m : Machine) → IsAt card (B.chip bench.old) m
+        → Becomes (λ input left. RunsTo B.chip B.faults command_lines m result input left bench.old bench.new) (S.left source.old) (S.left source.new) }
     ensures status { is_of_opened result ≡ true }
     ensures whole { reads_all result ≡ true → Becomes (λ input left. (left ≡ []) × (length input ≤ longest_input)) (S.left source.old) (S.left source.new) }
     ensures never_refused { ¬ result ≡ Status.Refused }
@@ -142,41 +145,45 @@ pub(crate) fn answer_commands<S: Source, B: Bench>(
         (record { eeprom = B.faults bench.old; source = S.source_faults source.old; outlet = B.sink_faults bench.old })
         (record { eeprom = B.faults bench.new; source = S.source_faults source.new; outlet = B.sink_faults bench.new }) }
     // Nothing is written behind the card's image.
-    ensures behind { KeepsBehind (λ was. card.old.store.chains.cells) (B.chip bench.old) (B.chip bench.new) }
+    ensures behind { KeepsBehind (λ was. card.store.chains.cells) (B.chip bench.old) (B.chip bench.new) }
 {
-    let mut commands = CommandCard {
+    let commands = CommandCard {
         card,
         bench,
         places: Places::new(),
     };
-    answer_input(&mut commands, source)
+    let (end, commands) = run_lines(source, commands);
+    commands.into_bench();
+    // No command is refused in the sense of a run: each has its answer.
+    Status::of_input(end, false)
 }
 
 // Answers a whole line.
 fn answer_line<B: Bench>(
     card: &mut Card,
     bench: &mut B,
-    line: &[u8],
+    line: Option<&[u8]>,
     places: &mut Places,
-) -> Result<(), FailedDevice>
+) -> Result<(), LineStop>
     requires ready { IsReady card.old (B.chip bench.old) }
+    requires short { IfSome line (λ octets. length octets.now ≤ longest_line) }
     ensures at { (m : Machine) → IsAt card.old (B.chip bench.old) m
-        → OnOk result (IsAt card.new (B.chip bench.new) (model.content_effect m (model.content_of (model.taken_line line.now))).next) }
+        → OnOk result (IsAt card.new (B.chip bench.new) (model.content_effect m (model.content_of (option_map (λ octets. octets.now) line.entry))).next) }
     ensures text { (m : Machine) → IsAt card.old (B.chip bench.old) m
-        → OnOk result (Prints (model.content_effect m (model.content_of (model.taken_line line.now))).text (B.chip bench.old).still.given (B.chip bench.new).still.given) }
+        → OnOk result (Prints (model.content_effect m (model.content_of (option_map (λ octets. octets.now) line.entry))).text (B.chip bench.old).still.given (B.chip bench.new).still.given) }
     ensures fails { (m : Machine) → IsAt card.old (B.chip bench.old) m
-        → IfErr result (λ stop. FailsIn stop command_lines [] m (model.content_effect m (model.content_of (model.taken_line line.now))) (B.chip bench.old).still.given (B.chip bench.new)) }
+        → IfErr result (λ stop. FailsIn stop command_lines [] m (model.content_effect m (model.content_of (option_map (λ octets. octets.now) line.entry))) (B.chip bench.old).still.given (B.chip bench.new)) }
     // At each moment a power loss leaves what the line commits, all of it once an octet of its text has gone out,
     ensures answered { (m : Machine) → IsAt card.old (B.chip bench.old) m
-        → OnOk result (IfGiven (B.chip bench.new) (IsAnswered command_lines m (model.content_effect m (model.content_of (model.taken_line line.now))) (B.chip bench.old) (B.chip bench.new))) }
+        → OnOk result (IfGiven (B.chip bench.new) (IsAnswered command_lines m (model.content_effect m (model.content_of (option_map (λ octets. octets.now) line.entry))) (B.chip bench.old) (B.chip bench.new))) }
     // also where the outlet alone fails; where the EEPROM does it leaves the database before the line or one that it commits.
     ensures moments { (m : Machine) → IsAt card.old (B.chip bench.old) m
-        → IfErr result (λ stop. IfGiven (B.chip bench.new) (Throughout (B.chip bench.old) (B.chip bench.new) (IsInStopped stop command_lines m (model.content_effect m (model.content_of (model.taken_line line.now))) (B.chip bench.old).still.mark))) }
+        → IfErr result (λ stop. IfGiven (B.chip bench.new) (Throughout (B.chip bench.old) (B.chip bench.new) (IsInStopped stop command_lines m (model.content_effect m (model.content_of (option_map (λ octets. octets.now) line.entry))) (B.chip bench.old).still.mark))) }
     ensures ready { OnOk result (IsReady card.new (B.chip bench.new)) }
     ensures causes { Causes (record { eeprom = B.faults bench.old; outlet = B.sink_faults bench.old }) (record { eeprom = B.faults bench.new; outlet = B.sink_faults bench.new }) result }
-    // The card keeps its number of cells, and nothing is written behind its image.
-    ensures cells { OnOk result (card.new.store.chains.cells ≡ card.old.store.chains.cells) }
-    ensures behind { KeepsBehind (λ was. card.old.store.chains.cells) (B.chip bench.old) (B.chip bench.new) }
+    ensures memory { ¬ IsErrOf result LineStop.NoMemory }
+    // A card that answers keeps its number of cells, and nothing is written behind its image.
+    ensures behind { StaysBehind card.old card.new (B.chip bench.old) (B.chip bench.new) }
 {
     match read_line(line, &mut places.command) {
         LineContent::Nothing => Ok(()),
@@ -197,7 +204,7 @@ fn answer_command<B: Bench>(
     bench: &mut B,
     octets: &[u8],
     place: &mut ReplyPlace,
-) -> Result<(), FailedDevice>
+) -> Result<(), LineStop>
     requires ready { IsReady card.old (B.chip bench.old) }
     ensures at { (m : Machine) → IsAt card.old (B.chip bench.old) m → OnOk result (IsAt card.new (B.chip bench.new) (step m octets.now).machine) }
     ensures text { (m : Machine) → IsAt card.old (B.chip bench.old) m
@@ -210,45 +217,15 @@ fn answer_command<B: Bench>(
         → IfErr result (λ stop. IfGiven (B.chip bench.new) (Throughout (B.chip bench.old) (B.chip bench.new) (IsInStopped stop command_lines m (model.content_effect m (model.command octets.now)) (B.chip bench.old).still.mark))) }
     ensures ready { OnOk result (IsReady card.new (B.chip bench.new)) }
     ensures causes { Causes (record { eeprom = B.faults bench.old; outlet = B.sink_faults bench.old }) (record { eeprom = B.faults bench.new; outlet = B.sink_faults bench.new }) result }
-    // The card keeps its number of cells, and nothing is written behind its image.
-    ensures cells { OnOk result (card.new.store.chains.cells ≡ card.old.store.chains.cells) }
-    ensures behind { KeepsBehind (λ was. card.old.store.chains.cells) (B.chip bench.old) (B.chip bench.new) }
+    ensures memory { ¬ IsErrOf result LineStop.NoMemory }
+    // A card that answers keeps its number of cells, and nothing is written behind its image.
+    ensures behind { StaysBehind card.old card.new (B.chip bench.old) (B.chip bench.new) }
 {
     match card.answer(bench, octets, &mut place.reply) {
         Outcome::Replied => Ok(give(bench, place.text())?),
         Outcome::Mute => match give(bench, place.text()) {
-            Ok(()) => Err(FailedDevice::Eeprom),
-            Err(_) => Err(FailedDevice::Both),
+            Ok(()) => Err(LineStop::Eeprom),
+            Err(_) => Err(LineStop::Both),
         },
     }
-}
-
-// Writes a reply to the front of a place, and tells how many octets it takes.
-fn write_reply(text: &mut [u8; LONGEST_ANSWER], reply: &Reply) -> usize
-    ensures text { take result text.new ≡ model.reply_text reply.now }
-    ensures within { result ≤ LONGEST_ANSWER }
-{
-    let end = 2 * reply.body.len() + WORD_DIGITS;
-    write_digits(&mut text[..end], reply);
-    text[end] = b'\n';
-    end + 1
-}
-
-// Writes the body and the word in hexadecimal.
-fn write_digits(digits: &mut [u8], reply: &Reply)
-    requires { length digits.old ≡ 2 * length reply.now.body + WORD_DIGITS }
-    ensures { digits.new ≡ encode_upper (model.reply_octets reply.now) }
-{
-    let (body, word) = digits.split_at_mut(2 * reply.body.len());
-    print_into(&reply.body, body);
-    print_into(&reply.word.word.to_be_bytes(), word);
-    digits.make_ascii_uppercase();
-}
-
-fn print_into(octets: &[u8], digits: &mut [u8])
-    requires { length digits.old ≡ 2 * length octets.now }
-    ensures { digits.new ≡ encode_lower octets.now }
-{
-    let fits = hex::encode_to_slice(octets, digits).is_ok();
-    prove!(fits);
 }

@@ -17,8 +17,8 @@ ghost use Rattle.card_cli.specs.Migrating.{Migrates};
 ghost use Rattle.card_cli.specs.Run.{RunsLines};
 ghost use Rattle.card_cli.specs.Statements.{opened, term_lines, was_refused};
 
-use crate::status::Status;
 use crate::words::Form;
+use program::Status;
 
 /// A run that meets its clause of `run_card`, over an image that opens to a database, is a power cycle of a card's life at each of its moments,
 /// in whatever form: where power is lost, and at its end. It is so where what was given is told, and in `apdu` and `term` what the source has left.

@@ -22,19 +22,18 @@ use crate::load_lines::{
 };
 use crate::output::give;
 use crate::progress::{Person, Progress};
-use crate::status::Status;
-use crate::still_card::StillCard;
 use crate::words::Form;
 use card::{Card, LiveCard};
 use eeprom::{Bench, EepromFault};
 use planner::Closing;
+use program::Status;
 use terminal::{QuietEnd, Terminal};
 
 /// A terminal with its card, and how many statements were refused so far.
 #[derive(Drop)]
 struct Loader<'a, B: Bench> {
     terminal: Terminal,
-    card: StillCard<'a, B>,
+    card: LiveCard<'a, B>,
     refused: u32,
 }
 
@@ -59,15 +58,13 @@ pub(crate) fn run_load<B: Bench, P: Person>(
 {
     let mut loader = Loader {
         terminal: Terminal::new(),
-        card: StillCard {
-            card: LiveCard::new(card, bench),
-        },
+        card: LiveCard::new(card, bench),
         refused: 0,
     };
     let mut progress = Progress::new();
     let counted = loader.run_script(rows, seed, &mut progress, person);
     progress.end(person);
-    let bench = loader.card.card.into_bench();
+    let bench = loader.card.into_bench();
     let Ok(counts) = counted else {
         return Status::Eeprom;
     };
@@ -97,19 +94,19 @@ impl<'a, B: Bench> Loader<'a, B> {
         progress: &mut Progress,
         person: &mut P,
     ) -> Result<LoadCounts, EepromFault>
-        requires live { IsTrue self.old.card.card.card.live }
+        requires live { IsTrue self.old.card.card.live }
         requires fresh { self.old.refused ≡ 0 }
         requires unshown { progress.old ≡ none_yet }
         ensures carried { OnOk result (CarriesOut B.chip B.faults (load_script rows seed)
-            (record { terminal = self.old.terminal; card = self.old.card.card; refused = self.old.refused })
-            (record { terminal = self.new.terminal; card = self.new.card.card; refused = self.new.refused })) }
-        ensures counted { (state : TerminalState) → IsIn B.chip state (record { terminal = self.old.terminal; card = self.old.card.card; refused = self.old.refused })
+            (record { terminal = self.old.terminal; card = self.old.card; refused = self.old.refused })
+            (record { terminal = self.new.terminal; card = self.new.card; refused = self.new.refused })) }
+        ensures counted { (state : TerminalState) → IsIn B.chip state (record { terminal = self.old.terminal; card = self.old.card; refused = self.old.refused })
             → IfOk result (λ counts. counts_of counts ≡ load_counts state rows seed) }
         ensures failed { OnErr result (FailsAmong B.chip B.faults (load_script rows seed)
-            (record { terminal = self.old.terminal; card = self.old.card.card; refused = self.old.refused })
-            (record { terminal = self.new.terminal; card = self.new.card.card; refused = self.new.refused })) }
-        ensures shows { OnOk result ((reached : Reached) × PassesLoad P.lost P.shown rows seed (λ state. IsIn B.chip state (record { terminal = self.old.terminal; card = self.old.card.card; refused = self.old.refused })) progress.new person.old person.new reached × IsWhole rows reached) }
-        ensures shows_until { OnErr result ((reached : Reached) × PassesLoad P.lost P.shown rows seed (λ state. IsIn B.chip state (record { terminal = self.old.terminal; card = self.old.card.card; refused = self.old.refused })) progress.new person.old person.new reached) }
+            (record { terminal = self.old.terminal; card = self.old.card; refused = self.old.refused })
+            (record { terminal = self.new.terminal; card = self.new.card; refused = self.new.refused })) }
+        ensures shows { OnOk result ((reached : Reached) × PassesLoad P.lost P.shown rows seed (λ state. IsIn B.chip state (record { terminal = self.old.terminal; card = self.old.card; refused = self.old.refused })) progress.new person.old person.new reached × IsWhole rows reached) }
+        ensures shows_until { OnErr result ((reached : Reached) × PassesLoad P.lost P.shown rows seed (λ state. IsIn B.chip state (record { terminal = self.old.terminal; card = self.old.card; refused = self.old.refused })) progress.new person.old person.new reached) }
     {
         self.fill(rows, seed, progress, person)?;
         let changed = self.carry_out(CHANGE)?;
@@ -133,18 +130,18 @@ impl<'a, B: Bench> Loader<'a, B> {
         progress: &mut Progress,
         person: &mut P,
     ) -> Result<(), EepromFault>
-        requires live { IsTrue self.old.card.card.card.live }
+        requires live { IsTrue self.old.card.card.live }
         requires fresh { self.old.refused ≡ 0 }
         requires unshown { progress.old ≡ none_yet }
         ensures carried { OnOk result (CarriesOut B.chip B.faults (filling_lines rows seed)
-            (record { terminal = self.old.terminal; card = self.old.card.card; refused = self.old.refused })
-            (record { terminal = self.new.terminal; card = self.new.card.card; refused = self.new.refused })) }
+            (record { terminal = self.old.terminal; card = self.old.card; refused = self.old.refused })
+            (record { terminal = self.new.terminal; card = self.new.card; refused = self.new.refused })) }
         ensures few { OnOk result (self.new.refused ≤ 65537) }
         ensures failed { OnErr result (FailsAmong B.chip B.faults (filling_lines rows seed)
-            (record { terminal = self.old.terminal; card = self.old.card.card; refused = self.old.refused })
-            (record { terminal = self.new.terminal; card = self.new.card.card; refused = self.new.refused })) }
-        ensures shows { OnOk result (PassesRows P.lost P.shown seed rows (λ state. IsIn B.chip state (record { terminal = self.old.terminal; card = self.old.card.card; refused = self.old.refused })) progress.new person.old person.new) }
-        ensures shows_until { OnErr result (PassesSome P.lost P.shown seed rows (λ state. IsIn B.chip state (record { terminal = self.old.terminal; card = self.old.card.card; refused = self.old.refused })) progress.new person.old person.new) }
+            (record { terminal = self.old.terminal; card = self.old.card; refused = self.old.refused })
+            (record { terminal = self.new.terminal; card = self.new.card; refused = self.new.refused })) }
+        ensures shows { OnOk result (PassesRows P.lost P.shown seed rows (λ state. IsIn B.chip state (record { terminal = self.old.terminal; card = self.old.card; refused = self.old.refused })) progress.new person.old person.new) }
+        ensures shows_until { OnErr result (PassesSome P.lost P.shown seed rows (λ state. IsIn B.chip state (record { terminal = self.old.terminal; card = self.old.card; refused = self.old.refused })) progress.new person.old person.new) }
     {
         self.carry_out(PRESENT)?;
         self.carry_out(CREATE)?;
@@ -159,18 +156,18 @@ impl<'a, B: Bench> Loader<'a, B> {
         progress: &mut Progress,
         person: &mut P,
     ) -> Result<(), EepromFault>
-        requires live { IsTrue self.old.card.card.card.live }
+        requires live { IsTrue self.old.card.card.live }
         requires few { self.old.refused ≤ 2 }
         requires unshown { progress.old ≡ none_yet }
         ensures carried { OnOk result (CarriesOut B.chip B.faults (insert_lines rows 1 seed)
-            (record { terminal = self.old.terminal; card = self.old.card.card; refused = self.old.refused })
-            (record { terminal = self.new.terminal; card = self.new.card.card; refused = self.new.refused })) }
+            (record { terminal = self.old.terminal; card = self.old.card; refused = self.old.refused })
+            (record { terminal = self.new.terminal; card = self.new.card; refused = self.new.refused })) }
         ensures few { OnOk result (self.new.refused ≤ 2 + rows) }
         ensures failed { OnErr result (FailsAmong B.chip B.faults (insert_lines rows 1 seed)
-            (record { terminal = self.old.terminal; card = self.old.card.card; refused = self.old.refused })
-            (record { terminal = self.new.terminal; card = self.new.card.card; refused = self.new.refused })) }
-        ensures shows { OnOk result (PassesRows P.lost P.shown seed rows (λ state. IsIn B.chip (state_after statement_lines state (filling_lines 0 seed)) (record { terminal = self.old.terminal; card = self.old.card.card; refused = self.old.refused })) progress.new person.old person.new) }
-        ensures shows_until { OnErr result (PassesSome P.lost P.shown seed rows (λ state. IsIn B.chip (state_after statement_lines state (filling_lines 0 seed)) (record { terminal = self.old.terminal; card = self.old.card.card; refused = self.old.refused })) progress.new person.old person.new) }
+            (record { terminal = self.old.terminal; card = self.old.card; refused = self.old.refused })
+            (record { terminal = self.new.terminal; card = self.new.card; refused = self.new.refused })) }
+        ensures shows { OnOk result (PassesRows P.lost P.shown seed rows (λ state. IsIn B.chip (state_after statement_lines state (filling_lines 0 seed)) (record { terminal = self.old.terminal; card = self.old.card; refused = self.old.refused })) progress.new person.old person.new) }
+        ensures shows_until { OnErr result (PassesSome P.lost P.shown seed rows (λ state. IsIn B.chip (state_after statement_lines state (filling_lines 0 seed)) (record { terminal = self.old.terminal; card = self.old.card; refused = self.old.refused })) progress.new person.old person.new) }
     {
         let mut value = seed as u32;
         for row in 0..rows {
@@ -184,17 +181,17 @@ impl<'a, B: Bench> Loader<'a, B> {
 
     // Carries out a line, and tells the number of its closing line, or 0 where it has none.
     fn carry_out(&mut self, line: &[u8]) -> Result<u32, EepromFault>
-        requires live { IsTrue self.old.card.card.card.live }
+        requires live { IsTrue self.old.card.card.live }
         requires short { length line.now ≤ longest_line }
         requires few { self.old.refused ≤ 70000 }
         ensures carried { OnOk result (CarriesOut B.chip B.faults (line.now ∷ [])
-            (record { terminal = self.old.terminal; card = self.old.card.card; refused = self.old.refused })
-            (record { terminal = self.new.terminal; card = self.new.card.card; refused = self.new.refused })) }
-        ensures number { (state : TerminalState) → IsIn B.chip state (record { terminal = self.old.terminal; card = self.old.card.card; refused = self.old.refused })
+            (record { terminal = self.old.terminal; card = self.old.card; refused = self.old.refused })
+            (record { terminal = self.new.terminal; card = self.new.card; refused = self.new.refused })) }
+        ensures number { (state : TerminalState) → IsIn B.chip state (record { terminal = self.old.terminal; card = self.old.card; refused = self.old.refused })
             → IfOk result (λ number. number ≡ model.number_of (closing_in state (statement_of line.now))) }
         ensures failed { OnErr result (FailsAmong B.chip B.faults (line.now ∷ [])
-            (record { terminal = self.old.terminal; card = self.old.card.card; refused = self.old.refused })
-            (record { terminal = self.new.terminal; card = self.new.card.card; refused = self.new.refused })) }
+            (record { terminal = self.old.terminal; card = self.old.card; refused = self.old.refused })
+            (record { terminal = self.new.terminal; card = self.new.card; refused = self.new.refused })) }
     {
         match self.terminal.quiet(&mut self.card, line) {
             QuietEnd::Closed { closing } => {
@@ -212,7 +209,7 @@ fn number_in(closing: Closing) -> u32
     ensures { result ≡ model.number_of (Some closing) }
 {
     match closing {
-        Closing::Rows { number } => number,
+        Closing::Rows { number } | Closing::Cut { number } => number,
         _ => 0,
     }
 }

@@ -1,13 +1,9 @@
 //! The program `card_cli`: a card whose EEPROM is a file, with standard input and output as its reader.
 #![tactic(auto)]
 
-mod answering;
 mod checking;
 mod commands;
-mod ending;
-mod input;
 mod laws;
-mod line;
 mod load_lines;
 mod loading;
 mod migration;
@@ -15,59 +11,33 @@ mod opening;
 mod output;
 mod progress;
 mod prompt;
-mod responder;
 mod run;
 mod statements;
-mod status;
-mod still_card;
-mod stop;
 mod words;
 
-use ending::Ending;
 use file_bench::{FileBench, StdSource};
+use program::{About, Ending, Status, command_line, end_program, hold_streams};
 use prompt::{Prompted, Watcher};
 use run::run_card;
-use status::Status;
-use std::fs::File;
 use std::io::{IsTerminal, Stderr};
 use std::process::ExitCode;
-use std::{env, fs, io};
 
 fn main(rt: HostRuntime) -> ExitCode {
     let ending = match answer(&rt) {
         Ok(status) => Ending::Run(status),
         Err(ending) => ending,
     };
-    if let Some(message) = ending.message() {
-        // Where standard error takes nothing, the exit status says the same.
-        let _ = rt.eprintln(message);
-    }
-    ExitCode::from(ending.number())
+    end_program(&rt, ending, USAGE)
 }
 
 fn answer(rt: &HostRuntime) -> Result<Status, Ending> {
     let words = command_line(rt)?;
-    let Some((first, rest)) = words.split_first() else {
-        return Ok(Status::Usage);
-    };
-    match (first.as_str(), rest.is_empty()) {
-        ("--help", true) => Ok(print(rt, HELP)),
-        ("--version", true) => Ok(print(rt, VERSION)),
-        (path, _) => run_over(rt, path, rest),
+    if let Some(status) = ABOUT.answer(rt, &words) {
+        return Ok(status);
     }
-}
-
-// The words of the command line after the program's name.
-fn command_line(rt: &HostRuntime) -> Result<Vec<String>, Ending> {
-    let mut words = env::args(rt)?;
-    words.next();
-    Ok(words.collect(rt.alloc())?)
-}
-
-fn print(rt: &HostRuntime, text: &str) -> Status {
-    match rt.println(text) {
-        Ok(()) => Status::Done,
-        Err(_) => Status::WriteFault,
+    match words.split_first() {
+        Some((path, rest)) => run_over(rt, path, rest),
+        None => Ok(Status::Usage),
     }
 }
 
@@ -100,13 +70,12 @@ fn is_watched(rt: &HostRuntime, words: &[String]) -> bool {
     words.first().is_some_and(|word| word.as_str() == "load") && rt.stderr().is_terminal()
 }
 
-// A standard stream that is closed leaves its number to the next file that is opened. These three take it
-// before the card's file can, so that no answer is written into the image.
-fn hold_streams(rt: &HostRuntime) -> [io::Result<File>; 3] {
-    [(); 3].map(|_| fs::open(rt, "/dev/null"))
-}
+const USAGE: &str = "usage: card_cli FILE (new N | apdu | term | check | load K SEED | migrate)";
 
-const VERSION: &str = "card_cli 0.1.0";
+const ABOUT: About = About {
+    help: HELP,
+    version: "card_cli 0.1.0",
+};
 
 const HELP: &str = "usage: card_cli FILE (new N | apdu | term | check | load K SEED | migrate)
 

@@ -9,10 +9,10 @@ ghost use Rattle.card_cli.specs.Ends.{AllFaults, EndsBy, ends_opened};
 ghost use Rattle.card_cli.specs.Migrating.{KeepsOthers, LeavesLongRows, MigratesTo, StaysMigrating};
 
 use crate::output::give;
-use crate::status::Status;
 use crate::words::Form;
 use eeprom::Bench;
 use migrate::migrate;
+use program::Status;
 
 /// Makes the rows of the card that is there longer, where they aren't so yet, and says which of both it found.
 pub(crate) fn run_migration<B: Bench>(bench: &mut B) -> Status

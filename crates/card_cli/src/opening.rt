@@ -15,14 +15,13 @@ ghost use Rattle.card_cli.specs.Beginning.{IsOpenTo, IsThere, Begins, LacksCard,
 ghost use Rattle.card_cli.specs.Ends.{AllFaults, EndsBy, ends_opening};
 ghost use Rattle.card_cli.specs.Run.{IsWithoutCard};
 
-use crate::status::Status;
 use crate::words::Form;
 use card::{Card, FormatRefusal, OpenRefusal};
-use eeprom::Bench;
-use std::alloc::Global;
+use eeprom::{Bench, Heap};
+use program::Status;
 
 /// Opens the card that the words ask for. Nothing is given, and no line is read.
-pub(crate) fn open_card<B: Bench>(alloc: Global, form: Form, bench: &mut B) -> Result<Card, Status>
+pub(crate) fn open_card<B: Bench>(alloc: Heap, form: Form, bench: &mut B) -> Result<Card, Status>
     requires { IsWithinLimits form }
     ensures starts { IfOk result (λ card. (db : Database) → Begins form (B.chip bench.old) db → IsAt card (B.chip bench.new) (start db)) }
     ensures ready { IfOk result (λ card. IsReady card (B.chip bench.new)) }

@@ -3,9 +3,9 @@ ghost use Rattle.std.specs.Prelude.{◌≡◌, ◌+◌, ◌≤◌, ℕ, List, le
 ghost use Rattle.eeprom.specs.Chip.{Gives};
 ghost use Rattle.eeprom.specs.Fault.{Counts};
 ghost use Rattle.card.specs.Behind.{KeepsBehind};
-ghost use Rattle.card_cli.specs.CutOff.{IsCutShort};
-ghost use Rattle.card_cli.specs.Moments.{IfGiven};
-ghost use Rattle.card_cli.specs.RunState.{Prints};
+ghost use Rattle.line_run.specs.CutOff.{IsCutShort};
+ghost use Rattle.line_run.specs.Moments.{IfGiven};
+ghost use Rattle.eeprom.specs.Output.{Prints};
 
 use eeprom::{Bench, SinkFault};
 

@@ -27,14 +27,13 @@ use crate::migration::run_migration;
 use crate::opening::open_card;
 use crate::progress::Person;
 use crate::statements::answer_statements;
-use crate::status::Status;
 use crate::words::{Form, form_of};
-use eeprom::{Bench, Source};
-use std::alloc::Global;
+use eeprom::{Bench, Heap, Source};
+use program::Status;
 
 /// Runs the card of the bench by the words behind the file's name. A person may be shown how far it has come.
 pub fn run_card<S: Source, B: Bench, P: Person>(
-    alloc: Global,
+    alloc: Heap,
     words: &[String],
     source: &mut S,
     bench: &mut B,
@@ -101,12 +100,12 @@ pub fn run_card<S: Source, B: Bench, P: Person>(
     };
     match open_card(alloc, form, bench) {
         Err(status) => status,
-        Ok(mut card) => match form {
+        Ok(card) => match form {
             Form::Check => run_check(&card, bench),
             Form::Migrate => run_migration(bench),
             Form::Load { rows, seed } => run_load(card, bench, person, rows, seed),
             Form::Term => answer_statements(card, source, bench),
-            Form::New { .. } | Form::Apdu => answer_commands(&mut card, source, bench),
+            Form::New { .. } | Form::Apdu => answer_commands(card, source, bench),
         },
     }
 }

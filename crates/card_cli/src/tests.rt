@@ -12,8 +12,8 @@ mod statements;
 
 use crate::progress::Person;
 use crate::run::run_card;
-use crate::status::Status;
 use eeprom::{FaultPlan, MemBench, MemSource, SteadySource};
+use program::Status;
 use std::alloc::{AllocError, Global};
 use std::test::Fail;
 

@@ -27,7 +27,7 @@ use Rattle.planner.proofs.TransactionKnown.{transaction-told}
 use Rattle.terminal.specs.declared.failure.Failure.TheVariants.{Card, Outlet}
 use Rattle.terminal.specs.declared.line_end.LineEnd.{LineEnd}
 use Rattle.terminal.specs.declared.line_end.LineEnd.TheVariants as ends
-use Rattle.card_asking.specs.Following.{after_all}
+use Rattle.scql_model.specs.Lives.{after_all}
 use Rattle.card_asking.proofs.Followed.{none-before}
 use Rattle.card_asking.proofs.Moments.{one-last}
 use Rattle.card_asking.proofs.Sound.{IsSound, select-or-none, sound}

@@ -15,7 +15,8 @@ use Rattle.planner.specs.Running.{Ran}
 use Rattle.planner.specs.Readings.{IsReadingAt}
 use Rattle.planner.specs.Text.{closing_text}
 use Rattle.planner.proofs.StatementsLawful.{after-append}
-use Rattle.card_asking.specs.Following.{Follows, run_from, after_all, given_by}
+use Rattle.scql_model.specs.Lives.{after_all}
+use Rattle.card_asking.specs.Following.{Follows, run_from, given_by}
 use Rattle.card_asking.proofs.Followed.{first-follows, follows-both, none-before, none-behind}
 use Rattle.card_asking.proofs.Moments.{one-mark, one-next}
 use Rattle.terminal.specs.declared.failure.Failure.{Failure}

@@ -13,7 +13,8 @@ use Rattle.planner.specs.Planned.{Planned}
 use Rattle.planner.specs.Running.{Ran}
 use Rattle.planner.specs.Text.{row_text, closing_text}
 use Rattle.card_link.specs.Link.{IsOneOf}
-use Rattle.card_asking.specs.Following.{Follows, after_all}
+use Rattle.scql_model.specs.Lives.{after_all}
+use Rattle.card_asking.specs.Following.{Follows}
 use Rattle.terminal.specs.declared.failure.Failure.{Failure}
 use Rattle.terminal.specs.declared.failure.Failure.TheVariants.{Card, Outlet}
 

@@ -16,7 +16,7 @@ use Rattle.planner.specs.StatementLines.{TerminalState}
 use Rattle.planner.specs.Text.{row_text}
 use Rattle.terminal.specs.declared.line_end.LineEnd.{LineEnd}
 use Rattle.terminal.specs.declared.line_end.LineEnd.TheVariants as ends
-use Rattle.card_asking.specs.Following.{after_all}
+use Rattle.scql_model.specs.Lives.{after_all}
 use Rattle.terminal.specs.Holding.{Holding, Knows, Sits}
 use Rattle.terminal.specs.Failing.{Breaks, IsStart, Works}
 

@@ -7,7 +7,7 @@ use Rattle.scql_model.specs.Lines.{line_step, state_after}
 use Rattle.scql_model.specs.Machine.{start}
 use Rattle.script.specs.Line.{statement_of}
 use Rattle.planner.specs.declared.closing.Closing.{Closing}
-use Rattle.planner.specs.declared.closing.Closing.TheVariants.{Rows, Refused}
+use Rattle.planner.specs.declared.closing.Closing.TheVariants.{Rows, Cut, Refused}
 use Rattle.planner.specs.StatementLines.{TerminalState, statement_lines}
 use Rattle.terminal.specs.Holding.{terminal_at}
 use Rattle.terminal.specs.Quiet.{closing_in}
@@ -53,6 +53,7 @@ closings state (line ∷ lines) = closing_in state (statement_of line) ∷ closi
 -- the number of a closing line, or 0 where there is none
 abbrev pub number_of : Option Closing → ℕ
 number_of (Some (Rows number)) = number
+number_of (Some (Cut number)) = number
 number_of closing = 0
 
 abbrev pub is_refused : Option Closing → Bool

@@ -122,7 +122,7 @@ fn put_hexadecimal(text: &mut ArrayVec<u8, LONGEST_ROW>, value: &[u8])
     text.push(b'\'');
 }
 
-#[tactic(auto, using(crate::proofs::UpperCase::upper_of_lower))]
+#[tactic(auto, using(apdu::proofs::HexadecimalTexts::upper_of_lower))]
 fn print_into(octets: &[u8], digits: &mut [u8])
     requires { length digits.old ≡ 2 * length octets.now }
     ensures { digits.new ≡ encode_upper octets.now }

@@ -4,8 +4,8 @@ use super::power_loss::left_in;
 use super::scripts::{STOCK, Script, TRANSACTION, VERIFICATION};
 use super::{Failing, Nobody, no_faults, words_of};
 use crate::run::run_card;
-use crate::status::Status;
 use eeprom::{MemBench, MemSource};
+use program::Status;
 use std::alloc::{AllocError, Global};
 use std::test::Fail;
 

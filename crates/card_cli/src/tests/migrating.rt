@@ -1,7 +1,7 @@
 // The form `migrate`, over a bench in memory.
 use super::{WITH_ANN, fresh_card, lay, no_faults, run_over};
-use crate::status::Status;
 use eeprom::MemBench;
+use program::Status;
 use std::alloc::{AllocError, Global};
 use std::test::Fail;
 

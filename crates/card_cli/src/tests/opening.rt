@@ -1,8 +1,8 @@
 // The form `apdu`: cards that are there, and images that are none.
 use super::{Nobody, WITH_ANN, fresh_card, is_open, lay, no_faults, run_over, words_of};
 use crate::run::run_card;
-use crate::status::Status;
 use eeprom::{SteadyBench, SteadySource};
+use program::Status;
 use std::test::Fail;
 
 const PRESENT_OWNER: &str = "0014008006054F574E4552\n";

@@ -1,7 +1,7 @@
 // Power is lost within each write of a run, and of each opening after that: the image opens, and has each change that was answered.
 use super::{WITH_ANN, fresh_card, is_open, lay, no_faults, run_over};
-use crate::status::Status;
 use eeprom::MemBench;
+use program::Status;
 use std::alloc::{AllocError, Global};
 use std::test::Fail;
 

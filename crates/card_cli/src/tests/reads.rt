@@ -1,6 +1,6 @@
 // The reads of an opening.
 use super::{lay, no_faults, run_over};
-use crate::status::Status;
+use program::Status;
 use std::alloc::{AllocError, Global};
 use std::test::Fail;
 

@@ -1,6 +1,6 @@
 // Three worked scripts over cards of 64 cells, and what the card of an image tells after each of their commits.
 use super::{no_faults, run_over};
-use crate::status::Status;
+use program::Status;
 use std::alloc::{AllocError, Global};
 
 /// What a script's lines are, its text, and how many times it commits in all.

@@ -1,19 +1,19 @@
 -- A card that replied was carried out to the end; a mute one leaves what it had committed by then.
-use Rattle.std.proofs.Common.{◌≡◌, ℕ, List, [], ◌+◌, ◌≤◌, length, Option, Some, refl, ap, subst, ◌∙◌, arith, inl}
+use Rattle.std.proofs.Common.{◌≡◌, false, ℕ, List, [], ◌+◌, ◌≤◌, length, Option, Some, refl, ap, subst, ◌∙◌, arith, inl}
 use Rattle.eeprom.specs.Chip.{Chip, Still, Throughout}
 use Rattle.scql_model.specs.Machine.{Machine}
 use Rattle.scql_model.specs.Opens.{Opens}
 use Rattle.card.specs.Card.{IsAt}
 use Rattle.card.specs.GivenMoments.{behind-keeps, gives-throughout}
-use Rattle.card_cli.specs.Moments.{IsInLine, IsInAnswered}
+use Rattle.line_run.specs.Moments.{IsInLine, IsInAnswered}
 use Rattle.scql_model.specs.Step.{step}
 use Rattle.card.proofs.Leaving.{Opens-at}
 use Rattle.card_cli.proofs.Moving.{line-moments, answered-moments}
 use Rattle.scql_model.specs.Lines.{command, command_lines, content_effect, mute_text, reply_text}
-use Rattle.card_cli.specs.declared.stop.FailedDevice.TheVariants.{Eeprom, Outlet, Both}
-use Rattle.card_cli.specs.CutOff.{FailsIn, IsCutShort}
-use Rattle.card.specs.Behind.{KeepsBehind}
-use Rattle.card_cli.proofs.Behind.{behind-on}
+use Rattle.line_run.specs.declared.line_stop.LineStop.TheVariants.{Eeprom, Outlet, Both}
+use Rattle.line_run.specs.CutOff.{FailsIn, IsCutShort}
+use Rattle.card_cli.specs.Behind.{StaysBehind}
+use Rattle.card.specs.GivenMoments.{behind-on}
 use Rattle.card_cli.proofs.Commanding.{mute_text-reply}
 use Rattle.card_cli.proofs.Stopping.{at_outlet, fails_giving, fails_mute, fails_both}
 use Rattle.card_cli.proofs.commands.answer_command.Goals.{After-give, After-give-in-Mute}
@@ -97,25 +97,32 @@ returns-in-Ok-clause-moments g c = λ m at told. mute_moments g (goal.at.returns
 pub returns-in-Err-clause-moments : goal.returns-in-Err-clause-moments
 returns-in-Err-clause-moments g c = λ m at told. mute_moments g (goal.at.returns-in-Err-clause-moments g c).After-give-in-Mute m at
 
--- what lies behind the image stays, whether it replied
-replied_behind : (g : _) (c : After-give g) → KeepsBehind (λ was. c.args.card.now.store.chains.cells) (g.B.Eeprom.chip c.args.bench.now) (g.B.Eeprom.chip c.give.new.bench)
-replied_behind g c =
+-- what lies behind the image stays, and the card has its number of cells where it replied
+replied_behind : (g : _) (c : After-give g) → c.answer.new.self.store.chains.cells ≡ c.args.card.now.store.chains.cells → StaysBehind c.args.card.now c.answer.new.self (g.B.Eeprom.chip c.args.bench.now) (g.B.Eeprom.chip c.give.new.bench)
+replied_behind g c same =
     let cells : ℕ = c.args.card.now.store.chains.cells in
     let mid : Chip = g.B.Eeprom.chip c.answer.new.bench in
-    behind-on cells cells (g.B.Eeprom.chip c.args.bench.now) mid (g.B.Eeprom.chip c.give.new.bench) refl (behind-keeps cells (g.B.Eeprom.chip c.args.bench.now) mid c.answer.ensures.behind) (c.give.ensures.behind (λ was. cells))
+    record {
+      cells = λ live. same;
+      behind = behind-on cells cells (g.B.Eeprom.chip c.args.bench.now) mid (g.B.Eeprom.chip c.give.new.bench) refl (behind-keeps cells (g.B.Eeprom.chip c.args.bench.now) mid c.answer.ensures.behind) (c.give.ensures.behind (λ was. cells));
+    }
 
 pub returns-in_ok-give-in-Replied-clause-behind : goal.returns-in_ok-give-in-Replied-clause-behind
-returns-in_ok-give-in-Replied-clause-behind g c = replied_behind g (goal.at.returns-in_ok-give-in-Replied-clause-behind g c).After-give
+returns-in_ok-give-in-Replied-clause-behind g c = replied_behind g (goal.at.returns-in_ok-give-in-Replied-clause-behind g c).After-give (c.in-Replied.ensures.cells refl)
 
 pub returns-in_err-give-in-Replied-clause-behind : goal.returns-in_err-give-in-Replied-clause-behind
-returns-in_err-give-in-Replied-clause-behind g c = replied_behind g (goal.at.returns-in_err-give-in-Replied-clause-behind g c).After-give
+returns-in_err-give-in-Replied-clause-behind g c = replied_behind g (goal.at.returns-in_err-give-in-Replied-clause-behind g c).After-give (c.in-Replied.ensures.cells refl)
 
--- or went mute
-mute_behind : (g : _) (c : After-give-in-Mute g) → KeepsBehind (λ was. c.args.card.now.store.chains.cells) (g.B.Eeprom.chip c.args.bench.now) (g.B.Eeprom.chip c.give-in-Mute.new.bench)
+-- or the card went mute, and answers no more
+mute_behind : (g : _) (c : After-give-in-Mute g) → StaysBehind c.args.card.now c.answer.new.self (g.B.Eeprom.chip c.args.bench.now) (g.B.Eeprom.chip c.give-in-Mute.new.bench)
 mute_behind g c =
     let cells : ℕ = c.args.card.now.store.chains.cells in
     let mid : Chip = g.B.Eeprom.chip c.answer.new.bench in
-    behind-on cells cells (g.B.Eeprom.chip c.args.bench.now) mid (g.B.Eeprom.chip c.give-in-Mute.new.bench) refl (behind-keeps cells (g.B.Eeprom.chip c.args.bench.now) mid c.answer.ensures.behind) (c.give-in-Mute.ensures.behind (λ was. cells))
+    let gone : c.answer.new.self.live ≡ false = (c.in-Mute.ensures.mute refl).2 in
+    record {
+      cells = λ live. absurd cc;
+      behind = behind-on cells cells (g.B.Eeprom.chip c.args.bench.now) mid (g.B.Eeprom.chip c.give-in-Mute.new.bench) refl (behind-keeps cells (g.B.Eeprom.chip c.args.bench.now) mid c.answer.ensures.behind) (c.give-in-Mute.ensures.behind (λ was. cells));
+    }
 
 pub returns-in-Ok-clause-behind : goal.returns-in-Ok-clause-behind
 returns-in-Ok-clause-behind g c = mute_behind g (goal.at.returns-in-Ok-clause-behind g c).After-give-in-Mute

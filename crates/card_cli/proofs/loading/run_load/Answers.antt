@@ -12,18 +12,18 @@ use Rattle.card.specs.LiveCard.{IsReadyAt, OnBench}
 use Rattle.planner.specs.StatementLines.{TerminalState}
 use Rattle.terminal.specs.Holding.{terminal_at}
 use Rattle.terminal.specs.Load.{LoadCounts, counts_text, load_counts}
-use Rattle.card_cli.specs.declared.status.Status.{Status}
-use Rattle.card_cli.specs.declared.stop.FailedDevice.TheVariants.{Eeprom, Outlet}
-use Rattle.card_cli.specs.Answering.{Failed}
-use Rattle.card_cli.specs.CutOff.{IsCutShort}
-use Rattle.card_cli.specs.declared.status.Status.TheVariants as status
+use Rattle.program.specs.declared.status.Status.{Status}
+use Rattle.line_run.specs.declared.line_stop.LineStop.TheVariants.{Eeprom, Outlet}
+use Rattle.line_run.specs.Answering.{Failed}
+use Rattle.line_run.specs.CutOff.{IsCutShort}
+use Rattle.program.specs.declared.status.Status.TheVariants as status
 use Rattle.card_cli.specs.Ends.{AllFaults, EndsBy, has_opened}
 use Rattle.card_cli.specs.Loading.{IsIn, IsLoaded, Loader, LoadsTo, script_effect, script_lines}
-use Rattle.card_cli.specs.Moments.{IfGiven}
+use Rattle.line_run.specs.Moments.{IfGiven}
 use Rattle.card_cli.specs.Progress.{Reached, ShowsLoad}
-use Rattle.card_cli.specs.RunState.{Prints}
+use Rattle.eeprom.specs.Output.{Prints}
 use Rattle.card_cli.specs.Watching.{IsWhole, PassesLoad}
-use Rattle.card_cli.proofs.Behind.{behind-on}
+use Rattle.card.specs.GivenMoments.{behind-on}
 use Rattle.card_cli.proofs.Finishing.{same_faults}
 use Rattle.card_cli.proofs.LoadedCards.{cut-short, ends-quietly, loaded, loads-as, script-failed}
 use Rattle.card_cli.proofs.ShownLoads.{shows-load}
@@ -38,7 +38,7 @@ abbrev first : (g : _) (c : Ran g) → Loader g.row.B.Denot
 first g c = record { terminal = c.new.result; card = c.new-2.result; refused = 0 }
 
 abbrev last : (g : _) (c : Ran g) → Loader g.row.B.Denot
-last g c = record { terminal = c.run_script-counted.new.self.terminal; card = c.run_script-counted.new.self.card.card; refused = c.run_script-counted.new.self.refused }
+last g c = record { terminal = c.run_script-counted.new.self.terminal; card = c.run_script-counted.new.self.card; refused = c.run_script-counted.new.self.refused }
 
 -- it began over the bench that was handed in,
 begins : (g : _) (c : Ran g) → (first g c).card.bench ≡ c.args.bench.now
@@ -68,22 +68,22 @@ said g c state at =
     text ∙ (c.text_of.ensures ∙ ap (λ (x : LoadCounts). counts_text x) (c.in-Ok.ensures.counted state at))
 
 -- the image stayed meanwhile,
-image_stays : (g : _) (c : Told g) → (g.B.Eeprom.chip c.give.new.bench).image ≡ (g.B.Eeprom.chip c.run_script-counted.new.self.card.card.bench).image
+image_stays : (g : _) (c : Told g) → (g.B.Eeprom.chip c.give.new.bench).image ≡ (g.B.Eeprom.chip c.run_script-counted.new.self.card.bench).image
 image_stays g c = subst (λ (b : g.row.B.Denot). (g.B.Eeprom.chip c.give.new.bench).image ≡ (g.B.Eeprom.chip b).image) c.into_bench-bench.ensures.bench c.give.ensures.image
 
-pieces : (g : _) (c : Told g) → Throughout (g.B.Eeprom.chip c.run_script-counted.new.self.card.card.bench) (g.B.Eeprom.chip c.give.new.bench) (IsInPiece (g.B.Eeprom.chip c.run_script-counted.new.self.card.card.bench) (g.B.Eeprom.chip c.give.new.bench).still.mark)
+pieces : (g : _) (c : Told g) → Throughout (g.B.Eeprom.chip c.run_script-counted.new.self.card.bench) (g.B.Eeprom.chip c.give.new.bench) (IsInPiece (g.B.Eeprom.chip c.run_script-counted.new.self.card.bench) (g.B.Eeprom.chip c.give.new.bench).still.mark)
 pieces g c =
     subst (λ (b : g.row.B.Denot). Throughout (g.B.Eeprom.chip b) (g.B.Eeprom.chip c.give.new.bench) (IsInPiece (g.B.Eeprom.chip b) (g.B.Eeprom.chip c.give.new.bench).still.mark)) c.into_bench-bench.ensures.bench
     (gives-throughout (g.B.Eeprom.chip c.into_bench-bench.result.now) (g.B.Eeprom.chip c.give.new.bench) (g.met.B.Eeprom.clocked c.into_bench-bench.result.now) c.give.ensures.gives)
 
 -- and so did the EEPROM's count of faults, and what lay behind the image
-eeprom_stays : (g : _) (c : Told g) → g.B.Eeprom.faults c.run_script-counted.new.self.card.card.bench ≡ g.B.Eeprom.faults c.args.bench.now → g.B.Eeprom.faults c.give.new.bench ≡ g.B.Eeprom.faults c.args.bench.now
+eeprom_stays : (g : _) (c : Told g) → g.B.Eeprom.faults c.run_script-counted.new.self.card.bench ≡ g.B.Eeprom.faults c.args.bench.now → g.B.Eeprom.faults c.give.new.bench ≡ g.B.Eeprom.faults c.args.bench.now
 eeprom_stays g c script = c.give.ensures.faults ∙ (ap g.B.Eeprom.faults c.into_bench-bench.ensures.bench ∙ script)
 
-behind_text : (g : _) (c : Told g) → KeepsBehind (λ (was : List ℕ). c.args.card.store.chains.cells) (g.B.Eeprom.chip c.args.bench.now) (g.B.Eeprom.chip c.run_script-counted.new.self.card.card.bench)
+behind_text : (g : _) (c : Told g) → KeepsBehind (λ (was : List ℕ). c.args.card.store.chains.cells) (g.B.Eeprom.chip c.args.bench.now) (g.B.Eeprom.chip c.run_script-counted.new.self.card.bench)
     → KeepsBehind (λ (was : List ℕ). c.args.card.store.chains.cells) (g.B.Eeprom.chip c.args.bench.now) (g.B.Eeprom.chip c.give.new.bench)
 behind_text g c script =
-    behind-on c.args.card.store.chains.cells c.args.card.store.chains.cells (g.B.Eeprom.chip c.args.bench.now) (g.B.Eeprom.chip c.run_script-counted.new.self.card.card.bench) (g.B.Eeprom.chip c.give.new.bench) refl script
+    behind-on c.args.card.store.chains.cells c.args.card.store.chains.cells (g.B.Eeprom.chip c.args.bench.now) (g.B.Eeprom.chip c.run_script-counted.new.self.card.bench) (g.B.Eeprom.chip c.give.new.bench) refl script
     (subst (λ (b : g.row.B.Denot). KeepsBehind (λ (was : List ℕ). c.args.card.store.chains.cells) (g.B.Eeprom.chip b) (g.B.Eeprom.chip c.give.new.bench)) c.into_bench-bench.ensures.bench (c.give.ensures.behind (λ (was : List ℕ). c.args.card.store.chains.cells)))
 
 -- The EEPROM failed in the script.

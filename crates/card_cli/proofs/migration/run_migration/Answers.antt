@@ -6,9 +6,9 @@ use Rattle.scql_model.specs.Migrating.{migrate_text}
 use Rattle.card.specs.Behind.{KeepsBehind, own_cells}
 use Rattle.card.specs.GivenMoments.{gives-throughout}
 use Rattle.card_cli.specs.Beginning.{IsOpenTo}
-use Rattle.card_cli.specs.CutOff.{IsCutShort}
+use Rattle.line_run.specs.CutOff.{IsCutShort}
 use Rattle.card_cli.specs.Migrating.{KeepsOthers, LeavesLongRows, IsInMigration, IsMigratedFrom}
-use Rattle.card_cli.specs.RunState.{Prints}
+use Rattle.eeprom.specs.Output.{Prints}
 use Rattle.card_cli.proofs.LongerRows.{long-untold, long-told, others-untold, others-told, leaves-between, silent-moments, told-moments, migration-behind, told-behind, migrated-from, migrated-same, text-migrated, left-some}
 use Rattle.card_cli.proofs.migration.run_migration.Goals as goal
 use Rattle.card_cli.proofs.migration.run_migration.Goals.{After-give as Told}

@@ -4,7 +4,8 @@ use Rattle.card.specs.Behind.{KeepsBehind, own_cells}
 use Rattle.card_cli.specs.Behind.{run_cells}
 use Rattle.card_cli.specs.Beginning.{LeavesUntilOpen}
 use Rattle.card_cli.proofs.Finishing.{is_at, open_to, not_to_none, lacks_none, until_open}
-use Rattle.card_cli.proofs.Behind.{behind-then, cells-opened}
+use Rattle.card.specs.GivenMoments.{behind-then}
+use Rattle.card_cli.proofs.Behind.{cells-opened}
 use Rattle.card_cli.proofs.opening.open_card.Goals as goal
 use Rattle.card_cli.proofs.opening.open_card.Goals.{After-open as Opened}
 

@@ -1,7 +1,7 @@
 use Rattle.std.proofs.Common.{List, ℕ, Option, sym, subst}
 use Rattle.std.specs.Prelude.{OnErr}
 use Rattle.card.specs.GivenMoments.{behind-gives}
-use Rattle.card_cli.specs.CutOff.{IsCutShort}
+use Rattle.line_run.specs.CutOff.{IsCutShort}
 use Rattle.card_cli.proofs.Stopping.{cut_short}
 use Rattle.card_cli.proofs.output.give.Goals as goal
 

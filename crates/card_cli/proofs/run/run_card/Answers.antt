@@ -11,7 +11,7 @@ use Rattle.card.specs.Card.{IsAt}
 use Rattle.card_cli.specs.declared.words.Form.{Form}
 use Rattle.card_cli.specs.declared.words.Form.TheVariants.{Term, Check, Load, Migrate}
 use Rattle.card_cli.specs.Behind.{run_cells}
-use Rattle.card_cli.specs.declared.status.Status.{Status}
+use Rattle.program.specs.declared.status.Status.{Status}
 use Rattle.card_cli.specs.Beginning.{IsOpenTo, BeginsWith, Begins, LacksCard, LeavesUntilOpen, FindsNoCard, WantsMemory}
 use Rattle.card_cli.specs.Checking.{Says}
 use Rattle.card_cli.specs.Ends.{AllFaults, EndsBy, may_end}
@@ -24,7 +24,8 @@ use Rattle.card_cli.specs.Statements.{opened, term_lines, was_refused}
 use Rattle.card_cli.specs.Words.{form_in, makes_card}
 use Rattle.terminal.specs.Holding.{terminal_at}
 use Rattle.card_cli.proofs.Asking.{commands-read, lines-may, lines-not-wanting, no-load, no_lines, not-wanting, opened-may, opening-may, unopened}
-use Rattle.card_cli.proofs.Behind.{behind-then, cells-over}
+use Rattle.card.specs.GivenMoments.{behind-then}
+use Rattle.card_cli.proofs.Behind.{cells-over}
 use Rattle.card_cli.proofs.CheckedCards.{Checks-opened, Checks-unopened}
 use Rattle.card_cli.proofs.Finishing.{Lines-unopened, Lines-opened, never-tells, same_faults, valid-beginning}
 use Rattle.card_cli.proofs.LoadedCards.{Loads-opened, Loads-unopened}

@@ -12,7 +12,7 @@ use Rattle.card_cli.proofs.loading.Loader.insert_rows.Goals as goal
 
 pub loop-row-init : goal.loop-row-init
 loop-row-init g c =
-    let loader : Loader g.row.B.Denot = record { terminal = c.args.self.now.terminal; card = c.args.self.now.card.card; refused = c.args.self.now.refused } in
+    let loader : Loader g.row.B.Denot = record { terminal = c.args.self.now.terminal; card = c.args.self.now.card; refused = c.args.self.now.refused } in
     record {
       carried = carries-none g.B.Eeprom.chip g.B.Eeprom.faults loader c.requires.live
           (λ state sits image told. at-told (λ (image : List ℕ). Opens image state.machine.committed) (g.B.Eeprom.chip loader.card.bench).image image told (opens-at loader.card.card (g.B.Eeprom.chip loader.card.bench) state.machine sits.at));
@@ -24,9 +24,9 @@ loop-row-init g c =
 
 pub loop-row-preserved : goal.loop-row-preserved
 loop-row-preserved g c =
-    let old : Loader g.row.B.Denot = record { terminal = c.args.self.now.terminal; card = c.args.self.now.card.card; refused = c.args.self.now.refused } in
-    let mid : Loader g.row.B.Denot = record { terminal = c.loop-row.self.terminal; card = c.loop-row.self.card.card; refused = c.loop-row.self.refused } in
-    let new : Loader g.row.B.Denot = record { terminal = c.carry_out.new.self.terminal; card = c.carry_out.new.self.card.card; refused = c.carry_out.new.self.refused } in
+    let old : Loader g.row.B.Denot = record { terminal = c.args.self.now.terminal; card = c.args.self.now.card; refused = c.args.self.now.refused } in
+    let mid : Loader g.row.B.Denot = record { terminal = c.loop-row.self.terminal; card = c.loop-row.self.card; refused = c.loop-row.self.refused } in
+    let new : Loader g.row.B.Denot = record { terminal = c.carry_out.new.self.terminal; card = c.carry_out.new.self.card; refused = c.carry_out.new.self.refused } in
     let carried = inserts-next g.B.Eeprom.chip g.B.Eeprom.faults c.loop-row.row c.args.seed c.loop-row.value c.next_number-value.result _ old mid new (search rules) c.next_number-value.ensures.next c.loop-row.invariant.value c.loop-row.invariant.carried
     c.in_ok-carry_out.ensures.carried in
     record {
@@ -40,9 +40,9 @@ loop-row-preserved g c =
 
 pub returns-in_err-carry_out-clause-failed : goal.returns-in_err-carry_out-clause-failed
 returns-in_err-carry_out-clause-failed g c =
-    let old : Loader g.row.B.Denot = record { terminal = c.args.self.now.terminal; card = c.args.self.now.card.card; refused = c.args.self.now.refused } in
-    let mid : Loader g.row.B.Denot = record { terminal = c.loop-row.self.terminal; card = c.loop-row.self.card.card; refused = c.loop-row.self.refused } in
-    let new : Loader g.row.B.Denot = record { terminal = c.carry_out.new.self.terminal; card = c.carry_out.new.self.card.card; refused = c.carry_out.new.self.refused } in
+    let old : Loader g.row.B.Denot = record { terminal = c.args.self.now.terminal; card = c.args.self.now.card; refused = c.args.self.now.refused } in
+    let mid : Loader g.row.B.Denot = record { terminal = c.loop-row.self.terminal; card = c.loop-row.self.card; refused = c.loop-row.self.refused } in
+    let new : Loader g.row.B.Denot = record { terminal = c.carry_out.new.self.terminal; card = c.carry_out.new.self.card; refused = c.carry_out.new.self.refused } in
     on-err c.from_residual.result
     (inserts-fail g.B.Eeprom.chip g.B.Eeprom.faults c.args.rows c.loop-row.row c.args.seed c.loop-row.value c.next_number-value.result _ old mid new (search rules) (search rules) c.next_number-value.ensures.next c.loop-row.invariant.value
     c.loop-row.invariant.carried c.in_err-carry_out.ensures.failed)

@@ -14,24 +14,24 @@ use Rattle.card_cli.proofs.loading.Loader.run_script.Goals.{After-set_changed as
 
 pub returns-in_err-fill-clause-failed : goal.returns-in_err-fill-clause-failed
 returns-in_err-fill-clause-failed g c =
-    let old : Loader g.row.B.Denot = record { terminal = c.args.self.now.terminal; card = c.args.self.now.card.card; refused = c.args.self.now.refused } in
-    let filled : Loader g.row.B.Denot = record { terminal = c.fill.new.self.terminal; card = c.fill.new.self.card.card; refused = c.fill.new.self.refused } in
+    let old : Loader g.row.B.Denot = record { terminal = c.args.self.now.terminal; card = c.args.self.now.card; refused = c.args.self.now.refused } in
+    let filled : Loader g.row.B.Denot = record { terminal = c.fill.new.self.terminal; card = c.fill.new.self.card; refused = c.fill.new.self.refused } in
     on-err c.from_residual.result (fails-first g.B.Eeprom.chip g.B.Eeprom.faults (filling_lines c.args.rows c.args.seed) (change_line ∷ delete_line ∷ select_line ∷ []) old filled c.in_err-fill.ensures.failed)
 
 pub returns-in_err-changed-clause-failed : goal.returns-in_err-changed-clause-failed
 returns-in_err-changed-clause-failed g c =
-    let old : Loader g.row.B.Denot = record { terminal = c.args.self.now.terminal; card = c.args.self.now.card.card; refused = c.args.self.now.refused } in
-    let filled : Loader g.row.B.Denot = record { terminal = c.fill.new.self.terminal; card = c.fill.new.self.card.card; refused = c.fill.new.self.refused } in
-    let new : Loader g.row.B.Denot = record { terminal = c.carry_out.new.self.terminal; card = c.carry_out.new.self.card.card; refused = c.carry_out.new.self.refused } in
+    let old : Loader g.row.B.Denot = record { terminal = c.args.self.now.terminal; card = c.args.self.now.card; refused = c.args.self.now.refused } in
+    let filled : Loader g.row.B.Denot = record { terminal = c.fill.new.self.terminal; card = c.fill.new.self.card; refused = c.fill.new.self.refused } in
+    let new : Loader g.row.B.Denot = record { terminal = c.carry_out.new.self.terminal; card = c.carry_out.new.self.card; refused = c.carry_out.new.self.refused } in
     on-err c.from_residual-in_err-changed.result
     (fails-then g.B.Eeprom.chip g.B.Eeprom.faults (filling_lines c.args.rows c.args.seed) (change_line ∷ delete_line ∷ select_line ∷ []) old filled new c.in_ok-fill.ensures.carried (fails-first g.B.Eeprom.chip g.B.Eeprom.faults (change_line ∷ []) (delete_line ∷ select_line ∷ []) filled new c.in_err-changed.ensures.failed))
 
 pub returns-in_err-deleted-clause-failed : goal.returns-in_err-deleted-clause-failed
 returns-in_err-deleted-clause-failed g c =
-    let old : Loader g.row.B.Denot = record { terminal = c.args.self.now.terminal; card = c.args.self.now.card.card; refused = c.args.self.now.refused } in
-    let filled : Loader g.row.B.Denot = record { terminal = c.fill.new.self.terminal; card = c.fill.new.self.card.card; refused = c.fill.new.self.refused } in
-    let changed : Loader g.row.B.Denot = record { terminal = c.carry_out.new.self.terminal; card = c.carry_out.new.self.card.card; refused = c.carry_out.new.self.refused } in
-    let new : Loader g.row.B.Denot = record { terminal = c.carry_out-2.new.self.terminal; card = c.carry_out-2.new.self.card.card; refused = c.carry_out-2.new.self.refused } in
+    let old : Loader g.row.B.Denot = record { terminal = c.args.self.now.terminal; card = c.args.self.now.card; refused = c.args.self.now.refused } in
+    let filled : Loader g.row.B.Denot = record { terminal = c.fill.new.self.terminal; card = c.fill.new.self.card; refused = c.fill.new.self.refused } in
+    let changed : Loader g.row.B.Denot = record { terminal = c.carry_out.new.self.terminal; card = c.carry_out.new.self.card; refused = c.carry_out.new.self.refused } in
+    let new : Loader g.row.B.Denot = record { terminal = c.carry_out-2.new.self.terminal; card = c.carry_out-2.new.self.card; refused = c.carry_out-2.new.self.refused } in
     on-err c.from_residual-in_err-deleted.result
     (fails-then g.B.Eeprom.chip g.B.Eeprom.faults (filling_lines c.args.rows c.args.seed) (change_line ∷ delete_line ∷ select_line ∷ []) old filled new c.in_ok-fill.ensures.carried
     (fails-then g.B.Eeprom.chip g.B.Eeprom.faults (change_line ∷ []) (delete_line ∷ select_line ∷ []) filled changed new c.in_ok-changed.ensures.carried
@@ -39,11 +39,11 @@ returns-in_err-deleted-clause-failed g c =
 
 pub returns-in_err-rows-clause-failed : goal.returns-in_err-rows-clause-failed
 returns-in_err-rows-clause-failed g c =
-    let old : Loader g.row.B.Denot = record { terminal = c.args.self.now.terminal; card = c.args.self.now.card.card; refused = c.args.self.now.refused } in
-    let filled : Loader g.row.B.Denot = record { terminal = c.fill.new.self.terminal; card = c.fill.new.self.card.card; refused = c.fill.new.self.refused } in
-    let changed : Loader g.row.B.Denot = record { terminal = c.carry_out.new.self.terminal; card = c.carry_out.new.self.card.card; refused = c.carry_out.new.self.refused } in
-    let deleted : Loader g.row.B.Denot = record { terminal = c.carry_out-2.new.self.terminal; card = c.carry_out-2.new.self.card.card; refused = c.carry_out-2.new.self.refused } in
-    let new : Loader g.row.B.Denot = record { terminal = c.carry_out-3.new.self.terminal; card = c.carry_out-3.new.self.card.card; refused = c.carry_out-3.new.self.refused } in
+    let old : Loader g.row.B.Denot = record { terminal = c.args.self.now.terminal; card = c.args.self.now.card; refused = c.args.self.now.refused } in
+    let filled : Loader g.row.B.Denot = record { terminal = c.fill.new.self.terminal; card = c.fill.new.self.card; refused = c.fill.new.self.refused } in
+    let changed : Loader g.row.B.Denot = record { terminal = c.carry_out.new.self.terminal; card = c.carry_out.new.self.card; refused = c.carry_out.new.self.refused } in
+    let deleted : Loader g.row.B.Denot = record { terminal = c.carry_out-2.new.self.terminal; card = c.carry_out-2.new.self.card; refused = c.carry_out-2.new.self.refused } in
+    let new : Loader g.row.B.Denot = record { terminal = c.carry_out-3.new.self.terminal; card = c.carry_out-3.new.self.card; refused = c.carry_out-3.new.self.refused } in
     on-err c.from_residual-in_err-rows.result
     (fails-then g.B.Eeprom.chip g.B.Eeprom.faults (filling_lines c.args.rows c.args.seed) (change_line ∷ delete_line ∷ select_line ∷ []) old filled new c.in_ok-fill.ensures.carried
     (fails-then g.B.Eeprom.chip g.B.Eeprom.faults (change_line ∷ []) (delete_line ∷ select_line ∷ []) filled changed new c.in_ok-changed.ensures.carried
@@ -51,22 +51,22 @@ returns-in_err-rows-clause-failed g c =
 
 pub returns-clause-carried : goal.returns-clause-carried
 returns-clause-carried g c =
-    let old : Loader g.row.B.Denot = record { terminal = c.args.self.now.terminal; card = c.args.self.now.card.card; refused = c.args.self.now.refused } in
-    let filled : Loader g.row.B.Denot = record { terminal = c.fill.new.self.terminal; card = c.fill.new.self.card.card; refused = c.fill.new.self.refused } in
-    let changed : Loader g.row.B.Denot = record { terminal = c.carry_out.new.self.terminal; card = c.carry_out.new.self.card.card; refused = c.carry_out.new.self.refused } in
-    let deleted : Loader g.row.B.Denot = record { terminal = c.carry_out-2.new.self.terminal; card = c.carry_out-2.new.self.card.card; refused = c.carry_out-2.new.self.refused } in
-    let new : Loader g.row.B.Denot = record { terminal = c.carry_out-3.new.self.terminal; card = c.carry_out-3.new.self.card.card; refused = c.carry_out-3.new.self.refused } in
+    let old : Loader g.row.B.Denot = record { terminal = c.args.self.now.terminal; card = c.args.self.now.card; refused = c.args.self.now.refused } in
+    let filled : Loader g.row.B.Denot = record { terminal = c.fill.new.self.terminal; card = c.fill.new.self.card; refused = c.fill.new.self.refused } in
+    let changed : Loader g.row.B.Denot = record { terminal = c.carry_out.new.self.terminal; card = c.carry_out.new.self.card; refused = c.carry_out.new.self.refused } in
+    let deleted : Loader g.row.B.Denot = record { terminal = c.carry_out-2.new.self.terminal; card = c.carry_out-2.new.self.card; refused = c.carry_out-2.new.self.refused } in
+    let new : Loader g.row.B.Denot = record { terminal = c.carry_out-3.new.self.terminal; card = c.carry_out-3.new.self.card; refused = c.carry_out-3.new.self.refused } in
     carries-then g.B.Eeprom.chip g.B.Eeprom.faults (filling_lines c.args.rows c.args.seed) (change_line ∷ delete_line ∷ select_line ∷ []) old filled new c.in_ok-fill.ensures.carried
     (carries-then g.B.Eeprom.chip g.B.Eeprom.faults (change_line ∷ []) (delete_line ∷ select_line ∷ []) filled changed new c.in_ok-changed.ensures.carried
     (carries-then g.B.Eeprom.chip g.B.Eeprom.faults (delete_line ∷ []) (select_line ∷ []) changed deleted new c.in_ok-deleted.ensures.carried c.in_ok-rows.ensures.carried))
 
 pub returns-clause-counted : goal.returns-clause-counted
 returns-clause-counted g c = λ state sits.
-    let old : Loader g.row.B.Denot = record { terminal = c.args.self.now.terminal; card = c.args.self.now.card.card; refused = c.args.self.now.refused } in
-    let filled : Loader g.row.B.Denot = record { terminal = c.fill.new.self.terminal; card = c.fill.new.self.card.card; refused = c.fill.new.self.refused } in
-    let changed : Loader g.row.B.Denot = record { terminal = c.carry_out.new.self.terminal; card = c.carry_out.new.self.card.card; refused = c.carry_out.new.self.refused } in
-    let deleted : Loader g.row.B.Denot = record { terminal = c.carry_out-2.new.self.terminal; card = c.carry_out-2.new.self.card.card; refused = c.carry_out-2.new.self.refused } in
-    let new : Loader g.row.B.Denot = record { terminal = c.carry_out-3.new.self.terminal; card = c.carry_out-3.new.self.card.card; refused = c.carry_out-3.new.self.refused } in
+    let old : Loader g.row.B.Denot = record { terminal = c.args.self.now.terminal; card = c.args.self.now.card; refused = c.args.self.now.refused } in
+    let filled : Loader g.row.B.Denot = record { terminal = c.fill.new.self.terminal; card = c.fill.new.self.card; refused = c.fill.new.self.refused } in
+    let changed : Loader g.row.B.Denot = record { terminal = c.carry_out.new.self.terminal; card = c.carry_out.new.self.card; refused = c.carry_out.new.self.refused } in
+    let deleted : Loader g.row.B.Denot = record { terminal = c.carry_out-2.new.self.terminal; card = c.carry_out-2.new.self.card; refused = c.carry_out-2.new.self.refused } in
+    let new : Loader g.row.B.Denot = record { terminal = c.carry_out-3.new.self.terminal; card = c.carry_out-3.new.self.card; refused = c.carry_out-3.new.self.refused } in
     let all : CarriesOut g.B.Eeprom.chip g.B.Eeprom.faults (load_script c.args.rows c.args.seed) old new =
     carries-then g.B.Eeprom.chip g.B.Eeprom.faults (filling_lines c.args.rows c.args.seed) (change_line ∷ delete_line ∷ select_line ∷ []) old filled new c.in_ok-fill.ensures.carried
     (carries-then g.B.Eeprom.chip g.B.Eeprom.faults (change_line ∷ []) (delete_line ∷ select_line ∷ []) filled changed new c.in_ok-changed.ensures.carried
@@ -94,7 +94,7 @@ returns-in_err-changed-clause-shows_until g c =
     on-err c.from_residual-in_err-changed.result (load-rows g.P.Person.lost g.P.Person.shown c.args.rows c.args.seed c.args.rows _ c.fill.new.progress c.args.person.now c.fill.new.person (omega arith) c.in_ok-fill.ensures.shows)
 
 -- so many rows were changed as the load changes
-changed-rows : (g : given.Over) (c : Changed g) (state : TerminalState) → IsIn g.B.Eeprom.chip state (record { terminal = c.args.self.now.terminal; card = c.args.self.now.card.card; refused = c.args.self.now.refused })
+changed-rows : (g : given.Over) (c : Changed g) (state : TerminalState) → IsIn g.B.Eeprom.chip state (record { terminal = c.args.self.now.terminal; card = c.args.self.now.card; refused = c.args.self.now.refused })
     → c.in_ok-changed.changed ≡ (load_counts state c.args.rows c.args.seed).changed
 changed-rows g c state sits = c.in_ok-changed.ensures.number (state_after statement_lines state (filling_lines c.args.rows c.args.seed)) (c.in_ok-fill.ensures.carried.at state sits)
 
@@ -106,7 +106,7 @@ returns-in_err-deleted-clause-shows_until g c =
     c.set_changed.ensures.rows c.set_changed.ensures.shows (changed-rows g run))
 
 -- and so many deleted
-deleted-rows : (g : given.Over) (c : Deleted g) (state : TerminalState) → IsIn g.B.Eeprom.chip state (record { terminal = c.args.self.now.terminal; card = c.args.self.now.card.card; refused = c.args.self.now.refused })
+deleted-rows : (g : given.Over) (c : Deleted g) (state : TerminalState) → IsIn g.B.Eeprom.chip state (record { terminal = c.args.self.now.terminal; card = c.args.self.now.card; refused = c.args.self.now.refused })
     → c.in_ok-deleted.deleted ≡ (load_counts state c.args.rows c.args.seed).deleted
 deleted-rows g c state sits =
     let filled : TerminalState = state_after statement_lines state (filling_lines c.args.rows c.args.seed) in
@@ -114,7 +114,7 @@ deleted-rows g c state sits =
 
 whole : (g : given.Over) (c : Deleted g)
     → (reached : Reached)
-    × PassesLoad g.P.Person.lost g.P.Person.shown c.args.rows c.args.seed (λ state. IsIn g.B.Eeprom.chip state (record { terminal = c.args.self.now.terminal; card = c.args.self.now.card.card; refused = c.args.self.now.refused })) c.set_deleted.new.self c.args.person.now c.set_deleted.new.person reached
+    × PassesLoad g.P.Person.lost g.P.Person.shown c.args.rows c.args.seed (λ state. IsIn g.B.Eeprom.chip state (record { terminal = c.args.self.now.terminal; card = c.args.self.now.card; refused = c.args.self.now.refused })) c.set_deleted.new.self c.args.person.now c.set_deleted.new.person reached
     × IsWhole c.args.rows reached
 whole g c =
     load-deleted g.P.Person.lost g.P.Person.shown c.args.rows c.args.seed c.in_ok-changed.changed c.in_ok-deleted.deleted _ c.fill.new.progress c.set_changed.new.self c.set_deleted.new.self c.args.person.now c.fill.new.person c.set_changed.new.person

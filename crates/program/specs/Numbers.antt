@@ -1,0 +1,47 @@
+-- How a program ends, and the numbers by which it does.
+use Rattle.std.specs.Prelude.{ℕ, Bool, true, false}
+use Rattle.line_input.specs.declared.input.InputEnd.{InputEnd}
+use Rattle.line_input.specs.declared.input.InputEnd.TheVariants as ends
+use Rattle.line_run.specs.declared.line_stop.LineStop.{LineStop}
+use Rattle.line_run.specs.declared.line_stop.LineStop.TheVariants as stops
+use Rattle.program.specs.declared.ending.Ending.{Ending}
+use Rattle.program.specs.declared.ending.Ending.TheVariants.{Run, NoFile}
+use Rattle.program.specs.declared.status.Status.{Status}
+use Rattle.program.specs.declared.status.Status.TheVariants.{Done, Refused, Usage, Eeprom, ReadFault, WriteFault, NotACard, NoMemory, TooLong, TooSmall}
+
+-- the number of a run's end
+abbrev pub number_of : Status → ℕ
+number_of Done = 0
+number_of Refused = 1
+number_of Usage = 2
+number_of Eeprom = 3
+number_of ReadFault = 4
+number_of WriteFault = 5
+number_of NotACard = 6
+number_of NoMemory = 7
+number_of TooLong = 8
+number_of TooSmall = 9
+
+-- the exit status
+abbrev pub exit_status_of : Ending → ℕ
+exit_status_of (Run status) = number_of status
+exit_status_of NoFile = 10
+
+-- how a run ends that read its input to its end, in which a line was refused or none
+abbrev pub ends_as : Bool → Status
+ends_as true = Refused
+ends_as false = Done
+
+-- how a run ends that stops in a line
+abbrev pub status_of : LineStop → Status
+status_of stops.Eeprom = Eeprom
+status_of stops.Outlet = WriteFault
+status_of stops.Both = WriteFault
+status_of stops.NoMemory = NoMemory
+
+-- how a run ends whose lines came to this end, in which one was refused or none
+abbrev pub status_at : InputEnd LineStop → Bool → Status
+status_at ends.Ended refused = ends_as refused
+status_at ends.ReadFault refused = ReadFault
+status_at ends.TooLong refused = TooLong
+status_at (ends.Stopped stop) refused = status_of stop

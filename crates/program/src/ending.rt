@@ -1,0 +1,80 @@
+// How a program ends: as a run does, or because there is no file to run over.
+ghost use Rattle.std.specs.Prelude.{◌≡◌, ◌↔◌, ◌≤◌, IsSome};
+ghost use Rattle.std.specs.IoError.{error_kind};
+ghost use Rattle.std.specs.declared.io.ErrorKind.TheVariants.{OutOfMemory};
+ghost use Rattle.program.specs.Numbers.{exit_status_of};
+ghost use Rattle.program.specs.declared.status.Status.TheVariants.{NoMemory, Usage};
+ghost use Rattle.program.specs.declared.ending.Ending.TheVariants.{Run, NoFile};
+
+use crate::Status;
+use file_bench::FileFault;
+use std::alloc::AllocError;
+use std::io;
+use std::process::ExitCode;
+
+#[derive(Clone, Copy, PartialEq, Eq, Debug)]
+pub enum Ending {
+    /// As a run ends.
+    Run(Status),
+    /// The file couldn't be opened.
+    NoFile,
+}
+
+impl Ending {
+    /// The exit status.
+    pub fn number(self) -> u8
+        ensures { result ≡ exit_status_of self }
+    {
+        match self {
+            Ending::Run(status) => status.number(),
+            Ending::NoFile => 10,
+        }
+    }
+
+    /// The line on standard error, where there is one.
+    pub fn message(self, usage: &'static str) -> Option<&'static str>
+        ensures { IsSome result ↔ 2 ≤ exit_status_of self }
+    {
+        match self {
+            Ending::Run(status) => status.message(usage),
+            Ending::NoFile => Some("no file"),
+        }
+    }
+}
+
+/// Ends a program: by its exit status, with a line on standard error where there is one.
+pub fn end_program(rt: &HostRuntime, ending: Ending, usage: &'static str) -> ExitCode {
+    if let Some(message) = ending.message(usage) {
+        // Where standard error takes nothing, the exit status says the same.
+        let _ = rt.eprintln(message);
+    }
+    ExitCode::from(ending.number())
+}
+
+impl From<FileFault> for Ending {
+    ghost from_gives = { λ _ ending. ending ≡ NoFile };
+
+    fn from(_fault: FileFault) -> Ending {
+        Ending::NoFile
+    }
+}
+
+impl From<AllocError> for Ending {
+    ghost from_gives = { λ _ ending. ending ≡ Run NoMemory };
+
+    fn from(_error: AllocError) -> Ending {
+        Ending::Run(Status::NoMemory)
+    }
+}
+
+/// Of the words of the command line: there is no memory for them, or one isn't UTF-8.
+impl From<io::Error> for Ending {
+    ghost from_gives = { λ error ending. (error_kind error ≡ OutOfMemory → ending ≡ Run NoMemory) × (¬ error_kind error ≡ OutOfMemory → ending ≡ Run Usage) };
+
+    fn from(error: io::Error) -> Ending {
+        match error.kind() {
+            io::ErrorKind::OutOfMemory => Ending::Run(Status::NoMemory),
+            _ => Ending::Run(Status::Usage),
+        }
+    }
+}
