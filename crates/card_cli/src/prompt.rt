@@ -1,5 +1,5 @@
 // A person at the terminal, who types lines or watches a load.
-ghost use Rattle.std.specs.Prelude.{◌≡◌};
+ghost use Rattle.std.specs.Prelude.{◌≡◌, false};
 ghost use Rattle.card_cli.specs.Progress.{lost_on, shown_on};
 
 use crate::progress::Person;
@@ -44,7 +44,10 @@ pub(crate) struct Watcher<P: Print + Drop> {
 }
 
 impl<P: Print + Drop> Watcher<P> {
-    pub(crate) fn new(screen: Option<P>) -> Watcher<P> {
+    pub(crate) fn new(screen: Option<P>) -> Watcher<P>
+        ensures shown { ⟦<Watcher<P> as Person>⟧.shown result ≡ shown_on screen }
+        ensures lost { ⟦<Watcher<P> as Person>⟧.lost result ≡ lost_on screen false }
+    {
         Watcher {
             screen,
             lost: false,

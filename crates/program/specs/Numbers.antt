@@ -1,5 +1,5 @@
--- How a program ends, and the numbers by which it does.
-use Rattle.std.specs.Prelude.{ℕ, Bool, true, false}
+-- How a program ends, by which number, and with which text.
+use Rattle.std.specs.Prelude.{ℕ, Bool, true, false, List, Option, Some, None, codes}
 use Rattle.line_input.specs.declared.input.InputEnd.{InputEnd}
 use Rattle.line_input.specs.declared.input.InputEnd.TheVariants as ends
 use Rattle.line_run.specs.declared.line_stop.LineStop.{LineStop}
@@ -26,6 +26,23 @@ number_of TooSmall = 9
 abbrev pub exit_status_of : Ending → ℕ
 exit_status_of (Run status) = number_of status
 exit_status_of NoFile = 10
+
+-- what is said on standard error of a run that ended so, where this is the usage of the program
+abbrev pub said_of : Status → List ℕ → Option (List ℕ)
+said_of Done usage = None
+said_of Refused usage = None
+said_of Usage usage = Some usage
+said_of Eeprom usage = Some (codes "eeprom fault")
+said_of ReadFault usage = Some (codes "read fault")
+said_of WriteFault usage = Some (codes "write fault")
+said_of NotACard usage = Some (codes "not a card")
+said_of NoMemory usage = Some (codes "no memory")
+said_of TooLong usage = Some (codes "input too long")
+said_of TooSmall usage = Some (codes "image too small")
+
+abbrev pub said_at : Ending → List ℕ → Option (List ℕ)
+said_at (Run status) usage = said_of status usage
+said_at NoFile usage = Some (codes "no file")
 
 -- how a run ends that read its input to its end, in which a line was refused or none
 abbrev pub ends_as : Bool → Status

@@ -1,8 +1,8 @@
 // How a program ends: as a run does, or because there is no file to run over.
-ghost use Rattle.std.specs.Prelude.{◌≡◌, ◌↔◌, ◌≤◌, IsSome};
+ghost use Rattle.std.specs.Prelude.{◌≡◌, ◌↔◌, ◌≤◌, IsSome, option_map};
 ghost use Rattle.std.specs.IoError.{error_kind};
 ghost use Rattle.std.specs.declared.io.ErrorKind.TheVariants.{OutOfMemory};
-ghost use Rattle.program.specs.Numbers.{exit_status_of};
+ghost use Rattle.program.specs.Numbers.{exit_status_of, said_at};
 ghost use Rattle.program.specs.declared.status.Status.TheVariants.{NoMemory, Usage};
 ghost use Rattle.program.specs.declared.ending.Ending.TheVariants.{Run, NoFile};
 
@@ -33,7 +33,8 @@ impl Ending {
 
     /// The line on standard error, where there is one.
     pub fn message(self, usage: &'static str) -> Option<&'static str>
-        ensures { IsSome result ↔ 2 ≤ exit_status_of self }
+        ensures text { option_map (λ text. text.now) result ≡ said_at self usage.now }
+        ensures told { IsSome result ↔ 2 ≤ exit_status_of self }
     {
         match self {
             Ending::Run(status) => status.message(usage),

@@ -1,6 +1,6 @@
 // How a run over cards ends.
-ghost use Rattle.std.specs.Prelude.{◌≡◌, ◌↔◌, ◌≤◌, IsSome};
-ghost use Rattle.program.specs.Numbers.{number_of, status_at, status_of};
+ghost use Rattle.std.specs.Prelude.{◌≡◌, ◌↔◌, ◌≤◌, IsSome, option_map};
+ghost use Rattle.program.specs.Numbers.{number_of, said_of, status_at, status_of};
 
 use line_input::InputEnd;
 use line_run::LineStop;
@@ -75,7 +75,8 @@ impl Status {
 
     /// What is said of the run on standard error, which is nothing where all lines were heard. Of words that are none of its forms a program tells its usage.
     pub fn message(self, usage: &'static str) -> Option<&'static str>
-        ensures { IsSome result ↔ 2 ≤ number_of self }
+        ensures text { option_map (λ text. text.now) result ≡ said_of self usage.now }
+        ensures told { IsSome result ↔ 2 ≤ number_of self }
     {
         match self {
             Status::Done | Status::Refused => None,
