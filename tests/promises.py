@@ -15,7 +15,7 @@ from pathlib import Path
 ROOT = Path(__file__).resolve().parent.parent
 CRATES = ROOT / "crates"
 PAGE = ROOT / "docs" / "PROMISES.md"
-RUN = CRATES / "card_cli" / "src" / "run.rt"
+RUN = CRATES / "card_run" / "src" / "run.rt"
 
 WORD = re.compile(r"(?<![\w.)])[A-Za-z_][A-Za-z0-9_']*(?:-[A-Za-z0-9_']+)*|[^\sA-Za-z0-9_(){}\[\],;.]+")
 NAME = re.compile(r"[a-z_][A-Za-z0-9_']*(?:-[A-Za-z0-9_']+)*")
@@ -303,7 +303,7 @@ def fields_of_clauses():
     return {
         field
         for path, name in reach().items
-        if path.parent == CRATES / "card_cli" / "specs"
+        if path.parent == CRATES / "card_run" / "specs"
         for text in source(path).items.get(name, ())
         for field in re.findall(r"^  pub (\w+) :", text, re.M)
     }

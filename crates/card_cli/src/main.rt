@@ -1,24 +1,9 @@
 //! The program `card_cli`: a card whose EEPROM is a file, with standard input and output as its reader.
 #![tactic(auto)]
 
-mod checking;
-mod commands;
-mod laws;
-mod load_lines;
-mod loading;
-mod migration;
-mod opening;
-mod output;
-mod progress;
-mod prompt;
-mod run;
-mod statements;
-mod words;
-
+use card_run::{Prompted, Watcher, run_card};
 use file_bench::{FileBench, StdSource};
 use program::{About, Ending, Status, command_line, end_program, hold_streams};
-use prompt::{Prompted, Watcher};
-use run::run_card;
 use std::io::{IsTerminal, Stderr};
 use std::process::ExitCode;
 
@@ -92,6 +77,3 @@ migrate      lets the rows of the card be longer: up to 1020 octets, not 240
 FILE is created by new alone. Exit status: 0 done, 1 refused, 2 usage,
 3 EEPROM fault, 4 read fault, 5 write fault, 6 not a card, 7 no memory,
 8 input too long, 9 image too small, 10 no file.";
-
-#[cfg(test)]
-mod tests;

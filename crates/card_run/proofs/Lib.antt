@@ -1,0 +1,19 @@
+mod Asking
+mod Behind
+mod CheckedCards
+mod Commanding
+mod Finishing
+mod InsertedRows
+mod Living
+mod LoadedCards
+mod LoadedLines
+mod LongerRows
+mod Moving
+mod Preparing
+mod Selecting
+mod ShownLoads
+mod ShownRows
+mod Showing
+pub mod Sittings
+mod Stopping
+mod Watching

@@ -1,0 +1,101 @@
+-- What the terminal says of a line is told to the run.
+use Rattle.std.proofs.Common.{ℕ, List, [], Option, Some, None, true, refl, rules}
+use Rattle.scql_model.specs.Machine.{Machine}
+use Rattle.script.specs.Line.{statement_of}
+use Rattle.card.specs.LiveCard.{IsReadyAt, OnBench}
+use Rattle.card.specs.LiveCardLaws.{opens-at}
+use Rattle.eeprom.specs.Chip.{Chip}
+use Rattle.terminal.specs.Line.{refuses, rows_in}
+use Rattle.card_run.proofs.Sittings.{IsTold, faulty-read, heard-answered, heard-causes, heard-failed, heard-live, heard-memory, heard-refused, long-ends, read-ends, read-moments}
+use Rattle.card_run.proofs.statements.answer_line.Given as given
+use Rattle.card_run.proofs.statements.answer_line.Goals as goal
+
+-- the link of the terminal
+abbrev at : (g : given.Over) → OnBench g.row.B.Denot → Machine → Type 0
+at g l m = IsReadyAt l.card (g.B.Eeprom.chip l.bench) m
+
+abbrev chip : (g : given.Over) → OnBench g.row.B.Denot → Chip
+chip g l = g.B.Eeprom.chip l.bench
+
+abbrev mark : (g : given.Over) → OnBench g.row.B.Denot → ℕ
+mark g l = (g.B.Eeprom.chip l.bench).still.mark
+
+abbrev told_by : (g : given.Over) → OnBench g.row.B.Denot → Option (List ℕ)
+told_by g l = g.B.Outlet.given l.bench
+
+told : (g : given.Over) → IsTold (at g) (told_by g) (mark g) (chip g)
+told g = record { still = λ l. (g.met.B.Bench.output l.bench).0; marks = λ l. refl; marked = λ l. g.met.B.Bench.mark l.bench; opens = λ l m at. opens-at l.card (g.B.Eeprom.chip l.bench) m at }
+
+pub returns-in-Some-clause-answered : goal.returns-in-Some-clause-answered
+returns-in-Some-clause-answered g c = λ sitting sits.
+    rw (c.in-Some.is, c.heard.ensures)
+    (heard-answered (at g) (told_by g) (mark g) (chip g) (told g) sitting (Some c.in-Some.octets.now) (rows_in sitting.at (statement_of c.in-Some.octets.now)) (refuses sitting.at (statement_of c.in-Some.octets.now)) c.line.new.self c.line.result
+    c.args.card.now c.line.new.link
+    (read-ends (at g) (told_by g) sitting.at c.args.terminal.now.channel c.in-Some.octets.now c.line.new.self c.line.result c.args.card.now c.line.new.link (search rules) sits.channel (c.line.ensures.ends sitting.at.machine sits.at sits.knows))
+    (read-moments sitting.at c.args.terminal.now.channel (mark g c.args.card.now) c.in-Some.octets.now (chip g c.args.card.now) (chip g c.line.new.link) (search rules) sits.channel (c.line.ensures.moments sitting.at.machine sits.at sits.knows))
+    c.line.ensures.goes_on.lasts.marks)
+
+pub returns-in-Some-clause-refused : goal.returns-in-Some-clause-refused
+returns-in-Some-clause-refused g c = λ sitting sits.
+    rw (c.in-Some.is, c.heard.ensures)
+    (heard-refused (at g) (told_by g) sitting.at.machine _ _ (refuses sitting.at (statement_of c.in-Some.octets.now)) c.line.new.self c.line.result c.args.card.now c.line.new.link
+    (read-ends (at g) (told_by g) sitting.at c.args.terminal.now.channel c.in-Some.octets.now c.line.new.self c.line.result c.args.card.now c.line.new.link (search rules) sits.channel (c.line.ensures.ends sitting.at.machine sits.at sits.knows)))
+
+pub returns-in-Some-clause-failed : goal.returns-in-Some-clause-failed
+returns-in-Some-clause-failed g c = λ sitting sits.
+    rw (c.in-Some.is, c.heard.ensures)
+    (heard-failed (at g) (told_by g) (mark g) (chip g) (told g) sitting (Some c.in-Some.octets.now) (rows_in sitting.at (statement_of c.in-Some.octets.now)) (refuses sitting.at (statement_of c.in-Some.octets.now)) c.line.new.self c.line.result
+    c.args.card.now c.line.new.link
+    (read-ends (at g) (told_by g) sitting.at c.args.terminal.now.channel c.in-Some.octets.now c.line.new.self c.line.result c.args.card.now c.line.new.link (search rules) sits.channel (c.line.ensures.ends sitting.at.machine sits.at sits.knows))
+    (faulty-read sitting.at (statement_of c.in-Some.octets.now))
+    (read-moments sitting.at c.args.terminal.now.channel (mark g c.args.card.now) c.in-Some.octets.now (chip g c.args.card.now) (chip g c.line.new.link) (search rules) sits.channel (c.line.ensures.moments sitting.at.machine sits.at sits.knows))
+    c.line.ensures.goes_on.lasts.marks)
+
+pub returns-in-Some-clause-live : goal.returns-in-Some-clause-live
+returns-in-Some-clause-live g c =
+    rw c.heard.ensures
+    (heard-live (λ (l : OnBench g.row.B.Denot). l.card.live) (λ (l : OnBench g.row.B.Denot). g.B.Eeprom.faults l.bench) (λ (l : OnBench g.row.B.Denot). g.B.Outlet.sink_faults l.bench) c.line.result c.args.card.now c.line.new.link c.line.ensures.ends_by c.requires.live)
+
+pub returns-in-Some-clause-causes : goal.returns-in-Some-clause-causes
+returns-in-Some-clause-causes g c =
+    rw c.heard.ensures
+    (heard-causes (λ (l : OnBench g.row.B.Denot). l.card.live) (λ (l : OnBench g.row.B.Denot). g.B.Eeprom.faults l.bench) (λ (l : OnBench g.row.B.Denot). g.B.Outlet.sink_faults l.bench) c.line.result c.args.card.now c.line.new.link c.line.ensures.ends_by)
+
+pub returns-in-None-clause-answered : goal.returns-in-None-clause-answered
+returns-in-None-clause-answered g c = λ sitting sits.
+    rw (c.in-None.is, c.heard-in-None.ensures)
+    (heard-answered (at g) (told_by g) (mark g) (chip g) (told g) sitting None [] true c.refuse_long_line.new.self c.refuse_long_line.result c.args.card.now c.refuse_long_line.new.link
+    (long-ends (at g) (told_by g) sitting.at c.args.terminal.now.channel c.refuse_long_line.new.self c.refuse_long_line.result c.args.card.now c.refuse_long_line.new.link sits.channel (c.refuse_long_line.ensures.ends sitting.at.machine sits.at sits.knows))
+    (c.refuse_long_line.ensures.moments sitting.at.machine sits.at) c.refuse_long_line.ensures.goes_on.lasts.marks)
+
+pub returns-in-None-clause-refused : goal.returns-in-None-clause-refused
+returns-in-None-clause-refused g c = λ sitting sits.
+    rw (c.in-None.is, c.heard-in-None.ensures)
+    (heard-refused (at g) (told_by g) sitting.at.machine _ [] true c.refuse_long_line.new.self c.refuse_long_line.result c.args.card.now c.refuse_long_line.new.link
+    (long-ends (at g) (told_by g) sitting.at c.args.terminal.now.channel c.refuse_long_line.new.self c.refuse_long_line.result c.args.card.now c.refuse_long_line.new.link sits.channel (c.refuse_long_line.ensures.ends sitting.at.machine sits.at sits.knows)))
+
+pub returns-in-None-clause-failed : goal.returns-in-None-clause-failed
+returns-in-None-clause-failed g c = λ sitting sits.
+    rw (c.in-None.is, c.heard-in-None.ensures)
+    (heard-failed (at g) (told_by g) (mark g) (chip g) (told g) sitting None [] true c.refuse_long_line.new.self c.refuse_long_line.result c.args.card.now c.refuse_long_line.new.link
+    (long-ends (at g) (told_by g) sitting.at c.args.terminal.now.channel c.refuse_long_line.new.self c.refuse_long_line.result c.args.card.now c.refuse_long_line.new.link sits.channel (c.refuse_long_line.ensures.ends sitting.at.machine sits.at sits.knows))
+    refl (c.refuse_long_line.ensures.moments sitting.at.machine sits.at) c.refuse_long_line.ensures.goes_on.lasts.marks)
+
+pub returns-in-None-clause-live : goal.returns-in-None-clause-live
+returns-in-None-clause-live g c =
+    rw c.heard-in-None.ensures
+    (heard-live (λ (l : OnBench g.row.B.Denot). l.card.live) (λ (l : OnBench g.row.B.Denot). g.B.Eeprom.faults l.bench) (λ (l : OnBench g.row.B.Denot). g.B.Outlet.sink_faults l.bench) c.refuse_long_line.result c.args.card.now c.refuse_long_line.new.link
+    c.refuse_long_line.ensures.ends_by c.requires.live)
+
+pub returns-in-None-clause-causes : goal.returns-in-None-clause-causes
+returns-in-None-clause-causes g c =
+    rw c.heard-in-None.ensures
+    (heard-causes (λ (l : OnBench g.row.B.Denot). l.card.live) (λ (l : OnBench g.row.B.Denot). g.B.Eeprom.faults l.bench) (λ (l : OnBench g.row.B.Denot). g.B.Outlet.sink_faults l.bench) c.refuse_long_line.result c.args.card.now c.refuse_long_line.new.link
+    c.refuse_long_line.ensures.ends_by)
+
+-- no line wants memory
+pub returns-in-Some-clause-memory : goal.returns-in-Some-clause-memory
+returns-in-Some-clause-memory g c = rw c.heard.ensures (heard-memory c.line.result)
+
+pub returns-in-None-clause-memory : goal.returns-in-None-clause-memory
+returns-in-None-clause-memory g c = rw c.heard-in-None.ensures (heard-memory c.refuse_long_line.result)

@@ -1,0 +1,70 @@
+-- How a run over its input ends.
+use Rattle.std.specs.Prelude.{◌≡◌, ◌≤◌, ℕ, ◌&&◌, Bool, true, false}
+use Rattle.eeprom.specs.Fault.{Rose}
+use Rattle.program.specs.declared.status.Status.{Status}
+use Rattle.card_run.specs.declared.words.Form.{Form}
+use Rattle.card_run.specs.Words.{carries_out_statements, makes_card, reads_input}
+use Rattle.program.specs.declared.status.Status.TheVariants.{Done, Refused, Usage, Eeprom, ReadFault, WriteFault, NotACard, NoMemory, TooLong, TooSmall}
+
+-- the counts of faults of all devices
+pub record AllFaults : Type 0 where
+  pub eeprom : ℕ
+  pub source : ℕ
+  pub outlet : ℕ
+
+-- How the counts of faults move where a run ends so: a device that failed counted it, and else they stay. Of several faults the last one tells: before the outlet the EEPROM may have failed.
+abbrev pub EndsBy : Status → AllFaults → AllFaults → Type 0
+EndsBy Eeprom old new = Rose old.eeprom new.eeprom × (new.source ≡ old.source) × (new.outlet ≡ old.outlet)
+EndsBy ReadFault old new = Rose old.source new.source × (new.eeprom ≡ old.eeprom) × (new.outlet ≡ old.outlet)
+EndsBy WriteFault old new = Rose old.outlet new.outlet × (new.source ≡ old.source) × (old.eeprom ≤ new.eeprom)
+EndsBy status old new = new ≡ old
+
+-- A run of this form may end so. An EEPROM that tells nothing may lose what is written to it, and so what was just made may be no card.
+abbrev pub may_end : Form → Status → Bool
+may_end form Done = true
+may_end form Refused = carries_out_statements form
+may_end form Usage = false
+may_end form Eeprom = true
+may_end form ReadFault = reads_input form
+may_end form WriteFault = true
+may_end form NotACard = true
+may_end form NoMemory = true
+may_end form TooLong = reads_input form
+may_end form TooSmall = makes_card form
+
+-- the ends of a run whose card was opened
+abbrev pub is_of_opened : Status → Bool
+is_of_opened Done = true
+is_of_opened Refused = true
+is_of_opened TooLong = true
+is_of_opened Eeprom = true
+is_of_opened ReadFault = true
+is_of_opened WriteFault = true
+is_of_opened status = false
+
+-- and so where its card was opened
+abbrev pub ends_opened : Form → Status → Bool
+ends_opened form status = may_end form status && is_of_opened status
+
+-- the ends of a run whose card didn't open
+abbrev pub ends_opening : Status → Bool
+ends_opening TooSmall = true
+ends_opening NotACard = true
+ends_opening NoMemory = true
+ends_opening Eeprom = true
+ends_opening status = false
+
+-- the ends that only a run has whose card was opened
+abbrev pub has_opened : Status → Bool
+has_opened Done = true
+has_opened Refused = true
+has_opened TooLong = true
+has_opened ReadFault = true
+has_opened WriteFault = true
+has_opened status = false
+
+-- the ends of a run that read its input to its end
+abbrev pub reads_all : Status → Bool
+reads_all Done = true
+reads_all Refused = true
+reads_all status = false

@@ -1,0 +1,16 @@
+pub mod Beginning
+pub mod Behind
+pub mod Checking
+pub mod Counted
+pub mod Ends
+pub mod Living
+pub mod Loading
+pub mod Migrating
+pub mod Progress
+pub mod ResponderLaws
+pub mod Run
+pub mod Selecting
+pub mod Showing
+pub mod Statements
+pub mod Watching
+pub mod Words

@@ -1,0 +1,231 @@
+// Lines of commands in hexadecimal, and a card that answers them.
+ghost use Rattle.std.specs.Prelude.{◌≡◌, ◌+◌, ◌*◌, ◌<◌, ◌≤◌, [], true, length, take, option_map, IfSome, OnOk, IfErr, IsErrOf};
+ghost use Rattle.scql_model.specs.Machine.{Machine};
+ghost use Rattle.scql_model.specs.Step.{step};
+ghost use Rattle.scql_model.specs.Lines as model;
+ghost use Rattle.scql_model.specs.Lines.{command_lines, longest_line};
+ghost use Rattle.card.specs.Behind.{KeepsBehind};
+ghost use Rattle.card.specs.Card.{IsReady, IsAt};
+ghost use Rattle.eeprom.specs.Output.{Prints};
+ghost use Rattle.line_run.specs.Causes.{Faults, Causes};
+ghost use Rattle.line_run.specs.CutOff.{FailsIn};
+ghost use Rattle.line_run.specs.Moments.{IsInStopped, IsAnswered, IfGiven};
+ghost use Rattle.eeprom.specs.Chip.{Becomes, Throughout};
+ghost use Rattle.card_run.specs.Ends.{AllFaults, EndsBy, is_of_opened, reads_all};
+ghost use Rattle.line_input.specs.Reading.{longest_input};
+ghost use Rattle.card_run.specs.Behind.{StaysBehind};
+ghost use Rattle.card_run.specs.Run.{RunsTo};
+
+use crate::output::give;
+use apdu::{LONGEST_COMMAND, LONGEST_REPLY_LINE, LineContent, Reply, read_line, write_reply};
+use arrayvec::ArrayVec;
+use card::{Card, Outcome};
+use eeprom::{Bench, Source};
+use line_run::{LineStop, Responder, run_lines};
+use program::Status;
+use scql_base::StatusWord;
+
+/// A card over its bench, which is asked by commands.
+#[derive(Drop)]
+pub(crate) struct CommandCard<'a, B: Bench> {
+    pub(crate) card: Card,
+    pub(crate) bench: &'a mut B,
+    pub(crate) places: Places,
+}
+
+impl<'a, B: Bench> CommandCard<'a, B> {
+    // The bench, as the card has left it.
+    fn into_bench(self) -> &'a mut B
+        ensures name { result.ghost_name ≡ self.entry.bench.ghost_name }
+        ensures bench { result.now ≡ self.entry.bench.now }
+    {
+        self.bench
+    }
+}
+
+/// Places for a command, and for the reply to it.
+#[derive(Drop)]
+pub(crate) struct Places {
+    command: [u8; LONGEST_COMMAND],
+    reply: ReplyPlace,
+}
+
+impl Places {
+    fn new() -> Places {
+        Places {
+            command: [0; LONGEST_COMMAND],
+            reply: ReplyPlace::new(),
+        }
+    }
+}
+
+/// A place for a reply, and for its text.
+#[derive(Drop)]
+pub(crate) struct ReplyPlace {
+    reply: Reply,
+    text: [u8; LONGEST_REPLY_LINE],
+}
+
+impl ReplyPlace {
+    fn new() -> ReplyPlace {
+        ReplyPlace {
+            reply: Reply {
+                body: ArrayVec::new(),
+                word: StatusWord::DONE,
+            },
+            text: [0; LONGEST_REPLY_LINE],
+        }
+    }
+
+    // The reply in hexadecimal, with a line feed.
+    fn text(&mut self) -> &[u8]
+        ensures { result.now ≡ model.reply_text self.old.reply }
+    {
+        let size = write_reply(&mut self.text, &self.reply);
+        &self.text[..size]
+    }
+}
+
+impl<'a, B: Bench> Responder for CommandCard<'a, B> {
+    ghost use Rattle.std.specs.Prelude.{◌≡◌, false};
+    ghost use Rattle.std.proofs.Common.{refl, ◌∙◌};
+    ghost use Rattle.scql_model.specs.Machine.{Machine};
+    ghost use Rattle.scql_model.specs.Lines.{command_lines, longest_line};
+    ghost use Rattle.scql_model.proofs.Hearing.{commands-lawful};
+    ghost use Rattle.card.specs.Card.{IsReady, IsAt};
+    ghost use Rattle.card.proofs.Leaving.{Opens-at};
+    ghost use Rattle.card_run.specs.Behind.{StaysBehind};
+    ghost use Rattle.card_run.specs.ResponderLaws.{stays-same, stays-then};
+
+    ghost State = { Machine };
+
+    ghost language = { command_lines };
+
+    ghost is_at = { λ r m. IsAt r.card (B.chip r.bench.now) m };
+
+    ghost is_ready = { λ r. IsReady r.card (B.chip r.bench.now) };
+
+    ghost chip = { λ r. B.chip r.bench.now };
+
+    ghost faults = { λ r. record { eeprom = B.faults r.bench.now; outlet = B.sink_faults r.bench.now } };
+
+    ghost takes_memory = { false };
+
+    // It is over the same bench still.
+    ghost goes_on = { λ old new. (new.bench.ghost_name ≡ old.bench.ghost_name) × StaysBehind old.card new.card (B.chip old.bench.now) (B.chip new.bench.now) };
+
+    fn answer_line(&mut self, line: Option<&[u8]>) -> Result<(), LineStop> {
+        answer_line(&mut self.card, self.bench, line, &mut self.places)
+    }
+
+    ghost lawful = { commands-lawful };
+
+    ghost over = { λ r ready m at. Opens-at r.card (B.chip r.bench.now) m ready at };
+
+    ghost goes_on_same = { λ r. (refl, stays-same r.card (B.chip r.bench.now)) };
+
+    ghost goes_on_then = { λ old mid new ready first second.
+        (second.0 ∙ first.0, stays-then old.card mid.card new.card (B.chip old.bench.now) (B.chip mid.bench.now) (B.chip new.bench.now) ready first.1 second.1) };
+}
+
+/// Answers the lines of the input as commands.
+pub(crate) fn answer_commands<S: Source, B: Bench>(
+    card: Card,
+    source: &mut S,
+    bench: &mut B,
+) -> Status
+    requires { IsReady card (B.chip bench.old) }
+    ensures runs { (m : Machine) → IsAt card (B.chip bench.old) m
+        → Becomes (λ input left. RunsTo B.chip B.faults command_lines m result input left bench.old bench.new) (S.left source.old) (S.left source.new) }
+    ensures status { is_of_opened result ≡ true }
+    ensures whole { reads_all result ≡ true → Becomes (λ input left. (left ≡ []) × (length input ≤ longest_input)) (S.left source.old) (S.left source.new) }
+    ensures never_refused { ¬ result ≡ Status.Refused }
+    ensures too_long { result ≡ Status.TooLong → Becomes (λ input left. longest_input < length input) (S.left source.old) (S.left source.new) }
+    ensures ends { EndsBy result
+        (record { eeprom = B.faults bench.old; source = S.source_faults source.old; outlet = B.sink_faults bench.old })
+        (record { eeprom = B.faults bench.new; source = S.source_faults source.new; outlet = B.sink_faults bench.new }) }
+    // Nothing is written behind the card's image.
+    ensures behind { KeepsBehind (λ was. card.store.chains.cells) (B.chip bench.old) (B.chip bench.new) }
+{
+    let commands = CommandCard {
+        card,
+        bench,
+        places: Places::new(),
+    };
+    let (end, commands) = run_lines(source, commands);
+    commands.into_bench();
+    // No command is refused in the sense of a run: each has its answer.
+    Status::of_input(end, false)
+}
+
+// Answers a whole line.
+fn answer_line<B: Bench>(
+    card: &mut Card,
+    bench: &mut B,
+    line: Option<&[u8]>,
+    places: &mut Places,
+) -> Result<(), LineStop>
+    requires ready { IsReady card.old (B.chip bench.old) }
+    requires short { IfSome line (λ octets. length octets.now ≤ longest_line) }
+    ensures at { (m : Machine) → IsAt card.old (B.chip bench.old) m
+        → OnOk result (IsAt card.new (B.chip bench.new) (model.content_effect m (model.content_of (option_map (λ octets. octets.now) line.entry))).next) }
+    ensures text { (m : Machine) → IsAt card.old (B.chip bench.old) m
+        → OnOk result (Prints (model.content_effect m (model.content_of (option_map (λ octets. octets.now) line.entry))).text (B.chip bench.old).still.given (B.chip bench.new).still.given) }
+    ensures fails { (m : Machine) → IsAt card.old (B.chip bench.old) m
+        → IfErr result (λ stop. FailsIn stop command_lines [] m (model.content_effect m (model.content_of (option_map (λ octets. octets.now) line.entry))) (B.chip bench.old).still.given (B.chip bench.new)) }
+    // At each moment a power loss leaves what the line commits, all of it once an octet of its text has gone out,
+    ensures answered { (m : Machine) → IsAt card.old (B.chip bench.old) m
+        → OnOk result (IfGiven (B.chip bench.new) (IsAnswered command_lines m (model.content_effect m (model.content_of (option_map (λ octets. octets.now) line.entry))) (B.chip bench.old) (B.chip bench.new))) }
+    // also where the outlet alone fails; where the EEPROM does it leaves the database before the line or one that it commits.
+    ensures moments { (m : Machine) → IsAt card.old (B.chip bench.old) m
+        → IfErr result (λ stop. IfGiven (B.chip bench.new) (Throughout (B.chip bench.old) (B.chip bench.new) (IsInStopped stop command_lines m (model.content_effect m (model.content_of (option_map (λ octets. octets.now) line.entry))) (B.chip bench.old).still.mark))) }
+    ensures ready { OnOk result (IsReady card.new (B.chip bench.new)) }
+    ensures causes { Causes (record { eeprom = B.faults bench.old; outlet = B.sink_faults bench.old }) (record { eeprom = B.faults bench.new; outlet = B.sink_faults bench.new }) result }
+    ensures memory { ¬ IsErrOf result LineStop.NoMemory }
+    // A card that answers keeps its number of cells, and nothing is written behind its image.
+    ensures behind { StaysBehind card.old card.new (B.chip bench.old) (B.chip bench.new) }
+{
+    match read_line(line, &mut places.command) {
+        LineContent::Nothing => Ok(()),
+        LineContent::TooLong => Ok(give(bench, b"line too long\n")?),
+        LineContent::Reset => {
+            card.reset();
+            Ok(give(bench, b"reset\n")?)
+        }
+        LineContent::NotHexadecimal => Ok(give(bench, b"not hexadecimal\n")?),
+        LineContent::Command { size } => {
+            answer_command(card, bench, &places.command[..size], &mut places.reply)
+        }
+    }
+}
+
+fn answer_command<B: Bench>(
+    card: &mut Card,
+    bench: &mut B,
+    octets: &[u8],
+    place: &mut ReplyPlace,
+) -> Result<(), LineStop>
+    requires ready { IsReady card.old (B.chip bench.old) }
+    ensures at { (m : Machine) → IsAt card.old (B.chip bench.old) m → OnOk result (IsAt card.new (B.chip bench.new) (step m octets.now).machine) }
+    ensures text { (m : Machine) → IsAt card.old (B.chip bench.old) m
+        → OnOk result (Prints (model.reply_text (step m octets.now).reply) (B.chip bench.old).still.given (B.chip bench.new).still.given) }
+    ensures fails { (m : Machine) → IsAt card.old (B.chip bench.old) m
+        → IfErr result (λ stop. FailsIn stop command_lines [] m (model.content_effect m (model.command octets.now)) (B.chip bench.old).still.given (B.chip bench.new)) }
+    ensures answered { (m : Machine) → IsAt card.old (B.chip bench.old) m
+        → OnOk result (IfGiven (B.chip bench.new) (IsAnswered command_lines m (model.content_effect m (model.command octets.now)) (B.chip bench.old) (B.chip bench.new))) }
+    ensures moments { (m : Machine) → IsAt card.old (B.chip bench.old) m
+        → IfErr result (λ stop. IfGiven (B.chip bench.new) (Throughout (B.chip bench.old) (B.chip bench.new) (IsInStopped stop command_lines m (model.content_effect m (model.command octets.now)) (B.chip bench.old).still.mark))) }
+    ensures ready { OnOk result (IsReady card.new (B.chip bench.new)) }
+    ensures causes { Causes (record { eeprom = B.faults bench.old; outlet = B.sink_faults bench.old }) (record { eeprom = B.faults bench.new; outlet = B.sink_faults bench.new }) result }
+    ensures memory { ¬ IsErrOf result LineStop.NoMemory }
+    // A card that answers keeps its number of cells, and nothing is written behind its image.
+    ensures behind { StaysBehind card.old card.new (B.chip bench.old) (B.chip bench.new) }
+{
+    match card.answer(bench, octets, &mut place.reply) {
+        Outcome::Replied => Ok(give(bench, place.text())?),
+        Outcome::Mute => match give(bench, place.text()) {
+            Ok(()) => Err(LineStop::Eeprom),
+            Err(_) => Err(LineStop::Both),
+        },
+    }
+}

@@ -1,0 +1,48 @@
+// The run of a migration.
+ghost use Rattle.std.specs.Prelude.{◌≡◌, ℕ, true, codes, if◌then◌else◌};
+ghost use Rattle.eeprom.specs.Frame.{HasRoom};
+ghost use Rattle.eeprom.specs.StoreOf.{fewest_cells};
+ghost use Rattle.scql_model.specs.Database.{Database};
+ghost use Rattle.card.specs.Behind.{KeepsBehind, own_cells};
+ghost use Rattle.card_run.specs.Beginning.{IsOpenTo};
+ghost use Rattle.card_run.specs.Ends.{AllFaults, EndsBy, ends_opened};
+ghost use Rattle.card_run.specs.Migrating.{KeepsOthers, LeavesLongRows, MigratesTo, StaysMigrating};
+
+use crate::output::give;
+use crate::words::Form;
+use eeprom::Bench;
+use migrate::migrate;
+use program::Status;
+
+/// Makes the rows of the card that is there longer, where they aren't so yet, and says which of both it found.
+pub(crate) fn run_migration<B: Bench>(bench: &mut B) -> Status
+    requires room { HasRoom fewest_cells (B.chip bench.old) }
+    ensures migrates { (db : Database) → IsOpenTo (B.chip bench.old) db
+        → MigratesTo result (B.faults bench.old) (B.faults bench.new) db (B.chip bench.old).still.given (B.chip bench.new) }
+    ensures moments { (db : Database) → IsOpenTo (B.chip bench.old) db → StaysMigrating db (B.chip bench.old) (B.chip bench.new) }
+    ensures already { LeavesLongRows (B.chip bench.old) (B.chip bench.new) }
+    ensures others { KeepsOthers (B.chip bench.old) (B.chip bench.new) }
+    ensures behind { KeepsBehind own_cells (B.chip bench.old) (B.chip bench.new) }
+    ensures status { ends_opened Form.Migrate result ≡ true }
+    ensures ends { (source : ℕ) → EndsBy result
+        (record { eeprom = B.faults bench.old; source = source; outlet = B.sink_faults bench.old })
+        (record { eeprom = B.faults bench.new; source = source; outlet = B.sink_faults bench.new }) }
+{
+    let Ok(migrates) = migrate(bench) else {
+        return Status::Eeprom;
+    };
+    match give(bench, text_of(migrates)) {
+        Ok(()) => Status::Done,
+        Err(_) => Status::WriteFault,
+    }
+}
+
+fn text_of(migrates: bool) -> &'static [u8]
+    ensures { result.now ≡ (if migrates then codes "migrated\n" else codes "already migrated\n") }
+{
+    if migrates {
+        b"migrated\n"
+    } else {
+        b"already migrated\n"
+    }
+}
