@@ -1,0 +1,4 @@
+pub mod Ending
+pub mod Opening
+pub mod RowsAgain
+pub mod Transacting

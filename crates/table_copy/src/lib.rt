@@ -1,0 +1,8 @@
+//! A table copied from one card to another, over any two links: all of it, or nothing.
+#![tactic(auto)]
+
+mod copy_end;
+mod dest;
+mod source;
+
+pub use copy_end::CopyEnd;

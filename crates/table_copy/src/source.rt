@@ -1,0 +1,107 @@
+// The source of a copy: a SELECT of all columns, followed step by step.
+ghost use Rattle.std.specs.Prelude.{◌≡◌, ◌<◌, ℕ, List, [], Ok, Err, IsTrue, OnOk, false};
+ghost use Rattle.scql_model.specs.Machine.{Machine};
+ghost use Rattle.scql_model.specs.Matching.{Values};
+ghost use Rattle.script.specs.declared.statement.Statement.TheVariants.{Select};
+ghost use Rattle.script.specs.Commands.{CanBeSent, IsSendable};
+ghost use Rattle.card_link.specs.Link.{Holds, LeavesOpen};
+ghost use Rattle.planner.specs.declared.closing.Closing.{Closing as ModelClosing};
+ghost use Rattle.planner.specs.Planned.{IfSent, started};
+ghost use Rattle.planner.specs.Turns.{IfGoesOn};
+ghost use Rattle.card_asking.specs.Following.{heard_at, to_go, turn_by};
+ghost use Rattle.card_asking.specs.Giving.{Gives, behind_step};
+ghost use Rattle.table_copy.specs.Copy.{source_rows};
+ghost use Rattle.table_copy.specs.Copying.{HasGoneOn};
+ghost use Rattle.table_copy.specs.Filling.{OfSource, OpensSo, UnlessSourceMute, fetched_by, goes_on_by};
+
+use crate::CopyEnd;
+use apdu::Reply;
+use card_asking::follow;
+use card_link::CardLink;
+use planner::{Closing, Plan, Step};
+use scql_base::{Conditions, Name, NameList, StatusWord};
+use script::Statement;
+
+/// The SELECT of all columns and all rows of an object.
+pub fn selection(object: &Name) -> Statement
+    ensures select { result ≡ Select object.now [] [] }
+    ensures sendable { CanBeSent 0 result }
+{
+    let _ = object.octets();
+    Statement::Select {
+        object: object.copy(),
+        columns: NameList::new(),
+        conditions: Conditions::new(),
+    }
+}
+
+/// How many rows a plan gave, or why it ended before all of them.
+pub fn fetched(closing: Closing) -> Result<u32, CopyEnd>
+    ensures { result ≡ fetched_by closing }
+{
+    match closing {
+        Closing::Rows { number } => Ok(number),
+        Closing::Refused { word } => Err(CopyEnd::SourceRefused { word }),
+        Closing::Nothing | Closing::Fine | Closing::Cut { .. } => Err(CopyEnd::SourceRefused {
+            word: StatusWord::WRONG_DATA,
+        }),
+    }
+}
+
+// Whether a plan goes on behind this step, or has all rows.
+fn goes_on(step: &Step) -> Result<(), CopyEnd>
+    ensures { result ≡ goes_on_by step.now }
+{
+    if let Step::Done { closing } = step {
+        fetched(*closing)?;
+    }
+    Ok(())
+}
+
+/// Follows a step of the source's plan. Where it was refused the copy ends.
+pub fn advance<L: CardLink>(
+    source: &mut L,
+    plan: &mut Plan,
+    step: &mut Step,
+    reply: &mut Reply,
+) -> Result<(), CopyEnd>
+    requires live { IsTrue (L.is_live source.old) }
+    requires sendable { IfSent step.old IsSendable }
+    ensures gives { (m last : Machine) (closing : ModelClosing) (rows : List Values) → Gives L.is_at m closing last rows plan.old step.old source.old
+        → UnlessSourceMute result (Gives L.is_at m closing last (behind_step step.old rows) plan.new step.new source.new) }
+    ensures goes_on { UnlessSourceMute result (result ≡ goes_on_by step.new) }
+    ensures turns { UnlessSourceMute result (turn_by plan.old step.old reply.new ≡ record { plan = plan.new; step = step.new }) }
+    ensures reply { (m : Machine) → L.is_at source.old m → UnlessSourceMute result (reply.new ≡ heard_at m step.old reply.old) }
+    ensures still { (m last : Machine) (closing : ModelClosing) (rows : List Values) → Gives L.is_at m closing last rows plan.old step.old source.old
+        → LeavesOpen (Holds (L.mark source.old) m.committed) (L.chip source.old) (L.chip source.new) }
+    ensures ends { OfSource L.is_live L.faults result source.old source.new }
+    ensures next_sendable { OnOk result (IfSent step.new IsSendable) }
+    ensures less { OnOk result (IfGoesOn step.old (to_go plan.new step.new < to_go plan.old step.old)) }
+    ensures rest { HasGoneOn L.mark L.keeps L.goes_on source.old source.new }
+{
+    match follow(source, plan, step, reply) {
+        Ok(()) => goes_on(step),
+        Err(_) => Err(CopyEnd::SourceMute),
+    }
+}
+
+/// DECLARE and OPEN, of a plan that nothing was asked for yet.
+pub fn open<L: CardLink>(
+    source: &mut L,
+    plan: &mut Plan,
+    step: &mut Step,
+    reply: &mut Reply,
+) -> Result<(), CopyEnd>
+    requires live { IsTrue (L.is_live source.old) }
+    ensures opens { (s : Machine) (object : List ℕ) → plan.old ≡ started (Select object [] []) 0 false → CanBeSent 0 (Select object [] []) → L.is_at source.old s
+        → OpensSo L.is_at s (source_rows s object) plan.new step.new result source.new }
+    ensures still { (s : Machine) (object : List ℕ) → plan.old ≡ started (Select object [] []) 0 false → CanBeSent 0 (Select object [] []) → L.is_at source.old s
+        → LeavesOpen (Holds (L.mark source.old) s.committed) (L.chip source.old) (L.chip source.new) }
+    ensures ends { OfSource L.is_live L.faults result source.old source.new }
+    ensures sendable { OnOk result (IfSent step.new IsSendable) }
+    ensures rest { HasGoneOn L.mark L.keeps L.goes_on source.old source.new }
+{
+    plan.next_into(None, step);
+    advance(source, plan, step, reply)?;
+    advance(source, plan, step, reply)
+}
