@@ -1,4 +1,6 @@
+pub mod Copied
 pub mod Ending
 pub mod Opening
 pub mod RowsAgain
 pub mod Transacting
+pub mod Turning

@@ -103,8 +103,7 @@ module _ {L : Type 0} (is_at : L → Machine → Type 0) (d : Machine) (heard : 
       let a : answer_to d (asking 0 Begin) ≡ record { reply = said done; machine = n; commits = [] } =
       answer-free d s there free in
       subst (λ (r : Piece (Unit {0})). BeginsSo is_at d (may_begin d) r now)
-      (sym (done-so r heard.word is (ap (λ (reply : Reply). reply.word) answered.reply ∙ ap (λ (a : Answer). a.reply.word) a)))
-      (
+      (sym (done-so r heard.word is (ap (λ (reply : Reply). reply.word) answered.reply ∙ ap (λ (a : Answer). a.reply.word) a))) (
         rw (there, free) refl,
         record {
           machine = n;
@@ -263,8 +262,7 @@ module _ (d : Machine) (db : Database) (m : Machine) (c : IsCopying d db m) (tab
         → answer_to m (asking 0 (Insert table row)) ≡ answered_by (Ok (transaction_after m.committed c.transaction edits next)) → InsertsSo is_at d db (Ok next) r now
     done-insert next edits made with_room a =
         subst (λ (r : Piece (Unit {0})). InsertsSo is_at d db (Ok next) r now)
-        (sym (done-so r heard.word is (ap (λ (reply : Reply). reply.word) answered.reply ∙ ap (λ (a : Answer). a.reply.word) a)))
-        (
+        (sym (done-so r heard.word is (ap (λ (reply : Reply). reply.word) answered.reply ∙ ap (λ (a : Answer). a.reply.word) a))) (
           next,
           refl,
           record {

@@ -47,6 +47,11 @@ goes_on_by step = Ok tt
 abbrev pub done_by : StatusWord → Piece (Unit {0})
 done_by word = if is_done word then Ok tt else Err (DestRefused word)
 
+-- so many rows, where they were committed
+abbrev pub counted_by : ℕ → Piece (Unit {0}) → Piece ℕ
+counted_by rows (Ok x) = Ok rows
+counted_by rows (Err end) = Err end
+
 -- The source alone.
 
 -- unless the source is mute, or the destination

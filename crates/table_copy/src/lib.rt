@@ -2,7 +2,9 @@
 #![tactic(auto)]
 
 mod copy_end;
+mod copying;
 mod dest;
 mod source;
 
 pub use copy_end::CopyEnd;
+pub use copying::copy;

@@ -1,0 +1,187 @@
+-- A copy goes on, row by row.
+use Rattle.std.proofs.Common.{◌≡◌, ◌⊎◌, ℕ, ◌≤◌, Bool, List, [], ◌∷◌, IfSome, Result, Ok, Err, refl, sym, ◌∙◌, ap, subst, inl, inr}
+use Rattle.eeprom.specs.Chip.{Chip}
+use Rattle.eeprom.specs.Fault.{Rose}
+use Rattle.scql_base.specs.declared.words.StatusWord.{StatusWord}
+use Rattle.scql_base.specs.declared.operation.Command.{Command}
+use Rattle.scql_model.specs.Database.{Database}
+use Rattle.scql_model.specs.Machine.{Machine, actor}
+use Rattle.scql_model.specs.Matching.{Values}
+use Rattle.scql_model.specs.Opens.{Opens}
+use Rattle.scql_model.specs.Refusals.{◌>>=◌}
+use Rattle.card_link.specs.Link.{Holds, IsOneOf, LeavesOpen, Mutes}
+use Rattle.planner.specs.declared.closing.Closing.{Closing}
+use Rattle.planner.specs.declared.closing.Closing.TheVariants.{Nothing, Fine, Rows, Cut, Refused}
+use Rattle.planner.specs.declared.step.Step.{Step}
+use Rattle.planner.specs.declared.step.Step.TheVariants.{Send, Row, ResetCard, Done}
+use Rattle.planner.specs.Planned.{Planned}
+use Rattle.card_asking.specs.Giving.{Gives, IsNextRow, behind_step}
+use Rattle.card_asking.proofs.Moments.{leaves-all, leaves-both, leaves-none}
+use Rattle.card_asking.proofs.Rows.{next-row, all-given}
+use Rattle.table_copy.specs.Copy.{row_copied, rows_copied}
+use Rattle.table_copy.specs.Copying.{StaysAt, Answers, EndsBy, GoesBy, HasGoneOn}
+use Rattle.table_copy.specs.Filling.{Piece, UnlessSourceMute, OfSource, OfDest, IsFetching, GivesAll, FetchesSo, IsFilling, CopiesAt, InsertsSo, HasRow, PutsSo, Together, TurnsSo, IsFilled, IsCommitted, CommitsSo, FillsSo, commits_by, counted_by, goes_on_by, fetched_by}
+use Rattle.table_copy.specs.declared.copy_end.CopyEnd.{CopyEnd}
+use Rattle.table_copy.specs.declared.copy_end.CopyEnd.TheVariants.{Copied, SourceRefused, DestRefused, SourceMute, DestMute}
+use Rattle.table_copy.proofs.Ending.{unless-source_mute}
+use Rattle.table_copy.proofs.Opening.{rows-go_on, gives-stays}
+
+-- A row is put in.
+pub has-row : {L : Type 0} (is_at : L → Machine → Type 0) (s : Machine) (closing : Closing) (last : Machine) (rows : List Values) (p : Planned) (step : Step) (now : L) → Gives is_at s closing last rows p step now → HasRow step rows p.row
+has-row is_at s closing last rows p (Send c) now gives = tt
+has-row is_at s closing last rows p (Row c) now gives = next-row is_at s closing last rows p c now gives
+has-row is_at s closing last rows p ResetCard now gives = tt
+has-row is_at s closing last rows p (Done closed) now gives = tt
+
+module _ {L : Type 0} (is_at : L → Machine → Type 0) (d : Machine) (table : List ℕ) where
+  abbrev copied : Database → List Values → Result Database StatusWord
+  copied db rows = rows_copied d.committed.limit (actor d 0) table db rows
+
+  first-put : (c : Command) (values : Values) (rest : List Values) (db : Database) (r : Piece (Unit {0})) (now : L) → InsertsSo is_at d db (row_copied d.committed.limit (actor d 0) table db values) r now
+      → PutsSo is_at d table (Row c) (values ∷ rest) db r now
+  first-put c values rest db (Ok x) now so = (so.0, ap (λ (added : Result Database StatusWord). added >>= λ next. copied next rest) so.1, so.2)
+  first-put c values rest db (Err (DestRefused word)) now so = ap (λ (added : Result Database StatusWord). added >>= λ next. copied next rest) so.0
+  first-put c values rest db (Err DestMute) now so = tt
+  first-put c values rest db (Err (Copied rows)) now so = absurd so
+  first-put c values rest db (Err (SourceRefused word)) now so = absurd so
+  first-put c values rest db (Err SourceMute) now so = absurd so
+
+  pub puts-row : (c : Command) (step : Step) (rows : List Values) (octets : List ℕ) (db : Database) (r : Piece (Unit {0})) (now : L) → step ≡ Row c → (n : IsNextRow rows octets)
+      → InsertsSo is_at d db (row_copied d.committed.limit (actor d 0) table db n.values) r now → PutsSo is_at d table step rows db r now
+  puts-row c step rows octets db r now is n so =
+      subst (λ (step : Step). PutsSo is_at d table step rows db r now) (sym is)
+      (subst (λ (rows : List Values). PutsSo is_at d table (Row c) rows db r now) (sym n.split) (first-put c n.values n.rest db r now so))
+
+  -- the destination refused it
+  pub turns-refused : {A : Type 0} (P : A → Type 0) (step : Step) (rows : List Values) (db : Database) (end : CopyEnd) (total : Result Database StatusWord) (now : L) → copied db rows ≡ total → PutsSo is_at d table step rows db (Err end) now
+      → TurnsSo total (Err end) P
+  turns-refused P step rows db (DestRefused word) total now leads so = sym leads ∙ so
+  turns-refused P step rows db DestMute total now leads so = tt
+  turns-refused P step rows db (Copied number) total now leads so = absurd so
+  turns-refused P step rows db (SourceRefused word) total now leads so = absurd so
+  turns-refused P step rows db SourceMute total now leads so = absurd so
+
+-- The source goes on.
+pub fetches-on : {L : Type 0} (is_at : L → Machine → Type 0) (is_live : L → Bool) (faults : L → ℕ) (s : Machine) (q : Planned) (next : Step) (r : Piece (Unit {0})) (old now : L) → OfSource is_live faults r old now
+    → UnlessSourceMute r (IsFetching is_at s q next now) → FetchesSo is_at s r (IsFetching is_at s q next now) now
+fetches-on is_at is_live faults s q next (Ok x) old now ends fetching = fetching (λ is. absurd cc)
+fetches-on is_at is_live faults s q next (Err (SourceRefused word)) old now ends fetching = let f = fetching (λ is. absurd cc) in gives-stays is_at s f.last f.closing f.rows q next now f.gives
+fetches-on is_at is_live faults s q next (Err SourceMute) old now ends fetching = tt
+fetches-on is_at is_live faults s q next (Err DestMute) old now ends fetching = tt
+fetches-on is_at is_live faults s q next (Err (Copied number)) old now ends fetching = absurd ends
+fetches-on is_at is_live faults s q next (Err (DestRefused word)) old now ends fetching = absurd ends
+
+-- at its last step it gave all
+pub all-fetched : {L : Type 0} (is_at : L → Machine → Type 0) (s last : Machine) (count : ℕ) (rows : List Values) (p : Planned) (closed : Closing) (now : L) → Gives is_at s (Rows count) last rows p (Done closed) now → (rows ≡ []) × (fetched_by closed ≡ Ok count)
+all-fetched is_at s last count rows p closed now gives =
+    let given = all-given is_at s (Rows count) last rows p closed now gives in
+    (given.none, ap fetched_by given.closes)
+
+-- Calls that follow one another.
+pub rest-both : {L : Type 0} (mark : L → ℕ) (keeps goes_on : L → L → Type 0) (old mid new : L) → (keeps old mid → keeps mid new → keeps old new) → (goes_on old mid → goes_on mid new → goes_on old new) → HasGoneOn mark keeps goes_on old mid
+    → HasGoneOn mark keeps goes_on mid new → HasGoneOn mark keeps goes_on old new
+rest-both mark keeps goes_on old mid new keeps-both goes-both first second =
+    record { marked = second.marked ∙ first.marked; kept = keeps-both first.kept second.kept; goes = goes-both first.goes second.goes }
+
+pub holds-both : {L : Type 0} (chip : L → Chip) (mark : L → ℕ) (db : Database) (old mid new : L) → mark mid ≡ mark old → LeavesOpen (Holds (mark old) db) (chip old) (chip mid) → LeavesOpen (Holds (mark mid) db) (chip mid) (chip new)
+    → LeavesOpen (Holds (mark old) db) (chip old) (chip new)
+holds-both chip mark db old mid new marked first second =
+    leaves-both chip (Holds (mark old) db) old mid new first (leaves-all chip (Holds (mark mid) db) (Holds (mark old) db) mid new (λ n left is. (is.0 ∙ marked, is.1)) second)
+
+-- before any call
+pub holds-same : {L : Type 0} (chip : L → Chip) (mark : L → ℕ) (db now : Database) (l : L) → mark l ≡ (chip l).still.mark → IfSome (chip l).image (λ image. Opens image now) → now ≡ db → LeavesOpen (Holds (mark l) db) (chip l) (chip l)
+holds-same chip mark db now l marks opens same = leaves-none chip mark (Holds (mark l) db) l now marks opens (refl, same)
+
+pub answers-both : {L : Type 0} (is_live : L → Bool) (faults : L → ℕ) (old mid new : L) → Answers is_live faults old mid → Answers is_live faults mid new → Answers is_live faults old new
+answers-both is_live faults old mid new first second = record { live = second.live; faults_same = second.faults_same ∙ first.faults_same }
+
+pub mutes-then : {L : Type 0} (is_live : L → Bool) (faults : L → ℕ) (old mid new : L) → Answers is_live faults old mid → Mutes is_live faults mid new → Mutes is_live faults old new
+mutes-then is_live faults old mid new first mutes = record {
+  gone = mutes.gone;
+  rose = subst (λ n. Rose n (faults new)) first.faults_same mutes.rose;
+  later = subst (λ n. n ≤ faults new) first.faults_same mutes.later;
+}
+
+module _ {S D : Type 0} (s_live : S → Bool) (s_faults : S → ℕ) (d_live : D → Bool) (d_faults : D → ℕ) (source mid next : S) (dest half new : D) (s_first : Answers s_live s_faults source mid) (d_first : Answers d_live d_faults dest half) where
+  pub ends-then : (end : CopyEnd) → EndsBy s_live s_faults d_live d_faults end mid next half new → EndsBy s_live s_faults d_live d_faults end source next dest new
+  ends-then DestMute ends = (mutes-then d_live d_faults dest half new d_first ends.0, both ends.1)
+    where
+      both : Answers s_live s_faults mid next ⊎ Mutes s_live s_faults mid next → Answers s_live s_faults source next ⊎ Mutes s_live s_faults source next
+      both (inl answers) = inl (answers-both s_live s_faults source mid next s_first answers)
+      both (inr mutes) = inr (mutes-then s_live s_faults source mid next s_first mutes)
+  ends-then SourceMute ends = (mutes-then s_live s_faults source mid next s_first ends.0, answers-both d_live d_faults dest half new d_first ends.1)
+  ends-then (Copied number) ends = (answers-both s_live s_faults source mid next s_first ends.0, answers-both d_live d_faults dest half new d_first ends.1)
+  ends-then (SourceRefused word) ends = (answers-both s_live s_faults source mid next s_first ends.0, answers-both d_live d_faults dest half new d_first ends.1)
+  ends-then (DestRefused word) ends = (answers-both s_live s_faults source mid next s_first ends.0, answers-both d_live d_faults dest half new d_first ends.1)
+
+  pub goes-then : {A : Type 0} (r : Piece A) → GoesBy s_live s_faults d_live d_faults r mid next half new → GoesBy s_live s_faults d_live d_faults r source next dest new
+  goes-then (Ok x) goes = (answers-both s_live s_faults source mid next s_first goes.0, answers-both d_live d_faults dest half new d_first goes.1)
+  goes-then (Err end) ends = ends-then end ends
+
+-- The plan is at its end.
+pub fetched-reads : {L : Type 0} (is_at : L → Machine → Type 0) (s : Machine) (closing : Closing) (now : L) → StaysAt is_at s now → FetchesSo is_at s (fetched_by closing) (StaysAt is_at s now) now
+fetched-reads is_at s Nothing now stays = stays
+fetched-reads is_at s Fine now stays = stays
+fetched-reads is_at s (Rows number) now stays = stays
+fetched-reads is_at s (Cut number) now stays = stays
+fetched-reads is_at s (Refused word) now stays = stays
+
+pub fetched-goes : {S D : Type 0} (s_live : S → Bool) (s_faults : S → ℕ) (d_live : D → Bool) (d_faults : D → ℕ) (closing : Closing) (source next : S) (dest new : D) → Answers s_live s_faults source next → Answers d_live d_faults dest new
+    → GoesBy s_live s_faults d_live d_faults (fetched_by closing) source next dest new
+fetched-goes s_live s_faults d_live d_faults Nothing source next dest new s d = (s, d)
+fetched-goes s_live s_faults d_live d_faults Fine source next dest new s d = (s, d)
+fetched-goes s_live s_faults d_live d_faults (Rows number) source next dest new s d = (s, d)
+fetched-goes s_live s_faults d_live d_faults (Cut number) source next dest new s d = (s, d)
+fetched-goes s_live s_faults d_live d_faults (Refused word) source next dest new s d = (s, d)
+
+pub filled : {S D : Type 0} (source_at : S → Machine → Type 0) (dest_at : D → Machine → Type 0) (s d : Machine) (count : ℕ) (table : List ℕ) (total : Result Database StatusWord) (p : Planned) (closing : Closing) (source : S) (dest : D)
+    → Together source_at dest_at s d count table total p (Done closing) source dest → TurnsSo total (fetched_by closing) (λ (number : ℕ). IsFilled dest_at d count total number dest)
+filled source_at dest_at s d count table total p closing source dest together =
+    let all = all-fetched source_at s together.gives.last count together.left p closing source together.gives.gives in
+    subst (λ (r : Piece ℕ). TurnsSo total r (λ (number : ℕ). IsFilled dest_at d count total number dest)) (sym all.1)
+    (record {
+      counted = refl;
+      db = together.db;
+      made = sym together.leads ∙ ap (λ (rows : List Values). rows_copied d.committed.limit (actor d 0) table together.db rows) all.0;
+      copies = together.copies;
+    })
+
+-- What ends a piece ends the copy, whatever the piece was for.
+pub turns-ended : {A B : Type 0} (P : A → Type 0) (Q : B → Type 0) (total : Result Database StatusWord) (end : CopyEnd) → TurnsSo total (Err end) P → TurnsSo total (Err end) Q
+turns-ended P Q total (DestRefused word) so = so
+turns-ended P Q total SourceMute so = tt
+turns-ended P Q total DestMute so = tt
+turns-ended P Q total (Copied number) so = absurd so
+turns-ended P Q total (SourceRefused word) so = absurd so
+
+pub reads-ended : (A B : Type 0) {L : Type 0} (is_at : L → Machine → Type 0) (s : Machine) (P Q : Type 0) (now : L) (end : CopyEnd) → FetchesSo {A = A} is_at s (Err end) P now → FetchesSo {A = B} is_at s (Err end) Q now
+reads-ended A B is_at s P Q now SourceMute so = tt
+reads-ended A B is_at s P Q now DestMute so = tt
+reads-ended A B is_at s P Q now (Copied number) so = so
+reads-ended A B is_at s P Q now (SourceRefused word) so = so
+reads-ended A B is_at s P Q now (DestRefused word) so = so
+
+pub heard-ended : (end : CopyEnd) (r : Piece ℕ) → r ≡ Err end → (r ≡ Err DestMute → ⊥) → (piece : Piece (Unit {0})) → piece ≡ Err end → piece ≡ Err DestMute → ⊥
+heard-ended end r ended heard piece is mute = heard (ended ∙ ap (λ (end : CopyEnd). Err end) (let same : end ≡ DestMute = cc in same))
+
+-- All rows are in, and are committed.
+pub fill-turns : {L : Type 0} (is_at : L → Machine → Type 0) (d : Machine) (count : ℕ) (total : Result Database StatusWord) (number : ℕ) (mid now : L) → (f : IsFilled is_at d count total number mid) → (r : Piece (Unit {0}))
+    → CommitsSo is_at d f.db r now → TurnsSo total (counted_by number r) (λ (number : ℕ). IsCommitted is_at d count total number now)
+fill-turns is_at d count total number mid now f (Ok x) so = record { counted = f.counted; db = f.db; made = f.made; stands = so }
+fill-turns is_at d count total number mid now f (Err DestMute) so = tt
+fill-turns is_at d count total number mid now f (Err (Copied rows)) so = absurd so
+fill-turns is_at d count total number mid now f (Err (SourceRefused word)) so = absurd so
+fill-turns is_at d count total number mid now f (Err (DestRefused word)) so = absurd so
+fill-turns is_at d count total number mid now f (Err SourceMute) so = absurd so
+
+pub fill-fills : {L : Type 0} (is_at : L → Machine → Type 0) (d : Machine) (db : Database) (number : ℕ) (now : L) (r : Piece (Unit {0})) → CommitsSo is_at d db r now → FillsSo is_at d (counted_by number r) now
+fill-fills is_at d db number now (Ok x) so = tt
+fill-fills is_at d db number now (Err DestMute) so = tt
+fill-fills is_at d db number now (Err (Copied rows)) so = absurd so
+fill-fills is_at d db number now (Err (SourceRefused word)) so = absurd so
+fill-fills is_at d db number now (Err (DestRefused word)) so = absurd so
+fill-fills is_at d db number now (Err SourceMute) so = absurd so
+
+pub fill-moment : (mark later : ℕ) (x db : Database) (total : Result Database StatusWord) (g : ℕ) (left : Database) → later ≡ mark → total ≡ Ok db → IsOneOf later (x ∷ db ∷ []) g left → IsOneOf mark (x ∷ commits_by total) g left
+fill-moment mark later x db total g left same made is =
+    subst (λ (total : Result Database StatusWord). IsOneOf mark (x ∷ commits_by total) g left) (sym made) (subst (λ (n : ℕ). IsOneOf n (x ∷ db ∷ []) g left) same is)

@@ -1,0 +1,64 @@
+use Rattle.std.proofs.Common.{◌≡◌, length, refl, sym, ◌∙◌, subst, inl}
+use Rattle.scql_model.specs.Machine.{actor}
+use Rattle.card_asking.proofs.Moments.{leaves-all}
+use Rattle.table_copy.specs.Copy.{copy_of, put_into}
+use Rattle.table_copy.specs.Copying.{CopiesSo, UndoneSo}
+use Rattle.table_copy.specs.Filling.{IsCommitted}
+use Rattle.std.proofs.Common.{Ok}
+use Rattle.table_copy.proofs.Copied.{begun-moments, begun-total, commits-same, copied-so, filling-ended, rolled-moments, together-first, undone-copies, undone-so, unless-mute}
+use Rattle.table_copy.proofs.copying.copy_opened.Goals as goal
+
+pub returns-in-Err-clause-moments : goal.returns-in-Err-clause-moments
+returns-in-Err-clause-moments g c = λ s d rows gives at. leaves-all g.D.CardLink.chip _ _ c.args.dest.now c.begin.new.dest (λ n left is. inl is) (c.begin.ensures.moments d at)
+
+pub returns-in-Ok-clause-copies : goal.returns-in-Ok-clause-copies
+returns-in-Ok-clause-copies g c = λ s d rows gives at.
+    let begun = c.in_default.ensures.begins d at in
+    let total = copy_of d.committed (actor d 0) c.args.table.now rows in
+    copied-so g.D.CardLink.is_at d (length rows) _ total c.in-Ok.rows c.fill.new.dest (begun-total d total begun.0)
+    (c.in-Ok.ensures.turns s d (length rows) total
+    (together-first g.S.CardLink.is_at g.D.CardLink.is_at s d rows c.args.table.now c.args.plan.now c.args.step.now c.args.source.now c.begin.new.dest gives begun.1))
+
+pub returns-in-Ok-clause-moments : goal.returns-in-Ok-clause-moments
+returns-in-Ok-clause-moments g c = λ s d rows gives at.
+    let begun = c.in_default.ensures.begins d at in
+    let total = copy_of d.committed (actor d 0) c.args.table.now rows in
+    begun-moments g.D.CardLink.chip g.D.CardLink.mark d.committed _ _ c.args.dest.now c.begin.new.dest c.fill.new.dest (commits-same (length rows) _ total (begun-total d total begun.0)) c.begin.ensures.rest.marked
+    (c.begin.ensures.moments d at)
+    (c.fill.ensures.moments s d (length rows) total
+    (together-first g.S.CardLink.is_at g.D.CardLink.is_at s d rows c.args.table.now c.args.plan.now c.args.step.now c.args.source.now c.begin.new.dest gives begun.1))
+
+pub returns-in-Err-fill-clause-copies : goal.returns-in-Err-fill-clause-copies
+returns-in-Err-fill-clause-copies g c = λ s d rows gives at.
+    let begun = c.in_default.ensures.begins d at in
+    let total = copy_of d.committed (actor d 0) c.args.table.now rows in
+    let together = together-first g.S.CardLink.is_at g.D.CardLink.is_at s d rows c.args.table.now c.args.plan.now c.args.step.now c.args.source.now c.begin.new.dest gives begun.1 in
+    unless-mute (λ r. CopiesSo g.D.CardLink.is_at d (put_into d c.args.table.now (Ok rows)) r c.roll_back.new.dest) c.roll_back.result tt (λ heard.
+    subst (λ r. CopiesSo g.D.CardLink.is_at d (put_into d c.args.table.now (Ok rows)) r c.roll_back.new.dest) (sym (c.roll_back.ensures.same heard))
+    (undone-copies g.D.CardLink.is_at d (λ number. IsCommitted g.D.CardLink.is_at d (length rows) total number c.fill.new.dest) (length rows) _ total c.in-Err-fill.end c.roll_back.new.dest (begun-total d total begun.0)
+    (c.in-Err-fill.ensures.turns s d (length rows) total together)
+    (c.roll_back.ensures.rolls d
+    (filling-ended g.D.CardLink.is_at d c.fill.result c.in-Err-fill.end c.fill.new.dest c.in-Err-fill.is (c.fill.ensures.fills d (record { db = d.committed; copies = begun.1 })) (λ mute. heard (c.roll_back.ensures.mute mute).0))
+    heard)))
+
+pub returns-in-Err-fill-clause-undone : goal.returns-in-Err-fill-clause-undone
+returns-in-Err-fill-clause-undone g c = λ d at.
+    let begun = c.in_default.ensures.begins d at in
+    unless-mute (λ r. UndoneSo g.D.CardLink.is_at d r c.roll_back.new.dest) c.roll_back.result tt (λ heard.
+    undone-so g.D.CardLink.is_at d c.roll_back.result c.roll_back.new.dest
+    (c.roll_back.ensures.rolls d
+    (filling-ended g.D.CardLink.is_at d c.fill.result c.in-Err-fill.end c.fill.new.dest c.in-Err-fill.is (c.fill.ensures.fills d (record { db = d.committed; copies = begun.1 })) (λ mute. heard (c.roll_back.ensures.mute mute).0))
+    heard))
+
+pub returns-in-Err-fill-clause-moments : goal.returns-in-Err-fill-clause-moments
+returns-in-Err-fill-clause-moments g c = λ s d rows gives at.
+    let begun = c.in_default.ensures.begins d at in
+    let total = copy_of d.committed (actor d 0) c.args.table.now rows in
+    rolled-moments g.D.CardLink.chip g.D.CardLink.mark d.committed _ c.args.dest.now c.fill.new.dest c.roll_back.new.dest c.in-Err-fill.end (c.fill.ensures.dest_rest.marked ∙ c.begin.ensures.rest.marked)
+    (λ mute. (c.roll_back.ensures.mute mute).1)
+    (λ heard. c.roll_back.ensures.moments d
+    (filling-ended g.D.CardLink.is_at d c.fill.result c.in-Err-fill.end c.fill.new.dest c.in-Err-fill.is (c.fill.ensures.fills d (record { db = d.committed; copies = begun.1 })) heard))
+    (begun-moments g.D.CardLink.chip g.D.CardLink.mark d.committed _ _ c.args.dest.now c.begin.new.dest c.fill.new.dest (commits-same (length rows) _ total (begun-total d total begun.0)) c.begin.ensures.rest.marked
+    (c.begin.ensures.moments d at)
+    (c.fill.ensures.moments s d (length rows) total
+    (together-first g.S.CardLink.is_at g.D.CardLink.is_at s d rows c.args.table.now c.args.plan.now c.args.step.now c.args.source.now c.begin.new.dest gives begun.1)))
