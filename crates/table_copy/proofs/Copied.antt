@@ -1,5 +1,5 @@
 -- A whole copy: what its pieces come to.
-use Rattle.std.proofs.Common.{◌≡◌, ◌⊎◌, ℕ, Bool, List, [], ◌∷◌, length, Result, Ok, Err, refl, sym, ◌∙◌, ap, subst, inl, inr}
+use Rattle.std.proofs.Common.{◌≡◌, ◌⊎◌, ℕ, List, ◌∷◌, length, Result, Ok, Err, refl, sym, ◌∙◌, ap, subst, inl, inr}
 use Rattle.eeprom.specs.Chip.{Chip}
 use Rattle.scql_base.specs.declared.words.StatusWord.{StatusWord}
 use Rattle.scql_model.specs.Database.{Database}
@@ -12,7 +12,7 @@ use Rattle.planner.specs.declared.step.Step.{Step}
 use Rattle.planner.specs.Planned.{Planned}
 use Rattle.card_asking.proofs.Moments.{leaves-all, leaves-both}
 use Rattle.table_copy.specs.Copy.{Copy, copy, copy_of, ended_so, may_begin, put_into, source_rows}
-use Rattle.table_copy.specs.Copying.{StaysAt, StandsAt, CopiesSo, UndoneSo, ReadsSo}
+use Rattle.table_copy.specs.Copying.{StaysAt, CopiesSo, UndoneSo, ReadsSo}
 use Rattle.table_copy.specs.Filling.{Piece, IsFetching, GivesAll, CopiesAt, IsFilling, Together, TurnsSo, IsCommitted, FillsSo, OpensSo, commits_by}
 use Rattle.table_copy.specs.declared.copy_end.CopyEnd.{CopyEnd}
 use Rattle.table_copy.specs.declared.copy_end.CopyEnd.TheVariants.{Copied, SourceRefused, DestRefused, SourceMute, DestMute}

@@ -1,9 +1,8 @@
 -- A piece of a copy ends in one of six ways; one of them is that a card is mute.
-use Rattle.std.proofs.Common.{◌≡◌, ℕ, List, [], ◌∷◌, Ok, Err, ap, inl, inr}
+use Rattle.std.proofs.Common.{◌≡◌, ℕ, List, [], ◌∷◌, Ok, Err, inl, inr}
 use Rattle.scql_model.specs.Database.{Database}
 use Rattle.card_link.specs.Link.{Holds, IsOneOf}
 use Rattle.table_copy.specs.Filling.{Piece}
-use Rattle.table_copy.specs.declared.copy_end.CopyEnd.{CopyEnd}
 use Rattle.table_copy.specs.declared.copy_end.CopyEnd.TheVariants.{Copied, SourceRefused, DestRefused, SourceMute, DestMute}
 
 pub unless-dest_mute : {A : Type 0} (P : Piece A → Type 0) (r : Piece A) → P (Err DestMute) → ((r ≡ Err DestMute → ⊥) → P r) → P r

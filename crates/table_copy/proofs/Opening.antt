@@ -1,22 +1,22 @@
 -- DECLARE and OPEN on the source: what is refused there, and which rows are to come.
-use Rattle.std.proofs.Common.{◌≡◌, ◌⊎◌, ℕ, Bool, true, false, List, [], length, Option, Some, None, is_some, Result, Ok, Err, if◌then◌else◌, refl, sym, ◌∙◌, ap, subst, inl, inr}
+use Rattle.std.proofs.Common.{◌≡◌, ℕ, Bool, true, false, List, [], length, Option, Some, None, is_some, Result, Ok, Err, if◌then◌else◌, refl, sym, ◌∙◌, ap, subst}
 use Rattle.std.specs.Prelude.{option_and_then}
 use Rattle.std.specs.Option.{option_map_or}
 use Rattle.scql_base.specs.declared.words.Actor.{Actor}
 use Rattle.scql_base.specs.declared.words.Actor.TheVariants.{Public}
 use Rattle.scql_base.specs.declared.words.StatusWord.{StatusWord}
 use Rattle.scql_base.specs.declared.operation.Command.{Command}
-use Rattle.scql_base.specs.declared.operation.Operation.TheVariants.{DeclareCursor, OpenCursor}
+use Rattle.scql_base.specs.declared.operation.Operation.TheVariants.{DeclareCursor}
 use Rattle.scql_base.specs.Words.{channel_not_supported}
 use Rattle.scql_model.specs.Refusals.{◌>>=◌}
 use Rattle.scql_model.specs.Replies.{Reply, said}
-use Rattle.scql_model.specs.Machine.{Machine, Session, base, actor, actor_of, no_reading, session_of}
+use Rattle.scql_model.specs.Machine.{Machine, Session, base, actor, actor_of, session_of}
 use Rattle.scql_model.specs.Matching.{Values}
 use Rattle.scql_model.specs.ReadingCommands.{declare}
 use Rattle.scql_model.specs.ReadingLaws.{IsReadable}
 use Rattle.scql_model.specs.Rights.{seen_named}
 use Rattle.scql_model.specs.Sessions.{is_channel_open}
-use Rattle.scql_model.specs.Shown.{Shown, shown, shown_on}
+use Rattle.scql_model.specs.Shown.{shown_on}
 use Rattle.scql_model.specs.Step.{Answer}
 use Rattle.scql_model.proofs.ReadingIsShown.{IsReadable-valid}
 use Rattle.card_link.specs.Link.{IsOver}
@@ -42,7 +42,7 @@ use Rattle.card_asking.proofs.Rows.{gives-first, gives-shown, all-given}
 use Rattle.table_copy.specs.Copy.{source_rows}
 use Rattle.table_copy.specs.Copying.{StaysAt}
 use Rattle.table_copy.specs.Filling.{Piece, UnlessSourceMute, IsFetching, GivesAll, OpensSo, fetched_by, goes_on_by, whether}
-use Rattle.table_copy.specs.declared.copy_end.CopyEnd.TheVariants.{SourceRefused, SourceMute}
+use Rattle.table_copy.specs.declared.copy_end.CopyEnd.TheVariants.{SourceMute}
 use Rattle.table_copy.proofs.Ending.{unless-source_mute}
 
 -- A plan that is to close with rows isn't refused.

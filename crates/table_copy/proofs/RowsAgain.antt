@@ -1,10 +1,10 @@
 -- What is sent to both cards can be sent, and a row is read as the row that its octets are.
-use Rattle.std.proofs.Common.{◌≡◌, ℕ, ◌+◌, ◌≤◌, ◌<◌, ◌==◌, nat_le, ◌&&◌, true, List, [], ◌∷◌, length, Some, refl, sym, ◌∙◌, lit≤, arith}
+use Rattle.std.proofs.Common.{◌≡◌, ℕ, ◌+◌, ◌≤◌, nat_le, ◌&&◌, true, List, [], ◌∷◌, length, Some, refl, lit≤, arith}
 use Rattle.std.specs.List.{list_all}
 use Rattle.std.proofs.lemmas.Bool.{and_parts, leb-true, le-leb}
 use Rattle.std.proofs.lemmas.List.Sums.{sum_by-cons}
 use Rattle.scql_base.specs.declared.operation.Operation.TheVariants.{DeclareCursor, OpenCursor, Insert, Fetch, FetchNext, GetResponse}
-use Rattle.scql_base.specs.Name.{IsName, is_name}
+use Rattle.scql_base.specs.Name.{IsName}
 use Rattle.scql_base.specs.Row.{IsRow, is_narrow, row_from, row_size}
 use Rattle.scql_base.proofs.RowOctets.{row_from-row, row_size-spelled}
 use Rattle.scql_base.proofs.Splitting.{params_of-again}
@@ -13,7 +13,7 @@ use Rattle.scql_model.specs.ReadingCommands.{row_octets}
 use Rattle.scql_model.specs.Records.{is_count_of_columns, is_row}
 use Rattle.scql_model.specs.Spelling.{fits}
 use Rattle.script.specs.declared.statement.Statement.TheVariants.{Select}
-use Rattle.script.specs.Commands.{asking, wanting, IsSendable, CanBeSent}
+use Rattle.script.specs.Commands.{asking, IsSendable, CanBeSent}
 use Rattle.script.proofs.Sendable.{asked-sent, wanted-sent}
 
 -- a row has a value, and is one that a command may have

@@ -1,7 +1,6 @@
 -- What the destination answers: to BEGIN, and in the transaction to INSERT, COMMIT and ROLLBACK.
-use Rattle.std.proofs.Common.{◌≡◌, ℕ, ◌==◌, nat_le, not, Bool, true, false, List, [], ◌∷◌, length, Option, Some, None, is_some, option_map, Result, Ok, Err, if◌then◌else◌, refl, sym, ◌∙◌, ap, subst, inl, inr, lit≤}
+use Rattle.std.proofs.Common.{◌≡◌, ℕ, ◌==◌, nat_le, Bool, true, false, List, [], ◌∷◌, length, Option, Some, None, is_some, option_map, Result, Ok, Err, if◌then◌else◌, refl, sym, ◌∙◌, ap, subst, inl, inr, lit≤}
 use Rattle.std.specs.Option.{option_map_or}
-use Rattle.std.proofs.lemmas.Bool.{cases_Bool}
 use Rattle.scql_base.specs.declared.words.Actor.{Actor}
 use Rattle.scql_base.specs.declared.words.Actor.TheVariants.{Public, User as a_user}
 use Rattle.scql_base.specs.declared.words.StatusWord.{StatusWord}
@@ -12,7 +11,7 @@ use Rattle.scql_base.specs.declared.records.RowRecord.{RowRecord}
 use Rattle.scql_base.specs.declared.records.User.{User}
 use Rattle.scql_base.specs.Row.{row_size}
 use Rattle.scql_base.specs.Words.{done, channel_not_supported, conditions_not_satisfied, security_not_satisfied, not_found, no_space, wrong_data}
-use Rattle.scql_model.specs.Refusals.{◌>>=◌, provided}
+use Rattle.scql_model.specs.Refusals.{◌>>=◌}
 use Rattle.scql_model.specs.Replies.{Reply, said}
 use Rattle.scql_model.specs.Database.{Database, is_table, user_stamped}
 use Rattle.scql_model.specs.Machine.{Machine, Session, Transaction, session_of, actor}
@@ -24,9 +23,9 @@ use Rattle.scql_model.specs.Defining.{of_kind}
 use Rattle.scql_model.specs.Edits.{Edit, of_row, making, with_edits, applied, lacks_room}
 use Rattle.scql_model.specs.Changing.{edits_of, change_of, transaction_after}
 use Rattle.scql_model.specs.Form.{a_command}
-use Rattle.scql_model.specs.Step.{Answer, answered, carried_out, stepped}
+use Rattle.scql_model.specs.Step.{Answer, answered, stepped}
 use Rattle.scql_model.specs.Writing.{row_inserted}
-use Rattle.scql_model.proofs.RefusalWords.{Refuses, Gives, Anything, there, asked, gives-inserted, gives-with_edits, not_done-refusal}
+use Rattle.scql_model.proofs.RefusalWords.{Gives, Anything, there, asked, gives-inserted, gives-with_edits, not_done-refusal}
 use Rattle.card_link.specs.Link.{Answered, Holds, IsOneOf}
 use Rattle.script.specs.Commands.{asking, IsSendable}
 use Rattle.script.proofs.Sendable.{asked-sent}
@@ -39,8 +38,8 @@ use Rattle.planner.proofs.Selected.{in_session-same}
 use Rattle.planner.proofs.Stepping.{answer-begun, answer-committed, answer-rolled_back, answer-inserted, answer-too_long, change_answer, changed_so}
 use Rattle.card_asking.specs.Giving.{IsLike}
 use Rattle.table_copy.specs.Copy.{may_begin, row_copied}
-use Rattle.table_copy.specs.Copying.{StaysAt, StandsAt}
-use Rattle.table_copy.specs.Filling.{Piece, done_by, acting, IsCopying, CopiesAt, IsFilling, BeginsSo, InsertsSo, CommitsSo}
+use Rattle.table_copy.specs.Copying.{StaysAt}
+use Rattle.table_copy.specs.Filling.{Piece, done_by, acting, IsCopying, IsFilling, BeginsSo, InsertsSo, CommitsSo}
 use Rattle.table_copy.specs.declared.copy_end.CopyEnd.TheVariants.{Copied, SourceRefused, DestRefused, SourceMute, DestMute}
 
 -- what is asked can be sent

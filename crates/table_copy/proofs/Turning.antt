@@ -15,16 +15,15 @@ use Rattle.planner.specs.declared.closing.Closing.TheVariants.{Nothing, Fine, Ro
 use Rattle.planner.specs.declared.step.Step.{Step}
 use Rattle.planner.specs.declared.step.Step.TheVariants.{Send, Row, ResetCard, Done}
 use Rattle.planner.specs.Planned.{Planned}
-use Rattle.card_asking.specs.Giving.{Gives, IsNextRow, behind_step}
+use Rattle.card_asking.specs.Giving.{Gives, IsNextRow}
 use Rattle.card_asking.proofs.Moments.{leaves-all, leaves-both, leaves-none}
 use Rattle.card_asking.proofs.Rows.{next-row, all-given}
 use Rattle.table_copy.specs.Copy.{row_copied, rows_copied}
 use Rattle.table_copy.specs.Copying.{StaysAt, Answers, EndsBy, GoesBy, HasGoneOn}
-use Rattle.table_copy.specs.Filling.{Piece, UnlessSourceMute, OfSource, OfDest, IsFetching, GivesAll, FetchesSo, IsFilling, CopiesAt, InsertsSo, HasRow, PutsSo, Together, TurnsSo, IsFilled, IsCommitted, CommitsSo, FillsSo, commits_by, counted_by, goes_on_by, fetched_by}
+use Rattle.table_copy.specs.Filling.{Piece, UnlessSourceMute, OfSource, IsFetching, FetchesSo, InsertsSo, HasRow, PutsSo, Together, TurnsSo, IsFilled, IsCommitted, CommitsSo, FillsSo, commits_by, counted_by, fetched_by}
 use Rattle.table_copy.specs.declared.copy_end.CopyEnd.{CopyEnd}
 use Rattle.table_copy.specs.declared.copy_end.CopyEnd.TheVariants.{Copied, SourceRefused, DestRefused, SourceMute, DestMute}
-use Rattle.table_copy.proofs.Ending.{unless-source_mute}
-use Rattle.table_copy.proofs.Opening.{rows-go_on, gives-stays}
+use Rattle.table_copy.proofs.Opening.{gives-stays}
 
 -- A row is put in.
 pub has-row : {L : Type 0} (is_at : L → Machine → Type 0) (s : Machine) (closing : Closing) (last : Machine) (rows : List Values) (p : Planned) (step : Step) (now : L) → Gives is_at s closing last rows p step now → HasRow step rows p.row

@@ -1,5 +1,5 @@
 -- What a copy leaves of its two cards, and which of them failed where one did.
-use Rattle.std.specs.Prelude.{◌≡◌, ◌⊎◌, ℕ, Bool, List, IsTrue, Result, Ok, Err}
+use Rattle.std.specs.Prelude.{◌≡◌, ◌⊎◌, ℕ, Bool, IsTrue, Result, Ok, Err}
 use Rattle.scql_model.specs.Database.{Database}
 use Rattle.scql_model.specs.Lives.{after_all}
 use Rattle.scql_model.specs.Machine.{Machine}
@@ -7,7 +7,7 @@ use Rattle.card_link.specs.Link.{Mutes}
 use Rattle.card_asking.specs.Giving.{IsLike}
 use Rattle.table_copy.specs.Copy.{Copy}
 use Rattle.table_copy.specs.declared.copy_end.CopyEnd.{CopyEnd}
-use Rattle.table_copy.specs.declared.copy_end.CopyEnd.TheVariants.{Copied, SourceRefused, DestRefused, SourceMute, DestMute}
+use Rattle.table_copy.specs.declared.copy_end.CopyEnd.TheVariants.{Copied, SourceMute, DestMute}
 
 -- a link is at a machine that has the committed database of this one, and whose open transaction is the same channel's
 pub record StaysAt {L : Type 0} (is_at : L → Machine → Type 0) (m : Machine) (now : L) : Type 0 where

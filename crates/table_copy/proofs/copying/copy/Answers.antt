@@ -1,9 +1,7 @@
-use Rattle.std.proofs.Common.{◌≡◌, length, Ok, refl, sym, ◌∙◌, ap, subst, inl}
-use Rattle.script.specs.declared.statement.Statement.{Statement}
-use Rattle.planner.specs.Planned.{started}
+use Rattle.std.proofs.Common.{length, Ok, refl, sym, subst, inl}
 use Rattle.card_link.specs.Link.{IsOneOf, LeavesOpen}
 use Rattle.card_asking.proofs.Moments.{leaves-none}
-use Rattle.std.specs.Prelude.{◌∷◌, false}
+use Rattle.std.specs.Prelude.{◌∷◌}
 use Rattle.table_copy.specs.Copy.{Copy, source_rows}
 use Rattle.table_copy.specs.Copying.{CopiesSo}
 use Rattle.table_copy.proofs.Copied.{copy-given, fetching-all, unopened-copies, unopened-reads}

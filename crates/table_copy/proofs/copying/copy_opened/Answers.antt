@@ -1,4 +1,4 @@
-use Rattle.std.proofs.Common.{◌≡◌, length, refl, sym, ◌∙◌, subst, inl}
+use Rattle.std.proofs.Common.{length, sym, ◌∙◌, subst, inl}
 use Rattle.scql_model.specs.Machine.{actor}
 use Rattle.card_asking.proofs.Moments.{leaves-all}
 use Rattle.table_copy.specs.Copy.{copy_of, put_into}

@@ -1,4 +1,4 @@
-use Rattle.std.proofs.Common.{◌≡◌, sym, subst, inl}
+use Rattle.std.proofs.Common.{sym, subst, inl}
 use Rattle.card_asking.proofs.Moments.{leaves-all, leaves-both}
 use Rattle.table_copy.specs.Filling.{FillsSo, IsCommitted, IsFilled, TurnsSo}
 use Rattle.table_copy.proofs.Turning.{fill-fills, fill-moment, fill-turns, turns-ended}

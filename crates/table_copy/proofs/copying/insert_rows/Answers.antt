@@ -1,4 +1,4 @@
-use Rattle.std.proofs.Common.{◌≡◌, ℕ, Ok, Err, refl, sym, ◌∙◌, subst, rules}
+use Rattle.std.proofs.Common.{◌≡◌, ℕ, Err, refl, sym, subst, rules}
 use Rattle.table_copy.specs.Copying.{GoesBy, StaysAt}
 use Rattle.table_copy.specs.Filling.{FetchesSo, IsFetching, IsFilled, Together, TurnsSo}
 use Rattle.table_copy.proofs.Opening.{gives-stays}

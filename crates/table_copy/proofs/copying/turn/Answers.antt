@@ -1,4 +1,4 @@
-use Rattle.std.proofs.Common.{◌≡◌, Ok, sym, ◌∙◌, subst}
+use Rattle.std.proofs.Common.{sym, ◌∙◌, subst}
 use Rattle.planner.specs.declared.closing.Closing.TheVariants.{Rows}
 use Rattle.table_copy.specs.Filling.{Together, TurnsSo}
 use Rattle.table_copy.proofs.Ending.{unless-source_mute}

@@ -1,4 +1,4 @@
-use Rattle.std.proofs.Common.{◌≡◌, Some, refl, sym, ◌∙◌}
+use Rattle.std.proofs.Common.{◌≡◌, Some, sym, ◌∙◌}
 use Rattle.scql_base.specs.declared.operation.Operation.TheVariants.{Insert}
 use Rattle.scql_model.specs.Machine.{actor}
 use Rattle.script.specs.Commands.{asking}

@@ -1,5 +1,4 @@
 use Rattle.std.proofs.Common.{◌≡◌, Ok, Err, sym, ◌∙◌, subst, rules}
-use Rattle.planner.specs.Planned.{next_of}
 use Rattle.card_asking.proofs.Moments.{leaves-all, leaves-both}
 use Rattle.table_copy.specs.Copy.{source_rows}
 use Rattle.table_copy.specs.Filling.{OpensSo}
