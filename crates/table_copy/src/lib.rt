@@ -5,6 +5,8 @@ mod copy_end;
 mod copying;
 mod dest;
 mod source;
+#[cfg(test)]
+mod tests;
 
 pub use copy_end::CopyEnd;
 pub use copying::copy;
