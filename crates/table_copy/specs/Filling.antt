@@ -34,6 +34,7 @@ fetched_by (Rows number) = Ok number
 fetched_by (Refused word) = Err (SourceRefused word)
 fetched_by closing = Err (SourceRefused wrong_data)
 
+-- whether a piece was done
 abbrev pub whether : {A : Type 0} → Piece A → Piece (Unit {0})
 whether (Ok x) = Ok tt
 whether (Err end) = Err end
@@ -52,16 +53,14 @@ abbrev pub counted_by : ℕ → Piece (Unit {0}) → Piece ℕ
 counted_by rows (Ok x) = Ok rows
 counted_by rows (Err end) = Err end
 
--- The source alone.
-
--- unless the source is mute, or the destination
+-- Where a piece didn't end because the source is mute, or the destination, this holds.
 abbrev pub UnlessSourceMute : {A : Type 0} → Piece A → Type 0 → Type 0
 UnlessSourceMute r P = (r ≡ Err SourceMute → ⊥) → P
 
 abbrev pub UnlessDestMute : {A : Type 0} → Piece A → Type 0 → Type 0
 UnlessDestMute r P = (r ≡ Err DestMute → ⊥) → P
 
--- what a call on one card alone says of that card
+-- A piece on one card alone ends because that card is mute only where it failed, and never because the other one is mute.
 abbrev pub OfSource : {L A : Type 0} → (L → Bool) → (L → ℕ) → Piece A → L → L → Type 0
 OfSource is_live faults (Ok x) old new = Answers is_live faults old new
 OfSource is_live faults (Err (SourceRefused word)) old new = Answers is_live faults old new
@@ -75,7 +74,9 @@ OfDest is_live faults (Err (SourceRefused word)) old new = Answers is_live fault
 OfDest is_live faults (Err DestMute) old new = Mutes is_live faults old new
 OfDest is_live faults (Err end) old new = ⊥
 
--- a link that was at this machine still has rows to give, or has given all
+-- The source alone.
+
+-- on a link that was at this machine a plan is still to give some rows, or gave all
 pub record IsFetching {L : Type 0} (is_at : L → Machine → Type 0) (s : Machine) (p : Planned) (step : Step) (now : L) : Type 0 where
   pub closing : Closing
   pub last : Machine
@@ -137,6 +138,7 @@ pub record IsInsertion (table : List ℕ) (c : Command) : Type 0 where
   pub is : c ≡ asking 0 (Insert table row)
   pub sendable : IsSendable c
 
+-- BEGIN was done, or refused as it is to be; then all is as before
 abbrev pub BeginsSo : {L : Type 0} → (L → Machine → Type 0) → Machine → Result (Unit {0}) StatusWord → Piece (Unit {0}) → L → Type 0
 BeginsSo is_at d may (Ok x) now = (may ≡ Ok tt) × CopiesAt is_at d d.committed now
 BeginsSo is_at d may (Err (DestRefused word)) now = (may ≡ Err word) × StaysAt is_at d now
@@ -150,11 +152,13 @@ InsertsSo is_at d db added (Err (DestRefused word)) now = (added ≡ Err word) �
 InsertsSo is_at d db added (Err DestMute) now = Unit {0}
 InsertsSo is_at d db added (Err end) now = ⊥
 
+-- COMMIT is done, unless the card is mute
 abbrev pub CommitsSo : {L : Type 0} → (L → Machine → Type 0) → Machine → Database → Piece (Unit {0}) → L → Type 0
 CommitsSo is_at d db (Ok x) now = StandsAt is_at d db now
 CommitsSo is_at d db (Err DestMute) now = Unit {0}
 CommitsSo is_at d db (Err end) now = ⊥
 
+-- behind a ROLLBACK the card answers, or is mute
 abbrev pub RollsBackSo : {L : Type 0} → (L → Bool) → (L → ℕ) → CopyEnd → L → L → Type 0
 RollsBackSo is_live faults DestMute old new = Mutes is_live faults old new
 RollsBackSo is_live faults end old new = Answers is_live faults old new

@@ -131,11 +131,11 @@ fn fill<S: CardLink, D: CardLink>(
 }
 
 // So many rows, where they were committed.
-fn committed(rows: u32, commit: Result<(), CopyEnd>) -> Result<u32, CopyEnd>
-    ensures { result ≡ counted_by rows commit }
+fn committed(count: u32, commit: Result<(), CopyEnd>) -> Result<u32, CopyEnd>
+    ensures { result ≡ counted_by count commit }
 {
     commit?;
-    Ok(rows)
+    Ok(count)
 }
 
 // A copy whose source is at its first row, or has none.
