@@ -4,3 +4,4 @@ pub mod Opening
 pub mod RowsAgain
 pub mod Transacting
 pub mod Turning
+pub mod WorkedCopies
