@@ -2,7 +2,7 @@ use Rattle.std.proofs.Common.{length, Ok, refl, sym, subst, inl}
 use Rattle.card_link.specs.Link.{IsOneOf, LeavesOpen}
 use Rattle.card_asking.proofs.Moments.{leaves-none}
 use Rattle.std.specs.Prelude.{◌∷◌}
-use Rattle.table_copy.specs.Copy.{Copy, source_rows}
+use Rattle.table_copy.specs.Copy.{Copy, copy, source_rows}
 use Rattle.table_copy.specs.Copying.{CopiesSo}
 use Rattle.table_copy.proofs.Copied.{copy-given, fetching-all, unopened-copies, unopened-reads}
 use Rattle.table_copy.proofs.Turning.{holds-both}
@@ -50,4 +50,4 @@ returns-in-Err-clause-reads g c = λ s source_at.
 
 pub returns-in-Err-clause-dest_moments : goal.returns-in-Err-clause-dest_moments
 returns-in-Err-clause-dest_moments g c = λ s d source_at dest_at.
-    leaves-none g.D.CardLink.chip g.D.CardLink.mark _ c.args.dest.now d.committed (g.met.D.CardLink.marks c.args.dest.now) (g.met.D.CardLink.opens c.args.dest.now d dest_at) (inl (refl, refl))
+    leaves-none g.D.CardLink.chip g.D.CardLink.mark (IsOneOf (g.D.CardLink.mark c.args.dest.now) (d.committed ∷ (copy s d c.args.object.now c.args.table.now).commits)) c.args.dest.now d.committed (g.met.D.CardLink.marks c.args.dest.now) (g.met.D.CardLink.opens c.args.dest.now d dest_at) (inl (refl, refl))

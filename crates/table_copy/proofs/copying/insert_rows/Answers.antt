@@ -25,13 +25,13 @@ loop-step-init g c = record {
 
 pub returns-in-Done-clause-turns : goal.returns-in-Done-clause-turns
 returns-in-Done-clause-turns g c = λ s d count total together.
-    subst (λ r. TurnsSo total r (λ number. IsFilled g.D.CardLink.is_at d count total number c.loop-step.dest)) (sym c.fetched.ensures)
+    rw c.fetched.ensures
     (filled g.S.CardLink.is_at g.D.CardLink.is_at s d count c.args.table.now total c.loop-step.plan c.in-Done.closing c.loop-step.source c.loop-step.dest (rw c.in-Done.is at (c.loop-step.invariant.turns s d count total together)))
 
 pub returns-in-Done-clause-reads : goal.returns-in-Done-clause-reads
 returns-in-Done-clause-reads g c = λ s fetching.
     let f = c.loop-step.invariant.reads s fetching in
-    subst (λ r. FetchesSo g.S.CardLink.is_at s r (StaysAt g.S.CardLink.is_at s c.loop-step.source) c.loop-step.source) (sym c.fetched.ensures)
+    rw c.fetched.ensures
     (fetched-reads g.S.CardLink.is_at s c.in-Done.closing c.loop-step.source (gives-stays g.S.CardLink.is_at s f.last f.closing f.rows c.loop-step.plan c.loop-step.step c.loop-step.source f.gives))
 
 pub returns-in-Done-clause-fills : goal.returns-in-Done-clause-fills
@@ -45,7 +45,7 @@ returns-in-Done-clause-moments g c = c.loop-step.invariant.moments
 
 pub returns-in-Done-clause-ends : goal.returns-in-Done-clause-ends
 returns-in-Done-clause-ends g c =
-    subst (λ r. GoesBy g.S.CardLink.is_live g.S.CardLink.faults g.D.CardLink.is_live g.D.CardLink.faults r c.args.source.now c.loop-step.source c.args.dest.now c.loop-step.dest) (sym c.fetched.ensures)
+    rw c.fetched.ensures
     (fetched-goes g.S.CardLink.is_live g.S.CardLink.faults g.D.CardLink.is_live g.D.CardLink.faults c.in-Done.closing c.args.source.now c.loop-step.source c.args.dest.now c.loop-step.dest c.loop-step.invariant.source c.loop-step.invariant.dest)
 
 pub returns-in-Done-clause-source_rest : goal.returns-in-Done-clause-source_rest

@@ -1,5 +1,7 @@
 use Rattle.std.proofs.Common.{◌≡◌, Ok, Err, sym, ◌∙◌, subst, rules}
+use Rattle.card_link.specs.Link.{Holds}
 use Rattle.card_asking.proofs.Moments.{leaves-all, leaves-both}
+use Rattle.card_asking.specs.Giving.{behind_step}
 use Rattle.table_copy.specs.Copy.{source_rows}
 use Rattle.table_copy.specs.Filling.{OpensSo}
 use Rattle.table_copy.specs.declared.copy_end.CopyEnd.TheVariants.{SourceMute}
@@ -10,25 +12,25 @@ pub returns-in_err-advance-clause-opens : goal.returns-in_err-advance-clause-ope
 returns-in_err-advance-clause-opens g c = λ s object is can at.
     let same : c.from_residual.result ≡ Err c.in_err-advance.field-0.0 = search rules in
     subst (λ r. OpensSo g.L.CardLink.is_at s (source_rows s object) c.advance.new.plan c.advance.new.step r c.advance.new.source) (c.in_err-advance.was ∙ sym same)
-    (opens-one s object can (g.met.L.CardLink.valid c.args.source.now s at) g.L.CardLink.is_at _ (rw is at c.next_into.ensures.next) c.args.reply.now c.args.source.now c.advance.result c.advance.new.plan c.advance.new.step c.advance.new.reply
+    (opens-one s object can (g.met.L.CardLink.valid c.args.source.now s at) g.L.CardLink.is_at (record { plan = c.next_into.new.self; step = c.next_into.new.step }) (rw is at c.next_into.ensures.next) c.args.reply.now c.args.source.now c.advance.result c.advance.new.plan c.advance.new.step c.advance.new.reply
     c.advance.new.source at (record { gives = c.advance.ensures.gives; goes_on = c.advance.ensures.goes_on; turns = c.advance.ensures.turns; heard = c.advance.ensures.reply }))
 
 pub returns-in_err-advance-clause-still : goal.returns-in_err-advance-clause-still
 returns-in_err-advance-clause-still g c = λ s object is can at.
-    let fetching = fetching-first s object can (g.met.L.CardLink.valid c.args.source.now s at) g.L.CardLink.is_at _ c.args.source.now (rw is at c.next_into.ensures.next) at in
+    let fetching = fetching-first s object can (g.met.L.CardLink.valid c.args.source.now s at) g.L.CardLink.is_at (record { plan = c.next_into.new.self; step = c.next_into.new.step }) c.args.source.now (rw is at c.next_into.ensures.next) at in
     c.advance.ensures.still s fetching.last fetching.closing fetching.rows fetching.gives
 
 pub returns-clause-opens : goal.returns-clause-opens
 returns-clause-opens g c = λ s object is can at.
-    opens-both s object can (g.met.L.CardLink.valid c.args.source.now s at) g.L.CardLink.is_at _ (rw is at c.next_into.ensures.next) c.args.reply.now c.args.source.now c.advance.result c.advance.new.plan c.advance.new.step c.advance.new.reply
+    opens-both s object can (g.met.L.CardLink.valid c.args.source.now s at) g.L.CardLink.is_at (record { plan = c.next_into.new.self; step = c.next_into.new.step }) (rw is at c.next_into.ensures.next) c.args.reply.now c.args.source.now c.advance.result c.advance.new.plan c.advance.new.step c.advance.new.reply
     c.advance.new.source at (record { gives = c.advance.ensures.gives; goes_on = c.advance.ensures.goes_on; turns = c.advance.ensures.turns; heard = c.advance.ensures.reply })
     c.in_ok-advance.was c.advance-2.result c.advance-2.new.plan c.advance-2.new.step c.advance-2.new.reply c.advance-2.new.source
     (record { gives = c.advance-2.ensures.gives; goes_on = c.advance-2.ensures.goes_on; turns = c.advance-2.ensures.turns; heard = c.advance-2.ensures.reply })
 
 pub returns-clause-still : goal.returns-clause-still
 returns-clause-still g c = λ s object is can at.
-    let fetching = fetching-first s object can (g.met.L.CardLink.valid c.args.source.now s at) g.L.CardLink.is_at _ c.args.source.now (rw is at c.next_into.ensures.next) at in
+    let fetching = fetching-first s object can (g.met.L.CardLink.valid c.args.source.now s at) g.L.CardLink.is_at (record { plan = c.next_into.new.self; step = c.next_into.new.step }) c.args.source.now (rw is at c.next_into.ensures.next) at in
     let heard : c.advance.result ≡ Err SourceMute → ⊥ = λ mute. let no : Ok tt ≡ Err SourceMute = sym c.in_ok-advance.was ∙ mute in cc in
-    leaves-both g.L.CardLink.chip _ c.args.source.now c.advance.new.source c.advance-2.new.source (c.advance.ensures.still s fetching.last fetching.closing fetching.rows fetching.gives)
-    (leaves-all g.L.CardLink.chip _ _ c.advance.new.source c.advance-2.new.source (λ n left is. (is.0 ∙ c.advance.ensures.rest.marked, is.1))
-    (c.advance-2.ensures.still s fetching.last fetching.closing _ (c.advance.ensures.gives s fetching.last fetching.closing fetching.rows fetching.gives heard)))
+    leaves-both g.L.CardLink.chip (Holds (g.L.CardLink.mark c.args.source.now) s.committed) c.args.source.now c.advance.new.source c.advance-2.new.source (c.advance.ensures.still s fetching.last fetching.closing fetching.rows fetching.gives)
+    (leaves-all g.L.CardLink.chip (Holds (g.L.CardLink.mark c.advance.new.source) s.committed) (Holds (g.L.CardLink.mark c.args.source.now) s.committed) c.advance.new.source c.advance-2.new.source (λ n left is. (is.0 ∙ c.advance.ensures.rest.marked, is.1))
+    (c.advance-2.ensures.still s fetching.last fetching.closing (behind_step c.next_into.new.step fetching.rows) (c.advance.ensures.gives s fetching.last fetching.closing fetching.rows fetching.gives heard)))
