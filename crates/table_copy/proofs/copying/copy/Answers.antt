@@ -1,9 +1,8 @@
-use Rattle.std.proofs.Common.{length, Ok, refl, sym, subst, inl}
-use Rattle.card_link.specs.Link.{IsOneOf, LeavesOpen}
+use Rattle.std.proofs.Common.{length, Ok, refl, inl}
+use Rattle.card_link.specs.Link.{IsOneOf}
 use Rattle.card_asking.proofs.Moments.{leaves-none}
 use Rattle.std.specs.Prelude.{◌∷◌}
-use Rattle.table_copy.specs.Copy.{Copy, copy, source_rows}
-use Rattle.table_copy.specs.Copying.{CopiesSo}
+use Rattle.table_copy.specs.Copy.{copy, source_rows}
 use Rattle.table_copy.proofs.Copied.{copy-given, fetching-all, unopened-copies, unopened-reads}
 use Rattle.table_copy.proofs.Turning.{holds-both}
 use Rattle.table_copy.proofs.copying.copy.Goals as goal
@@ -12,7 +11,7 @@ pub returns-in-Ok-clause-copies : goal.returns-in-Ok-clause-copies
 returns-in-Ok-clause-copies g c = λ s d source_at dest_at.
     let can = rw c.selection.ensures.select at c.selection.ensures.sendable in
     let opened = c.in-Ok.ensures.opens s c.args.object.now (rw c.selection.ensures.select at c.start-plan.ensures) can source_at in
-    subst (λ (x : Copy). CopiesSo g.D.CardLink.is_at d x c.copy_opened.result c.copy_opened.new.dest) (sym (copy-given s d c.args.object.now c.args.table.now (Ok opened.0) opened.1))
+    rw (copy-given s d c.args.object.now c.args.table.now (Ok opened.0) opened.1)
     (c.copy_opened.ensures.copies s d opened.0 opened.2 dest_at)
 
 pub returns-in-Ok-clause-reads : goal.returns-in-Ok-clause-reads
@@ -33,8 +32,8 @@ pub returns-in-Ok-clause-dest_moments : goal.returns-in-Ok-clause-dest_moments
 returns-in-Ok-clause-dest_moments g c = λ s d source_at dest_at.
     let can = rw c.selection.ensures.select at c.selection.ensures.sendable in
     let opened = c.in-Ok.ensures.opens s c.args.object.now (rw c.selection.ensures.select at c.start-plan.ensures) can source_at in
-    subst (λ (x : Copy). LeavesOpen (IsOneOf (g.D.CardLink.mark c.args.dest.now) (d.committed ∷ x.commits)) (g.D.CardLink.chip c.args.dest.now) (g.D.CardLink.chip c.copy_opened.new.dest))
-    (sym (copy-given s d c.args.object.now c.args.table.now (Ok opened.0) opened.1)) (c.copy_opened.ensures.moments s d opened.0 opened.2 dest_at)
+    rw (copy-given s d c.args.object.now c.args.table.now (Ok opened.0) opened.1)
+    (c.copy_opened.ensures.moments s d opened.0 opened.2 dest_at)
 
 pub returns-in-Err-clause-copies : goal.returns-in-Err-clause-copies
 returns-in-Err-clause-copies g c = λ s d source_at dest_at.
