@@ -1,0 +1,101 @@
+-- What a rack does with lines, and what it prints to them.
+use Rattle.std.specs.Prelude.{ℕ, ◌==◌, Bool, true, false, ◌||◌, List, [], ◌∷◌, ◌++◌, map, take, Option, Some, None, Result, Ok, if◌then◌else◌, codes}
+use Rattle.std.specs.List.{concat}
+use Rattle.std.specs.Option.{option_map_or}
+use Rattle.script.specs.declared.fault.ScriptFault.{ScriptFault}
+use Rattle.script.specs.declared.statement.Statement.{Statement}
+use Rattle.script.specs.declared.statement.Statement.TheVariants.{Blank}
+use Rattle.script.specs.Line.{statement_of}
+use Rattle.planner.specs.StatementLines.{TerminalState, read_effect}
+use Rattle.planner.specs.Text.{row_text}
+use Rattle.terminal.specs.Line.{refuses, rows_in}
+use Rattle.reader_rack.specs.declared.statement.RackStatement.{RackStatement}
+use Rattle.reader_rack.specs.declared.statement.RackStatement.TheVariants.{Select, Eject}
+use Rattle.reader_rack.specs.Statements.{rack_statement}
+
+-- What a reader holds: no link, a link that is mute, or one that answers, with its machine and the channel of the reader's terminal.
+pub data Held : Type 0 where
+  nothing : Held
+  mute : Held
+  sits : (state : TerminalState) → Held
+
+-- What each reader holds, by its number, and which one is current.
+pub record RackState : Type 0 where
+  pub reader : ℕ → Held
+  pub current : ℕ
+
+-- one reader holds this from then on, and all others what they held
+abbrev pub with_reader : RackState → ℕ → Held → RackState
+with_reader rack number held = record rack { reader = λ n. if n == number then held else rack.reader n }
+
+-- What a line does to a rack: its text, with its line feeds; the state after it; whether its closing line is a refusal or an error; whether a card went mute in it.
+pub record RackEffect : Type 0 where
+  pub text : List ℕ
+  pub next : RackState
+  pub refused : Bool
+  pub muted : Bool
+
+-- a text, in which no card went mute
+abbrev pub says : List ℕ → Bool → RackState → RackEffect
+says text refused next = record { text = text; next = next; refused = refused; muted = false }
+
+-- where no link answers, nothing is said of a line that a terminal has as blank, and `no card` of each other one
+abbrev pub unheard : RackState → Result Statement ScriptFault → RackEffect
+unheard rack (Ok Blank) = says [] false rack
+unheard rack read = says (codes "no card\n") true rack
+
+-- A line does what it means to the current reader's machine. Where the card goes mute in it, so many of its rows were printed.
+abbrev pub heard : RackState → TerminalState → Result Statement ScriptFault → Option ℕ → RackEffect
+heard rack state read None = says (read_effect state read).text (refuses state read) (with_reader rack rack.current (sits (read_effect state read).next))
+heard rack state read (Some rows) = record {
+  text = concat (map row_text (take rows (rows_in state read))) ++ codes "card mute\n";
+  next = with_reader rack rack.current mute;
+  refused = false;
+  muted = true;
+}
+
+abbrev pub asked : RackState → Held → Result Statement ScriptFault → Option ℕ → RackEffect
+asked rack (sits state) read fails = heard rack state read fails
+asked rack held read fails = unheard rack read
+
+-- a reader that holds a link holds none afterwards
+abbrev pub ejected : RackState → ℕ → Held → RackEffect
+ejected rack number nothing = says (codes "no card\n") true rack
+ejected rack number held = says (codes "ok\n") false (with_reader rack number nothing)
+
+abbrev pub stated : RackState → RackStatement → RackEffect
+stated rack (Select number) = says (codes "ok\n") false (record rack { current = number })
+stated rack (Eject number) = ejected rack number (rack.reader number)
+
+-- What a line does, where there is none if it is too long. Behind how many rows the current card goes mute in it is told, if it does.
+abbrev pub rack_effect : RackState → Option (List ℕ) → Option ℕ → RackEffect
+rack_effect rack None fails = says (codes "error line too long\n") true rack
+rack_effect rack (Some line) fails = option_map_or (stated rack) (rack_statement line) (asked rack (rack.reader rack.current) (statement_of line) fails)
+
+-- A line, and behind how many rows a card went mute in it, if one did.
+pub record Turn : Type 0 where
+  pub line : Option (List ℕ)
+  pub fails : Option ℕ
+
+abbrev pub turn_effect : RackState → Turn → RackEffect
+turn_effect rack turn = rack_effect rack turn.line turn.fails
+
+-- after lines
+abbrev pub rack_after : RackState → List Turn → RackState
+rack_after rack [] = rack
+rack_after rack (turn ∷ turns) = rack_after (turn_effect rack turn).next turns
+
+-- the texts of lines, one after the other
+abbrev pub rack_text : RackState → List Turn → List ℕ
+rack_text rack [] = []
+rack_text rack (turn ∷ turns) = (turn_effect rack turn).text ++ rack_text (turn_effect rack turn).next turns
+
+-- some closing line was a refusal or an error
+abbrev pub was_refused : RackState → List Turn → Bool
+was_refused rack [] = false
+was_refused rack (turn ∷ turns) = (turn_effect rack turn).refused || was_refused (turn_effect rack turn).next turns
+
+-- in some line a card went mute
+abbrev pub was_muted : RackState → List Turn → Bool
+was_muted rack [] = false
+was_muted rack (turn ∷ turns) = (turn_effect rack turn).muted || was_muted (turn_effect rack turn).next turns

@@ -1,0 +1,8 @@
+//! A rack of up to four readers, each with a card and a terminal of its own: a line goes to the current reader, and all others stay.
+#![tactic(auto)]
+
+mod boxed;
+mod statement;
+
+pub use boxed::BoxedLink;
+pub use statement::{RackStatement, rack_statement};
