@@ -1,3 +1,6 @@
 pub mod Boxes
+pub mod DeskLaws
+pub mod Desks
 pub mod RackText
+pub mod Readers
 pub mod Statements

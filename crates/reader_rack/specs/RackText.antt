@@ -1,11 +1,10 @@
 -- What a rack does with lines, and what it prints to them.
-use Rattle.std.specs.Prelude.{ℕ, ◌==◌, Bool, true, false, ◌||◌, List, [], ◌∷◌, ◌++◌, map, take, Option, Some, None, Result, Ok, if◌then◌else◌, codes}
+use Rattle.std.specs.Prelude.{ℕ, ◌==◌, Bool, true, false, ◌||◌, List, [], ◌∷◌, ◌++◌, map, take, Option, Some, None, Result, if◌then◌else◌, codes}
 use Rattle.std.specs.List.{concat}
-use Rattle.std.specs.Option.{option_map_or}
 use Rattle.script.specs.declared.fault.ScriptFault.{ScriptFault}
 use Rattle.script.specs.declared.statement.Statement.{Statement}
-use Rattle.script.specs.declared.statement.Statement.TheVariants.{Blank}
-use Rattle.script.specs.Line.{statement_of}
+use Rattle.script.specs.Line.{is_nothing, statement_of}
+use Rattle.script.specs.Tokens.{after_blanks}
 use Rattle.planner.specs.StatementLines.{TerminalState, read_effect}
 use Rattle.planner.specs.Text.{row_text}
 use Rattle.terminal.specs.Line.{refuses, rows_in}
@@ -28,56 +27,60 @@ pub record RackState : Type 0 where
 abbrev pub with_reader : RackState → ℕ → Held → RackState
 with_reader rack number held = record rack { reader = λ n. if n == number then held else rack.reader n }
 
--- What a line does to a rack: its text, with its line feeds; the state after it; whether its closing line is a refusal or an error; whether a card went mute in it.
-pub record RackEffect : Type 0 where
+-- What a line does to what a reader or a rack holds: its text, with its line feeds; what is held after it; whether its closing line is a refusal or an error;
+-- whether a card went mute in it.
+pub record RackEffect (S : Type 0) : Type 0 where
   pub text : List ℕ
-  pub next : RackState
+  pub next : S
   pub refused : Bool
   pub muted : Bool
 
 -- a text, in which no card went mute
-abbrev pub says : List ℕ → Bool → RackState → RackEffect
+abbrev pub says : {S : Type 0} → List ℕ → Bool → S → RackEffect S
 says text refused next = record { text = text; next = next; refused = refused; muted = false }
 
--- where no link answers, nothing is said of a line that a terminal has as blank, and `no card` of each other one
-abbrev pub unheard : RackState → Result Statement ScriptFault → RackEffect
-unheard rack (Ok Blank) = says [] false rack
-unheard rack read = says (codes "no card\n") true rack
+-- where no link answers, nothing is said of a line that asks for nothing, and `no card` of each other one
+abbrev pub unheard : Held → List ℕ → RackEffect Held
+unheard held line = if is_nothing (after_blanks line) then says [] false held else says (codes "no card\n") true held
 
--- A line does what it means to the current reader's machine. Where the card goes mute in it, so many of its rows were printed.
-abbrev pub heard : RackState → TerminalState → Result Statement ScriptFault → Option ℕ → RackEffect
-heard rack state read None = says (read_effect state read).text (refuses state read) (with_reader rack rack.current (sits (read_effect state read).next))
-heard rack state read (Some rows) = record {
-  text = concat (map row_text (take rows (rows_in state read))) ++ codes "card mute\n";
-  next = with_reader rack rack.current mute;
-  refused = false;
-  muted = true;
-}
+-- A line does what it means to the reader's machine. Where the card goes mute in it, so many of its rows were printed.
+abbrev pub heard : TerminalState → Result Statement ScriptFault → Option ℕ → RackEffect Held
+heard state read None = says (read_effect state read).text (refuses state read) (sits (read_effect state read).next)
+heard state read (Some rows) = record { text = concat (map row_text (take rows (rows_in state read))) ++ codes "card mute\n"; next = mute; refused = false; muted = true }
 
-abbrev pub asked : RackState → Held → Result Statement ScriptFault → Option ℕ → RackEffect
-asked rack (sits state) read fails = heard rack state read fails
-asked rack held read fails = unheard rack read
+abbrev pub asked : Held → List ℕ → Option ℕ → RackEffect Held
+asked (sits state) line fails = heard state (statement_of line) fails
+asked held line fails = unheard held line
 
 -- a reader that holds a link holds none afterwards
-abbrev pub ejected : RackState → ℕ → Held → RackEffect
-ejected rack number nothing = says (codes "no card\n") true rack
-ejected rack number held = says (codes "ok\n") false (with_reader rack number nothing)
+abbrev pub ejected : Held → RackEffect Held
+ejected nothing = says (codes "no card\n") true nothing
+ejected held = says (codes "ok\n") false nothing
 
-abbrev pub stated : RackState → RackStatement → RackEffect
+-- what is done to one reader of a rack
+abbrev pub to_reader : RackState → ℕ → RackEffect Held → RackEffect RackState
+to_reader rack number does = record { text = does.text; next = with_reader rack number does.next; refused = does.refused; muted = does.muted }
+
+abbrev pub stated : RackState → RackStatement → RackEffect RackState
 stated rack (Select number) = says (codes "ok\n") false (record rack { current = number })
-stated rack (Eject number) = ejected rack number (rack.reader number)
+stated rack (Eject number) = to_reader rack number (ejected (rack.reader number))
+
+-- the rack carries out its own statements, and asks the current reader's card for any other line
+abbrev pub taken : RackState → Option RackStatement → List ℕ → Option ℕ → RackEffect RackState
+taken rack (Some statement) line fails = stated rack statement
+taken rack None line fails = to_reader rack rack.current (asked (rack.reader rack.current) line fails)
 
 -- What a line does, where there is none if it is too long. Behind how many rows the current card goes mute in it is told, if it does.
-abbrev pub rack_effect : RackState → Option (List ℕ) → Option ℕ → RackEffect
+abbrev pub rack_effect : RackState → Option (List ℕ) → Option ℕ → RackEffect RackState
 rack_effect rack None fails = says (codes "error line too long\n") true rack
-rack_effect rack (Some line) fails = option_map_or (stated rack) (rack_statement line) (asked rack (rack.reader rack.current) (statement_of line) fails)
+rack_effect rack (Some line) fails = taken rack (rack_statement line) line fails
 
 -- A line, and behind how many rows a card went mute in it, if one did.
 pub record Turn : Type 0 where
   pub line : Option (List ℕ)
   pub fails : Option ℕ
 
-abbrev pub turn_effect : RackState → Turn → RackEffect
+abbrev pub turn_effect : RackState → Turn → RackEffect RackState
 turn_effect rack turn = rack_effect rack turn.line turn.fails
 
 -- after lines

@@ -2,7 +2,11 @@
 #![tactic(auto)]
 
 mod boxed;
+mod desk;
+mod rack_end;
+mod reader;
 mod statement;
 
 pub use boxed::BoxedLink;
+pub use rack_end::RackEnd;
 pub use statement::{RackStatement, rack_statement};

@@ -1,0 +1,14 @@
+// How a line ended at a rack.
+
+/// How a line ended.
+#[derive(Clone, Copy, PartialEq, Eq, Debug)]
+pub enum RackEnd {
+    /// Its text was printed.
+    Answered,
+    /// The same, and its closing line is a refusal or an error.
+    Refused,
+    /// The current reader's card failed: it answers no more. The text says so.
+    Mute,
+    /// Not all of its text was printed.
+    SinkFault,
+}
