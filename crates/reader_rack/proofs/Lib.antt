@@ -1,2 +1,3 @@
 pub mod Lined
+pub mod Placed
 mod WorkedRack

@@ -21,9 +21,10 @@ use Rattle.terminal.specs.Line.{EndsSo, refuses, rows_in}
 use Rattle.terminal.proofs.Ended.{line-is}
 use Rattle.terminal.proofs.Went.{prints-both}
 use Rattle.reader_rack.specs.declared.rack_end.RackEnd.{RackEnd}
+use Rattle.reader_rack.specs.declared.reader.Reader.{Reader}
 use Rattle.reader_rack.specs.declared.rack_end.RackEnd.TheVariants as ends
 use Rattle.reader_rack.specs.RackText.{Held, nothing, mute, sits, RackEffect, asked, heard, unheard}
-use Rattle.reader_rack.specs.Readers.{EndsEffect, Holds, IsHeld, IsSaidOrCut, Reading, answers}
+use Rattle.reader_rack.specs.Readers.{EndsEffect, Holds, IsHeld, IsSaidOrCut, answers}
 
 -- a line of a terminal that sits with a link ends so, over the link and an outlet
 abbrev pub EndsLine : {L O : Type 0} → (L → Machine → Type 0) → (O → Option (List ℕ)) → TerminalState → Result Statement ScriptFault → Holding → LineEnd → L × O → L × O → Type 0
@@ -116,9 +117,9 @@ answer-unheard {L} is_at is_live line link terminal result given now gone unhear
   go None (sits state) gone' there' = absurd (nothing-sits state (sym there'))
   go (Some link') (sits state) gone' there' = absurd (false≢true (sym gone' ∙ there'.0))
 
-pub reader-unheard : {L : Type 0} (is_at : L → Machine → Type 0) (is_live : L → Bool) (line : List ℕ) (old new : Reading L) (result : RackEnd) (given now : Option (List ℕ))
+pub reader-unheard : {L : Type 0} (is_at : L → Machine → Type 0) (is_live : L → Bool) (line : List ℕ) (old new : Reader L) (result : RackEnd) (given now : Option (List ℕ))
     → new ≡ old → answers is_live old ≡ false → ((held : Held) → EndsEffect (λ (h : Held). h ≡ held) (λ (fails : Option ℕ). unheard held line) result given now)
     → (held : Held) → Holds is_at is_live old held → EndsEffect (Holds is_at is_live new) (asked held line) result given now
 reader-unheard {L} is_at is_live line old new result given now same gone unheard' held there =
-    subst (λ (reader : Reading L). EndsEffect (Holds is_at is_live reader) (asked held line) result given now) (sym same)
+    subst (λ (reader : Reader L). EndsEffect (Holds is_at is_live reader) (asked held line) result given now) (sym same)
     (answer-unheard is_at is_live line old.link old.terminal result given now gone unheard' held there)

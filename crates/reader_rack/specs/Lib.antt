@@ -2,5 +2,6 @@ pub mod Boxes
 pub mod DeskLaws
 pub mod Desks
 pub mod RackText
+pub mod Racks
 pub mod Readers
 pub mod Statements

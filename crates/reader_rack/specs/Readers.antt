@@ -1,27 +1,34 @@
 -- A reader, and how what it holds becomes what a line makes of it.
-use Rattle.std.specs.Prelude.{◌≡◌, ◌⊎◌, ℕ, ◌≤◌, Bool, true, false, Option, Some, None, List, IsTrue}
+use Rattle.std.specs.Prelude.{◌≡◌, ◌⊎◌, ℕ, ◌≤◌, Bool, true, false, Option, Some, None, List, IsTrue, is_some, if◌then◌else◌}
 use Rattle.std.specs.Option.{option_map_or}
 use Rattle.eeprom.specs.Fault.{Rose}
 use Rattle.eeprom.specs.Output.{Prints}
 use Rattle.scql_model.specs.Machine.{Machine}
 use Rattle.terminal.specs.Failing.{IsStart}
 use Rattle.terminal.specs.Holding.{Holding, Sits}
+use Rattle.reader_rack.specs.declared.reader.Reader.{Reader}
 use Rattle.reader_rack.specs.declared.rack_end.RackEnd.{RackEnd}
 use Rattle.reader_rack.specs.declared.rack_end.RackEnd.TheVariants as ends
 use Rattle.reader_rack.specs.RackText.{Held, nothing, mute, sits, RackEffect}
 
--- the link that is asked, the one that was set aside, and the terminal
-pub record Reading (L : Type 0) : Type 0 where
-  pub link : Option L
-  pub aside : Option L
-  pub terminal : Holding
+-- a reader that holds nothing
+abbrev pub empty : {L : Type 0} → Reader L
+empty = record { link = None; aside = None; terminal = record { channel = 0; transaction = None } }
+
+-- a link that was taken in
+abbrev pub taking : {L : Type 0} → L → Reader L
+taking link = record { link = Some link; aside = None; terminal = record { channel = 0; transaction = None } }
+
+-- The link that the reader holds, if it does, is set aside. Its machine and its count stay the reader's.
+abbrev pub set_aside : {L : Type 0} → Reader L → Reader L
+set_aside reader = if is_some reader.link then record reader { link = None; aside = reader.link } else reader
 
 -- the reader holds a link that answers
-abbrev pub answers : {L : Type 0} → (L → Bool) → Reading L → Bool
+abbrev pub answers : {L : Type 0} → (L → Bool) → Reader L → Bool
 answers is_live reader = option_map_or is_live reader.link false
 
 -- how often the reader's card failed: the one that it holds, or else the one that was set aside
-abbrev pub count : {L : Type 0} → (L → ℕ) → Reading L → ℕ
+abbrev pub count : {L : Type 0} → (L → ℕ) → Reader L → ℕ
 count faults reader = option_map_or faults reader.link (option_map_or faults reader.aside 0)
 
 -- a link, where there is one, and a terminal hold this
@@ -32,7 +39,7 @@ IsHeld is_at is_live (Some link) terminal mute = is_live link ≡ false
 IsHeld is_at is_live (Some link) terminal (sits state) = IsTrue (is_live link) × Sits is_at state terminal link
 
 -- The reader holds this. A link of which nothing is told is at no machine, and only its being mute is known.
-abbrev pub Holds : {L : Type 0} → (L → Machine → Type 0) → (L → Bool) → Reading L → Held → Type 0
+abbrev pub Holds : {L : Type 0} → (L → Machine → Type 0) → (L → Bool) → Reader L → Held → Type 0
 Holds is_at is_live reader held = IsHeld is_at is_live reader.link reader.terminal held
 
 -- what a line does was done, and its text was printed

@@ -3,10 +3,13 @@
 
 mod boxed;
 mod desk;
+mod number;
+mod rack;
 mod rack_end;
 mod reader;
 mod statement;
 
 pub use boxed::BoxedLink;
+pub use rack::Rack;
 pub use rack_end::RackEnd;
 pub use statement::{RackStatement, rack_statement};

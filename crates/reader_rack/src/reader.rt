@@ -15,7 +15,6 @@ use crate::desk::RackDesk;
 use card_link::CardLink;
 use eeprom::Outlet;
 use script::is_nothing;
-use std::marker::Model;
 use terminal::{LineEnd, Terminal};
 
 /// A reader: the link that it holds, the one that was set aside, and a terminal.
@@ -24,14 +23,6 @@ pub(crate) struct Reader<L: CardLink> {
     link: Option<L>,
     aside: Option<L>,
     terminal: Terminal,
-}
-
-impl<L: CardLink> Model for Reader<L> {
-    ghost use Rattle.reader_rack.specs.Readers.{Reading};
-
-    ghost Value = { Reading L };
-
-    ghost view = { λ r. record { link = r.link; aside = r.aside; terminal = r.terminal } };
 }
 
 impl<L: CardLink> Reader<L> {

@@ -1,0 +1,56 @@
+-- A rack: its readers, and how they become what a line makes of them.
+use Rattle.std.specs.Prelude.{◌≡◌, ◌≢◌, ℕ, ◌-◌, ◌≤◌, Bool, true, false, List, Option, Some, None, slice_get}
+use Rattle.std.specs.Option.{option_map_or}
+use Rattle.eeprom.specs.Fault.{Rose}
+use Rattle.scql_model.specs.Machine.{Machine}
+use Rattle.reader_rack.specs.declared.rack_end.RackEnd.{RackEnd}
+use Rattle.reader_rack.specs.declared.reader.Reader.{Reader}
+use Rattle.reader_rack.specs.declared.rack_end.RackEnd.TheVariants as ends
+use Rattle.reader_rack.specs.RackText.{Held, nothing, RackState}
+use Rattle.reader_rack.specs.Readers.{EndsBy, Holds, answers, count}
+use Rattle.reader_rack.specs.Statements.{IsReader}
+
+-- Readers 1 to 4 stand in their order.
+
+abbrev pub reader_at : {L : Type 0} → List (Reader L) → ℕ → Option (Reader L)
+reader_at readers number = slice_get readers (number - 1)
+
+-- the reader holds a link that answers
+abbrev pub answers_at : {L : Type 0} → (L → Bool) → List (Reader L) → ℕ → Bool
+answers_at is_live readers number = option_map_or (answers is_live) (reader_at readers number) false
+
+-- how often the reader's card failed
+abbrev pub count_at : {L : Type 0} → (L → ℕ) → List (Reader L) → ℕ → ℕ
+count_at faults readers number = option_map_or (count faults) (reader_at readers number) 0
+
+-- each reader holds what the state says, and the current one is the state's
+pub record IsRack {L : Type 0} (is_at : L → Machine → Type 0) (is_live : L → Bool) (readers : List (Reader L)) (current : ℕ) (state : RackState) : Type 0 where
+  pub holds : (number : ℕ) (reader : Reader L) → IsReader number → reader_at readers number ≡ Some reader → Holds is_at is_live reader (state.reader number)
+  pub is_current : current ≡ state.current
+
+-- all readers but one are as they were
+abbrev pub OthersStay : {L : Type 0} → ℕ → List (Reader L) → List (Reader L) → Type 0
+OthersStay number old new = (other : ℕ) → IsReader other → other ≢ number → reader_at new other ≡ reader_at old other
+
+-- A reader was asked: why the line ends so, and that all others are as they were.
+pub record Asks {L : Type 0} (is_live : L → Bool) (faults : L → ℕ) (number : ℕ) (end' : RackEnd) (old new : List (Reader L)) (sink sink' : ℕ) : Type 0 where
+  pub ends_by : EndsBy end' (answers_at is_live old number) (answers_at is_live new number) (count_at faults old number) (count_at faults new number) sink sink'
+  pub others : OthersStay number old new
+
+-- the outlet failed where the end says so, and no card did
+abbrev pub IsPrintedBy : RackEnd → ℕ → ℕ → Type 0
+IsPrintedBy ends.Answered sink sink' = sink' ≡ sink
+IsPrintedBy ends.Refused sink sink' = sink' ≡ sink
+IsPrintedBy ends.Mute sink sink' = ⊥
+IsPrintedBy ends.SinkFault sink sink' = Rose sink sink' × (sink ≤ sink')
+
+-- No card was asked: no card's count changed, and all readers but one are as they were.
+pub record States {L : Type 0} (faults : L → ℕ) (number : ℕ) (end' : RackEnd) (old new : List (Reader L)) (sink sink' : ℕ) : Type 0 where
+  pub printed : IsPrintedBy end' sink sink'
+  pub counts : (n : ℕ) → count_at faults new n ≡ count_at faults old n
+  pub others : OthersStay number old new
+
+-- a state in which a reader holds a link
+abbrev pub is_held : Held → Bool
+is_held nothing = false
+is_held held = true
