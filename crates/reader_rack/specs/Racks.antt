@@ -1,5 +1,5 @@
 -- A rack: its readers, and how they become what a line makes of them.
-use Rattle.std.specs.Prelude.{◌≡◌, ◌≢◌, ℕ, ◌-◌, ◌≤◌, Bool, true, false, List, Option, Some, None, slice_get}
+use Rattle.std.specs.Prelude.{◌≡◌, ◌≢◌, ℕ, ◌-◌, ◌≤◌, Bool, true, false, List, Option, Some, None, is_some, slice_get}
 use Rattle.std.specs.Option.{option_map_or}
 use Rattle.eeprom.specs.Fault.{Rose}
 use Rattle.scql_model.specs.Machine.{Machine}
@@ -14,6 +14,14 @@ use Rattle.reader_rack.specs.Statements.{IsReader}
 
 abbrev pub reader_at : {L : Type 0} → List (Reader L) → ℕ → Option (Reader L)
 reader_at readers number = slice_get readers (number - 1)
+
+-- the link that the reader holds
+abbrev pub link_at : {L : Type 0} → List (Reader L) → ℕ → Option L
+link_at readers number = option_map_or (λ reader. reader.link) (reader_at readers number) None
+
+-- the reader holds a link
+abbrev pub holds_at : {L : Type 0} → List (Reader L) → ℕ → Bool
+holds_at readers number = option_map_or (λ reader. is_some reader.link) (reader_at readers number) false
 
 -- the reader holds a link that answers
 abbrev pub answers_at : {L : Type 0} → (L → Bool) → List (Reader L) → ℕ → Bool

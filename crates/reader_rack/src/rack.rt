@@ -1,17 +1,30 @@
 // A rack: its readers, and what it does with a line.
-ghost use Rattle.std.specs.Prelude.{◌≡◌, ◌≤◌, ◌∷◌, ℕ, [], length};
+ghost use Rattle.std.specs.Prelude.{◌≡◌, ◌≤◌, ◌∷◌, ℕ, [], length, option_map, None, Some, IfSome, IfErr, OnOk, OnErr, IsTrue, is_err, true, false};
+ghost use Rattle.eeprom.specs.Fault.{Counts, Rose};
+ghost use Rattle.eeprom.specs.Output.{Follows};
 ghost use Rattle.scql_model.specs.Lines.{longest_line};
-ghost use Rattle.reader_rack.specs.RackText.{RackState, asked, to_reader};
-ghost use Rattle.reader_rack.specs.Racks.{Asks, IsRack, answers_at};
-ghost use Rattle.reader_rack.specs.Readers.{EndsEffect, empty};
-ghost use Rattle.reader_rack.specs.Statements.{IsReader};
+ghost use Rattle.scql_base.specs.Words.{memory_failure};
+ghost use Rattle.scql_model.specs.Machine as machine;
+ghost use Rattle.scql_model.specs.Machine.{Machine};
+ghost use Rattle.scql_model.specs.Replies.{said};
+ghost use Rattle.scql_model.specs.Step.{step};
+ghost use Rattle.card_link.specs.Link.{Holds, IsOneOf, LeavesOpen};
+ghost use Rattle.planner.specs.StatementLines.{TerminalState};
+ghost use Rattle.terminal.specs.Holding.{terminal_at};
+ghost use Rattle.reader_rack.specs.RackText.{RackState, mute, sits, asked, ejected, rack_effect, stated, to_reader, with_reader};
+ghost use Rattle.reader_rack.specs.Racks.{Asks, IsPrintedBy, IsRack, OthersStay, States, answers_at, count_at, holds_at, is_held, link_at, reader_at};
+ghost use Rattle.reader_rack.specs.Readers.{EndsEffect, empty, set_aside};
+ghost use Rattle.reader_rack.specs.Statements as statements;
+ghost use Rattle.reader_rack.specs.Statements.{IsReader, names_reader};
 
 use crate::RackEnd;
 use crate::boxed::BoxedLink;
 use crate::number::ReaderNumber;
-use crate::reader::Reader;
-use card_link::CardLink;
-use eeprom::Outlet;
+use crate::reader::{Reader, say};
+use crate::statement::{RackStatement, rack_statement};
+use apdu::Reply;
+use card_link::{CardLink, Outcome};
+use eeprom::{Outlet, SinkFault};
 
 /// How many readers a rack has.
 const READERS: usize = 4;
@@ -36,6 +49,29 @@ impl<O: Outlet> Rack<O> {
             current: ReaderNumber { number: 1 },
             outlet,
         }
+    }
+
+    /// Takes a link into a reader, whose terminal is then new. Where the reader holds a link already, the other one is handed back.
+    pub fn insert(&mut self, reader: u8, link: Box<dyn CardLink>) -> Result<(), Box<dyn CardLink>>
+        requires reader { IsReader reader }
+        requires live { IsTrue (is_live link) }
+        requires closed { (m : Machine) → is_at link m → m.transaction ≡ None }
+        ensures held { is_err result ≡ holds_at self.old.readers reader }
+        ensures back { IfErr result (λ back. back ≡ link) }
+        ensures stays { OnErr result (self.new ≡ self.old) }
+        ensures inserts { OnOk result ((state : RackState) (m : Machine) → IsRack ⟦<BoxedLink as CardLink>⟧.is_at ⟦<BoxedLink as CardLink>⟧.is_live self.old.readers self.old.current.number state → is_at link m
+            → IsRack ⟦<BoxedLink as CardLink>⟧.is_at ⟦<BoxedLink as CardLink>⟧.is_live self.new.readers self.new.current.number (with_reader state reader (sits (terminal_at m 0)))) }
+        ensures live { OnOk result (answers_at ⟦<BoxedLink as CardLink>⟧.is_live self.new.readers reader ≡ true) }
+        ensures count { OnOk result (count_at ⟦<BoxedLink as CardLink>⟧.faults self.new.readers reader ≡ faults link) }
+        ensures others { OthersStay reader self.old.readers self.new.readers }
+        ensures rest { (self.new.current ≡ self.old.current) × (self.new.outlet ≡ self.old.outlet) }
+    {
+        let place = usize::from(reader) - 1;
+        if self.readers[place].is_held() {
+            return Err(link);
+        }
+        self.readers[place].insert(BoxedLink::new(link));
+        Ok(())
     }
 
     /// Whether a reader holds a link that answers.
@@ -63,5 +99,116 @@ impl<O: Outlet> Rack<O> {
         ensures current { self.new.current ≡ self.old.current }
     {
         self.readers[usize::from(self.current.number) - 1].answer(&mut self.outlet, line)
+    }
+
+    /// Reads a line of at most 1,000 octets, carries it out and prints what comes of it: the rack's own statement, or what it means to the current reader.
+    pub fn line(&mut self, line: &[u8]) -> RackEnd
+        requires short { length line.now ≤ longest_line }
+        ensures ends { (state : RackState) → IsRack ⟦<BoxedLink as CardLink>⟧.is_at ⟦<BoxedLink as CardLink>⟧.is_live self.old.readers self.old.current.number state
+            → EndsEffect (IsRack ⟦<BoxedLink as CardLink>⟧.is_at ⟦<BoxedLink as CardLink>⟧.is_live self.new.readers self.new.current.number) (rack_effect state (Some line.now)) result (O.given self.old.outlet) (O.given self.new.outlet) }
+        ensures asks { statements.rack_statement line.now ≡ None
+            → Asks ⟦<BoxedLink as CardLink>⟧.is_live ⟦<BoxedLink as CardLink>⟧.faults self.old.current.number result self.old.readers self.new.readers (O.sink_faults self.old.outlet) (O.sink_faults self.new.outlet) × (self.new.current ≡ self.old.current) }
+        ensures states { IfSome (statements.rack_statement line.now) (λ statement.
+            States ⟦<BoxedLink as CardLink>⟧.faults (names_reader statement) result self.old.readers self.new.readers (O.sink_faults self.old.outlet) (O.sink_faults self.new.outlet)) }
+    {
+        match rack_statement(line) {
+            Some(statement) => self.state(statement),
+            None => self.ask(line),
+        }
+    }
+
+    /// Says of a line that is longer than a line may be that it is refused.
+    pub fn refuse_long_line(&mut self) -> RackEnd
+        ensures ends { (state : RackState) → IsRack ⟦<BoxedLink as CardLink>⟧.is_at ⟦<BoxedLink as CardLink>⟧.is_live self.old.readers self.old.current.number state
+            → EndsEffect (IsRack ⟦<BoxedLink as CardLink>⟧.is_at ⟦<BoxedLink as CardLink>⟧.is_live self.new.readers self.new.current.number) (rack_effect state None) result (O.given self.old.outlet) (O.given self.new.outlet) }
+        ensures printed { IsPrintedBy result (O.sink_faults self.old.outlet) (O.sink_faults self.new.outlet) }
+        ensures readers { (self.new.readers ≡ self.old.readers) × (self.new.current ≡ self.old.current) }
+    {
+        say(&mut self.outlet, b"error line too long\n", RackEnd::Refused)
+    }
+
+    /// Sets a reader's link aside without a command, and tells whether the reader held one.
+    pub fn eject(&mut self, reader: u8) -> bool
+        requires reader { IsReader reader }
+        ensures held { result ≡ holds_at self.old.readers reader }
+        ensures aside { reader_at self.new.readers reader ≡ option_map set_aside (reader_at self.old.readers reader) }
+        ensures ejects { (state : RackState) → IsRack ⟦<BoxedLink as CardLink>⟧.is_at ⟦<BoxedLink as CardLink>⟧.is_live self.old.readers self.old.current.number state
+            → (result ≡ is_held (state.reader reader)) × IsRack ⟦<BoxedLink as CardLink>⟧.is_at ⟦<BoxedLink as CardLink>⟧.is_live self.new.readers self.new.current.number (with_reader state reader (ejected (state.reader reader)).next) }
+        ensures others { OthersStay reader self.old.readers self.new.readers }
+        ensures counts { (number : ℕ) → count_at ⟦<BoxedLink as CardLink>⟧.faults self.new.readers number ≡ count_at ⟦<BoxedLink as CardLink>⟧.faults self.old.readers number }
+        ensures rest { (self.new.current ≡ self.old.current) × (self.new.outlet ≡ self.old.outlet) }
+    {
+        self.readers[usize::from(reader) - 1].eject()
+    }
+
+    /// Sends a command to a reader's card. The reader's terminal is told how it was answered.
+    pub fn exchange(&mut self, reader: u8, command: &[u8], reply: &mut Reply) -> Outcome
+        requires reader { IsReader reader }
+        requires live { IsTrue (answers_at ⟦<BoxedLink as CardLink>⟧.is_live self.old.readers reader) }
+        ensures reply { (state : RackState) (at : TerminalState) → IsRack ⟦<BoxedLink as CardLink>⟧.is_at ⟦<BoxedLink as CardLink>⟧.is_live self.old.readers self.old.current.number state → state.reader reader ≡ sits at → result ≡ Outcome.Replied
+            → reply.new ≡ (step at.machine command.now).reply }
+        ensures step { (state : RackState) (at : TerminalState) → IsRack ⟦<BoxedLink as CardLink>⟧.is_at ⟦<BoxedLink as CardLink>⟧.is_live self.old.readers self.old.current.number state → state.reader reader ≡ sits at → result ≡ Outcome.Replied
+            → IsRack ⟦<BoxedLink as CardLink>⟧.is_at ⟦<BoxedLink as CardLink>⟧.is_live self.new.readers self.new.current.number (with_reader state reader (sits (terminal_at (step at.machine command.now).machine at.channel))) }
+        ensures replied { result ≡ Outcome.Replied → (answers_at ⟦<BoxedLink as CardLink>⟧.is_live self.new.readers reader ≡ true) × (count_at ⟦<BoxedLink as CardLink>⟧.faults self.new.readers reader ≡ count_at ⟦<BoxedLink as CardLink>⟧.faults self.old.readers reader) }
+        ensures mute { result ≡ Outcome.Mute → (reply.new ≡ said memory_failure) × (answers_at ⟦<BoxedLink as CardLink>⟧.is_live self.new.readers reader ≡ false) }
+        ensures cause { result ≡ Outcome.Mute → Rose (count_at ⟦<BoxedLink as CardLink>⟧.faults self.old.readers reader) (count_at ⟦<BoxedLink as CardLink>⟧.faults self.new.readers reader) }
+        ensures mutes { (state : RackState) → IsRack ⟦<BoxedLink as CardLink>⟧.is_at ⟦<BoxedLink as CardLink>⟧.is_live self.old.readers self.old.current.number state → result ≡ Outcome.Mute
+            → IsRack ⟦<BoxedLink as CardLink>⟧.is_at ⟦<BoxedLink as CardLink>⟧.is_live self.new.readers self.new.current.number (with_reader state reader mute) }
+        ensures never_falls { count_at ⟦<BoxedLink as CardLink>⟧.faults self.old.readers reader ≤ count_at ⟦<BoxedLink as CardLink>⟧.faults self.new.readers reader }
+        ensures moments { IfSome (link_at self.old.readers reader) (λ link. IfSome (link_at self.new.readers reader) (λ later. (m : Machine) → ⟦<BoxedLink as CardLink>⟧.is_at link m
+            → LeavesOpen (IsOneOf (⟦<BoxedLink as CardLink>⟧.mark link) (m.committed ∷ (step m command.now).commits)) (⟦<BoxedLink as CardLink>⟧.chip link) (⟦<BoxedLink as CardLink>⟧.chip later))) }
+        ensures others { OthersStay reader self.old.readers self.new.readers }
+        ensures rest { (self.new.current ≡ self.old.current) × (self.new.outlet ≡ self.old.outlet) }
+    {
+        self.readers[usize::from(reader) - 1].exchange(command, reply)
+    }
+
+    /// Resets a reader's card, and the reader's terminal with it.
+    pub fn reset(&mut self, reader: u8)
+        requires reader { IsReader reader }
+        requires live { IsTrue (answers_at ⟦<BoxedLink as CardLink>⟧.is_live self.old.readers reader) }
+        ensures step { (state : RackState) (at : TerminalState) → IsRack ⟦<BoxedLink as CardLink>⟧.is_at ⟦<BoxedLink as CardLink>⟧.is_live self.old.readers self.old.current.number state → state.reader reader ≡ sits at
+            → IsRack ⟦<BoxedLink as CardLink>⟧.is_at ⟦<BoxedLink as CardLink>⟧.is_live self.new.readers self.new.current.number (with_reader state reader (sits (terminal_at (machine.reset at.machine) 0))) }
+        ensures live { answers_at ⟦<BoxedLink as CardLink>⟧.is_live self.new.readers reader ≡ true }
+        ensures count { count_at ⟦<BoxedLink as CardLink>⟧.faults self.new.readers reader ≡ count_at ⟦<BoxedLink as CardLink>⟧.faults self.old.readers reader }
+        ensures moments { IfSome (link_at self.old.readers reader) (λ link. IfSome (link_at self.new.readers reader) (λ later. (m : Machine) → ⟦<BoxedLink as CardLink>⟧.is_at link m
+            → LeavesOpen (Holds (⟦<BoxedLink as CardLink>⟧.mark link) m.committed) (⟦<BoxedLink as CardLink>⟧.chip link) (⟦<BoxedLink as CardLink>⟧.chip later))) }
+        ensures others { OthersStay reader self.old.readers self.new.readers }
+        ensures rest { (self.new.current ≡ self.old.current) × (self.new.outlet ≡ self.old.outlet) }
+    {
+        self.readers[usize::from(reader) - 1].reset();
+    }
+
+    /// Gives a piece of output.
+    pub fn give(&mut self, octets: &[u8]) -> Result<(), SinkFault>
+        ensures ok { OnOk result (Follows (length octets.now) octets.now (O.given self.old.outlet) (O.given self.new.outlet)) }
+        ensures err { OnErr result ((count : ℕ) × Follows count octets.now (O.given self.old.outlet) (O.given self.new.outlet)) }
+        ensures rest { O.leaves self.old.outlet self.new.outlet }
+        ensures cause { Counts (O.sink_faults self.old.outlet) (O.sink_faults self.new.outlet) result }
+        ensures readers { (self.new.readers ≡ self.old.readers) × (self.new.current ≡ self.old.current) }
+    {
+        self.outlet.give(octets)
+    }
+
+    // Carries out one of the rack's own statements.
+    fn state(&mut self, statement: RackStatement) -> RackEnd
+        requires reader { IsReader (names_reader statement) }
+        ensures ends { (state : RackState) → IsRack ⟦<BoxedLink as CardLink>⟧.is_at ⟦<BoxedLink as CardLink>⟧.is_live self.old.readers self.old.current.number state
+            → EndsEffect (IsRack ⟦<BoxedLink as CardLink>⟧.is_at ⟦<BoxedLink as CardLink>⟧.is_live self.new.readers self.new.current.number) (λ fails. stated state statement) result (O.given self.old.outlet) (O.given self.new.outlet) }
+        ensures states { States ⟦<BoxedLink as CardLink>⟧.faults (names_reader statement) result self.old.readers self.new.readers (O.sink_faults self.old.outlet) (O.sink_faults self.new.outlet) }
+    {
+        match statement {
+            RackStatement::Select { reader } => {
+                self.current = ReaderNumber { number: reader };
+                say(&mut self.outlet, b"ok\n", RackEnd::Answered)
+            }
+            RackStatement::Eject { reader } => {
+                if self.eject(reader) {
+                    say(&mut self.outlet, b"ok\n", RackEnd::Answered)
+                } else {
+                    say(&mut self.outlet, b"no card\n", RackEnd::Refused)
+                }
+            }
+        }
     }
 }

@@ -1,18 +1,26 @@
 // A reader of a rack.
-ghost use Rattle.std.specs.Prelude.{◌≡◌, ◌≤◌, ℕ, Bool, length, IsTrue, None, Some, is_some, if◌then◌else◌};
+ghost use Rattle.std.specs.Prelude.{◌≡◌, ◌≤◌, ◌∷◌, ℕ, Bool, true, false, IfSome, length, IsTrue, None, Some, is_some, if◌then◌else◌};
 ghost use Rattle.scql_model.specs.Lines.{line_effect, longest_line};
+ghost use Rattle.eeprom.specs.Fault.{Rose};
+ghost use Rattle.scql_base.specs.Words.{memory_failure};
+ghost use Rattle.scql_model.specs.Machine as machine;
 ghost use Rattle.scql_model.specs.Machine.{Machine};
+ghost use Rattle.scql_model.specs.Replies.{said};
+ghost use Rattle.scql_model.specs.Step.{step};
+ghost use Rattle.card_link.specs.Link as links;
+ghost use Rattle.card_link.specs.Link.{IsOneOf, LeavesOpen};
 ghost use Rattle.script.specs.Line.{statement_of};
 ghost use Rattle.planner.specs.StatementLines.{TerminalState, statement_lines};
 ghost use Rattle.terminal.specs.Holding.{Knows, Sits, terminal_at};
 ghost use Rattle.terminal.specs.Line as lines;
 ghost use Rattle.terminal.specs.Line.{EndsSo, refuses, rows_in};
-ghost use Rattle.reader_rack.specs.RackText.{Held, asked, heard, unheard};
+ghost use Rattle.reader_rack.specs.RackText.{Held, mute, sits, asked, heard, unheard};
 ghost use Rattle.reader_rack.specs.Readers.{EndsBy, EndsEffect, Holds, IsHeld, IsSaidOrCut, answers, count};
 
 use crate::RackEnd;
 use crate::desk::RackDesk;
-use card_link::CardLink;
+use apdu::Reply;
+use card_link::{CardLink, Outcome};
 use eeprom::Outlet;
 use script::is_nothing;
 use terminal::{LineEnd, Terminal};
@@ -75,6 +83,42 @@ impl<L: CardLink> Reader<L> {
         true
     }
 
+    /// Sends a command to its link, and tells its terminal how it was answered.
+    pub(crate) fn exchange(&mut self, command: &[u8], reply: &mut Reply) -> Outcome
+        requires live { IsTrue (answers L.is_live self.old) }
+        ensures step { (state : TerminalState) → Holds L.is_at L.is_live self.old (sits state) → result ≡ Outcome.Replied
+            → (reply.new ≡ (step state.machine command.now).reply) × Holds L.is_at L.is_live self.new (sits (terminal_at (step state.machine command.now).machine state.channel)) }
+        ensures replied { result ≡ Outcome.Replied → (answers L.is_live self.new ≡ true) × (count L.faults self.new ≡ count L.faults self.old) }
+        ensures mute { result ≡ Outcome.Mute → (reply.new ≡ said memory_failure) × (answers L.is_live self.new ≡ false) × Rose (count L.faults self.old) (count L.faults self.new) }
+        ensures mutes { result ≡ Outcome.Mute → Holds L.is_at L.is_live self.new mute }
+        ensures never_falls { count L.faults self.old ≤ count L.faults self.new }
+        ensures moments { (link : L) → self.old.link ≡ Some link → IfSome self.new.link (λ later. (m : Machine) → L.is_at link m
+            → LeavesOpen (IsOneOf (L.mark link) (m.committed ∷ (step m command.now).commits)) (L.chip link) (L.chip later)) }
+        ensures aside { self.new.aside ≡ self.old.aside }
+    {
+        match &mut self.link {
+            Some(link) => exchange_at(&mut self.terminal, link, command, reply),
+            None => unreachable!(),
+        }
+    }
+
+    /// Resets its link, and its terminal with it.
+    pub(crate) fn reset(&mut self)
+        requires live { IsTrue (answers L.is_live self.old) }
+        ensures step { (state : TerminalState) → Holds L.is_at L.is_live self.old (sits state) → Holds L.is_at L.is_live self.new (sits (terminal_at (machine.reset state.machine) 0)) }
+        ensures live { (answers L.is_live self.new ≡ true) × (count L.faults self.new ≡ count L.faults self.old) }
+        ensures moments { (link : L) → self.old.link ≡ Some link → IfSome self.new.link (λ later. (m : Machine) → L.is_at link m → LeavesOpen (links.Holds (L.mark link) m.committed) (L.chip link) (L.chip later)) }
+        ensures aside { self.new.aside ≡ self.old.aside }
+    {
+        match &mut self.link {
+            Some(link) => {
+                link.reset();
+                self.terminal = Terminal::new();
+            }
+            None => unreachable!(),
+        }
+    }
+
     /// Reads a line as a statement, carries it out where a link answers, and prints what comes of it.
     pub(crate) fn answer<O: Outlet>(&mut self, outlet: &mut O, line: &[u8]) -> RackEnd
         requires short { length line.now ≤ longest_line }
@@ -87,6 +131,30 @@ impl<L: CardLink> Reader<L> {
             Some(link) if link.live() => answer_at(&mut self.terminal, link, outlet, line),
             _ => answer_unheard(outlet, line),
         }
+    }
+}
+
+// A command to a link, of which its terminal is told.
+fn exchange_at<L: CardLink>(
+    terminal: &mut Terminal,
+    link: &mut L,
+    command: &[u8],
+    reply: &mut Reply,
+) -> Outcome
+    requires live { IsTrue (L.is_live link.old) }
+    ensures step { (state : TerminalState) → Sits L.is_at state terminal.old link.old → result ≡ Outcome.Replied
+        → (reply.new ≡ (step state.machine command.now).reply) × Sits L.is_at (terminal_at (step state.machine command.now).machine state.channel) terminal.new link.new }
+    ensures replied { result ≡ Outcome.Replied → IsTrue (L.is_live link.new) × (L.faults link.new ≡ L.faults link.old) }
+    ensures mute { result ≡ Outcome.Mute → (reply.new ≡ said memory_failure) × (L.is_live link.new ≡ false) × Rose (L.faults link.old) (L.faults link.new) }
+    ensures never_falls { L.faults link.old ≤ L.faults link.new }
+    ensures moments { (m : Machine) → L.is_at link.old m → LeavesOpen (IsOneOf (L.mark link.old) (m.committed ∷ (step m command.now).commits)) (L.chip link.old) (L.chip link.new) }
+{
+    match link.exchange(command, reply) {
+        Outcome::Replied => {
+            terminal.note(command, reply.word);
+            Outcome::Replied
+        }
+        Outcome::Mute => Outcome::Mute,
     }
 }
 

@@ -1,4 +1,4 @@
-use Rattle.std.proofs.Common.{◌≡◌, false, Option, sym, ◌∙◌, ap}
+use Rattle.std.proofs.Common.{false, Option, sym, ◌∙◌, ap}
 use Rattle.std.specs.Option.{option_map_or}
 use Rattle.reader_rack.specs.declared.reader.Reader.{Reader}
 use Rattle.reader_rack.proofs.Lined.{reader-unheard}
