@@ -1,3 +1,4 @@
 pub mod Lined
+pub mod Owned
 pub mod Placed
 mod WorkedRack

@@ -3,6 +3,7 @@
 
 mod boxed;
 mod desk;
+mod laws;
 mod number;
 mod rack;
 mod rack_end;
@@ -10,6 +11,7 @@ mod reader;
 mod statement;
 
 pub use boxed::BoxedLink;
+pub use laws::own_lines_are_a_terminals;
 pub use rack::Rack;
 pub use rack_end::RackEnd;
 pub use statement::{RackStatement, rack_statement};
