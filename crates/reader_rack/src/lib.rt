@@ -15,3 +15,6 @@ pub use laws::own_lines_are_a_terminals;
 pub use rack::Rack;
 pub use rack_end::RackEnd;
 pub use statement::{RackStatement, rack_statement};
+
+#[cfg(test)]
+mod tests;
