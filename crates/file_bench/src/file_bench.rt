@@ -3,21 +3,16 @@ ghost use Rattle.std.specs.Prelude.{◌≡◌, ◌≤◌, ◌+◌, None, IfOk, l
 ghost use Rattle.file_bench.specs.FileChip.{file_chip};
 ghost use Rattle.std.proofs.Common.{rules};
 
+use crate::FileFault;
 use crate::card_file::CardFile;
 use crate::fault_count::count_fault;
 use crate::standard_output::write_out;
 use eeprom::{Bench, Eeprom, EepromFault, Outlet, SinkFault};
 use std::fs::{File, Files};
 use std::io;
-use thiserror::Error;
 
 /// The octets of the image, however short the file is.
 pub const FILE_SIZE: usize = 262_144;
-
-/// A file that couldn't be opened.
-#[derive(Clone, Copy, PartialEq, Eq, Debug, Error)]
-#[error("no file")]
-pub struct FileFault;
 
 /// A file and standard output. It tells no contents, neither of the image nor of what was given.
 #[derive(Drop)]
@@ -29,21 +24,19 @@ pub struct FileBench<R: Print + Drop> {
 }
 
 impl<R: Files<File = File> + Print + Drop> FileBench<R> {
-    /// Opens the file, which is made where it is missing and `create` says so.
+    /// Opens the file, which is made where it is missing and `create` says so, and holds it.
     pub fn open(rt: R, path: &str, create: bool) -> Result<FileBench<R>, FileFault>
         ensures size { IfOk result (λ bench. (⟦<FileBench<R> as Eeprom>⟧.chip bench).still.size ≡ FILE_SIZE) }
         ensures faults { IfOk result (λ bench. ⟦<FileBench<R> as Eeprom>⟧.faults bench ≡ 0) }
         ensures sink_faults { IfOk result (λ bench. ⟦<FileBench<R> as Outlet>⟧.sink_faults bench ≡ 0) }
     {
-        match CardFile::open(&rt, path, create) {
-            Ok(file) => Ok(FileBench {
-                rt,
-                file,
-                faults: 0,
-                sink_faults: 0,
-            }),
-            Err(_) => Err(FileFault),
-        }
+        let file = CardFile::open(&rt, path, create)?;
+        Ok(FileBench {
+            rt,
+            file,
+            faults: 0,
+            sink_faults: 0,
+        })
     }
 }
 

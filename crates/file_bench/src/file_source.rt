@@ -1,5 +1,6 @@
 // A file as a source of octets.
-ghost use Rattle.std.specs.Prelude.{◌≡◌, None, IfOk};
+ghost use Rattle.std.specs.Prelude.{◌≡◌, None, IfOk, IsOkUnless};
+ghost use Rattle.file_bench.specs.declared.file_fault.FileFault.TheVariants.{NoFile};
 
 use crate::FileFault;
 use crate::fault_count::count_fault;
@@ -16,14 +17,13 @@ pub struct FileSource<R: Files + Drop> {
 }
 
 impl<R: Files + Drop> FileSource<R> {
-    /// Opens the file, which is there already.
+    /// Opens the file, which is there already. It doesn't hold it.
     pub fn open(rt: R, path: &str) -> Result<FileSource<R>, FileFault>
+        ensures fault { IsOkUnless result NoFile }
         ensures faults { IfOk result (λ source. ⟦<FileSource<R> as Source>⟧.source_faults source ≡ 0) }
     {
-        match fs::open(&rt, path) {
-            Ok(file) => Ok(FileSource { file, faults: 0 }),
-            Err(_) => Err(FileFault),
-        }
+        let file = fs::open(&rt, path)?;
+        Ok(FileSource { file, faults: 0 })
     }
 }
 

@@ -1,11 +1,13 @@
 -- How a program ends, by which number, and with which text.
 use Rattle.std.specs.Prelude.{ℕ, Bool, true, false, List, Option, Some, None, codes}
+use Rattle.file_bench.specs.declared.file_fault.FileFault.{FileFault}
+use Rattle.file_bench.specs.declared.file_fault.FileFault.TheVariants as file_faults
 use Rattle.line_input.specs.declared.input.InputEnd.{InputEnd}
 use Rattle.line_input.specs.declared.input.InputEnd.TheVariants as ends
 use Rattle.line_run.specs.declared.line_stop.LineStop.{LineStop}
 use Rattle.line_run.specs.declared.line_stop.LineStop.TheVariants as stops
 use Rattle.program.specs.declared.ending.Ending.{Ending}
-use Rattle.program.specs.declared.ending.Ending.TheVariants.{Run, NoFile}
+use Rattle.program.specs.declared.ending.Ending.TheVariants.{Run, NoFile, Held}
 use Rattle.program.specs.declared.status.Status.{Status}
 use Rattle.program.specs.declared.status.Status.TheVariants.{Done, Refused, Usage, Eeprom, ReadFault, WriteFault, NotACard, NoMemory, TooLong, TooSmall}
 
@@ -26,6 +28,12 @@ number_of TooSmall = 9
 abbrev pub exit_status_of : Ending → ℕ
 exit_status_of (Run status) = number_of status
 exit_status_of NoFile = 10
+exit_status_of Held = 10
+
+-- how a program ends where a file doesn't open
+abbrev pub ending_of : FileFault → Ending
+ending_of file_faults.NoFile = NoFile
+ending_of file_faults.Held = Held
 
 -- what is said on standard error of a run that ended so, where this is the usage of the program
 abbrev pub said_of : Status → List ℕ → Option (List ℕ)
@@ -43,6 +51,7 @@ said_of TooSmall usage = Some (codes "image too small")
 abbrev pub said_at : Ending → List ℕ → Option (List ℕ)
 said_at (Run status) usage = said_of status usage
 said_at NoFile usage = Some (codes "no file")
+said_at Held usage = Some (codes "file held")
 
 -- how a run ends that read its input to its end, in which a line was refused or none
 abbrev pub ends_as : Bool → Status

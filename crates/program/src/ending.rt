@@ -2,9 +2,9 @@
 ghost use Rattle.std.specs.Prelude.{◌≡◌, ◌↔◌, ◌≤◌, IsSome, option_map};
 ghost use Rattle.std.specs.IoError.{error_kind};
 ghost use Rattle.std.specs.declared.io.ErrorKind.TheVariants.{OutOfMemory};
-ghost use Rattle.program.specs.Numbers.{exit_status_of, said_at};
+ghost use Rattle.program.specs.Numbers.{ending_of, exit_status_of, said_at};
 ghost use Rattle.program.specs.declared.status.Status.TheVariants.{NoMemory, Usage};
-ghost use Rattle.program.specs.declared.ending.Ending.TheVariants.{Run, NoFile};
+ghost use Rattle.program.specs.declared.ending.Ending.TheVariants.{Run};
 
 use crate::Status;
 use file_bench::FileFault;
@@ -16,8 +16,10 @@ use std::process::ExitCode;
 pub enum Ending {
     /// As a run ends.
     Run(Status),
-    /// The file couldn't be opened.
+    /// A file couldn't be opened.
     NoFile,
+    /// A file is open for a card already.
+    Held,
 }
 
 impl Ending {
@@ -27,7 +29,7 @@ impl Ending {
     {
         match self {
             Ending::Run(status) => status.number(),
-            Ending::NoFile => 10,
+            Ending::NoFile | Ending::Held => 10,
         }
     }
 
@@ -39,6 +41,7 @@ impl Ending {
         match self {
             Ending::Run(status) => status.message(usage),
             Ending::NoFile => Some("no file"),
+            Ending::Held => Some("file held"),
         }
     }
 }
@@ -53,10 +56,13 @@ pub fn end_program(rt: &HostRuntime, ending: Ending, usage: &'static str) -> Exi
 }
 
 impl From<FileFault> for Ending {
-    ghost from_gives = { λ _ ending. ending ≡ NoFile };
+    ghost from_gives = { λ fault ending. ending ≡ ending_of fault };
 
-    fn from(_fault: FileFault) -> Ending {
-        Ending::NoFile
+    fn from(fault: FileFault) -> Ending {
+        match fault {
+            FileFault::NoFile => Ending::NoFile,
+            FileFault::Held => Ending::Held,
+        }
     }
 }
 
