@@ -84,4 +84,5 @@ pub mod TakenFields
 pub mod Touching
 pub mod UsersFollow
 pub mod ValidSteps
+pub mod WithoutTouched
 pub mod WrongSecrets

@@ -39,6 +39,7 @@ pub mod Shown
 pub mod Spelling
 pub mod Step
 pub mod Stored
+pub mod Touched
 pub mod Transactions
 pub mod Tries
 pub mod Users

@@ -3,4 +3,5 @@ pub mod answers;
 pub mod changes;
 pub mod lives;
 pub mod reading;
+pub mod touched;
 pub mod views;

@@ -14,6 +14,7 @@ pub use laws::reading::{
     a_card_reads_what_is_shown, a_step_reads_what_is_shown, equal_shown_gives_equal_replies,
     objects_are_shown_by_their_names, reading_is_of_what_is_shown,
 };
+pub use laws::touched::no_answer_goes_by_what_is_touched;
 pub use laws::views::{
     contents_are_those_of_the_kind, depth_is_one_more_than_the_base_has, views_are_seen_through,
 };
