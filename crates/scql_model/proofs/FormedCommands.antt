@@ -380,6 +380,33 @@ IsWellFormed-form_of table (cla ∷ ins ∷ p1 ∷ p2 ∷ after) channels chain 
     go false channel line tail near closed le_fits wanted number is =
         command-read (has_secrets table) channel line.kind limit (parts_of line.kind (chain channel)) tail c near closed le_fits wanted least number is
 
+-- What is read as a command is one for its channel: on channel 0 none closes its own.
+pub for_channel-form_of : (table : List Line) (octets : List ℕ) (channels : List Bool) (chain : ℕ → Option Chain) (limit : ℕ) (c : Command)
+    → list_all is_sound table ≡ true → limit ≤ 1020 → form_of table octets channels chain limit ≡ a_command c → is_for_channel c.channel (kind_of c.operation) ≡ true
+unfolding form_of
+for_channel-form_of table [] channels chain limit c sound least is = absurd cc
+for_channel-form_of table (cla ∷ []) channels chain limit c sound least is = absurd cc
+for_channel-form_of table (cla ∷ ins ∷ []) channels chain limit c sound least is = absurd cc
+for_channel-form_of table (cla ∷ ins ∷ p1 ∷ []) channels chain limit c sound least is = absurd cc
+for_channel-form_of table (cla ∷ ins ∷ p1 ∷ p2 ∷ after) channels chain limit c sound least is =
+    on_channel (channel_asked table cla ins channels) _ (a_command c) refl is (λ channel at is.
+    bound (line_on table channel ins p1 p2) _ (a_command c) is (λ line on_line is.
+    bound (taken_in line.takes (is_chained cla) after) _ (a_command c) is (λ tail on_tail is.
+    let read = line-read table channel ins p1 p2 line sound on_line in
+    go (is_chained cla) channel line tail read.0 (both (has_channel line.kind) (not (wants_le line.kind) || is_le_alone line.takes) read.1).0 is)))
+  where
+    go : (more : Bool) (channel : ℕ) (line : Line) (tail : Tail) → is_for_channel channel line.kind ≡ true → has_channel line.kind ≡ true
+        → (if more then part_in channel line.kind (parts_of line.kind (chain channel)) tail else command_in (has_secrets table) channel line.kind limit (parts_of line.kind (chain channel)) tail) ≡ Ok (a_command c)
+        → is_for_channel c.channel (kind_of c.operation) ≡ true
+    go true channel line tail closed number is = no_part channel line.kind (parts_of line.kind (chain channel)) tail c is
+    go false channel line tail closed number is =
+        let octets : List ℕ = concat (parts_of line.kind (chain channel)) ++ data_in tail in
+        bound (or_refused (operation_in (has_secrets table) line.kind limit octets) wrong_data) _ (a_command c) is (λ operation at same.
+        let read = read-operation (has_secrets table) line.kind limit least number octets operation (not_refused (operation_in (has_secrets table) line.kind limit octets) wrong_data operation at) in
+        let whole : Command = record { channel = channel; operation = operation; le = tail.le } in
+        let is_whole : whole ≡ c = cc in
+        subst (λ (c : Command). is_for_channel c.channel (kind_of c.operation) ≡ true) is_whole (subst (λ (k : OperationKind). is_for_channel channel k ≡ true) (sym read.kind) closed))
+
 -- so is what is read as one command
 pub IsWellFormed-as_command : (table : List Line) (octets : List ℕ) (channels : List Bool) (chain : ℕ → Option Chain) (limit : ℕ) (result : Result Command StatusWord)
     → list_all is_sound table ≡ true → AreOctets octets → limit ≤ 1020 → result ≡ as_command (form_of table octets channels chain limit) → IfOk result IsWellFormed

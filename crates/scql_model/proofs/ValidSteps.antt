@@ -20,7 +20,7 @@ use Rattle.scql_model.specs.Database.{Database, IsValid, public_name, user_named
 use Rattle.scql_model.specs.Machine.{Machine, Session, Transaction, no_reading, new_session, session_for, session_of, open_channels, base_of, base, actor, start}
 use Rattle.scql_model.specs.Sessions.{with_session, changing_session, command_chain, cursor_of, without_chain, without_pending, without_cursor, proving, presented, reading_of, user_of, reading_so, with_part, is_of_user, left_by, without_user, is_channel_open, least_closed}
 use Rattle.scql_model.specs.Transactions.{own_transaction, waits, for_others, for_any, is_kept_waiting}
-use Rattle.scql_model.specs.Operations.{operations, kind_of}
+use Rattle.scql_model.specs.Operations.{operations, kind_of, is_for_channel}
 use Rattle.scql_model.specs.Form.{Form, refused, refused_on, part_on, a_command, form_of}
 use Rattle.scql_model.specs.ReadingCommands.{ReadingCommand, reading_command}
 use Rattle.scql_model.specs.Edits.{Edit}
@@ -98,32 +98,55 @@ reading-map db change (None ∷ sessions) keeps are zero = no_reading-of (db zer
 reading-map db change (Some s ∷ sessions) keeps are zero = keeps (db zero) s (are zero)
 reading-map db change (s ∷ sessions) keeps are (suc channel) = reading-map (λ n. db (suc n)) change sessions keeps (λ n. are (suc n)) channel
 
+-- Channel 0 is open.
+abbrev IsBasicOpen : List (Option Session) → Type 0
+IsBasicOpen sessions = is_some (option_flatten (slice_get sessions 0)) ≡ true
+
+-- it stays so where another channel has another session, or this one has one
+basic-set : (sessions : List (Option Session)) (channel : ℕ) (session : Option Session) → (channel ≡ 0 → is_some session ≡ true) → IsBasicOpen sessions → IsBasicOpen (slice_set sessions channel session)
+basic-set [] channel session here first = first
+basic-set (s ∷ sessions) zero session here first = here refl
+basic-set (s ∷ sessions) (suc channel) session here first = first
+
+-- a session that changes is there still
+basic-changed : (change : Session → Session) (sessions : List (Option Session)) (channel : ℕ) → IsBasicOpen sessions → IsBasicOpen (slice_set sessions channel (option_map change (option_flatten (slice_get sessions channel))))
+basic-changed change [] channel first = first
+basic-changed change (None ∷ sessions) zero first = first
+basic-changed change (Some s ∷ sessions) zero first = refl
+basic-changed change (s ∷ sessions) (suc channel) first = first
+
+basic-map : (change : Session → Session) (sessions : List (Option Session)) → IsBasicOpen sessions → IsBasicOpen (map (option_map change) sessions)
+basic-map change [] first = first
+basic-map change (None ∷ sessions) first = first
+basic-map change (Some s ∷ sessions) first = refl
+
 reading-follows : (db new : ℕ → Database) (sessions : List (Option Session)) → ((channel : ℕ) → Follows (db channel) (new channel)) → AreReading db sessions → AreReading new sessions
 reading-follows db new sessions follows are channel = IsReadingOf-follows (db channel) (new channel) _ (follows channel) (are channel)
 
 -- a machine whose sessions alone are other ones
-valid-sessions : (m : Machine) (sessions : List (Option Session)) → ((db : Database) → ArePresentedIn db m.sessions → ArePresentedIn db sessions) → AreReading (base m) sessions → IsValidMachine m
+valid-sessions : (m : Machine) (sessions : List (Option Session)) → ((db : Database) → ArePresentedIn db m.sessions → ArePresentedIn db sessions) → AreReading (base m) sessions → IsBasicOpen sessions → IsValidMachine m
     → IsValidMachine (record m { sessions = sessions })
-valid-sessions m sessions each reading valid = record {
+valid-sessions m sessions each reading basic valid = record {
   committed = valid.committed;
   presented = each m.committed valid.presented;
   transaction = if_some-weaker (IsValidWork m) (IsValidWork (record m { sessions = sessions })) m.transaction
       (λ t (work : IsValidWork m t). record { working = work.working; limit = work.limit; follows = work.follows; presented = each t.working work.presented }) valid.transaction;
   readings = reading;
+  basic = basic;
 }
 
 -- the session of a channel is none, a new one, or one of the same user
-valid-with_session : (m : Machine) (channel : ℕ) (session : Option Session) → ((db : Database) → ArePresentedIn db m.sessions → Presents db session) → Reads (base m channel) session → IsValidMachine m
-    → IsValidMachine (with_session m channel session)
-valid-with_session m channel session is reads valid =
+valid-with_session : (m : Machine) (channel : ℕ) (session : Option Session) → ((db : Database) → ArePresentedIn db m.sessions → Presents db session) → Reads (base m channel) session
+    → IsBasicOpen (slice_set m.sessions channel session) → IsValidMachine m → IsValidMachine (with_session m channel session)
+valid-with_session m channel session is reads basic valid =
     valid-sessions m (slice_set m.sessions channel session) (λ db are. all-set (Presents db) m.sessions channel session are (is db are))
-    (reading-set (base m) m.sessions channel session (λ other _. valid.readings other) reads) valid
+    (reading-set (base m) m.sessions channel session (λ other _. valid.readings other) reads) basic valid
 
 valid-changing : (m : Machine) (channel : ℕ) (change : Session → Session) → ((db : Database) (s : Session) → Presents db (Some s) → Presents db (Some (change s)))
     → ((s : Session) → IsReadingOf (base m channel) s.reading → IsReadingOf (base m channel) (change s).reading) → IsValidMachine m → IsValidMachine (changing_session change m channel)
 valid-changing m channel change keeps reads valid =
     valid-with_session m channel (option_map change (session_of m channel)) (λ db are. go db (session_of m channel) (all-get (Presents db) m.sessions channel are tt))
-    (read (session_of m channel) (valid.readings channel)) valid
+    (read (session_of m channel) (valid.readings channel)) (basic-changed change m.sessions channel valid.basic) valid
   where
     go : (db : Database) (session : Option Session) → Presents db session → Presents db (option_map change session)
     go db None is = tt
@@ -265,6 +288,7 @@ valid-changed m channel operation valid form fits free =
           transaction = subst (λ (t : Option Transaction). IfSome t (IsValidWork (record m { committed = db }))) (sym (no_other m.transaction channel is free)) tt;
           readings = let none = no_other m.transaction channel is free in
               reading-committed m db none (subst (λ (t : Option Transaction). Follows (base_of t m.committed channel) db) none follows) valid;
+          basic = valid.basic;
         }) (new, tt)
         go (Some t) is = valid-done (record m { transaction = Some (transaction_after m.committed t edits db) }) channel [] (record {
           committed = valid.committed;
@@ -276,6 +300,7 @@ valid-changed m channel operation valid form fits free =
             presented = users;
           };
           readings = reading-working m channel t db is (subst (λ (from : Database). Follows from db) (base-own m channel t is) follows) valid (transaction_after m.committed t edits db) refl refl;
+          basic = valid.basic;
         }) tt
 
 -- a user who is deleted is presented nowhere any more
@@ -304,7 +329,7 @@ valid-deleted m channel name valid form free = go (changed m channel (DeleteUser
     go (Ok answer) is = of_outcome IsValidAnswer (or_refused (user_named (base m channel).users name) not_found) _ (λ u. record {
       machine = valid-sessions answer.machine (map (option_map (left_by u.stamp)) answer.machine.sessions)
           (λ db are. all-map (Presents db) (option_map (left_by u.stamp)) answer.machine.sessions (left u.stamp db) are)
-          (reading-map (base answer.machine) (left_by u.stamp) answer.machine.sessions (leaves u.stamp) is.machine.readings) is.machine;
+          (reading-map (base answer.machine) (left_by u.stamp) answer.machine.sessions (leaves u.stamp) is.machine.readings) (basic-map (left_by u.stamp) answer.machine.sessions is.machine.basic) is.machine;
       commits = is.commits;
     })
 
@@ -318,6 +343,7 @@ valid-begun m channel valid =
       presented = valid.presented;
       transaction = record { working = valid.committed; limit = refl; follows = Follows-itself m.committed; presented = valid.presented };
       readings = reading-follows (base m) (base_of (Some begun) m.committed) m.sessions (λ other. same (none m.transaction (not-true (is_some m.transaction) (not_unless (not (is_some m.transaction)) conditions_not_satisfied x is))) other) valid.readings;
+      basic = valid.basic;
     }) tt)
   where
     none : (t : Option Transaction) → is_some t ≡ false → t ≡ None
@@ -342,6 +368,7 @@ valid-committed m channel valid =
       transaction = tt;
       readings = reading-follows (base_of (Some t) m.committed) (λ _. t.working) m.sessions (λ other. either t work.follows (t.channel == other))
           (subst (λ (o : Option Transaction). AreReading (base_of o m.committed) m.sessions) own.0 valid.readings);
+      basic = valid.basic;
     }) (work.working, tt))
   where
     either : (t : Transaction) → Follows m.committed t.working → (b : Bool) → Follows (if b then t.working else m.committed) t.working
@@ -359,6 +386,7 @@ valid-rolled_back m channel valid =
       transaction = tt;
       readings = reading-set (λ _. m.committed) m.sessions channel (option_map without_cursor session)
           (λ other apart. elsewhere t own.0 other (elsewhere_not t channel other own.1 apart)) (nothing session);
+      basic = basic-changed without_cursor m.sessions channel valid.basic;
     }) tt)
   where
     presents : (session : Option Session) → Presents m.committed session → Presents m.committed (option_map without_cursor session)
@@ -427,6 +455,7 @@ valid-presented m channel name valid free =
       transaction = subst (λ (t : Option Transaction). IfSome t (IsValidWork (with_session m channel (Some session)))) (sym none) tt;
       readings = reading-set (base m) m.sessions channel (Some session) (λ other _. valid.readings other)
           (subst (IsReadingOf (base m channel)) (sym (reads-named (base m channel) name session is)) (no_reading-of (base m channel)));
+      basic = basic-set m.sessions channel (Some session) (λ _. refl) valid.basic;
     }
 
 -- VERIFY: a user who isn't proved has a secret, and so may have fewer tries
@@ -441,6 +470,7 @@ module _ (m : Machine) (valid : IsValidMachine m) (none : m.transaction ≡ None
     presented = are_presented-in m.committed (with_tries m.committed u tries) m.sessions (λ q is. presented-with_tries m.committed u tries q secret is) valid.presented;
     transaction = subst (λ (t : Option Transaction). IfSome t (IsValidWork (record m { committed = with_tries m.committed u tries }))) (sym none) tt;
     readings = reading-committed m (with_tries m.committed u tries) none (record { next = (Follows-itself m.committed).next; objects = (Follows-itself m.committed).objects }) valid;
+    basic = valid.basic;
   }
 
   fewer : is_tries (u.tries - 1) ≡ true
@@ -478,46 +508,54 @@ valid-verified m channel secret valid free =
 -- MANAGE CHANNEL
 valid-opened : (m : Machine) (channel number : ℕ) → IsValidMachine m → IfOk (channel_opened m channel number) IsValidAnswer
 valid-opened m channel zero valid = of_outcome IsValidAnswer (or_refused (least_closed m) function_not_supported) _ (λ number.
-    let done = valid-done (with_session m number (Some new_session)) channel [] (valid-with_session m number (Some new_session) (λ db are. tt) (no_reading-of (base m number)) valid) tt in
+    let done = valid-done (with_session m number (Some new_session)) channel [] (valid-with_session m number (Some new_session) (λ db are. tt) (no_reading-of (base m number)) (basic-set m.sessions number (Some new_session) (λ _. refl) valid.basic) valid) tt in
     record { machine = done.machine; commits = tt })
 valid-opened m channel (suc n) valid = of_outcome IsValidAnswer (provided (not (is_channel_open m (suc n))) conditions_not_satisfied) _ (λ _.
-    valid-done (with_session m (suc n) (Some new_session)) channel [] (valid-with_session m (suc n) (Some new_session) (λ db are. tt) (no_reading-of (base m (suc n))) valid) tt)
+    valid-done (with_session m (suc n) (Some new_session)) channel [] (valid-with_session m (suc n) (Some new_session) (λ db are. tt) (no_reading-of (base m (suc n))) (basic-set m.sessions (suc n) (Some new_session) (λ _. refl) valid.basic) valid) tt)
 
-valid-closed : (m : Machine) (channel number : ℕ) → IsValidMachine m → IfOk (channel_closed m channel number) IsValidAnswer
-valid-closed m channel number valid =
+valid-closed : (m : Machine) (channel number : ℕ) → (number ≡ 0 → ⊥) → IsValidMachine m → IfOk (channel_closed m channel number) IsValidAnswer
+valid-closed m channel number other valid =
     of_outcome IsValidAnswer (provided (is_channel_open m number) channel_not_supported) _ (λ _.
     of_outcome IsValidAnswer (provided (not (is_some (own_transaction m.transaction number))) conditions_not_satisfied) _ (λ _.
-    valid-done (with_session m number None) channel [] (valid-with_session m number None (λ db are. tt) (no_reading-of (base m number)) valid) tt))
+    valid-done (with_session m number None) channel [] (valid-with_session m number None (λ db are. tt) (no_reading-of (base m number)) (basic-set m.sessions number None (λ zero. absurd (other zero)) valid.basic) valid) tt))
+
+-- a channel closes its own, or another one, but never channel 0
+closes-other : (channel number : ℕ) → not (channel == 0 && number == 0) ≡ true → (if number == 0 then channel else number) ≡ 0 → ⊥
+closes-other channel number closed is = go (number == 0) refl is
+  where
+    go : (own : Bool) → (number == 0) ≡ own → (if own then channel else number) ≡ 0 → ⊥
+    go true at is = false≢true (subst (λ (n : ℕ). not (n == 0 && true) ≡ true) is (subst (λ (b : Bool). not (channel == 0 && b) ≡ true) at closed))
+    go false at is = false≢true (sym (subst (λ (n : ℕ). (n == 0) ≡ false) is at))
 
 -- Each operation that doesn't read.
-valid-operated : (m : Machine) (channel : ℕ) (operation : Operation) → IsValidMachine m → HasForm operation → FitsCard m.committed.limit operation
+valid-operated : (m : Machine) (channel : ℕ) (operation : Operation) → IsValidMachine m → HasForm operation → FitsCard m.committed.limit operation → is_for_channel channel (kind_of operation) ≡ true
     → is_kept_waiting (waits (kind_of operation)) m.transaction channel ≡ false → IfOk (operated m channel operation) IsValidAnswer
 unfolding edits_of
-valid-operated m channel Begin valid form fits free = valid-begun m channel valid
-valid-operated m channel Commit valid form fits free = valid-committed m channel valid
-valid-operated m channel Rollback valid form fits free = valid-rolled_back m channel valid
-valid-operated m channel (PresentUser name) valid form fits free = valid-presented m channel name valid free
-valid-operated m channel (DeleteUser name) valid form fits free = valid-deleted m channel name valid form (others-any m.transaction channel free)
-valid-operated m channel (Verify secret) valid form fits free = valid-verified m channel secret valid free
-valid-operated m channel (OpenChannel number) valid form fits free = valid-opened m channel number valid
-valid-operated m channel (CloseChannel number) valid form fits free = valid-closed m channel (if number == 0 then channel else number) valid
-valid-operated m channel (DeclareCursor object columns conditions) valid form fits free = tt
-valid-operated m channel OpenCursor valid form fits free = tt
-valid-operated m channel Next valid form fits free = tt
-valid-operated m channel Fetch valid form fits free = tt
-valid-operated m channel FetchNext valid form fits free = tt
-valid-operated m channel GetResponse valid form fits free = tt
-valid-operated m channel operation valid form fits free = valid-changed m channel operation valid form fits free
+valid-operated m channel Begin valid form fits closed free = valid-begun m channel valid
+valid-operated m channel Commit valid form fits closed free = valid-committed m channel valid
+valid-operated m channel Rollback valid form fits closed free = valid-rolled_back m channel valid
+valid-operated m channel (PresentUser name) valid form fits closed free = valid-presented m channel name valid free
+valid-operated m channel (DeleteUser name) valid form fits closed free = valid-deleted m channel name valid form (others-any m.transaction channel free)
+valid-operated m channel (Verify secret) valid form fits closed free = valid-verified m channel secret valid free
+valid-operated m channel (OpenChannel number) valid form fits closed free = valid-opened m channel number valid
+valid-operated m channel (CloseChannel number) valid form fits closed free = valid-closed m channel (if number == 0 then channel else number) (closes-other channel number closed) valid
+valid-operated m channel (DeclareCursor object columns conditions) valid form fits closed free = tt
+valid-operated m channel OpenCursor valid form fits closed free = tt
+valid-operated m channel Next valid form fits closed free = tt
+valid-operated m channel Fetch valid form fits closed free = tt
+valid-operated m channel FetchNext valid form fits closed free = tt
+valid-operated m channel GetResponse valid form fits closed free = tt
+valid-operated m channel operation valid form fits closed free = valid-changed m channel operation valid form fits free
 
-valid-carried_out : (m : Machine) (c : Command) → IsValidMachine m → HasForm c.operation → FitsCard m.committed.limit c.operation → IfOk (carried_out m c) IsValidAnswer
-valid-carried_out m c valid form fits =
+valid-carried_out : (m : Machine) (c : Command) → IsValidMachine m → HasForm c.operation → FitsCard m.committed.limit c.operation → is_for_channel c.channel (kind_of c.operation) ≡ true → IfOk (carried_out m c) IsValidAnswer
+valid-carried_out m c valid form fits closed =
     bound-ok IsValidAnswer (provided (not (is_kept_waiting (waits (kind_of c.operation)) m.transaction c.channel)) conditions_not_satisfied) _ (λ x free.
     either (reading_command c.operation c.le) refl
     (not-true (is_kept_waiting (waits (kind_of c.operation)) m.transaction c.channel) (not_unless (not (is_kept_waiting (waits (kind_of c.operation)) m.transaction c.channel)) conditions_not_satisfied x free)))
   where
     either : (command : Option ReadingCommand) → reading_command c.operation c.le ≡ command → is_kept_waiting (waits (kind_of c.operation)) m.transaction c.channel ≡ false
         → IfOk (option_map_or (λ command. Ok (reading_done m c.channel command)) command (operated m c.channel c.operation)) IsValidAnswer
-    either None is free = valid-operated m c.channel c.operation valid form fits free
+    either None is free = valid-operated m c.channel c.operation valid form fits closed free
     either (Some command) is free = valid-reading m c.channel command (HasChosen-reading_command c.operation c.le command form is) valid
 
 valid-answered : (m : Machine) (outcome : Result Answer StatusWord) → IsValidMachine m → IfOk outcome IsValidAnswer → IsValidAnswer (answered m outcome)
@@ -528,7 +566,7 @@ valid-answered m (Err word) valid is = record { machine = valid; commits = tt }
 pub valid-ended : (m : Machine) (channel : ℕ) → IsValidMachine m → IsValidMachine (changing_session without_chain m channel)
 valid-ended m channel valid = valid-changing m channel without_chain (λ db s is. is) (λ s is. is) valid
 
-pub valid-stepped : (m : Machine) (form : Form) → IsValidMachine m → ((c : Command) → form ≡ a_command c → HasForm c.operation × FitsCard m.committed.limit c.operation) → IsValidAnswer (stepped m form)
+pub valid-stepped : (m : Machine) (form : Form) → IsValidMachine m → ((c : Command) → form ≡ a_command c → HasForm c.operation × FitsCard m.committed.limit c.operation × (is_for_channel c.channel (kind_of c.operation) ≡ true)) → IsValidAnswer (stepped m form)
 valid-stepped m (refused word) valid right = record { machine = valid; commits = tt }
 valid-stepped m (refused_on channel word) valid right = record { machine = valid-ended m channel valid; commits = tt }
 valid-stepped m (part_on channel kind octets) valid right =
@@ -536,15 +574,18 @@ valid-stepped m (part_on channel kind octets) valid right =
 valid-stepped m (a_command c) valid right =
     let ended : Machine = changing_session without_chain m c.channel in
     let fields = right c refl in
-    valid-answered ended (carried_out ended c) (valid-ended m c.channel valid) (valid-carried_out ended c (valid-ended m c.channel valid) fields.0 fields.1)
+    valid-answered ended (carried_out ended c) (valid-ended m c.channel valid) (valid-carried_out ended c (valid-ended m c.channel valid) fields.0 fields.1 fields.2)
 
 -- A step.
 pub IsValidAnswer-step : (m : Machine) (octets : List ℕ) → AreOctets octets → IsValidMachine m → IsValidAnswer (step m octets)
 unfolding step
 IsValidAnswer-step m octets are valid =
-    valid-stepped m (form_of operations octets (open_channels m) (command_chain m) m.committed.limit) valid (λ c read. (
-      (IsWellFormed-form_of operations octets (open_channels m) (command_chain m) m.committed.limit c sound-operations are most read).form,
+    valid-stepped m (form_of operations octets (open_channels m) (command_chain m) m.committed.limit) valid (λ c read.
+    let formed = IsWellFormed-form_of operations octets (open_channels m) (command_chain m) m.committed.limit c sound-operations are most read in
+    (
+      formed.form,
       FitsCard-form_of operations octets (open_channels m) (command_chain m) m.committed.limit c sound-operations are most read,
+      formed.closed,
     ))
   where
     most : m.committed.limit ≤ 1020
@@ -552,7 +593,7 @@ IsValidAnswer-step m octets are valid =
 
 -- the machine with which a card begins
 pub IsValidMachine-start : (db : Database) → IsValid db → IsValidMachine (start db)
-IsValidMachine-start db valid = record { committed = valid; presented = (tt, (tt, (tt, (tt, tt)))); transaction = tt; readings = none }
+IsValidMachine-start db valid = record { committed = valid; presented = (tt, (tt, (tt, (tt, tt)))); transaction = tt; readings = none; basic = refl }
   where
     none : AreReading (λ _. db) (start db).sessions
     none zero = no_reading-of db

@@ -1,11 +1,11 @@
 -- Machines whose databases are valid, and whose sessions present users of them and have cursors that stand on them.
-use Rattle.std.specs.Prelude.{◌≡◌, ℕ, ◌<◌, ◌==◌, false, List, [], length, Option, None, IfSome, option_and_then}
+use Rattle.std.specs.Prelude.{◌≡◌, ℕ, ◌<◌, ◌==◌, true, false, List, [], length, Option, None, IfSome, option_and_then}
 use Rattle.std.specs.List.{AllByRecursion}
 use Rattle.scql_base.specs.declared.cursor.PresentedUser.{PresentedUser}
 use Rattle.scql_base.specs.declared.records.User.{User}
 use Rattle.scql_model.specs.Database.{Database, IsValid, user_stamped}
 use Rattle.scql_model.specs.Machine.{Machine, Reading, Session, Transaction, base}
-use Rattle.scql_model.specs.Sessions.{reading_of}
+use Rattle.scql_model.specs.Sessions.{is_channel_open, reading_of}
 use Rattle.scql_model.specs.Cursors.{StandsOn, Follows}
 
 abbrev pub HasSecret : User → Type 0
@@ -32,9 +32,10 @@ pub record IsValidWork (m : Machine) (t : Transaction) : Type 0 where
   pub follows : Follows m.committed t.working
   pub presented : ArePresentedIn t.working m.sessions
 
--- each channel reads the working database where the transaction is its own, else the committed one
+-- Each channel reads the working database where the transaction is its own, else the committed one. Channel 0 is always open (ISO/IEC 7816-4, basic logical channel).
 pub record IsValidMachine (m : Machine) : Type 0 where
   pub committed : IsValid m.committed
   pub presented : ArePresentedIn m.committed m.sessions
   pub transaction : IfSome m.transaction (IsValidWork m)
   pub readings : (channel : ℕ) → IsReadingOf (base m channel) (reading_of m channel)
+  pub basic : is_channel_open m 0 ≡ true
