@@ -23,6 +23,7 @@ use Rattle.scql_model.proofs.FormedCommands.{bound, refused-not, sound-operation
 use Rattle.scql_model.proofs.FormedParts.{IfSome-read_on-named, read_on}
 use Rattle.scql_model.proofs.FieldLaws.{AreOctets}
 use Rattle.scql_model.proofs.ReadFits.{FitsCard-form_of}
+use Rattle.scql_model.proofs.ValidSteps.{valid-changing, valid-ended}
 use Rattle.apdu_chain.specs.declared.chains.Taken.TheVariants as taken
 use Rattle.apdu_chain.specs.Chaining.{chain_on, chains_after, taken_of}
 
@@ -76,43 +77,12 @@ pub taken-transaction : (m : Machine) (form : Form) → (taken_at m form).transa
 taken-transaction m (refused word) = refl
 taken-transaction m form = refl
 
--- what a channel reads stays where a session changes that reads the same
-reading-changed : (change : Session → Session) → ((s : Session) → (change s).reading ≡ s.reading) → (sessions : List (Option Session)) (i j : ℕ)
-    → option_map_or (λ (s : Session). s.reading) (option_flatten (slice_get (slice_set sessions i (option_map change (option_flatten (slice_get sessions i)))) j)) no_reading
-    ≡ option_map_or (λ (s : Session). s.reading) (option_flatten (slice_get sessions j)) no_reading
-reading-changed change same [] i j = refl
-reading-changed change same (None ∷ sessions) zero zero = refl
-reading-changed change same (Some s ∷ sessions) zero zero = same s
-reading-changed change same (s ∷ sessions) zero (suc j) = refl
-reading-changed change same (s ∷ sessions) (suc i) zero = refl
-reading-changed change same (s ∷ sessions) (suc i) (suc j) = reading-changed change same sessions i j
-
--- and so does who is presented, where a session changes that has the same user
-presented-changed : (db : Database) (change : Session → Session) → ((s : Session) → (change s).user ≡ s.user) → (sessions : List (Option Session)) (i : ℕ) → ArePresentedIn db sessions
-    → ArePresentedIn db (slice_set sessions i (option_map change (option_flatten (slice_get sessions i))))
-presented-changed db change same [] i all = tt
-presented-changed db change same (None ∷ sessions) zero all = all
-presented-changed db change same (Some s ∷ sessions) zero all = (subst (λ (user : Option PresentedUser). IfSome user (IsPresentedIn db)) (sym (same s)) all.0, all.1)
-presented-changed db change same (s ∷ sessions) (suc i) all = (all.0, presented-changed db change same sessions i all.1)
-
--- So a machine stays valid where a session changes that has the same user and reads the same.
-valid-changing : (m : Machine) (channel : ℕ) (change : Session → Session) → ((s : Session) → (change s).user ≡ s.user) → ((s : Session) → (change s).reading ≡ s.reading) → IsValidMachine m → IsValidMachine (changing_session change m channel)
-valid-changing m channel change user reading valid = record {
-  committed = valid.committed;
-  presented = presented-changed m.committed change user m.sessions channel valid.presented;
-  transaction = work m.transaction valid.transaction;
-  readings = λ other. subst (IsReadingOf (base m other)) (sym (reading-changed change reading m.sessions channel other)) (valid.readings other);
-}
-  where
-    work : (t : Option Transaction) → IfSome t (IsValidWork m) → IfSome t (IsValidWork (changing_session change m channel))
-    work None valid = tt
-    work (Some t) valid = record { working = valid.working; limit = valid.limit; follows = valid.follows; presented = presented-changed t.working change user m.sessions channel valid.presented }
-
+-- A machine stays valid.
 pub valid-taken : (m : Machine) (form : Form) → IsValidMachine m → IsValidMachine (taken_at m form)
 valid-taken m (refused word) valid = valid
-valid-taken m (refused_on channel word) valid = valid-changing m channel without_chain (λ s. refl) (λ s. refl) valid
-valid-taken m (part_on channel kind octets) valid = valid-changing m channel (with_part kind octets) (λ s. refl) (λ s. refl) valid
-valid-taken m (a_command c) valid = valid-changing m c.channel without_chain (λ s. refl) (λ s. refl) valid
+valid-taken m (refused_on channel word) valid = valid-ended m channel valid
+valid-taken m (part_on channel kind octets) valid = valid-changing m channel (with_part kind octets) (λ db s is. is) (λ s is. is) valid
+valid-taken m (a_command c) valid = valid-ended m c.channel valid
 
 -- the channel that a command asks for is open
 open-asked : (table : List Line) (cla ins : ℕ) (channels : List Bool) (channel : ℕ) → channel_asked table cla ins channels ≡ Ok channel → slice_get channels channel ≡ Some true

@@ -21,7 +21,7 @@ if-working m (Some t) work = work.working
 
 -- a card that is at a machine is over valid databases
 pub over-at : (m : Machine) → IsValidMachine m → IsOver m
-over-at m valid = record { committed = valid.committed; transaction = if-working m m.transaction valid.transaction }
+over-at m valid = record { committed = valid.committed; transaction = if-working m m.transaction valid.transaction; basic = valid.basic }
 
 -- the card stays, and the chip
 pub lasts-unwritten : (was now : Kept) (chip : Chip) → (IsTrue now.live → IsTrue was.live) → now.store.chains.cells ≡ was.store.chains.cells → Lasts was now chip chip

@@ -1,11 +1,12 @@
 -- What a call of a link makes of its card, and which moments it adds.
-use Rattle.std.specs.Prelude.{◌≡◌, ◌⊎◌, ℕ, ◌≤◌, Bool, false, List, [], ◌∷◌, IfSome}
+use Rattle.std.specs.Prelude.{◌≡◌, ◌⊎◌, ℕ, ◌≤◌, Bool, true, false, List, [], ◌∷◌, IfSome}
 use Rattle.eeprom.specs.Chip.{Chip, Throughout}
 use Rattle.eeprom.specs.Fault.{Rose}
 use Rattle.scql_model.specs.Replies.{Reply}
 use Rattle.scql_model.specs.Database.{Database, IsValid}
 use Rattle.scql_model.specs.Machine.{Machine, Transaction}
 use Rattle.scql_model.specs.Opens.{Opens}
+use Rattle.scql_model.specs.Sessions.{is_channel_open}
 use Rattle.scql_model.specs.Step.{Answer}
 
 -- the reply is that of a step of the machine, and the link is at the next machine
@@ -45,7 +46,8 @@ pub record Gives {L : Type 0} (is_at : L → Machine → Type 0) (is_live : L �
   pub later : mark old ≤ mark new
   pub moments : (m : Machine) → is_at old m → LeavesOpen (HoldsWithin (mark old) (mark new) m.committed) (chip old) (chip new)
 
--- the committed database is valid, and so is that of a transaction
+-- The committed database is valid, and so is that of a transaction. Channel 0 is open, as it always is.
 pub record IsOver (m : Machine) : Type 0 where
   pub committed : IsValid m.committed
   pub transaction : IfSome m.transaction (λ (t : Transaction). IsValid t.working)
+  pub basic : is_channel_open m 0 ≡ true

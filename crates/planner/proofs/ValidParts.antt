@@ -22,7 +22,7 @@ use Rattle.scql_model.specs.Spelling.{field_of, line_for, cla_of, with_length, l
 use Rattle.scql_model.specs.Step.{step}
 use Rattle.scql_model.specs.ValidMachine.{IsValidMachine}
 use Rattle.scql_model.specs.WellFormed.{HasForm, FitsCard}
-use Rattle.scql_model.proofs.FormedCommands.{both, read-operation, has_channel, wants_le, is_sound, same_Ok, bound, not_refused, on_channel, no_part, line-passes, sound-operations}
+use Rattle.scql_model.proofs.FormedCommands.{both, read-operation, has_channel, wants_le, is_sound, same_Ok, bound, not_refused, on_channel, no_part, line-passes, sound-operations, for_channel-form_of}
 use Rattle.scql_model.proofs.KeepsRows.{within_largest}
 use Rattle.scql_model.proofs.ReadFits.{command-fits}
 use Rattle.scql_model.proofs.TailsAgain.{IsLe, tail, tail-again, data-again}
@@ -116,7 +116,7 @@ valid-part m c place valid = go (line_for operations (kind_of c.operation))
         let le : Option ℕ = if more then None else c.le in
         valid-stepped m (form_of operations (cla_of c.channel more ∷ l.ins ∷ l.p1 ∷ l.p2 ∷ (with_length field ++ le_octets le)) (open_channels m) (command_chain m) m.committed.limit) valid (λ d is.
         let has = fields-read operations (cla_of c.channel more) l.ins l.p1 l.p2 field le (open_channels m) (command_chain m) m.committed.limit d sound-operations (most-limit m valid) few is in
-        (has.form, has.fits))
+        (has.form, has.fits, for_channel-form_of operations _ (open_channels m) (command_chain m) m.committed.limit d sound-operations (most-limit m valid) is))
 
 -- All parts in turn.
 pub all-both : {X : Type 0} (P : X → Type 0) (xs ys : List X) → AllByRecursion P xs → AllByRecursion P ys → AllByRecursion P (xs ++ ys)

@@ -48,7 +48,7 @@ use Rattle.scql_model.proofs.ObjectsFollow.{Follows-itself, Follows-through, Fol
 use Rattle.scql_model.proofs.UsersFollow.{presented-edits_of, presented-with_tries}
 
 -- The users of sessions.
-abbrev Presents : Database → Option Session → Type 0
+abbrev pub Presents : Database → Option Session → Type 0
 Presents db session = IfSome (option_and_then (λ (s : Session). s.user) session) (IsPresentedIn db)
 
 all-set : {X : Type 0} (P : X → Type 0) (xs : List X) (i : ℕ) (x : X) → AllByRecursion P xs → P x → AllByRecursion P (slice_set xs i x)
@@ -142,7 +142,7 @@ valid-with_session m channel session is reads basic valid =
     valid-sessions m (slice_set m.sessions channel session) (λ db are. all-set (Presents db) m.sessions channel session are (is db are))
     (reading-set (base m) m.sessions channel session (λ other _. valid.readings other) reads) basic valid
 
-valid-changing : (m : Machine) (channel : ℕ) (change : Session → Session) → ((db : Database) (s : Session) → Presents db (Some s) → Presents db (Some (change s)))
+pub valid-changing : (m : Machine) (channel : ℕ) (change : Session → Session) → ((db : Database) (s : Session) → Presents db (Some s) → Presents db (Some (change s)))
     → ((s : Session) → IsReadingOf (base m channel) s.reading → IsReadingOf (base m channel) (change s).reading) → IsValidMachine m → IsValidMachine (changing_session change m channel)
 valid-changing m channel change keeps reads valid =
     valid-with_session m channel (option_map change (session_of m channel)) (λ db are. go db (session_of m channel) (all-get (Presents db) m.sessions channel are tt))
