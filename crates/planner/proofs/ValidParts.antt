@@ -116,7 +116,7 @@ valid-part m c place valid = go (line_for operations (kind_of c.operation))
         let le : Option ℕ = if more then None else c.le in
         valid-stepped m (form_of operations (cla_of c.channel more ∷ l.ins ∷ l.p1 ∷ l.p2 ∷ (with_length field ++ le_octets le)) (open_channels m) (command_chain m) m.committed.limit) valid (λ d is.
         let has = fields-read operations (cla_of c.channel more) l.ins l.p1 l.p2 field le (open_channels m) (command_chain m) m.committed.limit d sound-operations (most-limit m valid) few is in
-        (has.form, has.fits, for_channel-form_of operations _ (open_channels m) (command_chain m) m.committed.limit d sound-operations (most-limit m valid) is))
+        (has.form, has.fits, for_channel-form_of operations (cla_of c.channel more ∷ l.ins ∷ l.p1 ∷ l.p2 ∷ (with_length field ++ le_octets le)) (open_channels m) (command_chain m) m.committed.limit d sound-operations (most-limit m valid) is))
 
 -- All parts in turn.
 pub all-both : {X : Type 0} (P : X → Type 0) (xs ys : List X) → AllByRecursion P xs → AllByRecursion P ys → AllByRecursion P (xs ++ ys)

@@ -8,6 +8,7 @@ use Rattle.scql_base.specs.declared.words.StatusWord.{StatusWord}
 use Rattle.scql_base.specs.declared.operation.Command.{Command}
 use Rattle.scql_base.specs.declared.operation.Operation.TheVariants.{DeclareCursor}
 use Rattle.scql_base.specs.Words.{channel_not_supported}
+use Rattle.std.proofs.lemmas.Bool.{false≢true}
 use Rattle.scql_model.specs.Refusals.{◌>>=◌}
 use Rattle.scql_model.specs.Replies.{Reply, said}
 use Rattle.scql_model.specs.Machine.{Machine, Session, base, actor, actor_of, session_of}
@@ -115,19 +116,15 @@ module _ (s : Machine) (object : List ℕ) (can : CanBeSent 0 (Select object [] 
 
   refused-so : (word : StatusWord) → source_rows s object ≡ Err word → IsRefused word
   unfolding source_rows
-  refused-so word none = go (session_of s 0) refl none
+  refused-so word none = go (session_of s 0) refl
     where
       shows : (given : Result ShownRows StatusWord) → (given >>= λ given. Ok given.rows) ≡ Err word → given ≡ Err word
       shows (Ok given) is = absurd cc
       shows (Err other) is = let words : Err other ≡ Err word = is in let alike : other ≡ word = cc in ap (λ (w : StatusWord). Err w) alike
 
-      go : (session : Option Session) → session_of s 0 ≡ session → (if is_some session then (select_shown (shown_on s 0) object [] [] >>= λ given. Ok given.rows) else Err channel_not_supported) ≡ Err word → IsRefused word
-      go None there is =
-          let closed : is_channel_open s 0 ≡ false = ap (λ (session : Option Session). is_some session) there in
-          let words : Err channel_not_supported ≡ Err word = is in
-          let alike : channel_not_supported ≡ word = cc in
-          subst IsRefused alike (record { reply = ap (λ (a : Answer). a.reply) (answer-closed s asked can.commands.0 refl closed); refusal = refl })
-      go (Some x) there is = refused-open x there word (shows (select_shown (shown_on s 0) object [] []) is)
+      go : (session : Option Session) → session_of s 0 ≡ session → IsRefused word
+      go None there = absurd (false≢true (sym (ap (λ (session : Option Session). is_some session) there) ∙ over.basic))
+      go (Some x) there = refused-open x there word (shows (select_shown (shown_on s 0) object [] []) none)
 
   module _ {L : Type 0} (is_at : L → Machine → Type 0) where
     -- at its first step the plan is to give what is shown, or in any case the rows of the SELECT's meaning
@@ -138,7 +135,7 @@ module _ (s : Machine) (object : List ℕ) (can : CanBeSent 0 (Select object [] 
 
     giving-first : (rows : List Values) (now : L) → source_rows s object ≡ Ok rows → is_at now s → GivesAll is_at s (length rows) rows declaring (Send asked) now
     unfolding source_rows
-    giving-first rows now is at = go (is_channel_open s 0) refl is
+    giving-first rows now is at = shown-rows (select_shown (shown_on s 0) object [] []) (gives-shown is_at s 0 object [] [] false now over.basic over can at) is
       where
         shown-rows : (given : Result ShownRows StatusWord) → Gives is_at s (closing_given given) (meaning s 0 (Select object [] [])).machine (rows_given given) declaring (Send asked) now
             → (given >>= λ given. Ok given.rows) ≡ Ok rows → GivesAll is_at s (length rows) rows declaring (Send asked) now
@@ -147,11 +144,6 @@ module _ (s : Machine) (object : List ℕ) (can : CanBeSent 0 (Select object [] 
             let whole : Ok given.rows ≡ Ok rows = is in
             let same : given.rows ≡ rows = cc in
             subst (λ (rows : List Values). GivesAll is_at s (length rows) rows declaring (Send asked) now) same (record { last = _; gives = gives })
-
-        go : (opened : Bool) → is_channel_open s 0 ≡ opened → (if opened then (select_shown (shown_on s 0) object [] [] >>= λ given. Ok given.rows) else Err channel_not_supported) ≡ Ok rows
-            → GivesAll is_at s (length rows) rows declaring (Send asked) now
-        go false opened is = absurd (let no : Err channel_not_supported ≡ Ok rows = is in cc)
-        go true opened is = shown-rows (select_shown (shown_on s 0) object [] []) (gives-shown is_at s 0 object [] [] false now opened over can at) is
 
     -- DECLARE: it is refused where nothing is shown, and else OPEN comes next
     module _ (before : Reply) (old : L) (r : Piece (Unit {0})) (q : Planned) (next : Step) (reply : Reply) (now : L) (at : is_at old s) (a : Advanced is_at declaring (Send asked) before old r q next reply now) where

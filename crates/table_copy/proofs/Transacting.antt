@@ -18,7 +18,8 @@ use Rattle.scql_model.specs.Machine.{Machine, Session, Transaction, session_of, 
 use Rattle.scql_model.specs.Matching.{Values}
 use Rattle.scql_model.specs.Objects.{columns_of}
 use Rattle.scql_model.specs.Rights.{insert_privilege, holds, seen_named}
-use Rattle.scql_model.specs.Sessions.{changing_session, without_chain, without_cursor, without_pending}
+use Rattle.std.proofs.lemmas.Bool.{false≢true}
+use Rattle.scql_model.specs.Sessions.{changing_session, is_channel_open, without_chain, without_cursor, without_pending}
 use Rattle.scql_model.specs.Defining.{of_kind}
 use Rattle.scql_model.specs.Edits.{Edit, of_row, making, with_edits, applied, lacks_room}
 use Rattle.scql_model.specs.Changing.{edits_of, change_of, transaction_after}
@@ -123,13 +124,11 @@ module _ {L : Type 0} (is_at : L → Machine → Type 0) (d : Machine) (heard : 
         },
       )
 
-  pub begins-so : BeginsSo is_at d (may_begin d) r now
-  begins-so = go (session_of d 0) (d.transaction) refl refl
+  pub begins-so : is_channel_open d 0 ≡ true → BeginsSo is_at d (may_begin d) r now
+  begins-so basic = go (session_of d 0) (d.transaction) refl refl
     where
       go : (session : Option Session) (t : Option Transaction) → session_of d 0 ≡ session → d.transaction ≡ t → BeginsSo is_at d (may_begin d) r now
-      go None t there is =
-          let closed : is_some (session_of d 0) ≡ false = rw there refl in
-          refused-begin channel_not_supported d (answer-closed d (asking 0 Begin) begin-sent refl closed) refl (rw there refl) (record { committed = refl; transaction = refl })
+      go None t there is = absurd (false≢true (sym (ap (λ (session : Option Session). is_some session) there) ∙ basic))
       go (Some s) None there is = begun-so s there is
       go (Some s) (Some t) there is =
           refused-begin conditions_not_satisfied (changing_session without_chain d 0) (answer-busy d s t there is) refl (rw (there, is) refl) (record { committed = refl; transaction = refl })

@@ -1,16 +1,15 @@
 -- A table that is copied: what the rows that one machine shows of an object make of a table of another machine.
-use Rattle.std.specs.Prelude.{ℕ, not, List, [], ◌∷◌, length, nat_le, None, is_some, Result, Ok, Err, if◌then◌else◌}
+use Rattle.std.specs.Prelude.{ℕ, not, List, [], ◌∷◌, length, nat_le, None, is_some, Result, Ok, Err}
 use Rattle.scql_base.specs.declared.operation.Operation.TheVariants.{Insert}
 use Rattle.scql_base.specs.declared.words.Actor.{Actor}
 use Rattle.scql_base.specs.declared.words.StatusWord.{StatusWord}
 use Rattle.scql_base.specs.Row.{row_size}
-use Rattle.scql_base.specs.Words.{channel_not_supported, conditions_not_satisfied, wrong_data}
+use Rattle.scql_base.specs.Words.{conditions_not_satisfied, wrong_data}
 use Rattle.scql_model.specs.Changing.{change_of}
 use Rattle.scql_model.specs.Database.{Database}
 use Rattle.scql_model.specs.Machine.{Machine, actor}
 use Rattle.scql_model.specs.Matching.{Values}
 use Rattle.scql_model.specs.Refusals.{◌>>=◌, provided}
-use Rattle.scql_model.specs.Sessions.{is_channel_open}
 use Rattle.scql_model.specs.Shown.{shown_on}
 use Rattle.planner.specs.Selecting.{select_shown}
 use Rattle.table_copy.specs.declared.copy_end.CopyEnd.{CopyEnd}
@@ -35,17 +34,13 @@ copy_of db actor table rows = rows_copied db.limit actor table db rows
 
 -- The rows that a machine shows of an object on channel 0, with all of their columns, or the refusal of DECLARE.
 unfoldable pub source_rows : Machine → List ℕ → Result (List Values) StatusWord
-source_rows m object =
-    if is_channel_open m 0 then (do
-      given ← select_shown (shown_on m 0) object [] []
-      Ok given.rows)
-    else Err channel_not_supported
+source_rows m object = do
+  given ← select_shown (shown_on m 0) object [] []
+  Ok given.rows
 
--- BEGIN on channel 0, or its refusal
+-- BEGIN, or its refusal where a transaction is open already
 abbrev pub may_begin : Machine → Result (Unit {0}) StatusWord
-may_begin m = do
-  _ ← provided (is_channel_open m 0) channel_not_supported
-  provided (not (is_some m.transaction)) conditions_not_satisfied
+may_begin m = provided (not (is_some m.transaction)) conditions_not_satisfied
 
 -- how a copy ends between two cards that don't fail, and the databases that the destination commits
 pub record Copy : Type 0 where
