@@ -1,22 +1,19 @@
 -- What becomes of a machine by what octets are, before a command is carried out.
-use Rattle.std.proofs.Common.{◌≡◌, ℕ, zero, suc, ◌%◌, Bool, true, false, List, [], ◌∷◌, ◌++◌, length, Option, Some, None, Result, Ok, Err, ◌≤◌, refl, sym, ap, subst, ◌∙◌, if◌then◌else◌}
-use Rattle.std.specs.Prelude.{IfSome, option_map, slice_get, slice_set}
-use Rattle.std.specs.Option.{option_flatten, option_map_or}
+use Rattle.std.proofs.Common.{◌≡◌, ℕ, ◌%◌, Bool, true, false, List, [], ◌∷◌, ◌++◌, length, Option, Some, None, Result, Ok, Err, ◌≤◌, refl, ap, subst, ◌∙◌, if◌then◌else◌}
+use Rattle.std.specs.Prelude.{IfSome, slice_get}
 use Rattle.std.proofs.lemmas.List.{length-set}
 use Rattle.scql_base.specs.declared.words.StatusWord.{StatusWord}
 use Rattle.scql_base.specs.Words.{instruction_not_supported, channel_not_supported}
-use Rattle.scql_base.specs.declared.cursor.PresentedUser.{PresentedUser}
 use Rattle.scql_base.specs.declared.operation.Command.{Command}
 use Rattle.scql_base.specs.declared.operation.Line.{Line}
 use Rattle.scql_model.specs.Refusals.{◌>>=◌, provided}
-use Rattle.scql_model.specs.Machine.{Machine, Session, Chain, Transaction, base, no_reading, open_channels}
+use Rattle.scql_model.specs.Machine.{Machine, Chain, open_channels}
 use Rattle.scql_model.specs.Sessions.{changing_session, command_chain, without_chain, with_part}
 use Rattle.scql_model.specs.Operations.{operations, has_instruction, has_secrets}
 use Rattle.scql_model.specs.Form.{Form, refused, refused_on, part_on, a_command, form_of, formed, formed_on, class_of, is_open, channel_asked, line_on, taken_in, is_chained, part_in, command_in, parts_of}
 use Rattle.scql_model.specs.Accepting.{channel_named}
-use Rattle.scql_model.specs.ValidMachine.{ArePresentedIn, IsPresentedIn, IsReadingOf, IsValidMachine, IsValidWork}
+use Rattle.scql_model.specs.ValidMachine.{IsValidMachine}
 use Rattle.scql_model.specs.Bound.{octets_bound, octets_carried_out, octets_stepped, or_nothing}
-use Rattle.scql_model.specs.Database.{Database}
 use Rattle.scql_model.specs.Step.{Answer, answered, done_with, carried_out, stepped, step}
 use Rattle.scql_model.specs.WellFormed.{FitsCard}
 use Rattle.scql_model.proofs.FormedCommands.{bound, refused-not, sound-operations}

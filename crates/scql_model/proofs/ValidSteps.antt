@@ -581,8 +581,7 @@ pub IsValidAnswer-step : (m : Machine) (octets : List ℕ) → AreOctets octets 
 unfolding step
 IsValidAnswer-step m octets are valid =
     valid-stepped m (form_of operations octets (open_channels m) (command_chain m) m.committed.limit) valid (λ c read.
-    let formed = IsWellFormed-form_of operations octets (open_channels m) (command_chain m) m.committed.limit c sound-operations are most read in
-    (
+    let formed = IsWellFormed-form_of operations octets (open_channels m) (command_chain m) m.committed.limit c sound-operations are most read in (
       formed.form,
       FitsCard-form_of operations octets (open_channels m) (command_chain m) m.committed.limit c sound-operations are most read,
       formed.closed,

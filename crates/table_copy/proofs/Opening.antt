@@ -16,7 +16,6 @@ use Rattle.scql_model.specs.Matching.{Values}
 use Rattle.scql_model.specs.ReadingCommands.{declare}
 use Rattle.scql_model.specs.ReadingLaws.{IsReadable}
 use Rattle.scql_model.specs.Rights.{seen_named}
-use Rattle.scql_model.specs.Sessions.{is_channel_open}
 use Rattle.scql_model.specs.Shown.{shown_on}
 use Rattle.scql_model.specs.Step.{Answer}
 use Rattle.scql_model.proofs.ReadingIsShown.{IsReadable-valid}
@@ -33,7 +32,6 @@ use Rattle.planner.specs.Planned.{Planned, Turn, next_of, started, accepts, refu
 use Rattle.planner.specs.Selecting.{ShownRows, closing_given, rows_given, select_shown}
 use Rattle.planner.specs.Words.{is_refusal}
 use Rattle.planner.proofs.Asking.{who, moved_answer, answer-read}
-use Rattle.planner.proofs.Closed.{answer-closed}
 use Rattle.planner.proofs.Selected.{declared_from, declares, in_session-same}
 use Rattle.planner.proofs.SelectsShown.{select-reads}
 use Rattle.card_asking.specs.Following.{heard_at, turn_by}

@@ -10,7 +10,7 @@ use Rattle.scql_base.specs.declared.operation.Operation.TheVariants.{Insert, Beg
 use Rattle.scql_base.specs.declared.records.RowRecord.{RowRecord}
 use Rattle.scql_base.specs.declared.records.User.{User}
 use Rattle.scql_base.specs.Row.{row_size}
-use Rattle.scql_base.specs.Words.{done, channel_not_supported, conditions_not_satisfied, security_not_satisfied, not_found, no_space, wrong_data}
+use Rattle.scql_base.specs.Words.{done, conditions_not_satisfied, security_not_satisfied, not_found, no_space, wrong_data}
 use Rattle.scql_model.specs.Refusals.{◌>>=◌}
 use Rattle.scql_model.specs.Replies.{Reply, said}
 use Rattle.scql_model.specs.Database.{Database, is_table, user_stamped}
@@ -104,7 +104,7 @@ module _ {L : Type 0} (is_at : L → Machine → Type 0) (d : Machine) (heard : 
       answer-free d s there free in
       subst (λ (r : Piece (Unit {0})). BeginsSo is_at d (may_begin d) r now)
       (sym (done-so r heard.word is (ap (λ (reply : Reply). reply.word) answered.reply ∙ ap (λ (a : Answer). a.reply.word) a))) (
-        rw (there, free) refl,
+        rw free refl,
         record {
           machine = n;
           at = subst (is_at now) (ap (λ (a : Answer). a.machine) a) answered.at;
@@ -131,7 +131,7 @@ module _ {L : Type 0} (is_at : L → Machine → Type 0) (d : Machine) (heard : 
       go None t there is = absurd (false≢true (sym (ap (λ (session : Option Session). is_some session) there) ∙ basic))
       go (Some s) None there is = begun-so s there is
       go (Some s) (Some t) there is =
-          refused-begin conditions_not_satisfied (changing_session without_chain d 0) (answer-busy d s t there is) refl (rw (there, is) refl) (record { committed = refl; transaction = refl })
+          refused-begin conditions_not_satisfied (changing_session without_chain d 0) (answer-busy d s t there is) refl (rw is refl) (record { committed = refl; transaction = refl })
 
 -- In the transaction.
 waiting-same : (s : Session) → s.chain ≡ None → s.reading.pending ≡ [] → record { user = s.user; reading = record { cursor = s.reading.cursor; pending = [] }; chain = None } ≡ s
