@@ -1,6 +1,6 @@
 -- One reader among others.
 use Rattle.std.proofs.Common.{◌≡◌, ◌≢◌, ℕ, zero, suc, ◌+◌, ◌-◌, ◌<◌, ◌==◌, Bool, true, false, List, [], ◌∷◌, length, Option, Some, None, get_or, slice_set, IsTrue, refl, sym, ◌∙◌, ap, subst, arith, if◌then◌else◌}
-use Rattle.std.specs.Prelude.{slice_get, is_some, option_map, IfSome}
+use Rattle.std.specs.Prelude.{slice_get, is_some, option_map, IfSome, IsSomeAnd}
 use Rattle.std.specs.Option.{option_map_or}
 use Rattle.std.proofs.lemmas.Bool.{eqb-true, eqb-false}
 use Rattle.std.proofs.lemmas.Option.{same_Some, slice_get-get_or}
@@ -9,7 +9,7 @@ use Rattle.terminal.specs.Holding.{Holding, terminal_at}
 use Rattle.reader_rack.specs.declared.rack_end.RackEnd.{RackEnd}
 use Rattle.reader_rack.specs.declared.reader.Reader.{Reader}
 use Rattle.reader_rack.specs.RackText.{Held, nothing, mute, sits, RackState, asked, ejected, rack_effect, taken, to_reader, with_reader}
-use Rattle.reader_rack.specs.Racks.{Asks, IsRack, OthersStay, answers_at, count_at, holds_at, is_held, link_at, reader_at}
+use Rattle.reader_rack.specs.Racks.{Asks, IsRack, IsSetAside, OthersStay, answers_at, count_at, holds_at, is_held, link_at, reader_at}
 use Rattle.reader_rack.specs.Readers.{EndsBy, EndsEffect, Holds, IsHeld, answers, count, set_aside, taking}
 use Rattle.reader_rack.specs.declared.statement.RackStatement.{RackStatement}
 use Rattle.reader_rack.specs.Statements.{IsReader, rack_statement}
@@ -56,6 +56,21 @@ rack-set {L} is_at is_live readers current number place reader state held same w
       subst (λ (x : Reader L). Holds is_at is_live x held) found holds
   go n r is_reader is false e = rack.holds n r is_reader (sym (others-set readers number place reader same n is_reader (eqb-false n number e)) ∙ is)
 
+-- what a reader is that takes the place of another one
+pub of-set : {L B : Type 0} (of : Reader L → B) (none : B) (readers : List (Reader L)) (number place : ℕ) (reader : Reader L) → place + 1 ≡ number → place < length readers
+    → option_map_or of (reader_at (slice_set readers place reader) number) none ≡ of reader
+of-set {L} of none readers number place reader same within = ap (λ (r : Option (Reader L)). option_map_or of r none) (at-set readers number place reader same within)
+
+pub of-place : {L B : Type 0} (of : Reader L → B) (none : B) (readers : List (Reader L)) (number place : ℕ) (d : Reader L) → place + 1 ≡ number → place < length readers
+    → option_map_or of (reader_at readers number) none ≡ of (get_or readers place d)
+of-place {L} of none readers number place d same within = ap (λ (r : Option (Reader L)). option_map_or of r none) (at-place readers number place d same within)
+
+-- a reader that becomes a function of what it was
+pub becomes-set : {L : Type 0} (of : Reader L → Reader L) (readers : List (Reader L)) (number place : ℕ) (d new : Reader L) → place + 1 ≡ number → place < length readers → new ≡ of (get_or readers place d)
+    → reader_at (slice_set readers place new) number ≡ option_map of (reader_at readers number)
+becomes-set of readers number place d new same within is =
+    at-set readers number place new same within ∙ (ap Some is ∙ sym (ap (option_map of) (at-place readers number place d same within)))
+
 -- A line of a reader is one of the rack.
 pub asked-ends : {L : Type 0} (is_at : L → Machine → Type 0) (is_live : L → Bool) (readers : List (Reader L)) (number place : ℕ) (d new : Reader L) (line : List ℕ) (result : RackEnd) (given now : Option (List ℕ))
     → IsReader number → place + 1 ≡ number → place < length readers
@@ -71,21 +86,24 @@ asked-ends is_at is_live readers number place d new line result given now is_rea
 pub asked-asks : {L : Type 0} (is_live : L → Bool) (faults : L → ℕ) (readers : List (Reader L)) (number place : ℕ) (d new : Reader L) (result : RackEnd) (sink sink' : ℕ)
     → place + 1 ≡ number → place < length readers
     → EndsBy result (answers is_live (get_or readers place d)) (answers is_live new) (count faults (get_or readers place d)) (count faults new) sink sink'
+    → new.aside ≡ (get_or readers place d).aside
     → Asks is_live faults number result readers (slice_set readers place new) sink sink'
-asked-asks {L} is_live faults readers number place d new result sink sink' same within ends = record {
+asked-asks {L} is_live faults readers number place d new result sink sink' same within ends aside = record {
   ends_by = subst (λ (r : Option (Reader L)). EndsBy result (option_map_or (answers is_live) r false) (answers_at is_live (slice_set readers place new) number) (option_map_or (count faults) r 0) (count_at faults (slice_set readers place new) number) sink sink')
       (sym (at-place readers number place d same within))
       (subst (λ (r : Option (Reader L)). EndsBy result (answers is_live (get_or readers place d)) (option_map_or (answers is_live) r false) (count faults (get_or readers place d)) (option_map_or (count faults) r 0) sink sink')
       (sym (at-set readers number place new same within)) ends);
+  aside = of-set (λ r. r.aside) None readers number place new same within ∙ (aside ∙ sym (of-place (λ r. r.aside) None readers number place d same within));
   others = others-set readers number place new same;
 }
 
 -- A link that is set aside.
 
 pub eject-aside : {L : Type 0} (readers : List (Reader L)) (number place : ℕ) (d new : Reader L) → place + 1 ≡ number → place < length readers → new ≡ set_aside (get_or readers place d)
-    → reader_at (slice_set readers place new) number ≡ option_map set_aside (reader_at readers number)
-eject-aside readers number place d new same within is =
-    at-set readers number place new same within ∙ (ap Some is ∙ sym (ap (option_map set_aside) (at-place readers number place d same within)))
+    → IsSetAside number readers (slice_set readers place new)
+eject-aside {L} readers number place d new same within is =
+    subst (λ (r : Option (Reader L)). IsSomeAnd r (λ was. reader_at (slice_set readers place new) number ≡ Some (set_aside was))) (sym (at-place readers number place d same within))
+    (at-set readers number place new same within ∙ ap Some is)
 
 pub eject-held : {L : Type 0} (readers : List (Reader L)) (number place : ℕ) (d : Reader L) (result : Bool) → place + 1 ≡ number → place < length readers → result ≡ is_some (get_or readers place d).link → result ≡ holds_at readers number
 eject-held {L} readers number place d result same within is =
@@ -148,15 +166,6 @@ pub insert-rack : {L : Type 0} (is_at : L → Machine → Type 0) (is_live : L �
 insert-rack {L} is_at is_live readers current number place new link same within is live state m rack at closed =
     rack-set is_at is_live readers current number place new state (sits (terminal_at m 0)) same within rack
     (subst (λ (r : Reader L). Holds is_at is_live r (sits (terminal_at m 0))) (sym is) (live, record { at = at; channel = refl; knows = sym (ap (option_map (λ (t : Transaction). t.channel)) closed) }))
-
--- what a reader is that takes the place of another one
-pub of-set : {L B : Type 0} (of : Reader L → B) (none : B) (readers : List (Reader L)) (number place : ℕ) (reader : Reader L) → place + 1 ≡ number → place < length readers
-    → option_map_or of (reader_at (slice_set readers place reader) number) none ≡ of reader
-of-set {L} of none readers number place reader same within = ap (λ (r : Option (Reader L)). option_map_or of r none) (at-set readers number place reader same within)
-
-pub of-place : {L B : Type 0} (of : Reader L → B) (none : B) (readers : List (Reader L)) (number place : ℕ) (d : Reader L) → place + 1 ≡ number → place < length readers
-    → option_map_or of (reader_at readers number) none ≡ of (get_or readers place d)
-of-place {L} of none readers number place d same within = ap (λ (r : Option (Reader L)). option_map_or of r none) (at-place readers number place d same within)
 
 pub insert-count : {L : Type 0} (faults : L → ℕ) (readers : List (Reader L)) (number place : ℕ) (new : Reader L) (link : L) → place + 1 ≡ number → place < length readers → new ≡ taking link
     → count_at faults (slice_set readers place new) number ≡ faults link

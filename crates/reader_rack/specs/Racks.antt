@@ -1,14 +1,16 @@
 -- A rack: its readers, and how they become what a line makes of them.
-use Rattle.std.specs.Prelude.{◌≡◌, ◌≢◌, ℕ, ◌-◌, ◌≤◌, Bool, true, false, List, Option, Some, None, is_some, slice_get}
+use Rattle.std.specs.Prelude.{◌≡◌, ◌≢◌, ℕ, ◌-◌, ◌≤◌, Bool, true, false, List, Option, Some, None, is_some, IsSomeAnd, slice_get}
 use Rattle.std.specs.Option.{option_map_or}
 use Rattle.eeprom.specs.Fault.{Rose}
 use Rattle.scql_model.specs.Machine.{Machine}
 use Rattle.reader_rack.specs.declared.rack_end.RackEnd.{RackEnd}
 use Rattle.reader_rack.specs.declared.reader.Reader.{Reader}
+use Rattle.reader_rack.specs.declared.statement.RackStatement.{RackStatement}
+use Rattle.reader_rack.specs.declared.statement.RackStatement.TheVariants.{Select, Eject}
 use Rattle.reader_rack.specs.declared.rack_end.RackEnd.TheVariants as ends
 use Rattle.reader_rack.specs.RackText.{Held, nothing, RackState}
-use Rattle.reader_rack.specs.Readers.{EndsBy, Holds, answers, count}
-use Rattle.reader_rack.specs.Statements.{IsReader}
+use Rattle.reader_rack.specs.Readers.{EndsBy, Holds, answers, count, set_aside}
+use Rattle.reader_rack.specs.Statements.{IsReader, names_reader}
 
 -- Readers 1 to 4 stand in their order.
 
@@ -18,6 +20,10 @@ reader_at readers number = slice_get readers (number - 1)
 -- the link that the reader holds
 abbrev pub link_at : {L : Type 0} → List (Reader L) → ℕ → Option L
 link_at readers number = option_map_or (λ reader. reader.link) (reader_at readers number) None
+
+-- the link of the reader that was set aside
+abbrev pub aside_at : {L : Type 0} → List (Reader L) → ℕ → Option L
+aside_at readers number = option_map_or (λ reader. reader.aside) (reader_at readers number) None
 
 -- the reader holds a link
 abbrev pub holds_at : {L : Type 0} → List (Reader L) → ℕ → Bool
@@ -40,9 +46,10 @@ pub record IsRack {L : Type 0} (is_at : L → Machine → Type 0) (is_live : L �
 abbrev pub OthersStay : {L : Type 0} → ℕ → List (Reader L) → List (Reader L) → Type 0
 OthersStay number old new = (other : ℕ) → IsReader other → other ≢ number → reader_at new other ≡ reader_at old other
 
--- A reader was asked: why the line ends so, and that all others are as they were.
+-- A reader was asked: why the line ends so, that its link which was set aside is left alone, and that all others are as they were.
 pub record Asks {L : Type 0} (is_live : L → Bool) (faults : L → ℕ) (number : ℕ) (end' : RackEnd) (old new : List (Reader L)) (sink sink' : ℕ) : Type 0 where
   pub ends_by : EndsBy end' (answers_at is_live old number) (answers_at is_live new number) (count_at faults old number) (count_at faults new number) sink sink'
+  pub aside : aside_at new number ≡ aside_at old number
   pub others : OthersStay number old new
 
 -- the outlet failed where the end says so, and no card did
@@ -52,11 +59,21 @@ IsPrintedBy ends.Refused sink sink' = sink' ≡ sink
 IsPrintedBy ends.Mute sink sink' = ⊥
 IsPrintedBy ends.SinkFault sink sink' = Rose sink sink' × (sink ≤ sink')
 
--- No card was asked: no card's count changed, and all readers but one are as they were.
-pub record States {L : Type 0} (faults : L → ℕ) (number : ℕ) (end' : RackEnd) (old new : List (Reader L)) (sink sink' : ℕ) : Type 0 where
+-- a reader's link is set aside
+abbrev pub IsSetAside : {L : Type 0} → ℕ → List (Reader L) → List (Reader L) → Type 0
+IsSetAside number old new = IsSomeAnd (reader_at old number) (λ was. reader_at new number ≡ Some (set_aside was))
+
+-- what a statement does to the readers: nothing, or the link of the one that it names is set aside
+abbrev pub SetsAside : {L : Type 0} → RackStatement → List (Reader L) → List (Reader L) → Type 0
+SetsAside (Select reader) old new = new ≡ old
+SetsAside (Eject reader) old new = IsSetAside reader old new
+
+-- No card was asked: no card's count changed, the reader that the statement names is as it says, and all others are as they were.
+pub record States {L : Type 0} (faults : L → ℕ) (statement : RackStatement) (end' : RackEnd) (old new : List (Reader L)) (sink sink' : ℕ) : Type 0 where
   pub printed : IsPrintedBy end' sink sink'
   pub counts : (n : ℕ) → count_at faults new n ≡ count_at faults old n
-  pub others : OthersStay number old new
+  pub named : SetsAside statement old new
+  pub others : OthersStay (names_reader statement) old new
 
 -- a state in which a reader holds a link
 abbrev pub is_held : Held → Bool

@@ -23,6 +23,14 @@ taking link = record { link = Some link; aside = None; terminal = record { chann
 abbrev pub set_aside : {L : Type 0} → Reader L → Reader L
 set_aside reader = if is_some reader.link then record reader { link = None; aside = reader.link } else reader
 
+-- a reader whose link is lent
+abbrev pub lending : {L : Type 0} → Reader L → Reader L
+lending reader = record reader { link = None }
+
+-- a reader that holds this link, with its terminal
+abbrev pub with_link : {L : Type 0} → L → Reader L → Reader L
+with_link link reader = record reader { link = Some link }
+
 -- the reader holds a link that answers
 abbrev pub answers : {L : Type 0} → (L → Bool) → Reader L → Bool
 answers is_live reader = option_map_or is_live reader.link false

@@ -38,3 +38,8 @@ rack_statement line = rack_words (map (λ (token : Token). token.octets) (tokens
 abbrev pub names_reader : RackStatement → ℕ
 names_reader (Select reader) = reader
 names_reader (Eject reader) = reader
+
+-- the reader that is current behind a statement
+abbrev pub selected : RackStatement → ℕ → ℕ
+selected (Select reader) current = reader
+selected (Eject reader) current = current

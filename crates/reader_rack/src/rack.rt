@@ -1,5 +1,5 @@
 // A rack: its readers, and what it does with a line.
-ghost use Rattle.std.specs.Prelude.{◌≡◌, ◌≤◌, ◌∷◌, ℕ, [], length, option_map, None, Some, IfSome, IfErr, OnOk, OnErr, IsTrue, is_err, true, false};
+ghost use Rattle.std.specs.Prelude.{◌≡◌, ◌≤◌, ◌∷◌, ℕ, [], length, option_map, None, Some, IfSome, IsSomeAnd, IfErr, OnOk, OnErr, IsTrue, is_err, true, false};
 ghost use Rattle.eeprom.specs.Fault.{Counts, Rose};
 ghost use Rattle.eeprom.specs.Output.{Follows};
 ghost use Rattle.scql_model.specs.Lines.{longest_line};
@@ -12,10 +12,10 @@ ghost use Rattle.card_link.specs.Link.{Holds, IsOneOf, LeavesOpen};
 ghost use Rattle.planner.specs.StatementLines.{TerminalState};
 ghost use Rattle.terminal.specs.Holding.{terminal_at};
 ghost use Rattle.reader_rack.specs.RackText.{RackState, mute, sits, asked, ejected, rack_effect, stated, to_reader, with_reader};
-ghost use Rattle.reader_rack.specs.Racks.{Asks, IsPrintedBy, IsRack, OthersStay, States, answers_at, count_at, holds_at, is_held, link_at, reader_at};
-ghost use Rattle.reader_rack.specs.Readers.{EndsEffect, empty, set_aside};
+ghost use Rattle.reader_rack.specs.Racks.{Asks, IsPrintedBy, IsRack, IsSetAside, OthersStay, States, answers_at, count_at, holds_at, is_held, link_at, reader_at};
+ghost use Rattle.reader_rack.specs.Readers.{EndsEffect, empty, lending, with_link};
 ghost use Rattle.reader_rack.specs.Statements as statements;
-ghost use Rattle.reader_rack.specs.Statements.{IsReader, names_reader};
+ghost use Rattle.reader_rack.specs.Statements.{IsReader, names_reader, selected};
 
 use crate::RackEnd;
 use crate::boxed::BoxedLink;
@@ -63,6 +63,8 @@ impl<O: Outlet> Rack<O> {
             → IsRack ⟦<BoxedLink as CardLink>⟧.is_at ⟦<BoxedLink as CardLink>⟧.is_live self.new.readers self.new.current.number (with_reader state reader (sits (terminal_at m 0)))) }
         ensures live { OnOk result (answers_at ⟦<BoxedLink as CardLink>⟧.is_live self.new.readers reader ≡ true) }
         ensures count { OnOk result (count_at ⟦<BoxedLink as CardLink>⟧.faults self.new.readers reader ≡ faults link) }
+        ensures chip { OnOk result (IsSomeAnd (link_at self.new.readers reader) (λ inside. ⟦<BoxedLink as CardLink>⟧.chip inside ≡ chip link)) }
+        ensures machine { OnOk result (IsSomeAnd (link_at self.new.readers reader) (λ inside. (m : Machine) → is_at link m → ⟦<BoxedLink as CardLink>⟧.is_at inside m)) }
         ensures others { OthersStay reader self.old.readers self.new.readers }
         ensures rest { (self.new.current ≡ self.old.current) × (self.new.outlet ≡ self.old.outlet) }
     {
@@ -80,6 +82,13 @@ impl<O: Outlet> Rack<O> {
         ensures { result ≡ answers_at ⟦<BoxedLink as CardLink>⟧.is_live self.now.readers reader }
     {
         self.readers[usize::from(reader) - 1].live()
+    }
+
+    /// The number of the reader to which lines go.
+    pub fn current(&self) -> u8
+        ensures { result ≡ self.now.current.number }
+    {
+        self.current.number
     }
 
     /// The outlet.
@@ -109,7 +118,8 @@ impl<O: Outlet> Rack<O> {
         ensures asks { statements.rack_statement line.now ≡ None
             → Asks ⟦<BoxedLink as CardLink>⟧.is_live ⟦<BoxedLink as CardLink>⟧.faults self.old.current.number result self.old.readers self.new.readers (O.sink_faults self.old.outlet) (O.sink_faults self.new.outlet) × (self.new.current ≡ self.old.current) }
         ensures states { IfSome (statements.rack_statement line.now) (λ statement.
-            States ⟦<BoxedLink as CardLink>⟧.faults (names_reader statement) result self.old.readers self.new.readers (O.sink_faults self.old.outlet) (O.sink_faults self.new.outlet)) }
+            States ⟦<BoxedLink as CardLink>⟧.faults statement result self.old.readers self.new.readers (O.sink_faults self.old.outlet) (O.sink_faults self.new.outlet)) }
+        ensures selects { IfSome (statements.rack_statement line.now) (λ statement. self.new.current.number ≡ selected statement self.old.current.number) }
     {
         match rack_statement(line) {
             Some(statement) => self.state(statement),
@@ -131,7 +141,7 @@ impl<O: Outlet> Rack<O> {
     pub fn eject(&mut self, reader: u8) -> bool
         requires reader { IsReader reader }
         ensures held { result ≡ holds_at self.old.readers reader }
-        ensures aside { reader_at self.new.readers reader ≡ option_map set_aside (reader_at self.old.readers reader) }
+        ensures aside { IsSetAside reader self.old.readers self.new.readers }
         ensures ejects { (state : RackState) → IsRack ⟦<BoxedLink as CardLink>⟧.is_at ⟦<BoxedLink as CardLink>⟧.is_live self.old.readers self.old.current.number state
             → (result ≡ is_held (state.reader reader)) × IsRack ⟦<BoxedLink as CardLink>⟧.is_at ⟦<BoxedLink as CardLink>⟧.is_live self.new.readers self.new.current.number (with_reader state reader (ejected (state.reader reader)).next) }
         ensures others { OthersStay reader self.old.readers self.new.readers }
@@ -139,6 +149,29 @@ impl<O: Outlet> Rack<O> {
         ensures rest { (self.new.current ≡ self.old.current) × (self.new.outlet ≡ self.old.outlet) }
     {
         self.readers[usize::from(reader) - 1].eject()
+    }
+
+    /// Lends a reader's link, to be put back. Until then the reader holds none, and its terminal stays.
+    pub fn take(&mut self, reader: u8) -> BoxedLink
+        requires reader { IsReader reader }
+        requires live { IsTrue (answers_at ⟦<BoxedLink as CardLink>⟧.is_live self.old.readers reader) }
+        ensures link { link_at self.old.readers reader ≡ Some result }
+        ensures lent { reader_at self.new.readers reader ≡ option_map lending (reader_at self.old.readers reader) }
+        ensures others { OthersStay reader self.old.readers self.new.readers }
+        ensures rest { (self.new.current ≡ self.old.current) × (self.new.outlet ≡ self.old.outlet) }
+    {
+        self.readers[usize::from(reader) - 1].take()
+    }
+
+    /// Puts a link that was lent back into its reader, as it has become.
+    pub fn put_back(&mut self, reader: u8, link: BoxedLink)
+        requires reader { IsReader reader }
+        requires lent { holds_at self.old.readers reader ≡ false }
+        ensures holds { reader_at self.new.readers reader ≡ option_map (with_link link) (reader_at self.old.readers reader) }
+        ensures others { OthersStay reader self.old.readers self.new.readers }
+        ensures rest { (self.new.current ≡ self.old.current) × (self.new.outlet ≡ self.old.outlet) }
+    {
+        self.readers[usize::from(reader) - 1].put_back(link);
     }
 
     /// Sends a command to a reader's card. The reader's terminal is told how it was answered.
@@ -195,7 +228,8 @@ impl<O: Outlet> Rack<O> {
         requires reader { IsReader (names_reader statement) }
         ensures ends { (state : RackState) → IsRack ⟦<BoxedLink as CardLink>⟧.is_at ⟦<BoxedLink as CardLink>⟧.is_live self.old.readers self.old.current.number state
             → EndsEffect (IsRack ⟦<BoxedLink as CardLink>⟧.is_at ⟦<BoxedLink as CardLink>⟧.is_live self.new.readers self.new.current.number) (λ fails. stated state statement) result (O.given self.old.outlet) (O.given self.new.outlet) }
-        ensures states { States ⟦<BoxedLink as CardLink>⟧.faults (names_reader statement) result self.old.readers self.new.readers (O.sink_faults self.old.outlet) (O.sink_faults self.new.outlet) }
+        ensures states { States ⟦<BoxedLink as CardLink>⟧.faults statement result self.old.readers self.new.readers (O.sink_faults self.old.outlet) (O.sink_faults self.new.outlet) }
+        ensures selects { self.new.current.number ≡ selected statement self.old.current.number }
     {
         match statement {
             RackStatement::Select { reader } => {

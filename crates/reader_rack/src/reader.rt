@@ -15,7 +15,7 @@ ghost use Rattle.terminal.specs.Holding.{Knows, Sits, terminal_at};
 ghost use Rattle.terminal.specs.Line as lines;
 ghost use Rattle.terminal.specs.Line.{EndsSo, refuses, rows_in};
 ghost use Rattle.reader_rack.specs.RackText.{Held, mute, sits, asked, heard, unheard};
-ghost use Rattle.reader_rack.specs.Readers.{EndsBy, EndsEffect, Holds, IsHeld, IsSaidOrCut, answers, count};
+ghost use Rattle.reader_rack.specs.Readers.{EndsBy, EndsEffect, Holds, IsHeld, IsSaidOrCut, answers, count, lending, with_link};
 
 use crate::RackEnd;
 use crate::desk::RackDesk;
@@ -81,6 +81,25 @@ impl<L: CardLink> Reader<L> {
         }
         self.aside = self.link.take();
         true
+    }
+
+    /// Lends its link. The terminal stays.
+    pub(crate) fn take(&mut self) -> L
+        requires live { IsTrue (answers L.is_live self.old) }
+        ensures link { self.old.link ≡ Some result }
+        ensures lent { self.new ≡ lending self.old }
+    {
+        match self.link.take() {
+            Some(link) => link,
+            None => unreachable!(),
+        }
+    }
+
+    /// Holds a link that was lent again.
+    pub(crate) fn put_back(&mut self, link: L)
+        ensures { self.new ≡ with_link link self.old }
+    {
+        self.link = Some(link);
     }
 
     /// Sends a command to its link, and tells its terminal how it was answered.
